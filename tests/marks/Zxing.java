@@ -39,9 +39,9 @@ public class Zxing {
 
     private static String read(String line) throws Exception {
         String[] rows = line.split(",");
-        boolean[][] modules = new boolean[rows.length][rows.length];
+        boolean[][] modules = new boolean[rows.length][rows[0].length()];
         for (int row = 0; row < rows.length; row++) {
-            for (int column = 0; column < rows.length; column++) {
+            for (int column = 0; column < rows[row].length(); column++) {
                 modules[row][column] = rows[row].charAt(column) == '1';
             }
         }

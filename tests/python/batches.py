@@ -99,8 +99,8 @@ def several(folder):
         "ecc200: empty.png: it is empty"
     ])
     yield holds("no object of Python is named", "BytesIO" not in got[2] and got[2].count("\n") == 4, got[2])
-    yield same("check", [line[:17] for line in ecc("check", *names, folder=here)[1].splitlines()],
-               ["label.txt:side 10"] * 2 + ["other.txt:side 10"])
+    yield same("check", [line[:15] for line in ecc("check", *names, folder=here)[1].splitlines()],
+               ["label.txt:10x10"] * 2 + ["other.txt:10x10"])
     yield says("one file", ecc("read", "other.txt", folder=here), output="B\n")
     yield says("one file, -H", ecc("read", "-H", "other.txt", folder=here), output="other.txt:B\n")
     yield says("two files, --no-filename", ecc("read", "--no-filename", "other.txt", "other.txt", folder=here),
@@ -158,12 +158,10 @@ def no_picture(folder):
     pillow = wanted_module("PIL.Image", "Pillow", "pictures of other codes")
     if not pillow or not os.path.isfile(SAMPLER) or not has("zint", "pictures of other codes"):
         return
-    for name, words in (("qr", ["-b", "58", "-d",
-                                "A QR code"]), ("rectangle", ["-b", "71", "--vers=26", "-d", "123456"])):
-        run(["zint", "-o", f"{name}.png", "--scale", "3", "--quietzones", *words], cwd=here)
-        got = ecc("read", f"{name}.png", folder=here)
-        yield says(f"another code, {name}", got, 1, "", ["ectangles", "other codes, as QR codes, aren't read"])
-        yield holds(f"no advice that doesn't help, {name}", "--border" not in got[2], got[2])
+    run(["zint", "-o", "qr.png", "--scale", "3", "--quietzones", "-b", "58", "-d", "A QR code"], cwd=here)
+    got = ecc("read", "qr.png", folder=here)
+    yield says("another code", got, 1, "", ["ther codes, as QR codes, aren't read"])
+    yield holds("no advice that doesn't help", "--border" not in got[2], got[2])
     white = pillow.Image.new("L", (90, 90), 255)
     white.save(os.path.join(here, "pages.tif"), save_all=True, append_images=[white])
     with open(os.path.join(here, "pages.tif"), "r+b") as file:

@@ -76,7 +76,7 @@ def explained():
               for profile in (0, 1)] + [ecc200.write([256, 65, 256])]
     for number, rows in enumerate(grids):
         told = explaining.explain(rows)
-        size = next(size for size in ecc200.sizes() if size.side == len(rows))
+        size = next(size for size in ecc200.sizes() if (size.rows, size.columns) == (len(rows), len(rows[0])))
         yield same(f"codewords {number}", bytes(word.value for word in told.codewords), ecc200.inspect(rows).mended)
         has_meanings = all(word.meaning for word in told.codewords[:size.data_codewords])
         yield holds(f"meanings {number}", told.refused is not None or told.items is not None and has_meanings)

@@ -89,32 +89,45 @@ def forms():
 
 
 def strange_grids():
+    def refusal(call, grid):
+        try:
+            return call(grid)
+        except ecc200.Refused as why:
+            return why.code, why.value, why.place
+
     def code(grid):
-        got = answer(grid)
-        return got[:2] if isinstance(got[0], ecc200.Code) else got
-    shape, side = ecc200.Code.SHAPE, ecc200.Code.SIDE
+        return refusal(ecc200.read, grid)
+    shape, size = ecc200.Code.SHAPE, ecc200.Code.SIZE
     rows = ecc200.write(b"123456")
-    yield same("no rows", code([]), (side, 0))
-    yield same("no bytes", code(b""), (side, 0))
-    yield same("no text", code(""), (side, 0))
     for name, grid in [("a short row", [*rows[:-1], rows[-1][:-1]]),
                        ("two wrong rows", [rows[0] + b"\1", rows[1][:-1], *rows[2:]]),
-                       ("99 bytes", bytes(99)),
-                       ("a short text", ["1" * 10] * 9),
-                       ("an oblong view", memoryview(bytes(200)).cast("B", (10, 20)))]:
-        yield same(name, code(grid), (shape, 0))
-    yield same("a side that no size has", code(bytes(121)), (side, 11))
-    yield same("a side too large for the library", code([bytes(65_536)] * 65_536)[0],
-               side) if os.sysconf("SC_PHYS_PAGES") > 1 << 22 else same("", 0, 0)
+                       ("a row of text too short", ["1" * 10, "1" * 9] * 5),
+                       ("a line too short", "11\n1\n"), ("99 bytes", bytes(99)), ("three bytes", bytes(3)),
+                       ("flat bytes of a rectangle", bytes(12 * 26))]:
+        yield same(name, code(grid), (shape, 0, 0))
+    for name, grid, given in [
+        ("no rows", [], (0, 0)), ("no bytes", b"", (0, 0)), ("no text", "", (0, 0)), ("an empty row", [b""], (1, 0)),
+        ("many empty rows", [b""] * 70_000, (70_000, 0)), ("one module", [b"\1"], (1, 1)),
+        ("one row", [bytes(65_535)], (1, 65_535)), ("one row too long", [bytes(65_536)], (1, 65_536)),
+        ("one column", [b"\1"] * 65_536, (65_536, 1)), ("a short text", ["1" * 10] * 9, (9, 10)),
+        ("an oblong view", memoryview(bytes(200)).cast("B", (10, 20)), (10, 20)),
+        ("a rectangle that lies down", [bytes(8)] * 32, (32, 8)), ("a square of 11", bytes(121), (11, 11)),
+        ("rows of another size", [bytes(18)] * 10, (10, 18)), ("a larger square", [bytes(146)] * 146, (146, 146)),
+    ]:
+        for call in (ecc200.read, ecc200.normal, ecc200.inspect):
+            yield same(f"{call.__name__} of {name}", refusal(call, grid), (size, *given))
+    yield same("rows and columns too many for the library", code([bytes(65_536)] * 65_536),
+               (size, 65_536, 65_536)) if os.sysconf("SC_PHYS_PAGES") > 1 << 22 else same("", 0, 0)
     yield raises("other characters", ValueError, "'10x0'", lambda: ecc200.read(["10x0"] * 4))
     yield raises("no grid", TypeError, "", lambda: ecc200.read(7))
 
 
 def readings():
-    """What a reading says besides the message: its text, the side, and no corners where it is of a grid."""
+    """What a reading says besides the message: its text, its size, and no corners where it is of a grid."""
     for number, lines in enumerate(marks()):
-        said = ecc200.read(lines)
-        yield same(f"the side of mark {number + 1}", (said.side, said.corners), (len(lines), None))
+        said, side = ecc200.read(lines), len(lines)
+        got = said.side, said.size, said.rows, said.columns, said.corners
+        yield same(f"the size of mark {number + 1}", got, (side, (side, side), side, side, None))
     for data, text in [(b"123", "123"), (b"caf\xc3\xa9", "caf\u00e9"), (b"caf\xe9", "caf\u00e9"),
                        (b"A\x1dB\0", "A\x1dB\0"), (b"", "")]:
         yield same(f"the text of {data}", ecc200.read(ecc200.write(data)).text, text)
@@ -150,8 +163,9 @@ def messages():
                      lambda extent=extent: ecc200.read(rows, extent=extent))
         yield raises(f"normal at {extent}", ecc200.Refused, f"EXTENT, value {extent},",
                      lambda extent=extent: ecc200.normal(rows, extent=extent))
-    for side in (-1, 100_000, 11):
-        yield raises(f"places of {side}", ecc200.Refused, f"SIDE, value {side},", lambda side=side: ecc200.places(side))
+    for size in ((-1, ), (100_000, ), (11, ), (10, 18), (18, 8), (-8, 18), (8, 65_554), (0, 0)):
+        yield raises(f"places of {size}", ecc200.Refused, f"SIZE, value {size[0]}, place {size[-1]})",
+                     lambda size=size: ecc200.places(*size))
     for limit, refused in ((-5, True), (None, True), (27, False), (1 << 40, False)):
         got = answer([bytes(10)] * 10, border_limit=limit)
         yield same(f"the limit {limit}", got[0] == ecc200.Code.BORDER, refused)
@@ -177,7 +191,7 @@ def answer_or_refusal(grid):
 
 
 def raising(number):
-    raise ecc200.Refused(ecc200.Code.SIDE, number)
+    raise ecc200.Refused(ecc200.Code.SIZE, number)
 
 
 def raised_in_pool():
@@ -195,7 +209,7 @@ def many():
     yield same("many from an iterator", told(ecc200.read_many(iter(grids))), wanted)
     with multiprocessing.Pool(2) as pool:
         yield same("many by processes", told(pool.map_async(answer_or_refusal, grids).get(timeout=60)), wanted)
-    yield raises("a refusal that a process raises", ecc200.Refused, "SIDE, value 11", raised_in_pool)
+    yield raises("a refusal that a process raises", ecc200.Refused, "SIZE, value 11", raised_in_pool)
     numpy = wanted_module("numpy", "numpy", "many grids in an array")
     if numpy:
         block = numpy.array([[list(row) for row in ecc200.write(b"%06d" % number)] for number in range(200)],
@@ -211,17 +225,19 @@ def shown():
     """Inspections and places are those of the marks' symbols; the answer's room is each time a fresh one to the
     caller."""
     for size in ecc200.sizes():
-        places = ecc200.places(size.side)
+        named = size.rows, size.columns
+        places = ecc200.places(*named)
+        yield same(f"rows and columns of the places of {named}", {(len(places), len(row)) for row in places}, {named})
         bits = sorted((place.codeword, place.bit) for row in places for place in row if place.kind == ecc200.Kind.BIT)
-        yield same(f"the bits of side {size.side}", bits,
+        yield same(f"the bits of {named}", bits,
                    [(word, bit) for word in range(size.data_codewords + size.check_codewords)
                     for bit in range(1, 9)])
-        yield same(f"the kinds of side {size.side}", {type(place.kind) for row in places for place in row},
-                   {ecc200.Kind})
-        rows = ecc200.write(b"A" * size.data_codewords)
-        yield same(f"the codewords of side {size.side}", ecc200.inspect(rows).held[:size.data_codewords],
+        yield same(f"the kinds of {named}", {type(place.kind) for row in places for place in row}, {ecc200.Kind})
+        rows = ecc200.write(b"A" * size.data_codewords, size=named)
+        yield same(f"the codewords of {named}", ecc200.inspect(rows).held[:size.data_codewords],
                    b"B" * size.data_codewords)
-        yield same(f"its normal grid, {size.side}", ecc200.normal(rows), rows)
+        if size.rows == size.columns:
+            yield same(f"its normal grid, {named}", (ecc200.normal(rows), ecc200.places(size.side)), (rows, places))
     first = ecc200.write(b"123456")
     kept = list(first)
     ecc200.write(b"7" * 1000)

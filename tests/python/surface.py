@@ -32,15 +32,17 @@ def says(name, got, status=0, output=None, errors=None):
 
 def usage():
     status, output, _ = ecc("--help")
-    commands = ("read", "write", "check", "normal", "compare", "explain")
+    commands = ("read", "write", "check", "normal", "compare", "explain", "sizes")
     yield holds("--help", status == 0 and all(command in output for command in commands), output)
     with open(os.path.join(TOP, "packaging", "version"), encoding="ascii") as file:
         yield says("--version", ecc("--version"), output=f"ecc200 {file.read().strip()}\n")
-    for command in ("read", "write", "check", "normal", "compare", "explain"):
+    for command in commands:
         status, output, _ = ecc(command, "--help")
         yield holds(f"{command} --help", status == 0 and "Status: 0" in output, output)
     for words in ((), ("quite",), ("read", "--border", "x"), ("read", "--border", "70000"),
-                  ("write", "--gs1", "--hex", "A"), ("compare", "a"),
+                  ("write", "--gs1", "--hex", "A"), ("compare", "a"), ("compare", "--doubtful", "a", "b", "c"),
+                  ("write", "--size", "9x9", "A"), ("write", "--size", "8", "A"), ("write", "--shape", "round", "A"),
+                  ("write", "--size", "8x18", "--shape", "any", "A"), ("sizes", "--shape", "round"),
                   ("write", "--quiet-zone", "-1", "A")):
         status, _, errors = ecc(*words)
         yield holds(f"the words {words}", status == 2 and "usage: ecc200" in errors, f"{status}, {errors}")
@@ -72,12 +74,13 @@ def reading():
     yield says("unknown GS1 passes", ecc("read", "--unknown", given=unknown), output="(4327)A\n")
     status, output, _ = ecc("read", "--json", given=element + text([bytes(10)] * 10))
     first, second = map(json.loads, output.splitlines())
-    yield same("--json", (status, first["elements"][0]["title"], first["side"], first["corrected"], first["symbol"]),
-               (1, "GTIN", 16, [0], 1))
+    yield same("--json", (status, first["elements"][0]["title"], first["rows"], first["columns"], first["symbol"]),
+               (1, "GTIN", 16, 16, 1))
+    yield same("--json of damage", (first["corrected"], first["erased"], first["left"]), ([0], [0], [12]))
     yield same("--json of a refusal", (second["symbol"], second["code"], second["value"], "text" in second),
                (2, "BORDER", 27, False))
     yield says("check", ecc("check", given=good),
-               output="side 10, 0 border modules wrong, codewords corrected in each block: 0 (at most 2)\n")
+               output="10x10, 0 border modules wrong, codewords corrected in each block: 0 (at most 2)\n")
     yield same("check --json", json.loads(ecc("check", "--json", given=good)[1])["corrected"], [0])
     yield says("normal", ecc("normal", given=good + other), output=good + other)
     binary = text(ecc200.write(b"\x80" * 3))
@@ -121,10 +124,9 @@ def in_words():
         ("CR", good.replace("\n", "\r\n"), ["CR and LF", "tr -d"]),
         ("other characters", "10x0\n", ["the character 'x'"]),
         ("a ragged grid", "10\n1\n", ["from 1 to 2 characters"]),
-        ("no square", "10\n10\n10\n", ["isn't square"]), ("no side", "1" * 11 + "\n" + ("1" * 11 + "\n") * 10,
-                                                          ["no symbol has the side 11", "10, 12, 14"]),
-        ("a large side", ("1" * 132 + "\n") * 132,
-         [f"and {ecc200.sizes()[-1].side}; the standard's larger sides, up to 144"]),
+        ("no size", "10\n10\n10\n", ["no symbol has 3 rows of 2 modules", "'ecc200 sizes' lists"]),
+        ("a square of 11", ("1" * 11 + "\n") * 11, ["no symbol has 11 rows of 11 modules"]),
+        ("a large side", ("1" * 146 + "\n") * 146, ["no symbol has 146 rows of 146 modules"]),
         ("a wrong border", text([*ecc200.write(b"123456")[:-1], bytes(10)]),
          ["10 of the 36", "--border 10 accepts them"]),
         ("damage", text(hurt(5)), ["block 1 of its 1", "2 wrong codewords", "scan it again"]),
@@ -206,7 +208,7 @@ def writing(folder):
                ["--bytes", "'A' would be another"])
     yield says("one is refused", ecc("write", "--hex", "41", "x", "42"), 1,
                text(ecc200.write(b"A")) + text(ecc200.write(b"B")), ["message 2"])
-    for name, words, part in [("no size", ("--module", "x"), "--module x"),
+    for name, words, part in [("no width", ("--module", "x"), "--module x"),
                               ("half a dot", ("--module", "1.5"), "whole number"),
                               ("no kind", ("-o", "a.gif"), ".png, .svg"),
                               ("no sheet", ("--sheet", "A4"), "--sheet A4"),
@@ -241,7 +243,7 @@ def files(folder):
         path = os.path.join(folder, "blank.png")
         pillow.Image.new("L", (90, 90), 255).save(path)
         yield says("a blank picture", ecc("read", path), 1, "",
-                   ["no square Data Matrix symbol was found in its 90 by 90" if os.path.isfile(SAMPLER)
+                   ["no Data Matrix symbol was found in its 90 by 90" if os.path.isfile(SAMPLER)
                     else "nothing in the picture is dark"])
         picture = pillow.Image.open(os.path.join(folder, "small7.png")).convert("L")
         picture.resize((picture.width * 3 // 2, picture.height * 3 // 2)).save(path)
@@ -305,6 +307,6 @@ def named_alike(folder):
     first = json.loads(run([program, "--json", "--time", "2000", path])[1])
     for option in ("--time", "--milliseconds"):
         second = json.loads(ecc("read", "--json", option, "2000", path)[1])
-        for name in ("file", "side", "inverted", "mirrored", "message", "corrected", "border_faults"):
+        for name in ("file", "rows", "columns", "inverted", "mirrored", "message", "corrected", "border_faults"):
             yield same(f"{name}, with {option}", second[name], first[name])
     yield same("what is compared", (first["message"], first["corrected"], first["border_faults"]), ("123456", [1], 1))

@@ -11,11 +11,14 @@ from tests.support.case import Case
 
 PARTS = {
     "module": "forms strange_grids readings messages refusals many shown by_threads loading",
+    "sizes": "printed sides table chosen limits doubtful doubtful_forms beside from_others",
     "elements": "worked square faults table beside_zint beside_stdnum",
     "drawings": "png rendered unloadable taken saved in_files paged sheets symbols oriented sampled",
     "surface": "usage reading in_words otherwise writing files named_alike",
     "comparing": "pages comparing explained spellings at_a_terminal completion",
     "batches": "numbered several walked no_picture streams interrupted bad_lines locales round_trips blocks_of_json",
+    "rectangles": "read_by_command grids sizes_told chosen in_words otherwise doubtful drawn labels found "
+                  "without_sampler",
     "labels": "captions captions_on_sheets names output sizes first_symbols letters_of_dots terminal "
               "no_picture_on_a_terminal",
     "pages": "unlike margins",

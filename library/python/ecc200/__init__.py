@@ -1,9 +1,10 @@
-"""Data Matrix ECC 200 (ISO/IEC 16022): symbols are read, written, normalised and compared by a library that is proved.
+"""Data Matrix ECC 200 (ISO/IEC 16022, with the rectangles of ISO/IEC 21471): symbols are read, written, normalised and
+compared by a library that is proved.
 
     >>> import ecc200
     >>> symbol = ecc200.encode("caf\\u00e9", charset="iso-8859-1")
-    >>> symbol.side
-    12
+    >>> symbol.size
+    (12, 12)
     >>> ecc200.decode(symbol)[0].text
     'caf\\u00e9'
 
@@ -17,8 +18,8 @@ from .core import *
 
 # (a list of words, since checkers of types take no other)
 __all__ = ["ABI", "Code", "Corners", "Extent", "FNC1", "Found", "Grid", "Inspection", "Kind", "MOST_ITEMS", "Message",
-           "Place", "Profile", "Reading", "Refused", "Rows", "SamplerMissing", "Size", "Symbol", "decode", "drawing",
-           "encode", "find", "gs1", "has_sampler", "inspect", "luminance", "normal", "pictures", "places", "read",
-           "read_many", "sampler_fault", "sizes", "usual_limit", "version", "write"]
+           "Place", "Profile", "Reading", "Refused", "Rows", "SamplerMissing", "Shape", "Size", "Symbol", "decode",
+           "drawing", "encode", "find", "gs1", "has_sampler", "inspect", "luminance", "normal", "pictures", "places",
+           "read", "read_many", "sampler_fault", "sizes", "usual_limit", "version", "write"]
 __version__ = version()
 _library = core._library

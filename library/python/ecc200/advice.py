@@ -4,9 +4,9 @@ import math
 from typing import Callable, List, NamedTuple, Optional, Tuple
 
 from . import core
-from .core import Code, Extent, Reading, Refused, Rows
+from .core import Code, Extent, Reading, Refused, Rows, Shape, Size
 
-__all__ = ["Righted", "in_words", "reduced", "righted", "why_not_written"]
+__all__ = ["Righted", "bytes_in", "in_words", "reduced", "righted", "sizes_of", "why_not_written"]
 
 _BEGINS = {
     233: "a part of a message that several symbols hold (structured append), which isn't read here; print each part as "
@@ -22,44 +22,67 @@ _DAMAGE = ("a codeword that no encoder writes there, so the symbol comes from a 
            "codewords of another message")
 
 
-def _border(why: Refused, rows: Rows, extent: Extent) -> str:
-    count = sum(place.kind in (core.Kind.BORDER_DARK, core.Kind.BORDER_LIGHT) for row in core.places(len(rows))
-                for place in row)
-    accept = f"; --border {why.value} accepts them" if _reading(rows, why.value, extent) is not None else ""
+def _border(why: Refused, rows: Rows, extent: Extent, doubtful: Optional[Rows]) -> str:
+    count = sum(place.kind in (core.Kind.BORDER_DARK, core.Kind.BORDER_LIGHT)
+                for row in core.places(len(rows), len(rows[0])) for place in row)
+    accept = f"; --border {why.value} accepts them" if _reading(rows, why.value, extent, doubtful) is not None else ""
     return (f"{why.value} of the {count} modules of its border have the wrong colour{accept}. The left "
             "column and the bottom row must be dark, the top row and the right column alternate")
 
 
-def in_words(why: Refused, rows: Rows, extent: Extent = Extent.WIDE) -> str:
-    """Why a grid isn't read at this extent, and what to do."""
-    side, code, place = len(rows), why.code, why.place
-    if code == Code.SHAPE:
-        return (f"it has {side} rows of {len(rows[0])} modules, and isn't square: rectangles aren't read, and a square "
-                "must be cut out exactly")
-    if code == Code.SIDE:
-        *others, largest = [size.side for size in core.sizes()]
-        larger = "; the standard's larger sides, up to 144, aren't read here" if side > largest else ""
-        sides = f"{', '.join(map(str, others))} and {largest}{larger}"
-        return (f"no symbol has the side {side}; there are {sides}. Is it cut out exactly, with one character or pixel "
-                "for each module?")
+def _block(why: Refused, rows: Rows, has_doubts: bool) -> str:
+    size = core._size_of(len(rows), len(rows[0]))
+    block = f"block {why.place + 1} of its {size.blocks}"
+    if has_doubts:
+        return (f"{block} can't be restored: a wrong codeword takes two of its {size.check_codewords // size.blocks} "
+                "check codewords, and one with a doubtful module takes one. Scan it again, or print it anew")
+    return (f"{block} has more than {size.limit} wrong codewords, the most that can be corrected: scan it again, or "
+            "print it anew. Where the modules are known that may be wrong, --doubtful restores twice as many")
+
+
+def in_words(why: Refused, rows: Rows, extent: Extent = Extent.WIDE, doubtful: Optional[Rows] = None) -> str:
+    """Why a grid, of which these modules are doubtful, isn't read at this extent, and what to do."""
+    code, place = why.code, why.place
+    if code == Code.SIZE:
+        return (f"no symbol has {len(rows)} rows of {len(rows[0])} modules; 'ecc200 sizes' lists those that there are. "
+                "Is it cut out exactly, with one character or pixel for each module?")
+    if code == Code.DOUBT:
+        return f"the grid of its doubtful modules hasn't {len(rows)} rows of {len(rows[0])} modules, as it has"
     if code == Code.BORDER:
-        return _border(why, rows, extent)
+        return _border(why, rows, extent, doubtful)
     if code == Code.BLOCK:
-        size = next(size for size in core.sizes() if size.side == side)
-        return (f"block {place + 1} of its {size.blocks} has more than {size.limit} wrong codewords, the most that can "
-                "be corrected: scan it again, or print it anew")
+        return _block(why, rows, doubtful is not None)
     if code == Code.LEFT_OUT:
         return f"codeword {place} begins {_BEGINS.get(why.value, 'something that is not read')}"
     return f"{core._library.ecc200_code_words(int(code)).decode()}, codeword {place}: {_DAMAGE}"
 
 
-def why_not_written(why: Refused) -> str:
-    """Why a message isn't written, and what to do."""
-    if why.code == Code.TOO_LONG:
-        most = core.sizes()[-1].data_codewords
-        return (f"the message is longer than any symbol holds: {2 * most} digits, {most} other characters of ASCII, or "
-                f"with --shorter {most - 3} bytes of any kind")
-    return str(why)
+def sizes_of(shape: Shape) -> List[Size]:
+    """The sizes of a shape."""
+    return [size for size in core.sizes()
+            if shape == Shape.ANY or (size.rows == size.columns) == (shape == Shape.SQUARE)
+            and not (shape == Shape.RECTANGLE and size.extension)]
+
+
+def bytes_in(size: Size) -> int:
+    """How many bytes of any kind a symbol of this size holds: its data codewords but a latch and the length, which
+    takes two codewords from 250 on."""
+    return max(min(size.data_codewords - 2, 249), size.data_codewords - 3)
+
+
+def why_not_written(why: Refused, wanted: Optional[Tuple[int, int]] = None, shape: Optional[Shape] = None) -> str:
+    """Why a message isn't written in this size, or in any of this shape, and what to do."""
+    if why.code != Code.TOO_LONG:
+        return str(why)
+    if wanted is None:
+        size = max(sizes_of(shape or Shape.SQUARE), key=lambda size: size.data_codewords)
+        holder = f"any {'rectangle' if shape == Shape.EXTENDED else 'symbol'} holds"
+        if shape == Shape.RECTANGLE:
+            holder = "any rectangle of ISO/IEC 16022 holds; --shape extended has larger ones"
+    else:
+        size, holder = core._size_of(*wanted), f"a symbol of {wanted[0]}x{wanted[1]} holds"
+    return (f"the message is longer than {holder}: {2 * size.data_codewords} digits, {size.data_codewords} other "
+            f"characters of ASCII, or with --shorter {bytes_in(size)} bytes of any kind")
 
 
 # ---- Grids that could be read if they stood otherwise
@@ -107,9 +130,10 @@ def _turned(rows: Rows) -> Rows:
     return [bytes(column) for column in zip(*rows)][::-1]
 
 
-def _reading(rows: Rows, border_limit: Optional[int], extent: Extent) -> Optional[Reading]:
+def _reading(rows: Rows, border_limit: Optional[int], extent: Extent,
+             doubtful: Optional[Rows] = None) -> Optional[Reading]:
     try:
-        return core.read(rows, border_limit, extent)
+        return core.read(rows, border_limit, extent, doubtful)
     except Refused:
         return None
 
@@ -138,9 +162,8 @@ def righted(rows: Rows, border_limit: Optional[int] = None, extent: Extent = Ext
     for colour, grid in (("", rows), ("is light on dark", inverse)):
         cut, margin = _cropped(grid)
         small, many = reduced(cut)
-        if len(small) == len(small[0]):
-            stands = _stands(small, lambda some: _reading(some, border_limit, extent))
-            if stands is not None:
-                how = " and ".join(filter(None, (many, margin, colour, stands.how)))
-                return Righted(how, stands.rows, stands.reading) if how else None
+        stands = _stands(small, lambda some: _reading(some, border_limit, extent))
+        if stands is not None:
+            how = " and ".join(filter(None, (many, margin, colour, stands.how)))
+            return Righted(how, stands.rows, stands.reading) if how else None
     return None

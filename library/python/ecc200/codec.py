@@ -1,33 +1,43 @@
 """Messages into symbols that are drawn."""
 import functools
 import os
-from typing import Any, Callable, Dict, Optional, Union
+from typing import Any, Callable, Dict, Optional, Tuple, Union
 
 from . import core, drawing, gs1 as element_strings
-from .core import Message, Profile, Rows
+from .core import Message, Profile, Rows, Shape
 
 __all__ = ["Symbol", "encode"]
 
 
 class Symbol:
-    """A symbol: its rows, and how it is drawn. `module` is the side of a module in millimetres, `quiet` the width of
-    the quiet zone in modules. As an array it is a picture with one pixel a module, 0 dark and 255 light, with its quiet
-    zone."""
+    """A symbol: the rows of its modules, and how it is drawn. `module` is the side of a module in millimetres, `quiet`
+    the width of the quiet zone in modules. As an array it is a picture with one pixel a module, 0 dark and 255 light,
+    with its quiet zone."""
 
     def __init__(self, rows: Rows, module: float = 0.5, quiet: int = 2) -> None:
         drawing.check(module, quiet)
         self.rows, self.module, self.quiet = rows, module, quiet
 
     @property
+    def columns(self) -> int:
+        """How many modules each row has."""
+        return len(self.rows[0])
+
+    @property
+    def size(self) -> Tuple[int, int]:
+        """How many rows and columns of modules it has."""
+        return len(self.rows), self.columns
+
+    @property
     def side(self) -> int:
-        """Modules on a side."""
-        return len(self.rows)
+        """Modules on a side of a square; a rectangle has none, and raises AttributeError."""
+        return core._side(*self.size)
 
     def __str__(self) -> str:
         return "".join("".join("01"[module] for module in row) + "\n" for row in self.rows)
 
     def __repr__(self) -> str:
-        return f"<Symbol of side {self.side}>"
+        return "<Symbol of {} rows and {} columns>".format(*self.size)
 
     def __eq__(self, other: object) -> bool:
         return isinstance(other, Symbol) and self.rows == other.rows
@@ -37,10 +47,11 @@ class Symbol:
 
     @functools.cached_property
     def __array_interface__(self) -> Dict[str, Any]:
-        side, wide = self.side + 2 * self.quiet, bytes(self.quiet)
-        blank = [bytes(side)] * self.quiet
-        pixels = b"".join([*blank, *(wide + row + wide for row in self.rows), *blank]).translate(b"\xff\0" + bytes(254))
-        return {"version": 3, "shape": (side, side), "typestr": "|u1", "data": pixels}
+        height, width = (count + 2 * self.quiet for count in self.size)
+        beside, blank = bytes(self.quiet), [bytes(width)] * self.quiet
+        rows = [*blank, *(beside + row + beside for row in self.rows), *blank]
+        pixels = b"".join(rows).translate(b"\xff\0" + bytes(254))
+        return {"version": 3, "shape": (height, width), "typestr": "|u1", "data": pixels}
 
     def page(self) -> drawing.Page:
         """The symbol with its quiet zone, as drawing.py draws it."""
@@ -72,9 +83,11 @@ class Symbol:
 
 
 def encode(message: Message, gs1: bool = False, profile: Profile = Profile.ASCII, charset: Optional[str] = None,
-           unknown: bool = False, module: float = 0.5, quiet: int = 2) -> Symbol:
-    """The normal grid of a message. With `gs1` a text is an element string with its identifiers in brackets, which is
-    checked (with `unknown` those that aren't in the table pass); other text needs the name of its charset."""
+           unknown: bool = False, module: float = 0.5, quiet: int = 2, size: Optional[Tuple[int, int]] = None,
+           shape: Optional[Shape] = None) -> Symbol:
+    """The symbol of a message: its normal grid, which is a square, unless another `shape` is chosen, or a `size` by its
+    rows and columns. With `gs1` a text is an element string with its identifiers in brackets, which is checked (with
+    `unknown` those that aren't in the table pass); other text needs the name of its charset."""
     if gs1 and isinstance(message, str):
         message = element_strings.message(element_strings.parse(message, unknown))
-    return Symbol(core.write(message, gs1, profile, charset), module, quiet)
+    return Symbol(core.write(message, gs1, profile, charset, size, shape), module, quiet)

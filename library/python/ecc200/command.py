@@ -11,9 +11,9 @@ import warnings
 from typing import Callable, List, Optional, Tuple, Union
 
 from . import core
-from .core import Extent, Profile
+from .core import Extent, Profile, Shape
 from .labels import KINDS
-from .reporting import check, compare, explain, normal, read
+from .reporting import check, compare, explain, normal, read, sizes
 from .sources import Trouble
 from .writing import write
 
@@ -40,8 +40,12 @@ def _number(least: int, most: int) -> Callable[[str], int]:
 
 
 def _takes(parser: argparse.ArgumentParser) -> None:
-    """Files, and how they are told apart."""
+    """Files, how they are told apart, and what is known of their damage."""
     parser.add_argument("files", nargs="*", metavar="FILE")
+    parser.add_argument("--doubtful", metavar="FILE",
+                        help="its grids, one for each symbol that is read and of as many rows and columns, have 1 "
+                        "where a module may be wrong, as under a blot: twice as many codewords are restored where that "
+                        "is known")
     several = parser.add_argument_group("several files")
     several.add_argument("-r", "--recursive", action="store_true",
                          help="read the pictures and grids in folders, and in those below them; without FILE in the "
@@ -59,7 +63,7 @@ def _reads(parser: argparse.ArgumentParser, most: int = 1) -> None:
     parser.add_argument("--basic", dest="extent", action="store_const", const=Extent.USUAL,
                         help=argparse.SUPPRESS)  # its old name
     parser.add_argument("--border", type=_number(0, 65535), metavar="N",
-                        help="accept N border modules of the wrong colour (a quarter of the side)")
+                        help="accept N border modules of the wrong colour (an eighth of the rows and columns together)")
     parser.add_argument("--any-way", action="store_true",
                         help="also read grids that are turned, mirrored, light on dark, have a margin or several "
                         "characters a module")
@@ -75,13 +79,27 @@ def _reads(parser: argparse.ArgumentParser, most: int = 1) -> None:
     looks.add_argument("--time", dest="milliseconds", type=_number(1, 3600000), default=1000, metavar="MS",
                        help="look for about so many milliseconds on each page (1000)")
     looks.add_argument("--milliseconds", type=_number(1, 3600000), default=1000, help=argparse.SUPPRESS)  # its old name
-    looks.add_argument("--margin", type=_number(0, 28), default=0, metavar="N",
+    limit = max(size.limit for size in core.sizes())
+    looks.add_argument("--margin", type=_number(0, limit), default=0, metavar="N",
                        help="refuse symbols whose blocks have fewer than N corrections left (0)")
 
 
 def _profile(parser: argparse.ArgumentParser) -> None:
     parser.add_argument("--shorter", dest="profile", action="store_const", const=Profile.SHORTER, default=Profile.ASCII,
                         help="the second normal form: one segment of Base 256 where that is shorter")
+
+
+def _shapes(parser: argparse._ActionsContainer, use: str) -> None:
+    parser.add_argument("--shape", choices=[shape.name.lower() for shape in Shape], help=use)
+
+
+def _sized(parser: argparse.ArgumentParser) -> None:
+    """Which size a symbol has."""
+    chosen = parser.add_mutually_exclusive_group()
+    chosen.add_argument("--size", choices=[f"{size.rows}x{size.columns}" for size in core.sizes()],
+                        metavar="ROWSxCOLUMNS", help="symbols of this size, as 8x32; 'ecc200 sizes' lists all")
+    _shapes(chosen, "the smallest symbol of this shape, by its number of modules: square (the usual), rectangle, "
+            "extended (all rectangles, those of ISO/IEC 21471 too), any")
 
 
 def _draws(parser: argparse.ArgumentParser) -> None:
@@ -139,9 +157,10 @@ class _Commands:
 
 def _add_writing(commands: _Commands) -> None:
     one = commands.add("write", write, "symbols of messages",
-                       "Writes the normal grid of each message: of each line of standard input, if none is given. A "
-                       "line is UTF-8, and ends with LF or with CR and LF. Neither a line end behind a message, also "
-                       "one of the command line, nor a byte order mark in front of the first is part of it.")
+                       "Writes the normal grid of each message, which is a square, or with --shape or --size another "
+                       "symbol: of each line of standard input, if none is given. A line is UTF-8, and ends with LF or "
+                       "with CR and LF. Neither a line end behind a message, also one of the command line, nor a byte "
+                       "order mark in front of the first is part of it.")
     one.add_argument("messages", nargs="*", metavar="MESSAGE")
     form = one.add_mutually_exclusive_group()
     form.add_argument("--gs1", action="store_true",
@@ -156,6 +175,7 @@ def _add_writing(commands: _Commands) -> None:
                      "for Latin-1 want iso-8859-1)")
     one.add_argument("--unknown", action="store_true", help="let identifiers of GS1 pass that aren't in the table")
     _profile(one)
+    _sized(one)
     _draws(one)
 
 
@@ -169,13 +189,13 @@ def _add_reading(commands: _Commands) -> None:
     _shows(one)
     _reads(one)
     one = commands.add("check", check, "how much of symbols is wrong",
-                       "Prints for each symbol its side, how much of its border is wrong, and how many codewords were "
-                       "corrected.")
+                       "Prints for each symbol its rows and columns, how much of its border is wrong, and how many "
+                       "codewords were corrected.")
     _takes(one)
     _json(one)
     _reads(one)
     one = commands.add("normal", normal, "normal grids of what symbols say",
-                       "Writes the normal grid of what each symbol says.")
+                       "Writes the normal grid of what each symbol says, which is a square.")
     _takes(one)
     _profile(one)
     _reads(one)
@@ -184,7 +204,7 @@ def _add_reading(commands: _Commands) -> None:
                        "Compares what two symbols say, item by item. Status 0: the same; 1: different; 2 or more: a "
                        "fault.")
     one.add_argument("files", nargs=2, metavar="FILE")
-    one.set_defaults(recursive=False)
+    one.set_defaults(recursive=False, doubtful=None)
     _reads(one, 64)
     one = commands.add("explain", explain, "what each codeword means",
                        "Prints each codeword of a symbol: its place, its value, the encodation in which it stands, and "
@@ -194,16 +214,26 @@ def _add_reading(commands: _Commands) -> None:
     _reads(one)
 
 
+def _add_sizes(commands: _Commands) -> None:
+    one = commands.add("sizes", sizes, "the sizes that there are",
+                       "Prints the table of sizes, by rising number of modules: rows and columns; regions, without "
+                       "their borders; data and check codewords; blocks, and how many wrong codewords can be corrected "
+                       "in each; how many digits, other characters of ASCII or, with --shorter, bytes of any kind fit; "
+                       "and which standard has it.")
+    _shapes(one, "those of one shape alone (any)")
+    _json(one)
+
+
 def parser() -> argparse.ArgumentParser:
     """The command line."""
-    first, *_, last = core.sizes()
-    squares = f"the squares of sides {first.side} to {last.side}"
     whole = argparse.ArgumentParser(prog="ecc200", epilog=_STATUSES,
-                                    description=f"Reads, writes and compares Data Matrix ECC 200 symbols, {squares}.")
+                                    description="Reads, writes and compares Data Matrix ECC 200 symbols, squares and "
+                                    "rectangles.")
     whole.add_argument("--version", action="version", version=f"ecc200 {core.version()}")
     commands = _Commands(whole)
     _add_reading(commands)
     _add_writing(commands)
+    _add_sizes(commands)
     return whole
 
 

@@ -1,15 +1,21 @@
-"""Data Matrix ECC 200 (ISO/IEC 16022), the square symbols: read, write, normalise and inspect, by the shared library
-ecc200; found in pictures by the library ecc200_sample, where that is installed.
+"""Data Matrix ECC 200, the squares and rectangles of ISO/IEC 16022 and of its rectangular extension, ISO/IEC 21471:
+read, write, normalise and inspect, by the shared library ecc200; found in pictures by the library ecc200_sample, where
+that is installed.
 
     >>> rows = write(b"123456")
     >>> read(rows).data
     b'123456'
 
 A grid is the rows of a symbol from the top, each with its modules from the left, without a quiet zone: true or 1 is
-dark, false or 0 is light. A row is bytes, a list of numbers, or text of the characters 0 and 1. Taken as well are all
-modules in one bytes, a text with a row on each line, a square array, what has `rows`, such as an encoded symbol, and a
-Pillow picture with one pixel a module, whose light margin is left out. Functions return rows as bytes, whose items are
-1 and 0. A symbol stands upright: the solid column is on the left, the solid row at the bottom.
+dark, false or 0 is light. A row is bytes, a list of numbers, or text of the characters 0 and 1. Taken as well are a
+text with a row on each line, an array of two dimensions, what has `rows`, such as an encoded symbol, all modules of a
+square in one bytes, and a Pillow picture with one pixel a module, whose light margin is left out. Functions return rows
+as bytes, whose items are 1 and 0. A symbol stands upright: the solid column is on the left, the solid row at the
+bottom.
+
+The modules that may be wrong, as under a blot, are given as a grid of the same rows and columns in which they are 1: a
+picture keeps its margin there, and one bytes may be those of a rectangle too. A codeword with such a module counts as
+lost, of which twice as many can be restored as of wrong ones.
 
 A message is its bytes, and whether FNC1 stands in front, which marks GS1 messages; further FNC1s are the byte 0x1D, GS.
 To tell FNC1 from GS, use the items: 0 to 255, and FNC1. Text is a message only with the name of its charset.
@@ -37,9 +43,9 @@ from typing import (Any, Callable, Dict, Iterable, Iterator, List, NamedTuple, O
                     Type, Union)
 
 __all__ = ["ABI", "Code", "Corners", "Extent", "FNC1", "Found", "Grid", "Inspection", "Kind", "MOST_ITEMS", "Message",
-           "Place", "Profile", "Reading", "Refused", "Rows", "SamplerMissing", "Size", "decode", "find", "has_sampler",
-           "inspect", "luminance", "normal", "places", "read", "read_many", "sampler_fault", "sizes", "usual_limit",
-           "version", "write"]
+           "Place", "Profile", "Reading", "Refused", "Rows", "SamplerMissing", "Shape", "Size", "decode", "find",
+           "has_sampler", "inspect", "luminance", "normal", "places", "read", "read_many", "sampler_fault", "sizes",
+           "usual_limit", "version", "write"]
 
 # ecc200.h: constants
 ABI = 3
@@ -86,8 +92,8 @@ class Profile(enum.IntEnum):
 
 
 class Shape(enum.IntEnum):
-    """The sizes among which a symbol that is written may have the smallest that holds it: the squares; the rectangles
-    of ISO/IEC 16022; these and those of ISO/IEC 21471; all."""
+    """The sizes of which a symbol that is written has the smallest that holds it, by the number of modules: the
+    squares; the rectangles of ISO/IEC 16022; these and those of ISO/IEC 21471; all."""
     # ecc200.h: shapes
     SQUARE = 0
     RECTANGLE = 1
@@ -140,15 +146,37 @@ class Refused(ValueError):
         return type(self), (self.code, self.value, self.place)
 
 
+def _side(rows: int, columns: int) -> int:
+    """The side of a square."""
+    if rows != columns:
+        raise AttributeError(f"a rectangle of {rows} rows and {columns} columns has no side")
+    return rows
+
+
 class Reading(NamedTuple):
     """What a symbol says, and how much of it was wrong."""
     data: bytes                 # the message without an FNC1 in front; any other is the byte 0x1D
     gs1: bool                   # whether FNC1 stands in front
     items: Tuple[int, ...]      # the message item by item: 0 to 255, or FNC1
-    corrected: Tuple[int, ...]  # for each block, how many of its codewords were corrected
-    border_faults: int          # how many border modules have the wrong colour
-    side: int                   # how many modules the symbol has on a side
+    corrected: Tuple[int, ...]  # for each block, how many of its codewords were corrected, those not counted that are
+                                # erased, since a module of theirs is doubtful
+    border_faults: int          # how many border modules that aren't doubtful have the wrong colour
+    rows: int                   # how many rows of modules the symbol has
+    columns: int                # how many modules each row has
+    erased: Tuple[int, ...]     # for each block, how many of its codewords are erased
+    left: Tuple[int, ...]       # for each block, how many of its check codewords are left: two were used for each that
+                                # was corrected, and one for each erased one
     corners: Optional[Corners] = None  # where it was found, if that was in a picture
+
+    @property
+    def size(self) -> Tuple[int, int]:
+        """The rows and the columns."""
+        return self.rows, self.columns
+
+    @property
+    def side(self) -> int:
+        """Modules on a side of a square; a rectangle has none, and raises AttributeError."""
+        return _side(self.rows, self.columns)
 
     @property
     def text(self) -> str:
@@ -163,9 +191,10 @@ class Inspection(NamedTuple):
     """The codewords of a symbol: of B blocks, block b has the codewords b, b + B, b + 2 B, .."""
     held: bytes                           # as they stand in the symbol, data codewords and then check codewords
     mended: bytes                         # with each block corrected; a block beyond correction is left as it is
-    # for each block, in how many codewords the two differ, or None beyond correction
-    corrected: Tuple[Optional[int], ...]
-    border_faults: int                    # how many border modules have the wrong colour
+    corrected: Tuple[Optional[int], ...]  # for each block as in a Reading, or None beyond correction
+    border_faults: int                    # how many border modules that aren't doubtful have the wrong colour
+    erased: Tuple[int, ...]               # for each block as in a Reading, or 0 beyond correction
+    left: Tuple[int, ...]                 # the same
 
 
 class Kind(enum.IntEnum):
@@ -187,9 +216,9 @@ class Place(NamedTuple):
 
 
 class Size(NamedTuple):
-    """A row of the table of sizes: modules on a side of the symbol, of a region, and of the mapping matrix, which is
-    all regions together; codewords; the blocks into which they are dealt; and how many wrong codewords can be corrected
-    in each block."""
+    """A row of the table of sizes: rows and columns of modules of the symbol, of a region without its border, of
+    regions, and of the mapping matrix, which is all regions together; codewords; the blocks into which they are dealt;
+    how many wrong codewords can be corrected in each block; and 1 for a size of ISO/IEC 21471."""
     # ecc200.h: size
     rows: int
     columns: int
@@ -205,6 +234,11 @@ class Size(NamedTuple):
     limit: int
     extension: int
     # ecc200.h: end
+
+    @property
+    def side(self) -> int:
+        """Modules on a side of a square; a rectangle has none, and raises AttributeError."""
+        return _side(self.rows, self.columns)
 
 
 _u8, _u16 = ctypes.c_uint8, ctypes.c_uint16
@@ -301,14 +335,15 @@ def _load(processor: str = "/proc/cpuinfo") -> ctypes.CDLL:
         raise ImportError("libecc200.so needs the processor's instructions of x86-64-v2; this one lacks "
                           f"{', '.join(_lacking(processor))}")
     library = _opened("ecc200", ABI, ImportError)
-    modules, count, out, words = ctypes.c_char_p, ctypes.c_size_t, ctypes.c_void_p, ctypes.c_char_p
+    # (a number takes a register as a pointer does, and that is what ctypes makes of it soonest)
+    octets, number, out, words = ctypes.c_char_p, ctypes.c_void_p, ctypes.c_void_p, ctypes.c_char_p
+    symbol = [octets, number, octets, number, number, number]
     for name, result, given in (
-        ("version", words, []), ("code_words", words, [_u16]), ("abi", _u16, []), ("usual_limit", _u16, [_u16]),
-        ("sizes", None, [out]),
-        ("read", _u16, [modules, count, _u16, _u16, _u16, out]),
-        ("normal", _u16, [modules, count, _u16, _u16, _u16, _u16, out]),
-        ("write", _u16, [out, count, _u16, out]), ("write_bytes", _u16, [modules, count, _u16, out]),
-        ("inspect", _u16, [modules, count, _u16, out]), ("places", _u16, [_u16, out]),
+        ("version", words, []), ("code_words", words, [_u16]), ("abi", _u16, []),
+        ("usual_limit", _u16, [number, number]), ("sizes", None, [out]), ("places", _u16, [number, number, out]),
+        ("read", _u16, [*symbol, number, number, out]), ("normal", _u16, [*symbol, number, number, number, out]),
+        ("inspect", _u16, [*symbol, out]),
+        ("write", _u16, [out, number, octets, out]), ("write_bytes", _u16, [octets, number, octets, out]),
     ):
         function = getattr(library, "ecc200_" + name)
         function.restype, function.argtypes = result, given
@@ -317,6 +352,7 @@ def _load(processor: str = "/proc/cpuinfo") -> ctypes.CDLL:
 
 _library = _load()
 _ASCII, _WIDE = Profile.ASCII, Extent.WIDE
+_USUAL = bytes(ctypes.sizeof(_How))  # ASCII, and the smallest square
 _call_read, _call_write_bytes = _library.ecc200_read, _library.ecc200_write_bytes
 
 
@@ -335,8 +371,10 @@ def _room(rooms: List[_Room], kind: Type[ctypes.Structure]) -> _Room:
         return memoryview(made), ctypes.addressof(ctypes.c_char.from_buffer(made))
 
 
-_seven, _four = struct.Struct("=7H").unpack_from, struct.Struct("=4H").unpack_from
-_CORRECTED = _ReadingOut.corrected.offset
+# The beginning of a reading, with its three counts for each block, and of a symbol.
+_read_head = struct.Struct("=8H" + f"{_MOST_BLOCKS}s" * 3).unpack_from
+_drawn_head = struct.Struct("=5H").unpack_from
+_ITEMS, _MODULES, _PLACES = _ReadingOut.items.offset, _SymbolOut.modules.offset, _PlacesOut.places.offset
 _DIGITS = bytes(byte == 0x31 for byte in range(256))
 _TURNS = {2: 0, 3: 3, 4: 1, 5: 5, 6: 4, 7: 6, 8: 2}  # for each orientation of EXIF, Pillow's way of transposing
 
@@ -358,6 +396,11 @@ def _orientation(picture: Any) -> int:
         return 1
 
 
+def _darkened(picture: Any) -> Any:
+    """A Pillow picture of 1 where a picture is dark and of 0 where it is light."""
+    return _of_pillow(picture).point([1] * 128 + [0] * 128)
+
+
 def _rows_of(dark: Any) -> Rows:
     return [dark.crop((0, row, dark.width, row + 1)).tobytes() for row in range(dark.height)]
 
@@ -365,7 +408,7 @@ def _rows_of(dark: Any) -> Rows:
 def _ways(picture: Any) -> List[Rows]:
     """The pixels of a picture, true for dark, without its light margin: as they are stored, and as EXIF says that they
     are turned, if it does."""
-    dark = _of_pillow(picture).point([1] * 128 + [0] * 128)
+    dark = _darkened(picture)
     dark = dark.crop(dark.getbbox())
     turn = _TURNS.get(_orientation(picture))
     return [_rows_of(dark)] if turn is None else [_rows_of(dark), _rows_of(dark.transpose(turn))]
@@ -384,6 +427,8 @@ def _plain(grid: Any) -> Sequence[Any]:
     """A grid as rows, or as bytes that are all its modules."""
     if isinstance(grid, str):
         return grid.split()
+    if isinstance(grid, memoryview) and grid.ndim == 2:
+        return grid.tolist()
     if isinstance(grid, (bytes, bytearray, memoryview)):
         modules = bytes(grid)
         return modules.split() if b"\n" in modules and not modules.strip(b"01\r\n") else modules
@@ -394,22 +439,63 @@ def _plain(grid: Any) -> Sequence[Any]:
     return _of_row(grid) if getattr(grid, "ndim", 2) == 1 else list(grid)
 
 
-def _modules(grid: Grid) -> Tuple[bytes, int]:
-    """The modules of a grid, and its side."""
-    rows = grid if isinstance(grid, list) else _plain(grid)
-    side = math.isqrt(len(rows)) if isinstance(rows, bytes) else len(rows)
+def _joined(rows: Sequence[Any]) -> Tuple[bytes, int]:
+    """The modules of rows that are as long as one another, and how long they are."""
     try:
-        modules = rows if isinstance(rows, bytes) else b"".join(rows)
-    except TypeError:
-        modules = b""
-    if rows is not modules and (len(modules) != side * side or set(map(len, rows)) - {side}):
-        each = [_of_row(row) for row in rows]
-        modules = b"".join(each) if all(len(row) == side for row in each) else b""
-    if len(modules) != side * side:
+        modules = b"".join(rows)
+        columns = len(modules) // len(rows)
+        if {*map(len, rows)} == {columns}:
+            return modules, columns
+    except (TypeError, ZeroDivisionError):
+        pass
+    each = [_of_row(row) for row in rows]
+    if len({*map(len, each)}) > 1:
         raise Refused(Code.SHAPE)
+    return b"".join(each), len(each[0]) if each else 0
+
+
+def _modules(grid: Grid) -> Tuple[bytes, int, int]:
+    """The modules of a grid, its rows and its columns."""
+    rows = grid if isinstance(grid, list) else _plain(grid)
+    if isinstance(rows, bytes):
+        modules, count = rows, math.isqrt(len(rows))
+        columns = count
+        if count * count != len(rows):
+            raise Refused(Code.SHAPE)
+    else:
+        count = len(rows)
+        modules, columns = _joined(rows)
+    if count > 65535 or columns > 65535:
+        raise Refused(Code.SIZE, count, columns)
     if modules[:1] in (b"0", b"1") and not modules.strip(b"01"):  # characters
         modules = modules.translate(_DIGITS)
-    return modules, _number(Code.SIDE, side)
+    return modules, count, columns
+
+
+def _doubtful(grid: Optional[Grid], rows: int, columns: int) -> Tuple[Optional[bytes], int]:
+    """The modules of a symbol of so many rows and columns that are doubtful, and how many modules that are, 0 if none
+    is said to be."""
+    if grid is None:
+        return None, 0
+    some: Any = grid
+    marks = _rows_of(_darkened(some)) if hasattr(some, "getbbox") else some if isinstance(some, list) else _plain(some)
+    if isinstance(marks, bytes):
+        modules, size = marks, (rows, columns) if len(marks) == rows * columns else None
+    else:
+        modules, wide = _joined(marks)
+        size = len(marks), wide
+    if size != (rows, columns):
+        raise Refused(Code.DOUBT)
+    if modules[:1] in (b"0", b"1") and not modules.strip(b"01"):  # characters
+        modules = modules.translate(_DIGITS)
+    return modules, len(modules)
+
+
+def _dimensions(rows: int, columns: int) -> Tuple[int, int]:
+    """Rows and columns that the library takes as they are, or the refusal that names them."""
+    if 0 <= rows <= 65535 and 0 <= columns <= 65535:
+        return rows, columns
+    raise Refused(Code.SIZE, rows, columns)
 
 
 def _number(code: Code, number: int) -> Any:
@@ -419,32 +505,37 @@ def _number(code: Code, number: int) -> Any:
     raise Refused(code, number)
 
 
-def _limit(side: int, border_limit: Optional[int]) -> int:
-    return side // 4 if border_limit is None else max(0, min(border_limit, 65535))
+def _limit(rows: int, columns: int, border_limit: Optional[int]) -> int:
+    return (rows + columns) // 8 if border_limit is None else max(0, min(border_limit, 65535))
 
 
 def _said(answer: memoryview) -> Reading:
-    code, value, place, side, border_faults, blocks, count = _seven(answer)
+    code, value, place, rows, columns, border_faults, blocks, count, corrected, erased, left = _read_head(answer)
     if code:
         raise Refused(code, value, place)
-    raw = answer[14:14 + 2 * count].tobytes()
+    raw = answer[_ITEMS:_ITEMS + 2 * count].tobytes()
     data, items, gs1 = raw[::2], struct.unpack(f"={count}H", raw), raw[:2] == b"\0\1"
     if b"\1" in raw[1::2]:  # the upper byte of an FNC1
         data = bytes(_GS if item == FNC1 else item for item in items[gs1:])
-    return Reading(data, gs1, items, tuple(answer[_CORRECTED:_CORRECTED + blocks]), border_faults, side)
+    counts: Tuple[Tuple[int, ...], ...]
+    if blocks == 1:  # as mostly
+        counts = (corrected[0],), (erased[0],), (left[0],)
+    else:
+        counts = tuple(corrected[:blocks]), tuple(erased[:blocks]), tuple(left[:blocks])
+    return Reading(data, gs1, items, counts[0], border_faults, rows, columns, counts[1], counts[2])
 
 
 @functools.lru_cache(maxsize=None)
-def _cut(side: int) -> Callable[[memoryview, int], Tuple[bytes, ...]]:
-    """What takes rows of this side out of an answer: many slices would take longer than the call."""
-    return struct.Struct(f"{side}s" * side).unpack_from
+def _cut(rows: int, columns: int) -> Callable[[Union[bytes, memoryview], int], Tuple[bytes, ...]]:
+    """What takes the rows of a symbol out of an answer: many slices would take longer than the call."""
+    return struct.Struct(f"{columns}s" * rows).unpack_from
 
 
 def _drawn(answer: memoryview) -> Rows:
-    code, value, place, side = _four(answer)
+    code, value, place, rows, columns = _drawn_head(answer)
     if code:
         raise Refused(code, value, place)
-    return list(_cut(side)(answer, 8))
+    return list(_cut(rows, columns)(answer, _MODULES))
 
 
 def version() -> str:
@@ -452,22 +543,28 @@ def version() -> str:
     return str(_library.ecc200_version().decode())
 
 
-def usual_limit(side: int) -> int:
-    """How many wrong border modules are usually accepted in a symbol of this side: a quarter of it, rounded down."""
-    return side // 4
+def usual_limit(rows: int, columns: Optional[int] = None) -> int:
+    """How many wrong border modules are usually accepted in a symbol of so many rows and columns, by default a square:
+    an eighth of their sum, rounded down."""
+    return (rows + (rows if columns is None else columns)) // 8
 
 
-def read(grid: Grid, border_limit: Optional[int] = None, extent: Extent = Extent.WIDE) -> Reading:
+def read(grid: Grid, border_limit: Optional[int] = None, extent: Extent = Extent.WIDE,
+         doubtful: Optional[Grid] = None) -> Reading:
     """What a symbol says. `border_limit`: how many border modules may have the wrong colour, by default the usual
-    limit.
+    limit. `doubtful`: a grid with as many rows and columns in which the modules are 1 whose colours tell nothing, as
+    under a blot.
 
     A symbol with more damage than can be corrected is refused, unless it has come near the codewords of another
-    message, and is then read as that message: if that is worse than a refusal, look at `corrected`."""
-    modules, side = _modules(grid)
+    message, and is then read as that message: if that is worse than a refusal, look at `left`. Where that is 0 and
+    codewords are erased, a block is read whatever it held."""
+    modules, rows, columns = _modules(grid)
     extent = extent if extent is _WIDE else _number(Code.EXTENT, extent)
+    marks, count = (None, 0) if doubtful is None else _doubtful(doubtful, rows, columns)
     answer, address = room = _room(_readings, _ReadingOut)
     try:
-        _call_read(modules, len(modules), side, _limit(side, border_limit), extent, address)
+        _call_read(modules, len(modules), marks, count, rows, columns, _limit(rows, columns, border_limit), extent,
+                   address)
         return _said(answer)
     finally:
         _readings.append(room)
@@ -494,69 +591,105 @@ def _items(message: Iterable[int], gs1: bool) -> "array.array[int]":
         raise Refused(Code.ITEM, items[place], min(place + gs1, 65535)) from None
 
 
-def write(message: Message, gs1: bool = False, profile: Profile = Profile.ASCII, charset: Optional[str] = None) -> Rows:
-    """The normal grid of a message, given as bytes, as items, which are 0 to 255 or FNC1, or as text with the charset
-    that makes it bytes. With `gs1`, FNC1 stands in front and in place of each 0x1D."""
+@functools.lru_cache(maxsize=1024)
+def _how(profile: int, shape: int, rows: int = 0, columns: int = 0) -> bytes:
+    """How a message is written, as the library takes it."""
+    return struct.pack("=4H", profile, shape, rows, columns)
+
+
+def _chosen(profile: int, size: Optional[Tuple[int, int]], shape: Optional[int]) -> bytes:
+    """How a message is written: in this form, and in this size or in the smallest of this shape."""
+    form = _number(Code.PROFILE, profile)
+    if size is None:
+        if shape == _ONE:
+            raise Refused(Code.CHOICE, _ONE)
+        return _how(form, _number(Code.CHOICE, Shape.SQUARE if shape is None else shape))
+    if shape is not None:
+        raise TypeError("a size is chosen or a shape, and not both")
+    return _how(form, _ONE, *_dimensions(*size))
+
+
+def write(message: Message, gs1: bool = False, profile: Profile = Profile.ASCII, charset: Optional[str] = None,
+          size: Optional[Tuple[int, int]] = None, shape: Optional[Shape] = None) -> Rows:
+    """The symbol of a message, given as bytes, as items, which are 0 to 255 or FNC1, or as text with the charset that
+    makes it bytes. With `gs1`, FNC1 stands in front and in place of each 0x1D. It is the normal grid, which is a
+    square, unless another `shape` is chosen, whose smallest symbol is written, or a `size` by its rows and columns."""
     if isinstance(message, str):
         if charset is None:
             raise TypeError("a message is bytes or items; for text name its charset, as in write(text, "
                             "charset='iso-8859-1')")
         message = message.encode(charset)
-    profile = profile if profile is _ASCII else _number(Code.PROFILE, profile)
+    is_usual = profile is _ASCII and size is None and shape is None
+    how = _USUAL if is_usual else _chosen(profile, size, shape)
     answer, address = room = _room(_symbols, _SymbolOut)
     try:
         if gs1 or not isinstance(message, bytes):
             items = _items(message, gs1)
-            _library.ecc200_write(items.buffer_info()[0], len(items), profile, address)
+            _library.ecc200_write(items.buffer_info()[0], len(items), how, address)
         else:
-            _call_write_bytes(message, len(message), profile, address)
+            _call_write_bytes(message, len(message), how, address)
         return _drawn(answer)
     finally:
         _symbols.append(room)
 
 
 def normal(grid: Grid, border_limit: Optional[int] = None, profile: Profile = Profile.ASCII,
-           extent: Extent = Extent.WIDE) -> Rows:
-    """The normal grid of what a symbol says. Symbols that have normal grids under one profile say the same exactly if
-    these are equal."""
-    modules, side = _modules(grid)
+           extent: Extent = Extent.WIDE, doubtful: Optional[Grid] = None) -> Rows:
+    """The normal grid of what a symbol says, which is a square whatever the symbol is. Symbols that have normal grids
+    under one profile say the same exactly if these are equal."""
+    modules, rows, columns = _modules(grid)
     wanted, form = _number(Code.EXTENT, extent), _number(Code.PROFILE, profile)
+    marks = _doubtful(doubtful, rows, columns)
     answer, address = room = _room(_symbols, _SymbolOut)
     try:
-        _library.ecc200_normal(modules, len(modules), side, _limit(side, border_limit), wanted, form, address)
+        _library.ecc200_normal(modules, len(modules), *marks, rows, columns, _limit(rows, columns, border_limit),
+                               wanted, form, address)
         return _drawn(answer)
     finally:
         _symbols.append(room)
 
 
-def inspect(grid: Grid) -> Inspection:
+def inspect(grid: Grid, doubtful: Optional[Grid] = None) -> Inspection:
     """The codewords of a symbol, as they stand in it and as they are corrected, even if it can't be read."""
-    modules, side = _modules(grid)
+    modules, rows, columns = _modules(grid)
     out = _InspectionOut()
-    code = _library.ecc200_inspect(modules, len(modules), side, ctypes.byref(out))
+    code = _library.ecc200_inspect(modules, len(modules), *_doubtful(doubtful, rows, columns), rows, columns,
+                                   ctypes.byref(out))
     if code:
         raise Refused(code, out.fault.value, out.fault.place)
-    corrected = tuple(None if count == _BEYOND else count for count in out.corrected[:out.block_count])
-    return Inspection(bytes(out.held)[:out.codeword_count], bytes(out.mended)[:out.codeword_count], corrected,
-                      out.border_faults)
+    blocks, words = out.block_count, out.codeword_count
+    corrected = tuple(None if count == _BEYOND else count for count in out.corrected[:blocks])
+    return Inspection(bytes(out.held)[:words], bytes(out.mended)[:words], corrected, out.border_faults,
+                      tuple(out.erased[:blocks]), tuple(out.left[:blocks]))
 
 
-def places(side: int) -> List[List[Place]]:
-    """What each module of a symbol of this side is, row by row."""
+def places(rows: int, columns: Optional[int] = None) -> List[List[Place]]:
+    """What each module of a symbol of so many rows and columns, by default a square, is, row by row."""
     out, kinds = _PlacesOut(), (Kind.BIT, *Kind)
-    code = _library.ecc200_places(_number(Code.SIDE, side), ctypes.byref(out))
+    rows, columns = _dimensions(rows, rows if columns is None else columns)
+    code = _library.ecc200_places(rows, columns, ctypes.byref(out))
     if code:
         raise Refused(code, out.fault.value, out.fault.place)
     each = [Place(kinds[kind], word, bit)
-            for word, bit, kind in struct.iter_unpack("=HBB", bytes(out)[8:8 + 4 * side * side])]
-    return [each[at:at + side] for at in range(0, side * side, side)]
+            for word, bit, kind in struct.iter_unpack("=HBB", bytes(out)[_PLACES:_PLACES + 4 * rows * columns])]
+    return [each[at:at + columns] for at in range(0, rows * columns, columns)]
 
 
 def sizes() -> List[Size]:
-    """The table of sizes, by rising side."""
+    """The table of sizes, by rising number of modules, and of those with as many by rising columns."""
     out = _SizesOut()
     _library.ecc200_sizes(ctypes.byref(out))
-    return [Size._make(row) for row in struct.iter_unpack("=8H", bytes(out))]
+    return [Size._make(row) for row in struct.iter_unpack(f"={len(Size._fields)}H", bytes(out))]
+
+
+@functools.lru_cache(maxsize=None)
+def _sizes_by_dimensions() -> Dict[Tuple[int, int], Size]:
+    return {(size.rows, size.columns): size for size in sizes()}
+
+
+def _size_of(rows: int, columns: int) -> Size:
+    """The size of so many rows and columns, which some symbol has."""
+    return _sizes_by_dimensions()[rows, columns]
 
 
 # ---- Symbols in pictures, which the library ecc200_sample finds: the structs are those of ecc200_sample.h.

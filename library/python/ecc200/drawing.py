@@ -77,22 +77,22 @@ class _Block:
     puts on a page."""
 
     def __init__(self, rows: Rows, module: float, quiet: int, caption: Sequence[str], dot: float) -> None:
-        self.rows, self.module, self.dot = rows, module, dot
-        self.quiet, self.side = quiet * module, (len(rows) + 2 * quiet) * module
-        columns = max(_LEAST_COLUMNS, int((self.side / dot + 1) / _ADVANCE + 1e-9))
+        self.rows, self.module, self.dot, self.quiet = rows, module, dot, quiet * module
+        self.wide, self.high = ((count + 2 * quiet) * module for count in (len(rows[0]), len(rows)))
+        columns = max(_LEAST_COLUMNS, int((self.wide / dot + 1) / _ADVANCE + 1e-9))
         self.lines = wrapped(caption, columns)
-        self.width = max(self.side, *(self._width(line) + _ADVANCE * dot for line in self.lines), 0)
+        self.width = max(self.wide, *(self._width(line) + _ADVANCE * dot for line in self.lines), 0)
         self.gap = max(0, module - self.quiet) if self.lines else 0  # the standard's least quiet zone
-        self.height = self.side + self.gap + len(self.lines) * _FEED * dot
+        self.height = self.high + self.gap + len(self.lines) * _FEED * dot
 
     def _width(self, line: str) -> float:
         return (len(line) * _ADVANCE - 1) * self.dot
 
     def cell(self, left: float, top: float) -> Cell:
-        return Cell(self.rows, left + (self.width - self.side) / 2 + self.quiet, top + self.quiet)
+        return Cell(self.rows, left + (self.width - self.wide) / 2 + self.quiet, top + self.quiet)
 
     def caption(self, left: float, top: float) -> List[Line]:
-        first = top + self.side + self.gap
+        first = top + self.high + self.gap
         return [Line(line, left + (self.width - self._width(line)) / 2, first + place * _FEED * self.dot)
                 for place, line in enumerate(self.lines)]
 

@@ -210,17 +210,18 @@ def _meanings(data: bytes, items: Optional[Tuple[int, ...]], refused: Optional[R
             yield ("", "what can't be read begins here" if place == known else "not read")
 
 
-def explain(grid: Grid, border_limit: Optional[int] = None, extent: Extent = Extent.WIDE) -> Explanation:
+def explain(grid: Grid, border_limit: Optional[int] = None, extent: Extent = Extent.WIDE,
+            doubtful: Optional[Grid] = None) -> Explanation:
     """The codewords of a grid with what each means: the data codewords, and then the check codewords. Beyond correction
     none has a meaning."""
-    seen = core.inspect(grid)
+    seen = core.inspect(grid, doubtful)
     items, refused = None, None
     try:
-        items = core.read(grid, border_limit, extent).items
+        items = core.read(grid, border_limit, extent, doubtful).items
     except Refused as why:
         refused = why
-    side = len(core._modules(grid)[0])
-    size = next(size for size in core.sizes() if size.side * size.side == side)
+    _, rows, columns = core._modules(grid)
+    size = core._size_of(rows, columns)
     data = seen.mended[:size.data_codewords]
     if None in seen.corrected:
         meanings = [("", "unknown: its block is beyond correction" if seen.corrected[place % size.blocks] is None

@@ -2,11 +2,11 @@
 import argparse
 import os
 import re
-from typing import Iterator, List, NamedTuple, Tuple, Union
+from typing import Iterator, List, NamedTuple, Optional, Tuple, Union
 
 from . import core, gs1
 from .advice import why_not_written
-from .core import Refused
+from .core import Refused, Rows, Shape
 from .labels import Label, printed
 from .sources import Trouble, open_input
 from .spelling import Misspelled, of_spelling, shown, spelled
@@ -82,9 +82,25 @@ def _message(text: str, given: argparse.Namespace) -> Tuple[Union[bytes, List[in
     return text.encode(given.charset), False, printed(text)
 
 
+def _size(given: argparse.Namespace) -> Optional[Tuple[int, int]]:
+    """The rows and columns that are asked for."""
+    if given.size is None:
+        return None
+    rows, columns = given.size.split("x")
+    return int(rows), int(columns)
+
+
+def _shape(given: argparse.Namespace) -> Optional[Shape]:
+    return None if given.shape is None else Shape[given.shape.upper()]
+
+
+def _written(message: Union[bytes, List[int]], is_gs1: bool, given: argparse.Namespace) -> Rows:
+    return core.write(message, is_gs1, given.profile, size=_size(given), shape=_shape(given))
+
+
 def _in_words(why: ValueError, given: argparse.Namespace) -> str:
     if isinstance(why, Refused):
-        return why_not_written(why)
+        return why_not_written(why, _size(given), _shape(given))
     if isinstance(why, UnicodeEncodeError):
         return f"the charset {given.charset} has no {why.object[why.start]!r}; name another by --charset, as utf-8"
     if isinstance(why, (gs1.Faulty, Misspelled, _Unclear, UnicodeError)):
@@ -96,9 +112,9 @@ def _of_bytes(given: argparse.Namespace) -> Union[Label, Unwritten]:
     with open_input(given.bytes) as stream:
         data = stream.read()
     try:
-        return Label(1, printed(shown(data)), core.write(data, profile=given.profile))
+        return Label(1, printed(shown(data)), _written(data, False, given))
     except Refused as why:
-        return Unwritten(given.bytes, why_not_written(why))
+        return Unwritten(given.bytes, _in_words(why, given))
 
 
 def labels(given: argparse.Namespace) -> Iterator[Union[Label, Unwritten]]:
@@ -113,6 +129,6 @@ def labels(given: argparse.Namespace) -> Iterator[Union[Label, Unwritten]]:
         try:
             _check(text, not given.messages)
             message, is_gs1, parts = _message(text, given)
-            yield Label(number, parts, core.write(message, is_gs1, given.profile))
+            yield Label(number, parts, _written(message, is_gs1, given))
         except ValueError as why:
             yield Unwritten(name, _in_words(why, given))

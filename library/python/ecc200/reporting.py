@@ -1,65 +1,83 @@
-"""The subcommands that read: read, check, normal, compare, explain."""
+"""The subcommands that read: read, check, normal, compare, explain; and sizes."""
 import argparse
 import json
 import sys
 from typing import Any, Dict, Iterator, List, NamedTuple, Optional, Tuple, Union
 
 from . import core, explaining, gs1
-from .advice import in_words, righted, why_not_written
-from .core import FNC1, Code, Reading, Refused, Rows
+from .advice import bytes_in, in_words, righted, sizes_of, why_not_written
+from .core import FNC1, Code, Reading, Refused, Rows, Shape
 from .labels import Label, Output, printed
 from .progress import Progress
-from .sources import Source, Trouble, known_charset, sources
+from .sources import Source, Trouble, doubts, known_charset, sources
 from .spelling import decoded, shown, spelled
 
-__all__ = ["Answer", "answers", "check", "compare", "explain", "normal", "read"]
+__all__ = ["Answer", "answers", "check", "compare", "explain", "normal", "read", "sizes"]
 
 
 class Answer(NamedTuple):
     """What a symbol says, or why it isn't read, in words, with the refusal if the library refused; the grid; how it was
-    changed to be read."""
+    changed to be read; and which of its modules are doubtful, if that is said."""
     source: Source
     reading: Optional[Reading]
     rows: Rows
     fault: str = ""
     refused: Optional[Refused] = None
     how: str = ""
+    doubtful: Optional[Rows] = None
+
+    @property
+    def size(self) -> str:
+        """Rows and columns, as --size takes them."""
+        return f"{len(self.rows)}x{len(self.rows[0])}"
 
 
-def _refusal(source: Source, rows: Rows, why: Refused, given: argparse.Namespace) -> Answer:
-    hint = None if source.found else righted(rows, given.border, given.extent)
+def _refusal(source: Source, rows: Rows, why: Refused, given: argparse.Namespace, doubtful: Optional[Rows]) -> Answer:
+    hint = None if source.found or doubtful is not None else righted(rows, given.border, given.extent)
     if hint is not None and given.any_way:
         return Answer(source, hint.reading, hint.rows, how=hint.how)
-    fault = in_words(why, rows, given.extent)
+    fault = in_words(why, rows, given.extent, doubtful)
     if source.found and why.code in (Code.BORDER, Code.BLOCK):
-        fault = (f"what looks most like a symbol isn't read: {fault}. Rectangles and other codes, as QR codes, aren't "
-                 "read at all")
+        fault = f"what looks most like a symbol isn't read: {fault}. Other codes, as QR codes, aren't read at all"
     if hint is not None:
-        fault = f"it {hint.how}; --any-way reads it so" + ("" if Code.SIDE >= why.code else f" (as it stands, {fault})")
-    return Answer(source, None, rows, "; ".join(filter(None, (fault, source.fault))), why)
+        fault = f"it {hint.how}; --any-way reads it so" + ("" if Code.SIZE >= why.code else f" (as it stands, {fault})")
+    return Answer(source, None, rows, "; ".join(filter(None, (fault, source.fault))), why, doubtful=doubtful)
 
 
-def _answer(source: Source, given: argparse.Namespace) -> Answer:
+def _answer(source: Source, given: argparse.Namespace, doubtful: Optional[Rows]) -> Answer:
     if source.rows is None:
         return Answer(source, None, [], source.fault)
     rows = source.rows
     try:
-        if len({len(row) for row in rows} | {len(rows)}) > 1:
-            raise Refused(Code.SHAPE)
-        return Answer(source, core.read(rows, given.border, given.extent), rows)
+        return Answer(source, core.read(rows, given.border, given.extent, doubtful), rows, doubtful=doubtful)
     except Refused as why:
-        return _refusal(source, rows, why, given)
+        return _refusal(source, rows, why, given, doubtful)
+
+
+def _check_doubts(given: argparse.Namespace, names: List[str]) -> None:
+    """That grids of doubtful modules can be told from those that are read, and stand as they do."""
+    if given.doubtful == "-" and "-" in (names or ["-"]):
+        raise Trouble("--doubtful -: standard input has the grids that are read, and can't have others")
+    if given.doubtful is not None and given.any_way:
+        raise Trouble("--doubtful: the grids have to stand upright, and don't go with --any-way")
 
 
 def answers(given: argparse.Namespace, names: List[str]) -> Iterator[Answer]:
     """An answer for each grid and each symbol of a picture, and for each file that can't be read."""
-    progress = Progress("symbols read")
+    _check_doubts(given, names)
+    progress, marks = Progress("symbols read"), doubts(given.doubtful)
     try:
         for source in sources(names, given.recursive, given.most, given.milliseconds, given.margin):
-            yield _answer(source, given)
+            doubtful = next(marks, None) if source.number else None
+            if given.doubtful is not None and source.number and doubtful is None:
+                raise Trouble(f"--doubtful {given.doubtful}: it has no grid for symbol {source.number} of "
+                              f"{source.file}")
+            yield _answer(source, given, doubtful)
             progress.step()
     finally:
         progress.end()
+    if given.doubtful is not None and next(marks, None) is not None:
+        raise Trouble(f"--doubtful {given.doubtful}: it has more grids than there are symbols")
 
 
 def _is_named(given: argparse.Namespace) -> bool:
@@ -111,7 +129,8 @@ def _about(answer: Answer) -> Dict[str, Any]:
             told.update({"block": place + 1} if code == Code.BLOCK else {"value": value, "place": place})
     else:
         reading = answer.reading
-        told.update(side=len(answer.rows), border_faults=reading.border_faults, corrected=list(reading.corrected))
+        told.update(rows=reading.rows, columns=reading.columns, border_faults=reading.border_faults,
+                    corrected=list(reading.corrected), erased=list(reading.erased), left=list(reading.left))
     return told
 
 
@@ -166,18 +185,25 @@ def read(given: argparse.Namespace) -> int:
 
 def check(given: argparse.Namespace) -> int:
     """Prints how much of symbols is wrong."""
-    status, limits = 0, {size.side: size.limit for size in core.sizes()}
+    status = 0
     for answer in answers(given, given.files):
         if answer.reading is None:
             status = max(status, _complain(answer, given))
         if given.json:
             print(_json(_about(answer)), flush=True)
         elif answer.reading is not None:
-            side = len(answer.rows)
-            counts = ", ".join(map(str, answer.reading.corrected))
-            _print(answer, f"side {side}, {answer.reading.border_faults} border modules wrong, codewords corrected in "
-                   f"each block: {counts} (at most {limits[side]})", given)
+            _print(answer, _checked(answer, answer.reading), given)
     return status
+
+
+def _checked(answer: Answer, reading: Reading) -> str:
+    """How much of a symbol is wrong."""
+    corrected, erased, left = (", ".join(map(str, counts)) for counts in (reading.corrected, reading.erased,
+                                                                          reading.left))
+    most = core._size_of(*reading.size).limit
+    more = f" (at most {most})" if answer.doubtful is None else f", erased: {erased}, check codewords left: {left}"
+    return (f"{answer.size}, {reading.border_faults} border modules wrong, codewords corrected in each block: "
+            f"{corrected}{more}")
 
 
 def _parts(reading: Reading) -> Tuple[str, ...]:
@@ -194,7 +220,7 @@ def normal(given: argparse.Namespace) -> int:
     for count, answer in enumerate(answers(given, given.files), 1):
         if answer.reading is not None:
             try:
-                rows = core.normal(answer.rows, given.border, given.profile, given.extent)
+                rows = core.normal(answer.rows, given.border, given.profile, given.extent, answer.doubtful)
                 labels.append(Label(count, _parts(answer.reading), rows))
                 continue
             except Refused as why:
@@ -233,8 +259,8 @@ def compare(given: argparse.Namespace) -> int:
     same = first.reading.items == second.reading.items
     for name, answer in zip(given.files, (first, second)):
         assert answer.reading is not None
-        print(f"{name}: {shown(answer.reading.items)} (side {len(answer.rows)}, "
-              f"{sum(answer.reading.corrected)} codewords corrected)")
+        print(f"{name}: {shown(answer.reading.items)} ({answer.size}, {sum(answer.reading.corrected)} codewords "
+              "corrected)")
     print("the same" if same else f"different: {_difference(first.reading, second.reading)}")
     return 0 if same else 1
 
@@ -253,7 +279,7 @@ def explain(given: argparse.Namespace) -> int:
         if answer.reading is None:
             status = max(status, _complain(answer, given))
         try:
-            explanation = explaining.explain(answer.rows, given.border, given.extent)
+            explanation = explaining.explain(answer.rows, given.border, given.extent, answer.doubtful)
         except Refused:
             if given.json:
                 print(_json(_about(answer)), flush=True)
@@ -268,3 +294,21 @@ def explain(given: argparse.Namespace) -> int:
         if answer.reading is not None:
             print(f"It says {shown(answer.reading.items)}", end="\n\n", flush=True)
     return status
+
+
+def sizes(given: argparse.Namespace) -> int:
+    """Prints the table of sizes."""
+    shape = Shape[(given.shape or "any").upper()]
+    if not given.json:
+        print(f"{'size':7}  {'regions':>12}  {'data':>5}  {'check':>5}  {'blocks':>6}  {'limit':>5}  {'digits':>6}  "
+              f"{'letters':>7}  {'bytes':>5}  standard")
+    for size in sizes_of(shape):
+        standard, data = "ISO/IEC 21471" if size.extension else "ISO/IEC 16022", size.data_codewords
+        if given.json:
+            print(_json({**size._asdict(), "digits": 2 * data, "letters": data, "bytes": bytes_in(size),
+                         "standard": standard}), flush=True)
+            continue
+        regions = f"{size.regions_down * size.regions_across} of {size.region_rows}x{size.region_columns}"
+        print(f"{f'{size.rows}x{size.columns}':7}  {regions:>12}  {data:5}  {size.check_codewords:5}  "
+              f"{size.blocks:6}  {size.limit:5}  {2 * data:6}  {data:7}  {bytes_in(size):5}  {standard}", flush=True)
+    return 0

@@ -10,13 +10,13 @@ from . import core, pictures
 from .advice import reduced
 from .core import Rows
 
-__all__ = ["Source", "Trouble", "known_charset", "of_picture", "of_text", "open_input", "sources"]
+__all__ = ["Source", "Trouble", "doubts", "known_charset", "of_picture", "of_text", "open_input", "sources"]
 
 # How pictures begin: PNG, JPEG, GIF, BMP, TIFF, WebP, PNM. A sound is a RIFF too, and a text may begin with BM.
 _PICTURE = re.compile(rb"\x89PNG|\xff\xd8\xff|GIF8|BM.{13}\0\0\0|II\*\0|MM\0\*|RIFF....WEBP|P[1-6]\s+[#\d]",
                       re.DOTALL)
 _WITHOUT = "without it a picture has to show one upright symbol with a whole number of pixels for each module"
-_MOST_CHARACTERS, _MOST_LINES = 4096, 4096  # of a record; a symbol has at most 104
+_MOST_CHARACTERS, _MOST_LINES = 4096, 4096  # of a record; a symbol has at most 144
 _GRID = re.compile(rb"[\r\n]*[01]{10,}\r?\n")
 _NOT_DOTS = re.compile(rb"(?P<PDF>%PDF-)|(?P<SVG>(?:\xef\xbb\xbf)?\s*(?:<[?!][^>]*>\s*)*<svg\b)")
 _OBJECT = re.compile(r"\s*<_io\.BytesIO object at \w+>")  # how Pillow names what it was given
@@ -70,9 +70,8 @@ def _of_record(file: str, number: int, lines: List[bytes]) -> Source:
             return Source(file, number, None, _line_fault(line))
     if len({len(line) for line in lines}) > 1:
         shortest, longest = min(map(len, lines)), max(map(len, lines))
-        return Source(file, number, None,
-                      f"its lines have from {shortest} to {longest} characters; a grid has as many in each line as it "
-                      "has lines")
+        return Source(file, number, None, f"its lines have from {shortest} to {longest} characters; a grid has as many "
+                      "in each")
     return Source(file, number, [bytes(byte - 48 for byte in line) for line in lines])
 
 
@@ -123,7 +122,7 @@ def _is_symbol(source: Source) -> bool:
     try:
         return source.rows is not None and bool(core.read(source.rows))
     except core.Refused as why:
-        return why.code not in (core.Code.SHAPE, core.Code.SIDE, core.Code.BORDER, core.Code.BLOCK)
+        return why.code not in (core.Code.SHAPE, core.Code.SIZE, core.Code.BORDER, core.Code.BLOCK)
 
 
 def _has_margin(source: Source, margin: int) -> bool:
@@ -132,8 +131,7 @@ def _has_margin(source: Source, margin: int) -> bool:
         reading = core.read(source.rows or [])
     except core.Refused:
         return True
-    limit = next(size.limit for size in core.sizes() if size.side == reading.side)
-    return limit - max(reading.corrected) >= margin
+    return core._size_of(*reading.size).limit - max(reading.corrected) >= margin
 
 
 def _of_page(name: str, page: Any, number: int, most: int, options: core._Options) -> List[Source]:
@@ -157,9 +155,9 @@ def of_picture(name: str, data: bytes, most: int, milliseconds: int, margin: int
             yield source._replace(number=count)
     if not count:
         passed = f"; those that leave fewer than {margin} corrections are passed over" if margin else ""
-        yield Source(name, 1, None, f"no square Data Matrix symbol was found in its {picture.width} by "
-                     f"{picture.height} pixels; rectangles and other codes, as QR codes, aren't read. A module should "
-                     "have at least two pixels, and the symbol a light margin. --time allows a longer search" + passed)
+        yield Source(name, 1, None, f"no Data Matrix symbol was found in its {picture.width} by {picture.height} "
+                     "pixels; other codes, as QR codes, aren't read. A module should have at least two pixels, and the "
+                     "symbol a light margin. --time allows a longer search" + passed)
 
 
 # ---- Files and folders
@@ -222,3 +220,22 @@ def sources(names: List[str], recursive: bool = False, most: int = 64, milliseco
                 yield Source(str(why.filename) if why is file else str(file), 0, None, str(why.strerror))
             except (_Unreadable, ValueError) as why:  # as of a page that can't be opened
                 yield Source(str(file), 0, None, _OBJECT.sub("", str(why)))
+
+
+# ---- Doubtful modules
+
+def doubts(name: Optional[str]) -> Iterator[Optional[Rows]]:
+    """The grids of a file that say which modules of symbols are doubtful, one after another; without a file none for
+    ever."""
+    if name is None:
+        while True:
+            yield None
+    with open_input(name) as stream:
+        try:
+            _check_text(stream.peek(4096), name)
+            for source in of_text(name, stream):
+                if source.rows is None:
+                    raise _Unreadable(f"grid {source.number}: {source.fault}")
+                yield source.rows
+        except _Unreadable as why:
+            raise Trouble(f"--doubtful {name}: {why}") from None

@@ -1,0 +1,335 @@
+"""The command and drawings for rectangles and the largest squares: sizes that are chosen, grids, pictures, labels,
+sheets, refusals in words, doubtful modules."""
+import io
+import json
+import os
+import re
+
+from tests.python.batches import made, saved
+from tests.python.common import PYTHON, has, has_sampler, holds, raises, run, same, wanted_module
+from tests.python.drawings import pixels
+from tests.python.labels import of_blocks
+from tests.python.sizes import KINDS, LEFT_OUT, SIZES, changed, every_size, filling, marked, outcome, wanted
+from tests.python.surface import WORDS, ecc, environment, says, text, turned
+
+import ecc200
+from ecc200 import Shape, drawing
+from ecc200.spelling import of_spelling
+
+GS1 = "(01)09521234543213(17)251231(10)ABC123"
+
+
+def named(size):
+    return "{}x{}".format(*size)
+
+
+def cells_of(size, bit=1):
+    """Where this bit of each codeword stands."""
+    return {place[1]: (y, x) for y, row in enumerate(ecc200.places(*size)) for x, place in enumerate(row)
+            if place[::2] == (ecc200.Kind.BIT, bit)}
+
+
+# ---- Reading
+
+
+def read_by_command():
+    """The marks of zint through the command: what they say, or what is left out."""
+    marks = list(every_size())
+    grids = "".join("\n".join(rows) + "\n\n" for _, rows, _ in marks)
+    status, output, errors = ecc("read", "--escapes", given=grids)
+    said = [said for *_, said in marks if isinstance(wanted(said), str)]
+    yield same("marks of every size", (status, output.splitlines()), (1, said))
+    words = {"\\E": "an ECI", "\\A": "structured append", "\\P": "reader programming"}
+    told = [line for line in errors.splitlines() if "codeword 1 begins" in line]
+    yield same("those that are left out", [next((it for it in words.values() if it in line), line) for line in told],
+               [words[said[:2]] for *_, said in marks if said[:2] in LEFT_OUT])
+    lines = [json.loads(line) for line in ecc("read", "--json", given=grids)[1].splitlines()]
+    got = [(line.get("message"), line.get("rows"), line.get("columns")) for line in lines]
+    yield same("the same in JSON", got, [(said, len(rows), len(rows[0])) if isinstance(wanted(said), str)
+                                         else (None, None, None) for _, rows, said in marks])
+    checked = ecc("check", given=grids)[1].splitlines()
+    yield same("check", [line.split(",")[0] for line in checked],
+               [f"{len(rows)}x{len(rows[0])}" for _, rows, said in marks if isinstance(wanted(said), str)])
+    normal = ecc("normal", given=grids)
+    again = ecc("read", "--escapes", given=normal[1])
+    held = [text for text in said if isinstance(outcome(ecc200.write, of_spelling(text, "ascii")), list)]
+    yield same("normal", (normal[0], again[0], again[1].splitlines()), (1, 0, held))
+    yield same("messages that no square holds in ASCII", normal[2].count("longer than any symbol holds"),
+               len(said) - len(held))
+    yield same("normal grids are squares", [len(grid.split()) == len(grid.split()[0])
+                                            for grid in normal[1].strip().split("\n\n")], [True] * len(held))
+
+
+def grids(folder):
+    """Each size through the subcommands, from text."""
+    here, messages = made(folder, "grids"), [filling(size).decode() for size in SIZES]
+    drawn = [text(ecc200.write(message.encode(), size=size)) for message, size in zip(messages, SIZES)]
+    for size, message, grid in zip(SIZES, messages, drawn):
+        yield says(f"write --size {named(size)}", ecc("write", "--size", named(size), message), output=grid)
+    yield says("read", ecc("read", given="".join(drawn)), output="".join(f"{message}\n" for message in messages))
+    wanted_lines = [f"{named((size.rows, size.columns))}, 0 border modules wrong, codewords corrected in each block: "
+                    f"{', '.join(['0'] * size.blocks)} (at most {size.limit})" for size in ecc200.sizes()]
+    yield same("check", ecc("check", given="".join(drawn))[1].splitlines(), wanted_lines)
+    told = [json.loads(line) for line in ecc("explain", "--json", given="".join(drawn))[1].splitlines()]
+    for size, message, one in zip(SIZES, messages, told):
+        meanings = [word["meaning"] for word in one["codewords"]]
+        yield same(f"explain {named(size)}", (one["rows"], one["columns"], meanings[:len(message)]),
+                   (*size, [f"the character {letter}" for letter in message]))
+    saved(here, "square.txt", text(ecc200.write(b"Mitsu")))
+    for size in ((8, 18), (16, 48), (26, 64), (144, 144)):
+        saved(here, "one.txt", text(ecc200.write(b"Mitsu", size=size)))
+        yield says(f"compare {named(size)}", ecc("compare", "one.txt", "square.txt", folder=here),
+                   output=f"one.txt: Mitsu ({named(size)}, 0 codewords corrected)\nsquare.txt: Mitsu (12x12, 0 "
+                   "codewords corrected)\nthe same\n")
+
+
+def sizes_told():
+    """The table of sizes, and what fits."""
+    status, output, errors = ecc("sizes")
+    lines = [line.split() for line in output.splitlines()]
+    yield same("sizes", (status, errors, [line[0] for line in lines[1:]]), (0, "", list(map(named, SIZES))))
+    for shape in Shape:
+        got = {line.split()[0] for line in ecc("sizes", "--shape", shape.name.lower())[1].splitlines()[1:]}
+        yield same(f"sizes of {shape.name}", got, {named((size.rows, size.columns)) for size in ecc200.sizes()
+                                                   if KINDS[shape](size)})
+    told = [json.loads(line) for line in ecc("sizes", "--json")[1].splitlines()]
+    yield same("sizes in JSON", [ecc200.Size(**{name: line[name] for name in ecc200.Size._fields}) for line in told],
+               ecc200.sizes())
+    for line in told:
+        size = line["rows"], line["columns"]
+        for item, name, profile in ((b"7", "digits", 0), (b"A", "letters", 0), (b"\xff", "bytes", 1)):
+            count = line[name]
+            yield same(f"{count} {name} in {named(size)}",
+                       ecc200.read(ecc200.write(item * count, profile=profile, size=size)).data, item * count)
+            yield raises(f"one more of {name}, {named(size)}", ecc200.Refused, "TOO_LONG",
+                         lambda: ecc200.write(item * (count + 1), profile=profile, size=size))
+
+
+def chosen(folder):
+    """Shapes and sizes for messages of all kinds."""
+    here = made(folder, "chosen")
+    for shape in Shape:
+        for words, message, gs1 in ((["A1B2C3"], b"A1B2C3", False), (["--gs1", "(10)A(21)B"], b"10A\x1d21B", True)):
+            yield says(f"--shape {shape.name.lower()}, {words}", ecc("write", "--shape", shape.name.lower(), *words),
+                       output=text(ecc200.write(message, gs1, shape=shape)))
+    yield same("the usual shape", ecc("write", "A" * 20), ecc("write", "--shape", "square", "A" * 20))
+    yield says("--size with --hex", ecc("write", "--size", "12x26", "--hex", "00ff"),
+               output=text(ecc200.write(b"\0\xff", size=(12, 26))))
+    yield says("--size with --shorter", ecc("write", "--size", "12x26", "--shorter", "--hex", "80" * 9),
+               output=text(ecc200.write(b"\x80" * 9, profile=1, size=(12, 26))))
+    yield says("--size with --bytes", ecc("write", "--size", "8x18", "--bytes", "-", given=b"\xff\n"),
+               output=text(ecc200.write(b"\xff\n", size=(8, 18))))
+    yield says("lines, one too long", ecc("write", "--size", "8x18", given="A\n" + "B" * 6 + "\nC\n"), 1,
+               text(ecc200.write(b"A", size=(8, 18))) + text(ecc200.write(b"C", size=(8, 18))),
+               ["line 2: the message is longer than a symbol of 8x18 holds: 10 digits, 5 other characters"])
+    for shape, part in (("rectangle", "any rectangle of ISO/IEC 16022 holds; --shape extended has larger ones: 98"),
+                        ("extended", "any rectangle holds: 236 digits"), ("any", "any symbol holds: 3116 digits"),
+                        ("square", "any symbol holds: 3116 digits")):
+        yield says(f"too long for --shape {shape}", ecc("write", "--shape", shape, given="7" * 4000), 1, "", [part])
+    yield holds("words of an unknown size name all", "'8x32'" in ecc("write", "--size", "9x9", "A")[2])
+    yield says("files by message", ecc("write", "--shape", "rectangle", "-o", "{}.txt", "A", "B", folder=here),
+               output="")
+    yield same("one of them", open(os.path.join(here, "A.txt")).read(), text(ecc200.write(b"A", shape=1)))
+
+
+# ---- Refusals in words
+
+
+def in_words():
+    """What is wrong with a grid of a rectangle, and what to do."""
+    size, message = (8, 32), b"Rectangle1"
+    rows = ecc200.write(message, size=size)
+    cells = cells_of(size)
+    for name, grid, parts in [
+        ("no size", [bytes(32)] * 10, ["no symbol has 10 rows of 32 modules", "'ecc200 sizes'"]),
+        ("lying", [bytes(8)] * 32, ["no symbol has 32 rows of 8 modules"]),
+        ("a wrong border", [*rows[:-1], bytes(32)], ["32 of the", "of its border", "--border 32 accepts them"]),
+        ("damage", changed(rows, list(cells.values())[:8]),
+         ["block 1 of its 1 has more than 5 wrong codewords", "--doubtful"]),
+        ("a ragged grid", [*rows[:-1], rows[-1][:-1]], ["from 31 to 32 characters; a grid has as many in each"]),
+    ]:
+        yield says(name, ecc("read", given=text(grid)), 1, "", ["symbol 1: ", *parts])
+    border = sum(place.kind in (ecc200.Kind.BORDER_DARK, ecc200.Kind.BORDER_LIGHT)
+                 for row in ecc200.places(*size) for place in row)
+    yield same("modules of the border", border, 2 * 2 * (8 + 16 - 2))
+    yield says("--border is enough", ecc("read", "--border", "32", given=text([*rows[:-1], bytes(32)])),
+               output="Rectangle1\n")
+    told = json.loads(ecc("read", "--json", given=text([bytes(32)] * 10))[1])
+    yield same("no size in JSON", (told["code"], told["value"], told["place"]), ("SIZE", 10, 32))
+
+
+def otherwise():
+    """Rectangles that stand otherwise are named, and read with --any-way."""
+    for size in ((8, 18), (12, 36), (26, 64), (144, 144)):
+        message = b"Rect" if size == (8, 18) else b"Mitsubadoor"
+        rows = ecc200.write(message, size=size)
+        left, over = turned(rows), turned(turned(rows))
+        for name, grid, part in [
+            ("left", left, "is turned to the left by a quarter"), ("over", over, "is upside down"),
+            ("right", turned(over), "is turned to the right by a quarter"),
+            ("mirrored", [row[::-1] for row in rows], "is mirrored"),
+            ("mirrored and turned", turned([row[::-1] for row in rows]), "is mirrored and is turned"),
+            ("inverted", [bytes(1 - module for module in row) for row in rows], "is light on dark"),
+            ("twice as large", [bytes(module for module in row for _ in "ab") for row in rows for _ in "ab"],
+             "has 2 by 2 characters"),
+            ("high", [row for row in rows for _ in "abc"], "has 1 by 3 characters"),
+            ("a margin", [bytes(size[1] + 3), *(b"\0" + row + b"\0\0" for row in rows), bytes(size[1] + 3)],
+             "has a light margin"),
+        ]:
+            yield says(f"{name}, {size}", ecc("read", given=text(grid)), 1, "", [part, "--any-way"])
+            yield says(f"{name}, {size}, --any-way", ecc("read", "--any-way", given=text(grid)),
+                       output=message.decode() + "\n")
+
+
+# ---- Doubtful modules
+
+
+def doubtful(folder):
+    """Grids of doubtful modules in a file beside the symbols."""
+    here, size, message = made(folder, "doubtful"), (8, 32), b"Rectangle1"
+    rows, cells = ecc200.write(message, size=size), list(cells_of(size).values())
+    damaged, marks = changed(rows, cells[:11]), marked(size, cells[:11])
+    square, none = ecc200.write(b"123456"), [bytes(10)] * 10
+    saved(here, "damaged.txt", text(square) + text(damaged))
+    saved(here, "marks.txt", text(none) + text(marks))
+    yield says("without", ecc("read", "damaged.txt", folder=here), 1, "123456\n", ["symbol 2: block 1", "--doubtful"])
+    told = ["--doubtful", "marks.txt", "damaged.txt"]
+    yield says("read", ecc("read", *told, folder=here), output="123456\nRectangle1\n")
+    yield says("grids on standard input", ecc("read", "--doubtful", "marks.txt", given=text(square) + text(damaged),
+                                              folder=here), output="123456\nRectangle1\n")
+    yield says("marks on standard input", ecc("read", "--doubtful", "-", "damaged.txt", given=text(none) + text(marks),
+                                              folder=here), output="123456\nRectangle1\n")
+    yield says("check", ecc("check", *told, folder=here),
+               output="10x10, 0 border modules wrong, codewords corrected in each block: 0, erased: 0, check codewords "
+               "left: 5\n8x32, 0 border modules wrong, codewords corrected in each block: 0, erased: 11, check "
+               "codewords left: 0\n")
+    yield says("normal", ecc("normal", *told, folder=here), output=text(square) + text(ecc200.write(message)))
+    status, output, _ = ecc("explain", *told, folder=here)
+    yield holds("explain", status == 0 and "It says Rectangle1" in output and "corrected; the symbol has" in output,
+                output)
+    second = json.loads(ecc("read", "--json", *told, folder=here)[1].splitlines()[1])
+    yield same("JSON", (second["corrected"], second["erased"], second["left"]), ([0], [11], [0]))
+    more = marked(size, cells[:12])
+    saved(here, "one.txt", text(damaged))
+    saved(here, "more.txt", text(more))
+    yield says("more than can be restored", ecc("read", "--doubtful", "more.txt", "one.txt", folder=here), 1, "",
+               ["block 1 of its 1 can't be restored", "11 check codewords"])
+    for name, files, status, part in [
+        ("other rows", text(none), 1, "the grid of its doubtful modules hasn't 8 rows of 32 modules"),
+        ("no grid", "\n", 2, "its lines are empty"), ("too many", text(marks) * 2, 2, "more grids than there are"),
+        ("another character", "10x\n", 2, "grid 1: it has the character 'x'"),
+        ("a ragged one", "10\n1\n", 2, "grid 1: its lines have from 1 to 2"),
+        ("a picture", b"\x89PNG\r\n\x1a\nrubbish", 2, "neither a picture"),
+    ]:
+        saved(here, "marks.txt", files)
+        got = ecc("read", "--doubtful", "marks.txt", "one.txt", folder=here)
+        yield holds(name, got[0] == status and part in got[2], str(got))
+    saved(here, "marks.txt", text(none))
+    yield says("too few", ecc("read", "--doubtful", "marks.txt", "damaged.txt", folder=here), 2, "123456\n",
+               ["--doubtful marks.txt: it has no grid for symbol 2 of damaged.txt"])
+    yield says("none there", ecc("read", "--doubtful", "nope.txt", "one.txt", folder=here), 2, "",
+               ["nope.txt: No such"])
+    yield says("both on standard input", ecc("read", "--doubtful", "-", given=text(square)), 2, "",
+               ["--doubtful -: standard input"])
+    yield says("with --any-way", ecc("read", "--any-way", "--doubtful", "more.txt", "one.txt", folder=here), 2, "",
+               ["don't go with --any-way"])
+
+
+# ---- Drawings
+
+
+def drawn(folder):
+    """A rectangle as PNG, SVG, PDF, blocks and an array, by its own rows and columns, and as others draw it."""
+    here = made(folder, "drawn")
+    image = wanted_module("PIL.Image", "Pillow", "rectangles as others draw them")
+    for size in ((8, 18), (8, 144), (26, 40), (144, 144)):
+        rows = ecc200.write(b"Rect", size=size)
+        for dots, quiet in ((1, 0), (3, 1), (4, 2)):
+            page = drawing.alone(rows, dots * 25.4 / 300, quiet)
+            width, height, found, _ = pixels(drawing.png(page, 300))
+            yield same(f"a PNG of {size} at {dots}", (height, width), tuple((count + 2 * quiet) * dots
+                                                                             for count in size))
+            modules = [bytes(1 - row[x * dots + dots // 2] for x in range(quiet, quiet + size[1]))
+                       for row in found[quiet * dots + dots // 2:(quiet + size[0]) * dots:dots]]
+            yield same(f"its modules, {size} at {dots}", modules, rows)
+        symbol = ecc200.Symbol(rows, quiet=1)
+        array = symbol.__array_interface__
+        yield same(f"an array of {size}", (array["shape"], len(array["data"])),
+                   ((size[0] + 2, size[1] + 2), (size[0] + 2) * (size[1] + 2)))
+        status, shown, _ = ecc("write", "--size", named(size), "--format", "blocks", "--quiet-zone", "2", "Rect")
+        yield same(f"blocks of {size}", (status, of_blocks(shown.split("\n")[:(size[0] + 4) // 2], 2)),
+                   (0, text(rows)))
+        if not image:
+            continue
+        yield same(f"a picture of {size}", ecc200.read(image.Image.open(io.BytesIO(symbol.png(25.4 / 0.5)))).size, size)
+        yield same(f"its array as a picture, {size}",
+                   ecc200.read(image.Image.frombytes("L", array["shape"][::-1], array["data"])).size, size)
+        for kind, words in {"pdf": ["pdftoppm", "-r", "508", "-png", "-singlefile", "a.pdf", "a"],
+                            "svg": ["rsvg-convert", "-d", "508", "-p", "508", "-o", "a.png", "a.svg"]}.items():
+            if has(words[0], f"{kind} as {words[0]} draws it"):
+                ecc("write", "--size", named(size), "Rect", "-o", f"a.{kind}", folder=here)
+                run(words, cwd=here)
+                with image.Image.open(os.path.join(here, "a.png")) as picture:
+                    small = picture.convert("L").resize((size[1] + 4, size[0] + 4), image.Image.BOX)
+                yield same(f"{kind} of {size} as {words[0]} draws it", ecc200.read(small), ecc200.read(rows))
+
+
+def labels(folder):
+    """Captions below rectangles, and sheets that hold symbols of several shapes, on which nothing overlaps."""
+    here = made(folder, "labels")
+    words = ["--shape", "rectangle", "--gs1", GS1, "--caption"]
+    for kind in ("svg", "pdf", "png"):
+        yield says(f"a caption in {kind}", ecc("write", *words, "-o", f"gs1.{kind}", folder=here), output="")
+    with open(os.path.join(here, "gs1.svg")) as file:
+        yield same("its lines", re.findall(">([^<]+)</text>", file.read()),
+                   ["(01)09521234543213", "(17)251231(10)ABC123"])
+    symbols = [ecc200.write(b"SN%d" % number, size=SIZES[number]) for number in range(48)
+               if 4 < ecc200.sizes()[number].data_codewords]
+    for caption in ([], ["SN-0001"], ["W" * 50]):
+        for page in drawing.sheets(symbols, 0.5, 2, captions=[caption] * len(symbols)):
+            boxes = [(cell.left - 1, cell.top - 1, cell.left + len(cell.rows[0]) / 2 + 1,
+                      cell.top + len(cell.rows) / 2 + 1) for cell in page.cells]
+            boxes += [(line.left, line.top, line.left + (len(line.text) * 6 - 1) * 0.25, line.top + 2.5)
+                      for line in page.lines]
+            apart = all(a[2] <= b[0] + 1e-6 or b[2] <= a[0] + 1e-6 or a[3] <= b[1] + 1e-6 or b[3] <= a[1] + 1e-6
+                        for at, a in enumerate(boxes) for b in boxes[:at])
+            inside = all(box[0] >= 10 - 1e-6 and box[2] <= 200 + 1e-6 and box[3] <= 287 + 1e-6 for box in boxes)
+            yield holds(f"nothing overlaps, {caption}", apart and inside, str(boxes))
+    yield raises("a rectangle wider than a sheet", ValueError, "74.0 by 6.0 mm doesn't fit",
+                 lambda: drawing.sheets([ecc200.write(b"A", size=(8, 144))], 0.5, 2, (90.0, 90.0)))
+    lines = "".join(f"lot {number}\n" for number in range(12))
+    yield says("a sheet", ecc("write", "--shape", "rectangle", "--sheet", "100x60", "--caption", "-o", "sheet.png",
+                              given=lines, folder=here), output="")
+
+
+def found(folder):
+    """Rectangles and large squares in pictures, where the sampler finds them: by the package and by the command."""
+    what = "rectangles in pictures"
+    if not wanted_module("PIL.Image", "Pillow", what) or not has_sampler(what):
+        return
+    here = made(folder, "found")
+    for size in SIZES:
+        path, data = os.path.join(here, f"{named(size)}.png"), filling(size)
+        ecc200.encode(data, size=size, quiet=4).save(path)
+        got = ecc200.decode(path, most=1)
+        yield same(f"decode {named(size)}", [(reading.data, reading.size) for reading in got], [(data, size)])
+        told = json.loads(ecc("read", "--json", path)[1])
+        yield same(f"read {named(size)}", (told.get("message"), told.get("rows"), told.get("columns")),
+                   (data.decode(), *size))
+
+
+def without_sampler(folder):
+    """Pictures of rectangles with a whole number of pixels a module are read without the sampler."""
+    if not wanted_module("PIL.Image", "Pillow", "pictures of rectangles"):
+        return
+    here = made(folder, "without")
+    env = {**environment(), "ECC200_SAMPLE_LIBRARY": os.path.join(here, "none.so")}
+    for size, dots in (((8, 18), 1), ((8, 120), 2), ((26, 48), 5), ((144, 144), 3)):
+        ecc("write", "--size", named(size), "Rect", "-o", "a.png", "--module", str(dots), folder=here)
+        got = run([*WORDS, "read", "--json", "a.png"], env=env, cwd=here)
+        told = json.loads(got[1])
+        yield same(f"{named(size)}, {dots} dots a module", (got[0], told.get("message"), told.get("rows"),
+                                                            told.get("columns")), (0, "Rect", *size))
+    script = "import ecc200; print([(it.text, it.size) for it in ecc200.decode('small.png')])"
+    ecc("write", "--size", "8x32", "Rect", "-o", "small.png", "--module", "1", folder=here)
+    yield same("decode", run([PYTHON, "-c", script], env=env, cwd=here), (0, "[('Rect', (8, 32))]\n", ""))
