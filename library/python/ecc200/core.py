@@ -694,7 +694,7 @@ def _size_of(rows: int, columns: int) -> Size:
 
 # ---- Symbols in pictures, which the library ecc200_sample finds: the structs are those of ecc200_sample.h.
 
-_SAMPLE_ABI = 1
+_SAMPLE_ABI = 2
 _MOST_FOUND = 64  # symbols of one picture, unless a caller says otherwise
 _COLOURS = {1: "L", 2: "LA", 3: "RGB", 4: "RGBA"}  # by the bytes of a pixel, as Pillow calls them
 
@@ -711,6 +711,7 @@ class Found(NamedTuple):
     inverted: bool                            # whether it is light on dark
     mirrored: bool
     page: int = 1                             # of a picture with several pages, which one has it
+    doubtful: Optional[Rows] = None           # of which modules the picture tells nothing, if it was read with that
 
 
 class _Options(ctypes.Structure):
@@ -718,8 +719,8 @@ class _Options(ctypes.Structure):
 
 
 class _Sample(ctypes.Structure):
-    _fields_ = [("corners", ctypes.c_double * 8), ("side", _u16), ("inverted", _u8), ("mirrored", _u8),
-                ("modules", _u8 * _MOST_MODULES),
+    _fields_ = [("corners", ctypes.c_double * 8), ("rows", _u16), ("columns", _u16), ("inverted", _u8),
+                ("mirrored", _u8), ("modules", _u8 * _MOST_MODULES), ("doubtful", _u8 * _MOST_MODULES),
                 ("reading", _ReadingOut)]
 
 
@@ -846,15 +847,16 @@ def _pages(picture: Any) -> Iterator[Any]:
 
 
 def _found(sample: Any, page: int) -> Found:
-    modules, side = bytes(sample.modules), sample.side
+    rows, doubtful = (list(_cut(sample.rows, sample.columns)(bytes(modules), 0))
+                      for modules in (sample.modules, sample.doubtful))
     corners = tuple(zip(sample.corners[::2], sample.corners[1::2]))
     answer: Union[Reading, Refused]
     try:
         answer = _said(memoryview(bytes(sample.reading)))._replace(corners=corners)
     except Refused as why:
         answer = why
-    rows = [modules[at:at + side] for at in range(0, side * side, side)]
-    return Found(answer, rows, corners, bool(sample.inverted), bool(sample.mirrored), page)
+    return Found(answer, rows, corners, bool(sample.inverted), bool(sample.mirrored), page,
+                 doubtful if any(map(any, doubtful)) else None)
 
 
 def _searched(picture: Any, page: int, most: int, options: _Options) -> List[Found]:

@@ -48,6 +48,8 @@ def _answer(source: Source, given: argparse.Namespace, doubtful: Optional[Rows])
     if source.rows is None:
         return Answer(source, None, [], source.fault)
     rows = source.rows
+    if doubtful is None and source.found is not None:
+        doubtful = source.found.doubtful
     try:
         return Answer(source, core.read(rows, given.border, given.extent, doubtful), rows, doubtful=doubtful)
     except Refused as why:
