@@ -140,11 +140,13 @@ def at_a_terminal():
 def completion():
     if not wanted_module("argcomplete", "python3-argcomplete", "completion by the shell"):
         return
-    line = "ecc200 co"
-    told = {**environment(), "_ARGCOMPLETE": "1", "COMP_LINE": line, "COMP_POINT": str(len(line)),
-            "_ARGCOMPLETE_IFS": "\n"}
-    with tempfile.NamedTemporaryFile() as file:
-        told["_ARGCOMPLETE_STDOUT_FILENAME"] = file.name
-        done = subprocess.run([PYTHON, os.path.join(PACKAGE, "bin", "ecc200")], env=told, stdout=subprocess.PIPE,
-                              stderr=subprocess.PIPE, timeout=60)
-        yield same("completion", (done.returncode, file.read().decode().split()), (0, ["compare"]))
+    for line, wanted in (("co", ["compare"]), ("s", ["sizes"]), ("write --shape r", ["rectangle"]),
+                         ("write --size 8x1", ["8x120", "8x144", "8x18"])):
+        line = f"ecc200 {line}"
+        told = {**environment(), "_ARGCOMPLETE": "1", "COMP_LINE": line, "COMP_POINT": str(len(line)),
+                "_ARGCOMPLETE_IFS": "\n"}
+        with tempfile.NamedTemporaryFile() as file:
+            told["_ARGCOMPLETE_STDOUT_FILENAME"] = file.name
+            done = subprocess.run([PYTHON, os.path.join(PACKAGE, "bin", "ecc200")], env=told, stdout=subprocess.PIPE,
+                                  stderr=subprocess.PIPE, timeout=60)
+            yield same(f"completion of {line}", (done.returncode, sorted(file.read().decode().split())), (0, wanted))

@@ -41,6 +41,10 @@ def first(symbol: Symbol) -> Optional[Reading]:
         reading: Reading = read(symbol)
         corners: Optional[Corners] = reading.corners
         print(reading.side, corners, inspect(symbol).held, normal(symbol), [found.page for found in find("a.png")])
+        rows, columns = reading.size
+        marks: List[bytes] = [bytes(columns)] * rows
+        left: int = min(read(symbol, doubtful=marks).left + inspect(symbol, marks).erased)
+        print(left, usual_limit(rows, columns), places(rows, columns)[0][0].kind, symbol.size, symbol.columns)
         return reading
     except Refused as why:
         print(why.code, why.value, why.place)
@@ -50,6 +54,9 @@ def first(symbol: Symbol) -> Optional[Reading]:
 symbol: Symbol = encode("A", charset="ascii", profile=Profile.SHORTER)
 symbol.save("a.png", dpi=600)
 first(symbol)
+first(encode(b"A", size=(8, 32)))
+square: List[Size] = [size for size in sizes() if size.rows == size.columns and not size.extension]
+grids: List[Rows] = [write(b"A", shape=Shape.RECTANGLE), write(b"A", size=(square[0].side, square[0].side))]
 elements: List[gs1.Element] = gs1.parse("(10)A")
 """
 

@@ -297,7 +297,7 @@ def doubtful_forms():
                          lambda call=call, doubt=doubt: call(rows, doubtful=doubt))
     yield raises("a ragged grid of doubt", ecc200.Refused, "SHAPE",
                  lambda: ecc200.read(rows, doubtful=[*marks[:-1], b"\0"]))
-    yield raises("doubt of another character", ValueError, "'x'",
+    yield raises("doubt of another character", ValueError, "0x'",
                  lambda: ecc200.read(rows, doubtful=["0" * 31 + "x"] * 8))
     yield raises("doubt that is a number", TypeError, "", lambda: ecc200.read(rows, doubtful=7))
 
