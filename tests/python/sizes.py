@@ -1,5 +1,6 @@
 """The module over all sizes: marks of zint in those beyond the squares to 104, symbols of each size written and read
 back, by others too, choices of size, and doubtful modules."""
+import array
 import os
 import pickle
 import subprocess
@@ -70,11 +71,14 @@ def printed():
         rows = [bytes(map(int, line)) for line in lines]
         given = {"text": lines, "a text": "\n".join(lines), "bytes": "\n".join(lines).encode(), "rows": rows,
                  "numbers": [list(row) for row in rows], "a tuple": tuple(rows),
-                 "a view": memoryview(b"".join(rows)).cast("B", (len(rows), len(rows[0])))}
+                 "a view": memoryview(b"".join(rows)).cast("B", (len(rows), len(rows[0]))),
+                 "a view of numbers": memoryview(array.array("l", list(b"".join(rows)))).cast("B").cast("l", (
+                     len(rows), len(rows[0])))}
         if numpy:
-            array = numpy.array([list(row) for row in rows], dtype=numpy.uint8)
-            given.update({"an array": array, "booleans": array.astype(bool), "floats": array * 0.5,
-                          "steps": numpy.repeat(array, 2, 1)[:, ::2], "fortran": numpy.asfortranarray(array)})
+            table = numpy.array([list(row) for row in rows], dtype=numpy.uint8)
+            given.update({"an array": table, "booleans": table.astype(bool), "floats": table * 0.5,
+                          "steps": numpy.repeat(table, 2, 1)[:, ::2], "fortran": numpy.asfortranarray(table),
+                          "a view of steps": memoryview(numpy.repeat(table, 2, 1)[:, ::2])})
         if image:
             dark = image.Image.frombytes("L", (len(rows[0]), len(rows)), b"".join(rows).translate(b"\xff\0" * 128))
             roomy = image.Image.new("L", (dark.width + 5, dark.height + 9), 255)
@@ -279,9 +283,9 @@ def doubtful_forms():
     numpy, image = wanted_module("numpy", "numpy", "doubt in arrays"), wanted_module("PIL.Image", "Pillow",
                                                                                      "doubt in pictures")
     if numpy:
-        array = numpy.array([list(row) for row in marks])
-        given.update({"an array": array, "booleans of an array": array > 0, "floats": array * 0.25,
-                      "a flat array": array.ravel()})
+        table = numpy.array([list(row) for row in marks])
+        given.update({"an array": table, "booleans of an array": table > 0, "floats": table * 0.25,
+                      "a flat array": table.ravel()})
     if image:
         given["a picture"] = image.Image.frombytes("L", (32, 8), flat.translate(b"\xff\0" * 128))
     for name, doubt in given.items():

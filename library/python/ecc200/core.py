@@ -423,12 +423,21 @@ def _best(ways: List[Rows]) -> Rows:
     return ways[0] if len(ways) == 1 else max(ways, key=merit)
 
 
+def _viewed(view: memoryview) -> Sequence[Any]:
+    """The rows of a memoryview of two dimensions."""
+    columns = view.shape[1] if view.shape else 0
+    if view.itemsize > 1 or not columns:
+        return view.tolist()
+    modules = view.tobytes()
+    return [modules[at:at + columns] for at in range(0, len(modules), columns)]
+
+
 def _plain(grid: Any) -> Sequence[Any]:
     """A grid as rows, or as bytes that are all its modules."""
     if isinstance(grid, str):
         return grid.split()
     if isinstance(grid, memoryview) and grid.ndim == 2:
-        return grid.tolist()
+        return _viewed(grid)
     if isinstance(grid, (bytes, bytearray, memoryview)):
         modules = bytes(grid)
         return modules.split() if b"\n" in modules and not modules.strip(b"01\r\n") else modules
