@@ -24,11 +24,11 @@ ZXING = "/usr/share/java/core.jar"
 
 
 def every_size():
-    """The marks of zint: for each its name, its rows as text, and what it says, spelled."""
+    """The marks of zint: for each its name, its rows as text, what it says, spelled, and its data codewords."""
     with open(os.path.join(MARKS, "every_size.txt"), encoding="ascii") as file:
         records = [record.split("\n") for record in file.read().split("\n\n") if record[:1] not in ("", "#")]
-    for head, _, said, *rows in records:
-        yield head, [row for row in rows if row], said
+    for head, data, said, *rows in records:
+        yield head, [row for row in rows if row], said, bytes(map(int, data.split()))
 
 
 def outcome(call, *given, **more):
@@ -67,7 +67,7 @@ def printed():
     yield same("marks", len(marks), 99)
     yield same("sizes beyond the squares to 104", len({head.split(" zint")[0].split(" ", 1)[1] for head, *_ in marks}
                                                      - {f"{side} {side}" for side in range(10, 105)}), 27)
-    for head, lines, said in marks:
+    for head, lines, said, data in marks:
         rows = [bytes(map(int, line)) for line in lines]
         given = {"text": lines, "a text": "\n".join(lines), "bytes": "\n".join(lines).encode(), "rows": rows,
                  "numbers": [list(row) for row in rows], "a tuple": tuple(rows),
@@ -86,6 +86,8 @@ def printed():
             given.update({"a picture": dark, "a picture with a margin": roomy})
         for name, grid in given.items():
             yield same(f"mark {head} as {name}", answer(grid), wanted(said))
+        seen = ecc200.inspect(lines)
+        yield same(f"codewords of mark {head}", (seen.held[:len(data)], seen.mended), (data, seen.held))
         if not isinstance(wanted(said), str):
             continue
         reading = ecc200.read(lines)
