@@ -25,7 +25,7 @@ ZXING = "/usr/share/java/core.jar"
 
 def every_size():
     """The marks of zint: for each its name, its rows as text, what it says, spelled, and its data codewords."""
-    with open(os.path.join(MARKS, "every_size.txt"), encoding="ascii") as file:
+    with open(os.path.join(MARKS, "every-size.txt"), encoding="ascii") as file:
         records = [record.split("\n") for record in file.read().split("\n\n") if record[:1] not in ("", "#")]
     for head, data, said, *rows in records:
         yield head, [row for row in rows if row], said, bytes(map(int, data.split()))
