@@ -313,9 +313,48 @@ def found(folder):
         ecc200.encode(data, size=size, quiet=4).save(path)
         got = ecc200.decode(path, most=1)
         yield same(f"decode {named(size)}", [(reading.data, reading.size) for reading in got], [(data, size)])
-        told = json.loads(ecc("read", "--json", path)[1])
-        yield same(f"read {named(size)}", (told.get("message"), told.get("rows"), told.get("columns")),
-                   (data.decode(), *size))
+    lines = [json.loads(line) for line in ecc("read", "--json", "-r", here)[1].splitlines()]
+    told = {line["file"]: (line.get("message"), line.get("rows"), line.get("columns")) for line in lines}
+    yield same("read", told, {os.path.join(here, f"{named(size)}.png"): (filling(size).decode(), *size)
+                              for size in SIZES})
+    lots = "".join(f"lot {number}\n" for number in range(12))
+    ecc("write", "--shape", "rectangle", "--sheet", "100x60", "--caption", "-o", "sheet.png", given=lots, folder=here)
+    got = ecc("read", "--all", "--time", "20000", "sheet.png", folder=here)
+    yield same("a sheet of rectangles", (got[0], sorted(got[1].splitlines())), (0, sorted(lots.splitlines())))
+
+
+def found_in_doubt(folder):
+    """A symbol in a picture that is read without the modules below a blot, by each subcommand."""
+    what = "a blot in a picture"
+    image = wanted_module("PIL.Image", "Pillow", what)
+    if not image or not has_sampler(what):
+        return
+    here, size, message, dots = made(folder, "blot"), (16, 48), b"Mitsubadoor-0123456789-ABCDEFGH", 6
+    picture = image.Image.open(io.BytesIO(ecc200.encode(message, size=size, quiet=4).png())).convert("L")
+    for column in range(31 * dots, 43 * dots):  # twelve by twelve modules, the corners left out
+        for row in range(6 * dots, 18 * dots):
+            if (column - 37 * dots) ** 2 + (row - 12 * dots) ** 2 < (6 * dots) ** 2:
+                picture.putpixel((column, row), 0)
+    picture.save(os.path.join(here, "blot.png"))
+    symbols = ecc200.find(picture, most=1)
+    yield same("find", [(symbol.answer.data, symbol.answer.size) for symbol in symbols
+                        if isinstance(symbol.answer, ecc200.Reading)], [(message, size)])
+    symbol = symbols[0]
+    marks = sum(map(sum, symbol.doubtful))
+    yield holds("its doubtful modules", (len(symbol.doubtful), len(symbol.doubtful[0])) == size and 90 < marks < 250,
+                str(symbol.doubtful))
+    yield same("they are those by which it was read", ecc200.read(symbol.rows, doubtful=symbol.doubtful),
+               symbol.answer._replace(corners=None))
+    yield raises("without them it isn't read", ecc200.Refused, "BLOCK", lambda: ecc200.read(symbol.rows))
+    yield says("read", ecc("read", "blot.png", folder=here), output=message.decode() + "\n")
+    told = json.loads(ecc("read", "--json", "blot.png", folder=here)[1])
+    yield same("JSON", (told["erased"], told["left"]), (list(symbol.answer.erased), list(symbol.answer.left)))
+    got = ecc("check", "blot.png", folder=here)
+    counts = f"erased: {symbol.answer.erased[0]}, check codewords left: {symbol.answer.left[0]}\n"
+    yield holds("check", counts in got[1], str(got))
+    yield says("normal", ecc("normal", "blot.png", folder=here), output=text(ecc200.write(message)))
+    got = ecc("explain", "blot.png", folder=here)
+    yield holds("explain", got[0] == 0 and f"It says {message.decode()}" in got[1], str(got))
 
 
 def without_sampler(folder):

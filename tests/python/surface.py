@@ -307,6 +307,7 @@ def named_alike(folder):
     first = json.loads(run([program, "--json", "--time", "2000", path])[1])
     for option in ("--time", "--milliseconds"):
         second = json.loads(ecc("read", "--json", option, "2000", path)[1])
-        for name in ("file", "rows", "columns", "inverted", "mirrored", "message", "corrected", "border_faults"):
+        for name in ("file", "rows", "columns", "inverted", "mirrored", "message", "corrected", "erased", "left",
+                     "border_faults"):
             yield same(f"{name}, with {option}", second[name], first[name])
     yield same("what is compared", (first["message"], first["corrected"], first["border_faults"]), ("123456", [1], 1))
