@@ -615,7 +615,10 @@ def _chosen(profile: int, size: Optional[Tuple[int, int]], shape: Optional[int])
         return _how(form, _number(Code.CHOICE, Shape.SQUARE if shape is None else shape))
     if shape is not None:
         raise TypeError("a size is chosen or a shape, and not both")
-    return _how(form, _ONE, *_dimensions(*size))
+    rows, columns = _dimensions(*size)
+    if (rows, columns) not in _sizes_by_dimensions():
+        raise Refused(Code.SIZE, rows, columns)
+    return _how(form, _ONE, rows, columns)
 
 
 def write(message: Message, gs1: bool = False, profile: Profile = Profile.ASCII, charset: Optional[str] = None,
