@@ -22,7 +22,7 @@ typedef struct {
     uint8_t *end;
 } area;
 
-static area modules_area, items_area, bytes_area, out_area;
+static area modules_area, doubt_area, items_area, bytes_area, out_area;
 
 static void die(const char *what) {
     printf("%s\n", what);
@@ -110,8 +110,9 @@ static void print_counts(const uint8_t *counts, size_t count) {
         counts[i] == ECC200_BEYOND ? printf("%sbeyond", i ? "," : "") : printf("%s%d", i ? "," : "", counts[i]);
 }
 
-/* whether there is a fault, which is then printed: everything else has to be 0 */
-static int is_fault(uint16_t code, const void *out, size_t size) {
+/* whether there is a fault, which is then printed: the numbers behind it have to be 0, up to the arrays, which have to
+ * be left as they were */
+static int is_fault(uint16_t code, const void *out, size_t arrays, size_t size) {
     ecc200_fault fault;
     memcpy(&fault, out, sizeof fault);
     if (code != fault.code)
@@ -120,100 +121,133 @@ static int is_fault(uint16_t code, const void *out, size_t size) {
         return 0;
     printf("no %d %d %d", fault.code, fault.value, fault.place);
     for (size_t i = sizeof fault; i < size; i++)
-        if (((const uint8_t *)out)[i]) {
-            printf(", and not zero behind it");
+        if (((const uint8_t *)out)[i] != (i < arrays ? 0 : 0xEE)) {
+            printf(", and something else written behind it");
             break;
         }
     return 1;
 }
 
-/* the elements of an array past those that count are 0 */
+/* the elements of an array past those that count are left as they were */
 static void check_rest(const void *from, const void *to) {
     for (const uint8_t *at = (const uint8_t *)from; at < (const uint8_t *)to; at++)
-        if (*at) {
-            printf(" not zero behind");
+        if (*at != 0xEE) {
+            printf(" written behind");
             return;
         }
 }
 
+/* Rows, columns, modules and doubtful modules, as the calls take them. */
+typedef struct {
+    uint16_t rows, columns;
+    const uint8_t *modules, *doubtful;
+    size_t count, doubtful_count;
+} grid;
+
+static grid grid_given(void) {
+    grid given;
+    given.rows = number(), given.columns = number();
+    given.modules = bytes_of(modules_area, &given.count);
+    given.doubtful = bytes_of(doubt_area, &given.doubtful_count);
+    given.doubtful = given.doubtful_count ? given.doubtful : NULL;
+    return given;
+}
+
+/* what each block had */
+static void print_blocks(const uint8_t *corrected, const uint8_t *erased, const uint8_t *left, size_t count) {
+    const uint8_t *counts[] = {corrected, erased, left};
+    const char *names[] = {"corrected", "erased", "left"};
+    for (int i = 0; i < 3; i++) {
+        printf("%s ", names[i]);
+        print_counts(counts[i], count);
+        printf(" ");
+        check_rest(counts[i] + count, counts[i] + ECC200_MOST_BLOCKS);
+    }
+}
+
 static void answer_read(void) {
-    size_t count;
-    uint16_t extent = number(), limit = number(), side = number();
-    const uint8_t *modules = bytes_of(modules_area, &count);
+    uint16_t extent = number(), limit = number();
+    grid given = grid_given();
     ecc200_reading *out = (ecc200_reading *)(void *)place_of(out_area, sizeof *out);
-    uint16_t code = ecc200_read(modules, count, side, limit, extent, out);
-    if (is_fault(code, out, sizeof *out))
+    uint16_t code = ecc200_read(given.modules, given.count, given.doubtful, given.doubtful_count, given.rows,
+                                given.columns, limit, extent, out);
+    if (is_fault(code, out, offsetof(ecc200_reading, corrected), sizeof *out))
         return;
-    printf("side %d border %d blocks %d items ", out->side, out->border_faults, out->block_count);
+    printf("rows %d columns %d border %d blocks %d ", out->rows, out->columns, out->border_faults, out->block_count);
+    print_blocks(out->corrected, out->erased, out->left, out->block_count);
+    printf("items ");
     print_items(out->items, out->item_count);
-    printf(" corrected ");
-    print_counts(out->corrected, out->block_count);
     check_rest(out->items + out->item_count, out->items + ECC200_MOST_ITEMS);
-    check_rest(out->corrected + out->block_count, out->corrected + ECC200_MOST_BLOCKS);
 }
 
 static void print_symbol(uint16_t code, const ecc200_symbol *out) {
-    if (is_fault(code, out, sizeof *out))
+    if (is_fault(code, out, offsetof(ecc200_symbol, modules), sizeof *out))
         return;
-    printf("side %d modules ", out->side);
-    for (int i = 0; i < out->side * out->side; i++)
+    printf("rows %d columns %d modules ", out->rows, out->columns);
+    for (int i = 0; i < out->rows * out->columns; i++)
         printf("%d", out->modules[i]);
-    check_rest(out->modules + out->side * out->side, out->modules + ECC200_MOST_MODULES);
+    check_rest(out->modules + out->rows * out->columns, out->modules + ECC200_MOST_MODULES);
 }
 
 static ecc200_symbol *symbol_place(void) { return (ecc200_symbol *)(void *)place_of(out_area, sizeof(ecc200_symbol)); }
 
 static void answer_normal(void) {
-    size_t count;
-    uint16_t extent = number(), profile = number(), limit = number(), side = number();
-    const uint8_t *modules = bytes_of(modules_area, &count);
+    uint16_t extent = number(), profile = number(), limit = number();
+    grid given = grid_given();
     ecc200_symbol *out = symbol_place();
-    print_symbol(ecc200_normal(modules, count, side, limit, extent, profile, out), out);
+    print_symbol(ecc200_normal(given.modules, given.count, given.doubtful, given.doubtful_count, given.rows,
+                               given.columns, limit, extent, profile, out),
+                 out);
+}
+
+static ecc200_how how_given(void) {
+    ecc200_how how;
+    how.form = number(), how.shape = number(), how.rows = number(), how.columns = number();
+    return how;
 }
 
 static void answer_write(void) {
     size_t count;
-    uint16_t profile = number();
+    ecc200_how how = how_given();
     const uint16_t *items = items_of(&count);
     ecc200_symbol *out = symbol_place();
-    print_symbol(ecc200_write(items, count, profile, out), out);
+    print_symbol(ecc200_write(items, count, &how, out), out);
 }
 
 static void answer_write_bytes(void) {
     size_t count;
-    uint16_t profile = number();
+    ecc200_how how = how_given();
     const uint8_t *bytes = bytes_of(bytes_area, &count);
     ecc200_symbol *out = symbol_place();
-    print_symbol(ecc200_write_bytes(bytes, count, profile, out), out);
+    print_symbol(ecc200_write_bytes(bytes, count, &how, out), out);
 }
 
 static void answer_inspect(void) {
-    size_t count;
-    uint16_t side = number();
-    const uint8_t *modules = bytes_of(modules_area, &count);
+    grid given = grid_given();
     ecc200_inspection *out = (ecc200_inspection *)(void *)place_of(out_area, sizeof *out);
-    if (is_fault(ecc200_inspect(modules, count, side, out), out, sizeof *out))
+    uint16_t code = ecc200_inspect(given.modules, given.count, given.doubtful, given.doubtful_count, given.rows,
+                                   given.columns, out);
+    if (is_fault(code, out, offsetof(ecc200_inspection, corrected), sizeof *out))
         return;
-    printf("side %d border %d blocks %d held ", out->side, out->border_faults, out->block_count);
+    printf("rows %d columns %d border %d blocks %d ", out->rows, out->columns, out->border_faults, out->block_count);
+    print_blocks(out->corrected, out->erased, out->left, out->block_count);
+    printf("held ");
     print_bytes(out->held, out->codeword_count);
     printf(" mended ");
     print_bytes(out->mended, out->codeword_count);
-    printf(" corrected ");
-    print_counts(out->corrected, out->block_count);
     check_rest(out->held + out->codeword_count, out->held + ECC200_MOST_CODEWORDS);
     check_rest(out->mended + out->codeword_count, out->mended + ECC200_MOST_CODEWORDS);
-    check_rest(out->corrected + out->block_count, out->corrected + ECC200_MOST_BLOCKS);
 }
 
 static void answer_places(void) {
-    uint16_t side = number();
+    uint16_t rows = number(), columns = number();
     ecc200_place_table *out = (ecc200_place_table *)(void *)place_of(out_area, sizeof *out);
-    if (is_fault(ecc200_places(side, out), out, sizeof *out))
+    if (is_fault(ecc200_places(rows, columns, out), out, offsetof(ecc200_place_table, places), sizeof *out))
         return;
-    printf("side %d", out->side);
-    for (int i = 0; i < ECC200_MOST_MODULES && out->places[i].kind != ECC200_NO_MODULE; i++)
+    printf("rows %d columns %d", out->rows, out->columns);
+    for (int i = 0; i < out->rows * out->columns; i++)
         printf(" %d,%d,%d", out->places[i].kind, out->places[i].codeword, out->places[i].bit);
-    check_rest(out->places + out->side * out->side, out->places + ECC200_MOST_MODULES);
+    check_rest(out->places + out->rows * out->columns, out->places + ECC200_MOST_MODULES);
 }
 
 static void answer_sizes(void) {
@@ -221,8 +255,10 @@ static void answer_sizes(void) {
     ecc200_sizes(out);
     for (int i = 0; i < ECC200_SIZE_COUNT; i++) {
         const ecc200_size *size = &out->sizes[i];
-        printf("%s%d %d %d %d", i ? " | " : "", size->side, size->regions, size->region_side, size->mapping);
-        printf(" %d %d %d %d", size->data_codewords, size->check_codewords, size->blocks, size->limit);
+        printf("%s%d %d %d %d", i ? " | " : "", size->rows, size->columns, size->region_rows, size->region_columns);
+        printf(" %d %d %d %d", size->regions_down, size->regions_across, size->mapping_rows, size->mapping_columns);
+        printf(" %d %d %d", size->data_codewords, size->check_codewords, size->blocks);
+        printf(" %d %d", size->limit, size->extension);
     }
 }
 
@@ -262,37 +298,46 @@ static void answer_items(void) {
 }
 
 static void answer_constants(void) {
-    NAMED(ABI), NAMED(MOST_SIDE), NAMED(MOST_MODULES), NAMED(MOST_ITEMS), NAMED(MOST_CODEWORDS), NAMED(MOST_BLOCKS),
-        NAMED(SIZE_COUNT);
+    NAMED(ABI), NAMED(MOST_ROWS), NAMED(MOST_COLUMNS), NAMED(MOST_MODULES), NAMED(MOST_ITEMS), NAMED(MOST_CODEWORDS),
+        NAMED(MOST_BLOCKS), NAMED(SIZE_COUNT);
     NAMED(FNC1), NAMED(ANY_LIMIT), NAMED(BEYOND), NAMED(STACK);
     NAMED(USUAL), NAMED(WIDE);
     NAMED(ASCII), NAMED(SHORTER);
-    NAMED(OK), NAMED(SHAPE), NAMED(SIDE), NAMED(BORDER), NAMED(BLOCK), NAMED(RESERVED), NAMED(LEFT_OUT),
+    NAMED(SQUARE), NAMED(RECTANGLE), NAMED(EXTENDED), NAMED(ANY), NAMED(ONE);
+    NAMED(OK), NAMED(SHAPE), NAMED(SIZE), NAMED(BORDER), NAMED(BLOCK), NAMED(RESERVED), NAMED(LEFT_OUT),
         NAMED(UPPER_SHIFT), NAMED(TRIPLET);
     NAMED(VALUE), NAMED(LENGTH), NAMED(UNFINISHED), NAMED(TOO_LONG), NAMED(ITEM), NAMED(PROFILE);
-    NAMED(EXTENT);
+    NAMED(EXTENT), NAMED(CHOICE), NAMED(DOUBT);
     NAMED(NO_MODULE), NAMED(BIT), NAMED(BORDER_LIGHT), NAMED(BORDER_DARK), NAMED(FIXED_LIGHT), NAMED(FIXED_DARK);
 }
 
 /* where each member of a struct stands, and how many bytes it has */
 static void answer_layout(void) {
     SIZED(fault), LAID(fault, code), LAID(fault, value), LAID(fault, place);
-    SIZED(reading), LAID(reading, fault), LAID(reading, side), LAID(reading, border_faults), LAID(reading, block_count);
-    LAID(reading, item_count), LAID(reading, items), LAID(reading, corrected);
-    SIZED(symbol), LAID(symbol, fault), LAID(symbol, side), LAID(symbol, modules);
-    SIZED(inspection), LAID(inspection, fault), LAID(inspection, side), LAID(inspection, border_faults),
-        LAID(inspection, block_count);
-    LAID(inspection, codeword_count), LAID(inspection, held), LAID(inspection, mended), LAID(inspection, corrected);
+    SIZED(reading), LAID(reading, fault), LAID(reading, rows), LAID(reading, columns), LAID(reading, border_faults);
+    LAID(reading, block_count), LAID(reading, item_count), LAID(reading, corrected), LAID(reading, erased);
+    LAID(reading, left), LAID(reading, items);
+    SIZED(how), LAID(how, form), LAID(how, shape), LAID(how, rows), LAID(how, columns);
+    SIZED(symbol), LAID(symbol, fault), LAID(symbol, rows), LAID(symbol, columns), LAID(symbol, modules);
+    SIZED(inspection), LAID(inspection, fault), LAID(inspection, rows), LAID(inspection, columns),
+        LAID(inspection, border_faults), LAID(inspection, block_count), LAID(inspection, codeword_count);
+    LAID(inspection, corrected), LAID(inspection, erased), LAID(inspection, left), LAID(inspection, held),
+        LAID(inspection, mended);
     SIZED(place), LAID(place, codeword), LAID(place, bit), LAID(place, kind);
-    SIZED(place_table), LAID(place_table, fault), LAID(place_table, side), LAID(place_table, places);
-    SIZED(size), LAID(size, side), LAID(size, regions), LAID(size, region_side), LAID(size, mapping),
-        LAID(size, data_codewords);
-    LAID(size, check_codewords), LAID(size, blocks), LAID(size, limit);
+    SIZED(place_table), LAID(place_table, fault), LAID(place_table, rows), LAID(place_table, columns),
+        LAID(place_table, places);
+    SIZED(size), LAID(size, rows), LAID(size, columns), LAID(size, region_rows), LAID(size, region_columns);
+    LAID(size, regions_down), LAID(size, regions_across), LAID(size, mapping_rows), LAID(size, mapping_columns);
+    LAID(size, data_codewords), LAID(size, check_codewords), LAID(size, blocks), LAID(size, limit),
+        LAID(size, extension);
     SIZED(size_table), LAID(size_table, sizes);
 }
 
 static void answer_compatible(void) { printf("%d", ecc200_abi() == ECC200_ABI); }
-static void answer_limit(void) { printf("%d", ecc200_usual_limit(number())); }
+static void answer_limit(void) {
+    uint16_t rows = number(), columns = number();
+    printf("%d", ecc200_usual_limit(rows, columns));
+}
 static void answer_words(void) { printf("%s", ecc200_words(number())); }
 static void answer_code_words(void) { printf("%s", ecc200_code_words(number())); }
 static void answer_version(void) { printf("%s %s", ecc200_version(), ECC200_VERSION); }
@@ -324,7 +369,8 @@ static const request requests[] = {
 int main(void) {
     char *line = NULL;
     size_t room = 0;
-    modules_area = new_area(), items_area = new_area(), bytes_area = new_area(), out_area = new_area();
+    modules_area = new_area(), doubt_area = new_area(), items_area = new_area(), bytes_area = new_area();
+    out_area = new_area();
     while (getline(&line, &room, stdin) > 0) {
         const char *name = strtok_r(line, " \n", &rest);
         size_t i = 0;

@@ -1,10 +1,6 @@
 """Answers the requests of cases.py by the functions of the Python module."""
 from tests.library.cases import no, numbers
-
-
-def grid_of(side, modules):
-    """The rows of so many modules; the last one is shorter if they make no square."""
-    return [modules[at:at + side] for at in range(0, len(modules), side or 1)]
+from tests.library.model import ONE, SIZE_OF
 
 
 def bytes_of(text):
@@ -16,19 +12,34 @@ def items_of(text):
 
 
 def symbol(rows):
-    return f"side {len(rows)} modules {''.join(str(module) for row in rows for module in row)}"
+    modules = "".join(str(module) for row in rows for module in row)
+    return f"rows {len(rows)} columns {len(rows[0])} modules {modules}"
+
+
+def head_of(rows, columns, got):
+    """What an answer of reading and one of inspecting have in common."""
+    corrected = ["beyond" if count is None else count for count in got.corrected]
+    counts = f"corrected {numbers(corrected)} erased {numbers(got.erased)} left {numbers(got.left)}"
+    return f"rows {rows} columns {columns} border {got.border_faults} blocks {len(corrected)} {counts}"
+
+
+def chosen(shape, rows, columns):
+    """A shape or a size, as `write` takes them."""
+    return {"size": (int(rows), int(columns))} if int(shape) == ONE else {"shape": int(shape)}
 
 
 class Answers:
     """What the module says to a request."""
 
-    def __init__(self, ecc200, has_extents):
-        self.ecc200, self.has_extents = ecc200, has_extents
+    def __init__(self, ecc200):
+        self.ecc200 = ecc200
 
     def to(self, request):
         """The answer to a request, or None if it can't be put to the module."""
         name, *words = request.split()
-        if name in ("read", "inspect", "normal") and not self.is_square(name, words):
+        if name in ("read", "inspect", "normal") and not self.is_grid(*words[-4:-1]):
+            return None
+        if name in ("write", "write_bytes") and not self.is_choice(*words[1:4]):
             return None
         try:
             return getattr(self, f"to_{name}")(*words)
@@ -36,46 +47,52 @@ class Answers:
             return no(why.code.value, why.value, why.place)
 
     @staticmethod
-    def is_square(name, words):
-        """Whether the modules are as many as the rows of a grid of this side have: a grid says its side by itself."""
-        side, count = int(words[-2]), len(bytes_of(words[-1]))
-        return count == side * side
+    def is_grid(rows, columns, modules):
+        """Whether rows say these numbers of rows and columns by themselves."""
+        return int(rows) * int(columns) == len(bytes_of(modules)) and (int(rows) > 0 or int(columns) == 0)
 
-    def extent(self, word):
-        return {"extent": int(word)} if self.has_extents else {}
+    @staticmethod
+    def is_choice(shape, rows, columns):
+        """Whether a size that is named exists: the module refuses others before the library could."""
+        return int(shape) != ONE or (int(rows), int(columns)) in SIZE_OF
 
-    def to_read(self, extent, limit, side, modules):
-        got = self.ecc200.read(grid_of(int(side), bytes_of(modules)), int(limit), **self.extent(extent))
-        blocks = f"blocks {len(got.corrected)}"
-        head = f"side {side} border {got.border_faults} {blocks}"
-        return f"{head} items {numbers(got.items)} corrected {numbers(got.corrected)}"
+    @staticmethod
+    def grid(rows, columns, modules, doubt):
+        """A grid, and its doubtful modules, flat, if there are some."""
+        wide, given = int(columns), bytes_of(modules)
+        return ([given[at * wide:(at + 1) * wide] for at in range(int(rows))],
+                {} if doubt == "-" else {"doubtful": bytes_of(doubt)})
 
-    def to_normal(self, extent, profile, limit, side, modules):
-        return symbol(self.ecc200.normal(grid_of(int(side), bytes_of(modules)), int(limit), int(profile),
-                                         **self.extent(extent)))
+    def to_read(self, extent, limit, *given):
+        grid, doubt = self.grid(*given)
+        got = self.ecc200.read(grid, int(limit), int(extent), **doubt)
+        return f"{head_of(got.rows, got.columns, got)} items {numbers(got.items)}"
 
-    def to_write(self, profile, items):
-        return symbol(self.ecc200.write(items_of(items), profile=int(profile)))
+    def to_normal(self, extent, profile, limit, *given):
+        grid, doubt = self.grid(*given)
+        return symbol(self.ecc200.normal(grid, int(limit), int(profile), int(extent), **doubt))
 
-    def to_write_bytes(self, profile, data):
-        return symbol(self.ecc200.write(bytes_of(data), profile=int(profile)))
+    def to_write(self, profile, shape, rows, columns, items):
+        return symbol(self.ecc200.write(items_of(items), profile=int(profile), **chosen(shape, rows, columns)))
 
-    def to_inspect(self, side, modules):
-        got = self.ecc200.inspect(grid_of(int(side), bytes_of(modules)))
-        counts = ",".join("beyond" if count is None else str(count) for count in got.corrected)
-        words = f"held {numbers(got.held)} mended {numbers(got.mended)}"
-        return f"side {side} border {got.border_faults} blocks {len(got.corrected)} {words} corrected {counts}"
+    def to_write_bytes(self, profile, shape, rows, columns, data):
+        return symbol(self.ecc200.write(bytes_of(data), profile=int(profile), **chosen(shape, rows, columns)))
 
-    def to_places(self, side):
-        rows = self.ecc200.places(int(side))
-        return f"side {len(rows)} " + " ".join(f"{int(at.kind)},{at.codeword},{at.bit}" for row in rows for at in row)
+    def to_inspect(self, *given):
+        grid, doubt = self.grid(*given)
+        got = self.ecc200.inspect(grid, **doubt)
+        return f"{head_of(*given[:2], got)} held {numbers(got.held)} mended {numbers(got.mended)}"
+
+    def to_places(self, rows, columns):
+        table = self.ecc200.places(int(rows), int(columns))
+        each = " ".join(f"{int(at.kind)},{at.codeword},{at.bit}" for row in table for at in row)
+        return f"rows {len(table)} columns {len(table[0])} {each}"
 
     def to_sizes(self):
-        names = ("side", "regions", "region_side", "mapping", "data_codewords", "check_codewords", "blocks", "limit")
-        return " | ".join(" ".join(str(getattr(size, name)) for name in names) for size in self.ecc200.sizes())
+        return " | ".join(" ".join(map(str, size)) for size in self.ecc200.sizes())
 
-    def to_limit(self, side):
-        return str(self.ecc200.usual_limit(int(side)))
+    def to_limit(self, rows, columns):
+        return str(self.ecc200.usual_limit(int(rows), int(columns)))
 
     def to_compatible(self):
         return str(int(self.ecc200._library.ecc200_abi() == self.ecc200.ABI))

@@ -3,22 +3,42 @@ it was worked out by hand. answers.c, answers.rs and answers.py answer such requ
 line for each."""
 import functools
 
-from tests.library.model import (BIT, FIELD, FNC1, NO_MODULE, PLACES, SIZE_OF, SIZES, UPPER_SHIFT, ascii_words,
-                                 base_256_words, codewords, modules_of,
-                   normal_symbol, padded, randomised, triple)
+from tests.library.model import (ANY, BIT, EXTENDED, FIELD, FNC1, NO_MODULE, ONE, PLACES, RECTANGLE, SIZE_OF, SIZES,
+                                 SQUARE, UPPER_SHIFT, ascii_words, base_256_words, codewords, modules_of, padded,
+                                 randomised, symbol_of, triple)
 
 USUAL, WIDE = 0, 1
 LARGEST = SIZES[-1]
-MOST_DATA, MOST_CODEWORDS, MOST_MODULES = LARGEST.data, LARGEST.data + LARGEST.check, LARGEST.side ** 2
+MOST_DATA, MOST_CODEWORDS, MOST_MODULES = LARGEST.data, LARGEST.data + LARGEST.check, LARGEST.rows * LARGEST.columns
 WORDS = {
-    0: "no fault", 3: "the modules make no square of this side", 4: "no size has this side",
-    5: "too many border modules have the wrong colour", 6: "a block is damaged beyond correction",
-         7: "a reserved codeword",
+    0: "no fault", 3: "the modules aren't as many as the rows times the columns",
+    4: "no size has these rows and columns", 5: "too many border modules have the wrong colour",
+    6: "a block is damaged beyond correction", 7: "a reserved codeword",
     8: "an encodation or function that isn't supported", 9: "an Upper Shift that no character follows",
     10: "a pair of codewords that doesn't stand for three values", 11: "a value that has no meaning after a shift",
     12: "a wrong Base 256 length", 13: "the run or the symbol ends before the character of an Upper Shift",
-    14: "the message is too long for any size", 15: "an item above 256", 16: "no such profile", 17: "no such extent",
+    14: "the message is too long for any size that may be taken", 15: "an item above 256", 16: "no such profile",
+    17: "no such extent", 18: "no such shape", 19: "the doubtful modules aren't as many as the modules",
 }
+
+
+class Symbol(list):
+    """The modules of a symbol, row by row, with its rows and columns."""
+
+    def __init__(self, modules, named):
+        super().__init__(modules)
+        self.named = named
+
+    @property
+    def size(self):
+        return SIZE_OF[self.named]
+
+    def changed(self, at):
+        """The same with the modules at these places turned over."""
+        modules = list(self)
+        for place in at:
+            modules[place] ^= 1
+        return Symbol(modules, self.named)
 
 
 def numbers(some):
@@ -29,86 +49,124 @@ def hexadecimal(some):
     return bytes(some).hex() or "-"
 
 
-def read(grid, limit=65535, extent=USUAL, side=None):
-    return f"read {extent} {limit} {side_of(grid) if side is None else side} {hexadecimal(grid)}"
+def shown(grid, named, doubt):
+    """Rows, columns, modules and doubtful modules."""
+    rows, columns = named or grid.named
+    return f"{rows} {columns} {hexadecimal(grid)} {hexadecimal(doubt)}"
 
 
-def normal(grid, profile, limit=65535, extent=USUAL, side=None):
-    return f"normal {extent} {profile} {limit} {side_of(grid) if side is None else side} {hexadecimal(grid)}"
+def read(grid, limit=65535, extent=USUAL, named=None, doubt=()):
+    return f"read {extent} {limit} {shown(grid, named, doubt)}"
 
 
-def side_of(grid):
-    return round(len(grid) ** 0.5)
+def normal(grid, profile, limit=65535, extent=USUAL, named=None, doubt=()):
+    return f"normal {extent} {profile} {limit} {shown(grid, named, doubt)}"
+
+
+def inspect(grid, named=None, doubt=()):
+    return f"inspect {shown(grid, named, doubt)}"
+
+
+def write(items, profile=0, shape=SQUARE, named=(0, 0)):
+    return f"write {profile} {shape} {named[0]} {named[1]} {numbers(items)}"
+
+
+def write_bytes(items, profile=0, shape=SQUARE, named=(0, 0)):
+    return f"write_bytes {profile} {shape} {named[0]} {named[1]} {hexadecimal(items)}"
 
 
 def no(code, value=0, place=0):
     return f"no {code} {value} {place}"
 
 
-def reading(side, items, corrected, border=0):
-    return f"side {side} border {border} blocks {len(corrected)} items {numbers(items)} corrected {numbers(corrected)}"
+def counted(size, corrected, erased=None):
+    """The three counts for each block."""
+    erased = erased or [0] * size.blocks
+    left = [0 if wrong == "beyond" else size.checks_of_a_block - 2 * wrong - lost
+            for wrong, lost in zip(corrected, erased)]
+    return f"corrected {numbers(corrected)} erased {numbers(erased)} left {numbers(left)}"
 
 
-def symbol(items, profile=0):
-    """The answer that has the normal grid of these items."""
-    made = normal_symbol(items, profile)
-    return f"side {made[0].side} modules {''.join(map(str, made[1]))}" if made else no(14)
+def reading(named, items, corrected=None, border=0, erased=None):
+    size = SIZE_OF[named]
+    counts = counted(size, corrected or [0] * size.blocks, erased)
+    return f"rows {named[0]} columns {named[1]} border {border} blocks {size.blocks} {counts} items {numbers(items)}"
 
 
-def inspection(side, held, mended, corrected, border=0):
-    head = f"side {side} border {border} blocks {len(corrected)}"
-    return f"{head} held {numbers(held)} mended {numbers(mended)} corrected {numbers(corrected)}"
+def symbol(items, profile=0, shape=SQUARE, named=(0, 0)):
+    """The answer that has the symbol of these items."""
+    made = symbol_of(items, profile, shape, named)
+    if not made:
+        return no(14)
+    return f"rows {made[0].rows} columns {made[0].columns} modules {''.join(map(str, made[1]))}"
 
 
-def grid_of(side, *data):
+def inspection(named, held, mended, corrected=None, border=0, erased=None):
+    size = SIZE_OF[named]
+    head = f"rows {named[0]} columns {named[1]} border {border} blocks {size.blocks}"
+    counts = counted(size, corrected or [0] * size.blocks, erased)
+    return f"{head} {counts} held {numbers(held)} mended {numbers(mended)}"
+
+
+def grid_of(named, *data):
     """A symbol with these data codewords, and pads behind them."""
-    size = SIZE_OF[side]
-    return modules_of(size, codewords(size, padded(data, size.data)))
+    size = SIZE_OF[named]
+    return Symbol(modules_of(size, codewords(size, padded(data, size.data))), named)
 
 
-def hurt(grid, block, count):
+def words_of(size, block, count, first=0):
+    """So many codewords of a block."""
+    return range(block, size.data + size.check, size.blocks)[first:first + count]
+
+
+def modules_at(named, words, bits):
+    """Where these bits of codewords stand."""
+    words = set(words)
+    return [i for i, (kind, word, bit) in enumerate(PLACES[named]) if kind == BIT and word in words and bit in bits]
+
+
+def hurt(grid, block, count, first=0):
     """The same symbol with so many codewords of a block changed, each in two of its modules."""
-    size, grid = SIZE_OF[side_of(grid)], list(grid)
-    spoilt = range(block, size.data + size.check, size.blocks)[:count]
-    for i, (kind, word, bit) in enumerate(PLACES[size.side]):
-        if kind == BIT and word in spoilt and bit in (1, 6):
-            grid[i] ^= 1
-    return grid
+    return grid.changed(modules_at(grid.named, words_of(grid.size, block, count, first), (1, 6)))
+
+
+def doubt_of(grid, words):
+    """Doubtful modules: one of each of these codewords."""
+    marked = set(modules_at(grid.named, words, (3,)))
+    return [int(i in marked) for i in range(len(grid))]
 
 
 def held_by(grid):
     """The codewords that a symbol holds."""
-    size = SIZE_OF[side_of(grid)]
-    words = [0] * (size.data + size.check)
-    for module, (kind, word, bit) in zip(grid, PLACES[size.side]):
+    words = [0] * (grid.size.data + grid.size.check)
+    for module, (kind, word, bit) in zip(grid, PLACES[grid.named]):
         if kind == BIT:
             words[word] |= module << 8 - bit
     return words
 
 
+def border_of(named, count):
+    """So many modules of the border, from the end."""
+    return [i for i, (kind, _, _) in enumerate(PLACES[named]) if kind in (2, 3)][::-1][:count]
+
+
 def with_bad_border(grid, count):
     """The same symbol with so many modules of the border turned over, from the end."""
-    grid = list(grid)
-    wrong = [i for i, (kind, _, _) in enumerate(PLACES[side_of(grid)]) if kind in (2, 3)][::-1][:count]
-    for i in wrong:
-        grid[i] ^= 1
-    return grid
+    return grid.changed(border_of(grid.named, count))
 
 
 # ---- Each fault, with its number and its place
 
+TEN, TWELVE = (10, 10), (12, 12)
 # Data codewords of a symbol of side 12 that are refused, in both extents, and how.
 REFUSED = [
     ((0, 66, 66, 66, 66), 7, 0, 1), ((66, 250, 129, 66, 66), 7, 0, 2), ((66, 66, 66, 66, 255), 7, 0, 5),
-           ((66, 242, 66, 66, 66), 7, 0, 2),
-    ((233, 66, 66, 66, 66), 8, 233, 1), ((66, 234, 66, 66, 66), 8, 234, 2), ((66, 66, 236, 66, 66), 8, 236, 3),
-           ((66, 66, 66, 237, 66), 8, 237, 4),
-    ((66, 66, 66, 66, 241), 8, 241, 5), ((66, UPPER_SHIFT, UPPER_SHIFT, 66, 66), 9, 0, 2),
-           ((66, 66, 66, UPPER_SHIFT, 129), 9, 0, 4),
+    ((66, 242, 66, 66, 66), 7, 0, 2), ((233, 66, 66, 66, 66), 8, 233, 1), ((66, 234, 66, 66, 66), 8, 234, 2),
+    ((66, 66, 236, 66, 66), 8, 236, 3), ((66, 66, 66, 237, 66), 8, 237, 4), ((66, 66, 66, 66, 241), 8, 241, 5),
+    ((66, UPPER_SHIFT, UPPER_SHIFT, 66, 66), 9, 0, 2), ((66, 66, 66, UPPER_SHIFT, 129), 9, 0, 4),
     ((230, 0, 0, 66, 66), 10, 0, 2), ((66, 66, 239, 255, 255), 10, 0, 4), ((230, *triple(1, 39, 0), 66, 66), 11, 0, 2),
     ((239, *triple(4, 4, 4), *triple(1, 33, 0)), 11, 0, 4), ((231, randomised(60, 2), 1, 2, 3), 12, 0, 1),
-           ((66, 66, 66, 66, 231), 12, 0, 5),
-    ((66, 66, 66, 66, UPPER_SHIFT), 13, 0, 5),
+    ((66, 66, 66, 66, 231), 12, 0, 5), ((66, 66, 66, 66, UPPER_SHIFT), 13, 0, 5),
 ]
 # The same in the usual extent; the wide one reads them as these items.
 WIDENED = [
@@ -117,63 +175,87 @@ WIDENED = [
     ((237, 66, 67, 129, 206), 8, 237, 1, b"[)>\x1e06\x1dAB\x1e\x04"),
     ((230, *triple(14, 1, 30), 254, 66), 13, 0, 2, b"AA"),
 ]
+# Rows and columns that no size has.
+NO_SIZES = [(0, 0), (0, 10), (10, 0), (1, 1), (9, 9), (11, 11), (28, 28), (10, 18), (18, 8), (32, 8), (8, 20), (8, 152),
+            (12, 48), (16, 16 * 48), (26, 36), (143, 143), (144, 8), (145, 145), (146, 146), (65535, 65535)]
 
 
-def faults(extents):
+def calls_with_modules():
+    """Reading, normalising and inspecting, as functions of modules."""
+    yield read
+    yield lambda grid, extent=USUAL, **more: normal(grid, 1, extent=extent, **more)
+    yield lambda grid, extent=USUAL, limit=None, **more: inspect(grid, **more)
+
+
+def faults():
     """Each code is met, with the number and the place that belong to it."""
-    light, good = [0] * 100, grid_of(10, 142, 164, 186)
-    for extent in extents:
+    light, good = Symbol([0] * 100, TEN), grid_of(TEN, 142, 164, 186)
+    for extent in (USUAL, WIDE):
         for data, code, value, place in REFUSED:
-            yield read(grid_of(12, *data), extent=extent), no(code, value, place)
-            yield normal(grid_of(12, *data), 0, extent=extent), no(code, value, place)
+            yield read(grid_of(TWELVE, *data), extent=extent), no(code, value, place)
+            yield normal(grid_of(TWELVE, *data), 0, extent=extent), no(code, value, place)
+        for call in calls_with_modules():
+            yield call(good[1:], extent=extent, named=TEN), no(3)
+            yield call(good, extent=extent, named=TWELVE), no(3)
+            yield call(good, extent=extent, named=(100, 0)), no(3)
+            yield call([], extent=extent, named=(65535, 65535)), no(3)
+            yield call(good, extent=extent, named=(5, 20)), no(4, 5, 20)
+            yield call(good, extent=extent, named=(100, 1)), no(4, 100, 1)
+            yield call([], extent=extent, named=(0, 0)), no(4, 0, 0)
+            yield call([], extent=extent, named=(0, 65535)), no(4, 0, 65535)
+            yield call([], extent=extent, named=(65535, 0)), no(4, 65535, 0)
+            yield call([1], extent=extent, named=(1, 1)), no(4, 1, 1)
+            for count in (1, 99, 101, 200):
+                yield call(good, extent=extent, doubt=[0] * count), no(19)
+            yield call([0] * 144, extent=extent, named=TEN, doubt=[0] * 100), no(3)
+            yield call([0] * 50, extent=extent, named=(5, 10), doubt=[0] * 49), no(19)
+            yield call([0] * 50, extent=extent, named=(5, 10), doubt=[0] * 50), no(4, 5, 10)
         for call in (read, lambda *given, **more: normal(*given, 1, **more)):
-            yield call(good[1:], extent=extent, side=10), no(3)
-            yield call(good, extent=extent, side=12), no(3)
-            yield call([0] * 121, extent=extent), no(4, 11)
-            yield call([], extent=extent, side=0), no(4, 0)
-            yield call([1], extent=extent), no(4, 1)
-            yield call([], extent=extent, side=65535), no(3)
             yield call(light, limit=26, extent=extent), no(5, 27)
             yield call(hurt(good, 0, 5), extent=extent), no(6, 0, 0)
         yield read(light, limit=27, extent=extent), no(7, 0, 1)
         yield normal(good, 2, extent=extent), no(16, 2)
-        yield normal([], 65535, extent=extent, side=7), no(16, 65535)
-    yield "write 2 65", no(16, 2)
-    yield "write 65535 999", no(16, 65535)
-    yield "write 0 65,257,999", no(15, 257, 1)
-    yield "write 1 65535", no(15, 65535, 0)
-    yield f"write 0 {numbers([55] * 2 * MOST_DATA + [300])}", no(15, 300, 2 * MOST_DATA)
-    yield f"write 0 {numbers([55] * 65534 + [300])}", no(15, 300, 65534)
-    yield f"write 0 {numbers([55] * 65536 + [300])}", no(15, 300, 65535)
+        yield normal([], 65535, extent=extent, named=(7, 7)), no(16, 65535)
+    yield write([65], 2), no(16, 2)
+    yield write([999], 65535), no(16, 65535)
+    yield write([999], 2, 9), no(16, 2)
+    yield write([999], 0, 5), no(18, 5)
+    yield write([999], 1, 65535), no(18, 65535)
+    yield write_bytes(b"A", 0, 5), no(18, 5)
+    yield write([65, 257, 999]), no(15, 257, 1)
+    yield write([65535], 1), no(15, 65535, 0)
+    yield write([300], 0, ONE, (9, 9)), no(15, 300, 0)
+    yield write([55] * 2 * MOST_DATA + [300]), no(15, 300, 2 * MOST_DATA)
+    yield write([55] * 65534 + [300]), no(15, 300, 65534)
+    yield write([55] * 65536 + [300]), no(15, 300, 65535)
     for count in (2 * MOST_DATA + 1, 2 * MOST_DATA + 8, 70_000):
-        yield f"write 0 {numbers([55] * count)}", no(14)
-    for call in ("inspect 11 " + "00" * 121, "inspect 0 -",
-                 f"inspect {LARGEST.side + 1} " + "00" * (LARGEST.side + 1) ** 2):
-        yield call, no(4, int(call.split()[1]))
-    yield "inspect 10 " + "00" * 99, no(3)
-    for side in (0, 1, 9, 11, 28, LARGEST.side - 1, LARGEST.side + 1, LARGEST.side + 2, LARGEST.side + 40, 65535):
-        yield f"places {side}", no(4, side)
+        for shape in (SQUARE, RECTANGLE, EXTENDED, ANY):
+            yield write([55] * count, 0, shape), no(14)
+    for named in NO_SIZES:
+        yield f"places {named[0]} {named[1]}", no(4, *named)
+        yield write([65], 0, ONE, named), no(14)
+        if named[0] * named[1] < 30_000:
+            yield inspect([0] * (named[0] * named[1]), named), no(4, *named)
+            yield read([0] * (named[0] * named[1]), named=named), no(4, *named)
 
 
-def wide(extents):
+def wide():
     """What only the wide extent reads, and an extent that doesn't exist."""
-    if WIDE not in extents:
-        return
     for data, code, value, place, items in WIDENED:
-        grid = grid_of(12, *data)
+        grid = grid_of(TWELVE, *data)
         yield read(grid, extent=USUAL), no(code, value, place)
         yield normal(grid, 0, extent=USUAL), no(code, value, place)
-        yield read(grid, extent=WIDE), reading(12, items, [0])
+        yield read(grid, extent=WIDE), reading(TWELVE, items)
         yield normal(grid, 0, extent=WIDE), symbol(items)
         yield normal(grid, 1, extent=WIDE), symbol(items, 1)
     for extent in (2, 65535):
-        yield read([], extent=extent, side=11), no(17, extent)
-        yield normal([], 2, extent=extent, side=11), no(17, extent)
-        yield normal(grid_of(10, 142), 0, extent=extent), no(17, extent)
-    yield normal([], 2, extent=WIDE, side=11), no(16, 2)
+        yield read([], extent=extent, named=(11, 11)), no(17, extent)
+        yield normal([], 2, extent=extent, named=(11, 11)), no(17, extent)
+        yield normal(grid_of(TEN, 142), 0, extent=extent), no(17, extent)
+    yield normal([], 2, extent=WIDE, named=(11, 11)), no(16, 2)
     digits = [55] * (2 * MOST_DATA - 2)
-    longest = grid_of(LARGEST.side, 236, *ascii_words(digits))
-    yield read(longest, extent=WIDE), reading(LARGEST.side, [*b"[)>\x1e05\x1d", *digits, 30, 4], [0] * LARGEST.blocks)
+    longest = grid_of(LARGEST.named, 236, *ascii_words(digits))
+    yield read(longest, extent=WIDE), reading(LARGEST.named, [*b"[)>\x1e05\x1d", *digits, 30, 4])
     yield normal(longest, 0, extent=WIDE), no(14)
 
 
@@ -181,84 +263,127 @@ def wide(extents):
 
 MESSAGES = [
     (b"", 0), (b"123456", 0), (b"A", 0), ([FNC1, *b"0112345678901231"], 0), ([*b"AB", FNC1, *b"CD"], 0),
-            ([*b"AB", FNC1], 0), ([FNC1], 0),
-    ([FNC1, FNC1, *b"10AB", FNC1, *b"\x1d21"], 0), (b"\x1d\x1e\x00\x7f\x80\xff", 0), (b"\x80" * 3, 1), (b"\x80" * 2, 1),
-            ([FNC1] + [128] * 4, 1),
-    (b"\xff" * 250, 1), (b"\xff" * 249, 1), (b"\xff" * (MOST_DATA - 3), 1), (b"\xff" * (MOST_DATA - 2), 1),
-            (b"\xff" * (MOST_DATA - 3), 0),
+    ([*b"AB", FNC1], 0), ([FNC1], 0), ([FNC1, FNC1, *b"10AB", FNC1, *b"\x1d21"], 0), (b"\x1d\x1e\x00\x7f\x80\xff", 0),
+    (b"\x80" * 3, 1), (b"\x80" * 2, 1), ([FNC1] + [128] * 4, 1), (b"\xff" * 250, 1), (b"\xff" * 249, 1),
+    (b"\xff" * (MOST_DATA - 3), 1), (b"\xff" * (MOST_DATA - 2), 1), (b"\xff" * (MOST_DATA - 3), 0),
     (b"7" * (2 * MOST_DATA), 0), (b"7" * (2 * MOST_DATA - 1), 1), (b"A" * MOST_DATA, 0), (b"A" * (MOST_DATA + 1), 0),
     (bytes(range(256)), 0), (bytes(range(256)), 1), (b"Mitsubadoor", 0), (b"Mitsubadoor", 1),
 ]
 
 
-def messages(extents, has_bytes):
-    """Messages under both profiles, and what their symbols say."""
+def messages():
+    """Messages under both profiles, in the smallest of each shape, and what their symbols say."""
     for items, profile in MESSAGES:
-        for other in {profile, 0, 1}:
-            yield f"write {other} {numbers(items)}", symbol(items, other)
-            if has_bytes and FNC1 not in list(items):
-                yield f"write_bytes {other} {hexadecimal(items)}", symbol(items, other)
-        made = normal_symbol(items, profile)
-        if made is None:
-            continue
-        size, grid = made
-        for extent in extents:
-            yield read(grid, 0, extent), reading(size.side, items, [0] * size.blocks)
-            for other in (0, 1):
-                yield normal(grid, other, 0, extent), symbol(items, other)
-    for extent in extents:
-        other_way = grid_of(26, *base_256_words(b"123456"), 232, 66)
-        yield read(other_way, extent=extent), reading(26, [*b"123456", FNC1, 65], [0])
+        for other in sorted({profile, 0, 1}):
+            for shape in (SQUARE, RECTANGLE, EXTENDED, ANY):
+                yield write(items, other, shape), symbol(items, other, shape)
+                if FNC1 not in list(items):
+                    yield write_bytes(items, other, shape, (9, 9)), symbol(items, other, shape)
+        for shape in (SQUARE, EXTENDED):
+            made = symbol_of(items, profile, shape)
+            if made is None:
+                continue
+            grid = Symbol(made[1], made[0].named)
+            for extent in (USUAL, WIDE):
+                yield read(grid, 0, extent), reading(grid.named, items)
+                for other in (0, 1):
+                    yield normal(grid, other, 0, extent), symbol(items, other)
+    for extent in (USUAL, WIDE):
+        other_way = grid_of((26, 26), *base_256_words(b"123456"), 232, 66)
+        yield read(other_way, extent=extent), reading((26, 26), [*b"123456", FNC1, 65])
         yield normal(other_way, 1, extent=extent), symbol([*b"123456", FNC1, 65], 1)
-        c40 = grid_of(14, 230, *triple(14, 15, 16), *triple(0, 30, 1), *triple(27, 3, 4))
-        yield read(c40, extent=extent), reading(14, [65, 66, 67, 30, FNC1, 32, 48], [0])
-    if has_bytes:
-        yield "write_bytes 2 41", no(16, 2)
-        yield f"write_bytes 0 {hexadecimal(b'A' * (MOST_DATA + 1))}", no(14)
-        yield f"write_bytes 1 {hexadecimal(b'7' * 70_000)}", no(14)
+        c40 = grid_of((8, 32), 230, *triple(14, 15, 16), *triple(0, 30, 1), *triple(27, 3, 4), 254)
+        yield read(c40, extent=extent), reading((8, 32), [65, 66, 67, 30, FNC1, 32, 48])
+    yield write_bytes(b"A", 2), no(16, 2)
+    yield write_bytes(b"A" * (MOST_DATA + 1)), no(14)
+    yield write_bytes(b"7" * 70_000, 1), no(14)
 
 
-def sizes(extents):
+def choices():
+    """The smallest symbol of each shape at each length where another size begins; and each size by itself."""
+    for shape in (SQUARE, RECTANGLE, EXTENDED, ANY):
+        lengths = {size.data + more for size in SIZES for more in (0, 1)}
+        for length in sorted(lengths):
+            items = [65 + k % 26 for k in range(length)]
+            yield write(items, 0, shape), symbol(items, 0, shape)
+    for size in SIZES:
+        for length in (0, 1, size.data - 1, size.data, size.data + 1):
+            items = [65 + k % 26 for k in range(length)]
+            yield write(items, 0, ONE, size.named), symbol(items, 0, ONE, size.named)
+        for profile in (0, 1):
+            items = [200] * (size.data - 2)
+            yield write(items, profile, ONE, size.named), symbol(items, profile, ONE, size.named)
+            yield write_bytes(items, profile, ONE, size.named), symbol(items, profile, ONE, size.named)
+
+
+def sizes():
     """For each size: its row, its places, a symbol at the limits of its border and its blocks, and one beyond each."""
     yield "sizes", " | ".join(" ".join(map(str, size)) for size in SIZES)
     for i, size in enumerate(SIZES):
-        items, extent = [65 + (i + k) % 26 for k in range(size.data)], extents[i % len(extents)]
-        grid = grid_of(size.side, *ascii_words(items))
+        items, extent, named = [65 + (i + k) % 26 for k in range(size.data)], i % 2, size.named
+        grid = grid_of(named, *ascii_words(items))
         words = held_by(grid)
-        yield f"places {size.side}", f"side {size.side} " + " ".join(",".join(map(str, at)) for at in PLACES[size.side])
-        yield f"write 0 {numbers(items)}", symbol(items)
-        yield read(grid, 0, extent), reading(size.side, items, [0] * size.blocks)
-        yield f"inspect {size.side} {hexadecimal(grid)}", inspection(size.side, words, words, [0] * size.blocks)
-        usual = size.side // 4
+        places = " ".join(",".join(map(str, at)) for at in PLACES[named])
+        yield f"places {named[0]} {named[1]}", f"rows {named[0]} columns {named[1]} {places}"
+        yield read(grid, 0, extent), reading(named, items)
+        yield inspect(grid), inspection(named, words, words)
+        usual = sum(named) // 8
         for wrong in (1, usual, usual + 1):
             bad = with_bad_border(grid, wrong)
-            yield read(bad, usual, extent), reading(size.side, items, [0] * size.blocks,
-                                                    wrong) if wrong <= usual else no(5, wrong)
-            yield read(bad, 65535, extent), reading(size.side, items, [0] * size.blocks, wrong)
+            yield read(bad, usual, extent), reading(named, items, None, wrong) if wrong <= usual else no(5, wrong)
+            yield read(bad, 65535, extent), reading(named, items, None, wrong)
             yield normal(bad, 0, usual, extent), symbol(items) if wrong <= usual else no(5, wrong)
         yield read(with_bad_border(grid, 1), 0, extent), no(5, 1)
         yield normal(with_bad_border(grid, 2), 1, 1, extent), no(5, 2)
         counts = [(size.limit + b) % (size.limit + 1) for b in range(size.blocks)]
-        yield from damage(size, grid, items, counts, extent)
-        yield from damage(size, grid, items, [size.limit] * size.blocks, extent)
+        yield from damage(grid, items, counts, extent)
+        yield from damage(grid, items, [size.limit] * size.blocks, extent)
+        yield from doubt(grid, items, extent)
 
 
-def damage(size, grid, items, counts, extent):
+def damage(grid, items, counts, extent):
     """So many wrong codewords in each block; then also more than can be corrected in the last one, and in the first."""
-    words, bad = held_by(grid), list(grid)
+    size, named, words, bad = grid.size, grid.named, held_by(grid), grid
     for block, count in enumerate(counts):
         bad = hurt(bad, block, count)
-    yield read(bad, 0, extent), reading(size.side, items, counts)
+    yield read(bad, 0, extent), reading(named, items, counts)
     yield normal(bad, 1, 0, extent), symbol(items, 1)
-    yield f"inspect {size.side} {hexadecimal(bad)}", inspection(size.side, held_by(bad), words, counts)
+    yield inspect(bad), inspection(named, held_by(bad), words, counts)
     for block in {size.blocks - 1, 0}:
         # With so many wrong codewords these blocks are near no codeword of the code, as an inspection shows.
         worse = with_bad_border(hurt(grid, block, max(5, size.limit + 2)), 3)
         held = held_by(worse)
         mended = [held[i] if i % size.blocks == block else word for i, word in enumerate(words)]
         known = ["beyond" if b == block else 0 for b in range(size.blocks)]
-        yield f"inspect {size.side} {hexadecimal(worse)}", inspection(size.side, held, mended, known, 3)
+        yield inspect(worse), inspection(named, held, mended, known, 3)
         yield read(worse, 3, extent), no(6, 0, block)
+
+
+def doubt(grid, items, extent):
+    """As many erased and wrong codewords as a block's check codewords allow, in the last block; and one more erased."""
+    size, named, words, block = grid.size, grid.named, held_by(grid), grid.size.blocks - 1
+    checks = size.checks_of_a_block
+    for erased, wrong in ((1, 0), (checks, 0), (checks - 2, 1), (checks % 2, checks // 2), (2, size.limit - 1)):
+        bad = hurt(grid, block, erased + wrong)
+        marks = doubt_of(grid, words_of(size, block, erased))
+        lost, changed = ([count if b == block else 0 for b in range(size.blocks)] for count in (erased, wrong))
+        yield read(bad, 0, extent, doubt=marks), reading(named, items, changed, 0, lost)
+        yield normal(bad, 0, 0, extent, doubt=marks), symbol(items)
+        yield inspect(bad, doubt=marks), inspection(named, held_by(bad), words, changed, 0, lost)
+    bad, marks = hurt(grid, block, checks + 1), doubt_of(grid, words_of(size, block, checks + 1))
+    held = held_by(bad)
+    mended = [held[i] if i % size.blocks == block else word for i, word in enumerate(words)]
+    known = ["beyond" if b == block else 0 for b in range(size.blocks)]
+    yield inspect(bad, doubt=marks), inspection(named, held, mended, known)
+    yield read(bad, 0, extent, doubt=marks), no(6, 0, block)
+    border = set(border_of(named, 7))
+    marks = [255 * (i in border) for i in range(len(grid))]
+    yield read(with_bad_border(grid, 7), 0, extent, doubt=marks), reading(named, items)
+    yield read(with_bad_border(grid, 8), 0, extent, doubt=marks), no(5, 1)
+    yield inspect(with_bad_border(grid, 9), doubt=marks), inspection(named, words, words, None, 2)
+    whole = [1] * len(grid)
+    yield read(grid, 0, extent, doubt=whole), no(6, 0, 0)
+    yield read(grid, 0, extent, doubt=[0] * len(grid)), reading(named, items)
 
 
 def conveniences():
@@ -270,8 +395,8 @@ def conveniences():
         text = [29 if item == FNC1 else item for item in items[front:]]
         for room in sorted({0, 1, 2, max(0, len(text) - 1), len(text), len(text) + 1, len(text) + 5}):
             for asked in (0, 1):
-                shown = int(front) if asked else -1
-                yield f"text {room} {asked} {numbers(items)}", f"{len(text)} gs1 {shown} bytes {numbers(text[:room])}"
+                told = int(front) if asked else -1
+                yield f"text {room} {asked} {numbers(items)}", f"{len(text)} gs1 {told} bytes {numbers(text[:room])}"
     for data in (b"", b"A", b"\x1d", b"AB\x1dCD\x1d", b"\x1d\x1e\x1c\x00\xff", b"x" * 1632):
         for gs1 in (0, 1, 2, -1):
             items = [FNC1, *(FNC1 if byte == 29 else byte for byte in data)] if gs1 else list(data)
@@ -280,13 +405,16 @@ def conveniences():
 
 
 def modules():
-    """Anything but 0 is dark."""
-    for dark in (2, 128, 255):
-        grid = grid_of(10, *ascii_words(b"123456"))
-        yield read([dark * module for module in grid], 0), reading(10, b"123456", [0])
-        asked = f"inspect 10 {hexadecimal([dark * module for module in grid])}"
-        yield asked, inspection(10, held_by(grid), held_by(grid), [0])
-        yield normal([dark * module for module in grid], 0, 0), symbol(b"123456")
+    """Anything but 0 is dark, and doubtful."""
+    for named, items in ((TEN, b"123456"), ((8, 18), b"12345678")):
+        grid = grid_of(named, *ascii_words(items))
+        bad, marks = hurt(grid, 0, 3), doubt_of(grid, words_of(grid.size, 0, 3))
+        for dark in (2, 128, 255):
+            some = Symbol([dark * module for module in grid], named)
+            yield read(some, 0), reading(named, items)
+            yield inspect(some), inspection(named, held_by(grid), held_by(grid))
+            yield normal(some, 0, 0), symbol(items)
+            yield read(bad, 0, doubt=[dark * mark for mark in marks]), reading(named, items, None, 0, [3])
 
 
 def words(codes):
@@ -296,119 +424,127 @@ def words(codes):
 
 
 def limits():
-    """A quarter of the side, rounded down."""
+    """An eighth of rows and columns together, rounded down."""
     for side in [*range(0, 130), 255, 256, 1023, 65532, 65535]:
-        yield f"limit {side}", str(side // 4)
+        yield f"limit {side} {side}", str(side // 4)
+    for rows, columns in [*(size.named for size in SIZES), (0, 7), (0, 8), (7, 0), (8, 0), (3, 4), (0, 65535),
+                          (65535, 1)]:
+        yield f"limit {rows} {columns}", str((rows + columns) // 8)
 
 
 # ---- The constants and the layout
 
 CONSTANTS = {
-    "MOST_SIDE": LARGEST.side, "MOST_MODULES": MOST_MODULES, "MOST_ITEMS": 2 * MOST_DATA,
-             "MOST_CODEWORDS": MOST_CODEWORDS,
-    "MOST_BLOCKS": max(size.blocks for size in SIZES), "SIZE_COUNT": len(SIZES), "FNC1": 256, "ANY_LIMIT": 65535,
-             "BEYOND": 255, "STACK": 32768,
+    "MOST_ROWS": 144, "MOST_COLUMNS": 144, "MOST_MODULES": MOST_MODULES, "MOST_ITEMS": 2 * MOST_DATA + 7,
+    "MOST_CODEWORDS": MOST_CODEWORDS, "MOST_BLOCKS": max(size.blocks for size in SIZES), "SIZE_COUNT": len(SIZES),
+    "FNC1": 256, "ANY_LIMIT": 65535, "BEYOND": 255, "STACK": 65536,
 }
 EXTENTS = {"USUAL": USUAL, "WIDE": WIDE}
 PROFILES = {"ASCII": 0, "SHORTER": 1}
+SHAPES = {"SQUARE": SQUARE, "RECTANGLE": RECTANGLE, "EXTENDED": EXTENDED, "ANY": ANY, "ONE": ONE}
 CODES = {
-    "OK": 0, "SHAPE": 3, "SIDE": 4, "BORDER": 5, "BLOCK": 6, "RESERVED": 7, "LEFT_OUT": 8, "UPPER_SHIFT": 9,
-         "TRIPLET": 10, "VALUE": 11,
-    "LENGTH": 12, "UNFINISHED": 13, "TOO_LONG": 14, "ITEM": 15, "PROFILE": 16,
+    "OK": 0, "SHAPE": 3, "SIZE": 4, "BORDER": 5, "BLOCK": 6, "RESERVED": 7, "LEFT_OUT": 8, "UPPER_SHIFT": 9,
+    "TRIPLET": 10, "VALUE": 11, "LENGTH": 12, "UNFINISHED": 13, "TOO_LONG": 14, "ITEM": 15, "PROFILE": 16, "EXTENT": 17,
+    "CHOICE": 18, "DOUBT": 19,
 }
 KINDS = {"NO_MODULE": NO_MODULE, "BIT": BIT, "BORDER_LIGHT": 2, "BORDER_DARK": 3, "FIXED_LIGHT": 4, "FIXED_DARK": 5}
+BLOCKS, ITEMS = CONSTANTS["MOST_BLOCKS"], CONSTANTS["MOST_ITEMS"]
+
+
+def laid(*members):
+    """A struct: how many bytes it has, and where its members stand, each behind the one before."""
+    at, places = 0, {}
+    for name, length in members:
+        places[name] = at, length
+        at += length
+    return at, places
+
+
+LAYOUT = {
+    "fault": laid(("code", 2), ("value", 2), ("place", 2)),
+    "reading": laid(("fault", 6), ("rows", 2), ("columns", 2), ("border_faults", 2), ("block_count", 2),
+                    ("item_count", 2), ("corrected", BLOCKS), ("erased", BLOCKS), ("left", BLOCKS),
+                    ("items", 2 * ITEMS)),
+    "how": laid(("form", 2), ("shape", 2), ("rows", 2), ("columns", 2)),
+    "symbol": laid(("fault", 6), ("rows", 2), ("columns", 2), ("modules", MOST_MODULES)),
+    "inspection": laid(("fault", 6), ("rows", 2), ("columns", 2), ("border_faults", 2), ("block_count", 2),
+                       ("codeword_count", 2), ("corrected", BLOCKS), ("erased", BLOCKS), ("left", BLOCKS),
+                       ("held", MOST_CODEWORDS), ("mended", MOST_CODEWORDS)),
+    "place": laid(("codeword", 2), ("bit", 1), ("kind", 1)),
+    "place_table": laid(("fault", 6), ("rows", 2), ("columns", 2), ("places", 4 * MOST_MODULES)),
+    "size": laid(*((name, 2) for name in ("rows", "columns", "region_rows", "region_columns", "regions_down",
+                                          "regions_across", "mapping_rows", "mapping_columns", "data_codewords",
+                                          "check_codewords", "blocks", "limit", "extension"))),
+    "size_table": laid(("sizes", 26 * len(SIZES))),
+}
 
 
 class Interface:
-    """What belongs to a version of the interface, and the library's own version."""
+    """The interface, and the library's own version."""
+    abi = 3
+    codes, constants, layout, extent_names = CODES, CONSTANTS, LAYOUT, EXTENTS
 
-    def __init__(self, abi, version):
+    def __init__(self, version):
         self.version = version
-        second = abi >= 2
-        self.abi = abi
-        self.extents = [USUAL, WIDE] if second else [USUAL]
-        self.extent_names = EXTENTS if second else {}
-        self.codes = {**CODES, "EXTENT": 17} if second else CODES
-        self.constants = {**CONSTANTS, "MOST_ITEMS": 2 * MOST_DATA + 7} if second else CONSTANTS
-        self.has_bytes = second
-        items, blocks, corrected = 2 * self.constants["MOST_ITEMS"], CONSTANTS["MOST_BLOCKS"], 14 + 2 * MOST_CODEWORDS
-        places, sizes = 4 * MOST_MODULES, 16 * len(SIZES)
-        self.layout = {
-            "fault": (6, {"code": (0, 2), "value": (2, 2), "place": (4, 2)}),
-            "reading": (items + 14 + blocks, {"fault": (0, 6), "side": (6, 2), "border_faults": (8, 2),
-                                              "block_count": (10, 2), "item_count": (12, 2),
-                                     "items": (14, items), "corrected": (14 + items, blocks)}),
-            "symbol": (8 + MOST_MODULES, {"fault": (0, 6), "side": (6, 2), "modules": (8, MOST_MODULES)}),
-            "inspection": (corrected + blocks,
-                           {"fault": (0, 6), "side": (6, 2), "border_faults": (8, 2), "block_count": (10, 2),
-                                                "codeword_count": (12, 2), "held": (14, MOST_CODEWORDS),
-                                                "mended": (14 + MOST_CODEWORDS, MOST_CODEWORDS),
-                            "corrected": (corrected, blocks)}),
-            "place": (4, {"codeword": (0, 2), "bit": (2, 1), "kind": (3, 1)}),
-            "place_table": (8 + places, {"fault": (0, 6), "side": (6, 2), "places": (8, places)}),
-            "size": (16, {name: (2 * i, 2)
-                          for i, name in enumerate(["side", "regions", "region_side", "mapping", "data_codewords",
-                                                                      "check_codewords", "blocks", "limit"])}),
-            "size_table": (sizes, {"sizes": (0, sizes)}),
-        }
 
     def shown_constants(self):
         """As answers.c prints them."""
-        every = {"ABI": self.abi, **self.constants, **self.extent_names, **PROFILES, **self.codes, **KINDS}
+        every = {"ABI": self.abi, **CONSTANTS, **EXTENTS, **PROFILES, **SHAPES, **CODES, **KINDS}
         return "".join(f"{name}={value} " for name, value in every.items())
 
-    def shown_layout(self):
+    @staticmethod
+    def shown_layout():
         """As answers.c prints it."""
         return "".join(f"{name}={size} "
                        + "".join(f"{name}.{member}={at}+{length} " for member, (at, length) in members.items())
-                       for name, (size, members) in self.layout.items())
+                       for name, (size, members) in LAYOUT.items())
 
     @functools.cache
     def calls(self):
         """Requests that every caller answers."""
         return list(self.new_calls())
 
-    def new_calls(self):
-        yield from faults(self.extents)
-        yield from wide(self.extents)
-        yield from messages(self.extents, self.has_bytes)
-        yield from sizes(self.extents)
+    @staticmethod
+    def new_calls():
+        yield from faults()
+        yield from wide()
+        yield from messages()
+        yield from choices()
+        yield from sizes()
         yield from modules()
         yield from limits()
-        yield from words(set(self.codes.values()))
+        yield from words(set(CODES.values()))
         yield "compatible", "1"
 
     def of_the_header(self):
         """Requests for the header alone."""
         yield "constants", self.shown_constants()
         yield "layout", self.shown_layout()
-        if self.abi >= 2:
-            yield "version", f"{self.version} {self.version}"
-            for request, wanted in words(set(self.codes.values())):
-                yield f"code_{request}", wanted
+        yield "version", f"{self.version} {self.version}"
+        for request, wanted in words(set(CODES.values())):
+            yield f"code_{request}", wanted
         yield from conveniences()
 
     def of_rust(self):
-        """Requests for ecc200.rs, whose profiles and extents are types that have no others."""
+        """Requests for ecc200.rs, whose profiles, extents and shapes are types that have no others."""
+        kinds = {"read": [EXTENTS], "normal": [EXTENTS, PROFILES], "write": [PROFILES, SHAPES],
+                 "write_bytes": [PROFILES, SHAPES]}
         for request, wanted in self.calls():
             name, *given = request.split()
-            chosen = {"read": given[:1], "normal": given[:2], "write": given[:1],
-                      "write_bytes": given[:1]}.get(name, [])
-            if set(chosen) <= {"0", "1"}:
+            if all(int(word) in kind.values() for word, kind in zip(given, kinds.get(name, []))):
                 yield request, wanted
-        names = ["FNC1", "ANY_LIMIT", *self.extent_names, *PROFILES, *self.codes]
-        every = {**self.constants, **self.extent_names, **PROFILES, **self.codes}
+        names = ["FNC1", "ANY_LIMIT", *EXTENTS, *PROFILES, *CODES]
+        every = {**CONSTANTS, **EXTENTS, **PROFILES, **CODES}
         yield "constants", "".join(f"{name}={every[name]} " for name in names)
-        if self.abi >= 2:
-            yield "version", self.version
+        yield "version", self.version
         for items, said, gs1 in TEXTS:
             yield f"text {numbers(items)}", f"{len(said)} gs1 {gs1} bytes {numbers(said)}"
 
 
 # Items, their bytes, and whether FNC1 stands in front.
 TEXTS = [([], b"", 0), ([FNC1], b"", 1), ([65], b"A", 0), ([FNC1, 65, 66], b"AB", 1), ([65, FNC1, 66], b"A\x1dB", 0),
-         ([65, 66, FNC1], b"AB\x1d", 0),
-         ([FNC1, FNC1, 29, 30, FNC1], b"\x1d\x1d\x1e\x1d", 1), ([0, 29, 30, 128, 255], b"\x00\x1d\x1e\x80\xff", 0)]
+         ([65, 66, FNC1], b"AB\x1d", 0), ([FNC1, FNC1, 29, 30, FNC1], b"\x1d\x1d\x1e\x1d", 1),
+         ([0, 29, 30, 128, 255], b"\x00\x1d\x1e\x80\xff", 0)]
 
 
 def check_codewords_are_known():

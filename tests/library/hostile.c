@@ -1,5 +1,5 @@
 /* Random calls, with an inaccessible page directly behind each input and each output: nothing outside is touched, each
- * call returns, all of the output is written whatever was in it, and the answers of the calls agree with one another.
+ * call returns, and the answers of the calls agree with one another, whatever their outputs held before.
  * The first argument is the number of rounds, the second the extent: 0 or 1. */
 #define _GNU_SOURCE
 #include <ecc200.h>
@@ -10,11 +10,17 @@
 
 enum { AREA = 1 << 17 };
 
-/* sides of no size */
-static const uint16_t others[] = {0, 1, 11, 28, ECC200_MOST_SIDE + 1, ECC200_MOST_SIDE + 16, 65535};
+typedef struct {
+    uint16_t rows, columns;
+} dimensions;
+
+/* rows and columns of no size */
+static const dimensions others[] = {{0, 0},   {1, 1},    {11, 11},   {28, 28},   {18, 8},       {10, 18},
+                                    {8, 0},   {0, 8},    {145, 145}, {160, 160}, {65535, 65535}, {65535, 0},
+                                    {144, 8}, {26, 640}, {16, 50}};
 static uint16_t extent;
-static long reads, both;
-static uint8_t *area;
+static long reads, both, doubts;
+static uint8_t *area, *doubt_area;
 static ecc200_reading *reading;
 static ecc200_symbol *symbol, *again;
 static ecc200_inspection *inspection;
@@ -44,9 +50,9 @@ static void *guarded(size_t size) {
     return at + room - size;
 }
 
-/* random modules, now and then a number of them that makes no square */
-static uint8_t *noise(uint16_t side, size_t *count) {
-    *count = chance() % 20 ? (size_t)side * side : (size_t)(chance() % 12000);
+/* random modules, now and then a number of them that isn't rows times columns */
+static uint8_t *noise(dimensions size, size_t *count) {
+    *count = chance() % 20 ? (size_t)size.rows * size.columns : (size_t)(chance() % 22000);
     if (*count > AREA)
         *count = AREA;
     uint8_t *modules = area + AREA - *count;
@@ -56,16 +62,17 @@ static uint8_t *noise(uint16_t side, size_t *count) {
 }
 
 /* the modules of a written symbol, damaged or not; or noise if the items can't be written */
-static uint8_t *written(uint16_t *side, size_t *count) {
-    size_t items_count = (size_t)(chance() % 2 ? chance() % 1700 : chance() % 40);
+static uint8_t *written(dimensions *size, size_t *count) {
+    size_t items_count = (size_t)(chance() % 2 ? chance() % 3200 : chance() % 40);
+    ecc200_how how = {(uint16_t)(chance() % 3), (uint16_t)(chance() % 6), size->rows, size->columns};
     uint16_t *items = (uint16_t *)(void *)(area + AREA) - items_count;
     for (size_t i = 0; i < items_count; i++)
         items[i] = (uint16_t)(chance() % (chance() % 500 ? 257 : 300));
     memset(symbol, 0xEE, sizeof *symbol);
-    if (ecc200_write(items, items_count, (uint16_t)(chance() % 3), symbol))
-        return noise(*side, count);
-    *side = symbol->side;
-    *count = (size_t)*side * *side;
+    if (ecc200_write(items, items_count, &how, symbol))
+        return noise(*size, count);
+    size->rows = symbol->rows, size->columns = symbol->columns;
+    *count = (size_t)size->rows * size->columns;
     uint8_t *modules = area + AREA - *count;
     memcpy(modules, symbol->modules, *count);
     for (int turns = chance() % 3 * (chance() % 40); turns > 0; turns--)
@@ -97,14 +104,17 @@ static void add_checks(uint8_t *words, const ecc200_size *size) {
             for (unsigned i = 0; i < count; i++)
                 rest[i] = rest[i + 1] ^ product(factor, generator[i + 1]);
         }
+        /* the block behind that of the last data codeword has the first check codeword */
+        unsigned data = size->data_codewords, blocks = size->blocks;
+        unsigned first = data + (block + blocks - data % blocks) % blocks;
         for (unsigned i = 0; i < count; i++)
-            words[size->data_codewords + block + i * size->blocks] = (uint8_t)rest[i];
+            words[first + i * blocks] = (uint8_t)rest[i];
     }
 }
 
 /* a symbol whose data codewords are random, but often begin or end something: an encodation, a shift, a macro, the
  * message */
-static uint8_t *spelled(uint16_t *side, size_t *count) {
+static uint8_t *spelled(dimensions *named, size_t *count) {
     static const uint8_t turns[] = {129, 230, 231, 232, 233, 234, 235, 236, 237, 238, 239, 240, 241, 254, 0, 124, 31};
     const ecc200_size *size = &sizes.sizes[(size_t)chance() % (chance() % 2 ? 8 : ECC200_SIZE_COUNT)];
     uint8_t words[ECC200_MOST_CODEWORDS];
@@ -115,9 +125,9 @@ static uint8_t *spelled(uint16_t *side, size_t *count) {
     if (chance() % 3 == 0)
         words[0] = turns[(size_t)chance() % sizeof turns];
     add_checks(words, size);
-    *side = size->side, *count = (size_t)*side * *side;
+    named->rows = size->rows, named->columns = size->columns, *count = (size_t)size->rows * size->columns;
     uint8_t *modules = area + AREA - *count;
-    ecc200_places(*side, table);
+    ecc200_places(size->rows, size->columns, table);
     for (size_t i = 0; i < *count; i++) {
         const ecc200_place at = table->places[i];
         int is_dark = at.kind == ECC200_BORDER_DARK || at.kind == ECC200_FIXED_DARK;
@@ -126,58 +136,93 @@ static uint8_t *spelled(uint16_t *side, size_t *count) {
     return modules;
 }
 
-/* a normal grid is its own, and says what was read */
+/* doubtful modules, few or many of them, or as many as the modules aren't, or none */
+static const uint8_t *doubt(size_t count, size_t *doubtful_count) {
+    int way = chance() % 8, often = 1 + chance() % 400;
+    *doubtful_count = way < 4 ? 0 : way == 4 && chance() % 8 == 0 ? (size_t)(chance() % 22000) : count;
+    uint8_t *marks = doubt_area + AREA - *doubtful_count;
+    for (size_t i = 0; i < *doubtful_count; i++)
+        marks[i] = way != 5 && chance() % often == 0 ? (uint8_t)(1 + chance() % 255) : 0;
+    return *doubtful_count ? marks : NULL;
+}
+
+/* the symbol that is written is its own normal one, and says what was read */
 static int check_normal(uint16_t profile) {
     static uint16_t items[ECC200_MOST_ITEMS];
-    size_t count = (size_t)symbol->side * symbol->side;
-    memcpy(items, reading->items, sizeof items);
+    size_t count = (size_t)symbol->rows * symbol->columns;
     uint16_t item_count = reading->item_count;
-    if (ecc200_normal(symbol->modules, count, symbol->side, 0, extent, profile, again) ||
+    memcpy(items, reading->items, sizeof items);
+    memset(again, 0xEE, sizeof *again);
+    if (symbol->rows != symbol->columns)
+        return fail("a normal symbol is no square");
+    if (ecc200_normal(symbol->modules, count, NULL, 0, symbol->rows, symbol->columns, 0, extent, profile, again) ||
         memcmp(symbol, again, sizeof *symbol))
         return fail("normalising twice isn't once");
-    uint16_t code = ecc200_read(symbol->modules, count, symbol->side, 0, extent, reading);
-    if (code || reading->item_count != item_count || memcmp(reading->items, items, sizeof items))
-        return fail("the normal grid says something else");
+    uint16_t code =
+        ecc200_read(symbol->modules, count, NULL, 0, symbol->rows, symbol->columns, 0, extent, reading);
+    if (code || reading->item_count != item_count || memcmp(reading->items, items, 2 * (size_t)item_count))
+        return fail("the normal symbol says something else");
     return 0;
 }
 
-/* the side of a size, or one that no size has */
-static uint16_t any_side(void) {
+/* the rows and columns of a size, or some that no size has */
+static dimensions any_size(void) {
     size_t at = (size_t)chance() % (ECC200_SIZE_COUNT + sizeof others / sizeof *others);
-    return at < ECC200_SIZE_COUNT ? sizes.sizes[at].side : others[at - ECC200_SIZE_COUNT];
+    if (at >= ECC200_SIZE_COUNT)
+        return others[at - ECC200_SIZE_COUNT];
+    dimensions found = {sizes.sizes[at].rows, sizes.sizes[at].columns};
+    return found;
+}
+
+static int is_size(dimensions size) {
+    for (int i = 0; i < ECC200_SIZE_COUNT; i++)
+        if (sizes.sizes[i].rows == size.rows && sizes.sizes[i].columns == size.columns)
+            return 1;
+    return 0;
+}
+
+/* what an inspection and a reading say of the same blocks */
+static int blocks_agree(void) {
+    size_t count = reading->block_count;
+    return inspection->block_count == count && !memcmp(inspection->corrected, reading->corrected, count) &&
+           !memcmp(inspection->erased, reading->erased, count) && !memcmp(inspection->left, reading->left, count) &&
+           inspection->border_faults == reading->border_faults;
 }
 
 static int round_of(void) {
     static ecc200_reading second;
-    uint16_t side = any_side(), profile = (uint16_t)(chance() % 2);
-    size_t count;
+    dimensions size = any_size();
+    uint16_t profile = (uint16_t)(chance() % 2);
+    size_t count, marked;
     int way = chance() % 4;
-    uint8_t *modules = way == 0 ? noise(side, &count) : way == 1 ? written(&side, &count) : spelled(&side, &count);
-    uint16_t limit = chance() % 2 ? ECC200_ANY_LIMIT : ecc200_usual_limit(side);
-    memset(reading, 0xEE, sizeof *reading), memset(&second, 0x11, sizeof second);
-    uint16_t code = ecc200_read(modules, count, side, limit, extent, reading);
-    ecc200_read(modules, count, side, limit, extent, &second);
+    uint8_t *modules = way == 0 ? noise(size, &count) : way == 1 ? written(&size, &count) : spelled(&size, &count);
+    const uint8_t *marks = doubt(count, &marked);
+    uint16_t rows = size.rows, columns = size.columns;
+    uint16_t limit = chance() % 2 ? ECC200_ANY_LIMIT : ecc200_usual_limit(rows, columns);
+    memset(reading, 0xEE, sizeof *reading), memset(&second, 0xEE, sizeof second);
+    uint16_t code = ecc200_read(modules, count, marks, marked, rows, columns, limit, extent, reading);
+    ecc200_read(modules, count, marks, marked, rows, columns, limit, extent, &second);
     if (memcmp(reading, &second, sizeof second) || code != reading->fault.code)
         return fail("a reading isn't a function of its input");
-    uint16_t other =
-        ecc200_read(modules, count, side, limit, extent == ECC200_WIDE ? ECC200_USUAL : ECC200_WIDE, &second);
+    memset(&second, 0xEE, sizeof second);
+    uint16_t other = ecc200_read(modules, count, marks, marked, rows, columns, limit,
+                                 extent == ECC200_WIDE ? ECC200_USUAL : ECC200_WIDE, &second);
     reads += code == ECC200_OK, both += code == ECC200_OK && other == ECC200_OK;
+    doubts += code == ECC200_OK && marked > 0;
     if ((extent == ECC200_WIDE ? other : code) == ECC200_OK && memcmp(reading, &second, sizeof second))
         return fail("what the usual extent reads the wide one reads otherwise");
     memset(inspection, 0xEE, sizeof *inspection);
-    uint16_t inspected = ecc200_inspect(modules, count, side, inspection);
-    if (inspected != (code == ECC200_SHAPE || code == ECC200_SIDE ? code : 0))
+    uint16_t inspected = ecc200_inspect(modules, count, marks, marked, rows, columns, inspection);
+    if (inspected != (code == ECC200_SHAPE || code == ECC200_DOUBT || code == ECC200_SIZE ? code : 0))
         return fail("an inspection is refused");
-    int alike = !memcmp(inspection->corrected, reading->corrected, sizeof reading->corrected);
-    if (!code && (!alike || inspection->border_faults != reading->border_faults))
+    if (!code && !blocks_agree())
         return fail("an inspection and a reading differ");
     memset(symbol, 0xEE, sizeof *symbol);
-    uint16_t normal = ecc200_normal(modules, count, side, limit, extent, profile, symbol);
+    uint16_t normal = ecc200_normal(modules, count, marks, marked, rows, columns, limit, extent, profile, symbol);
     if (normal && normal != ECC200_TOO_LONG && memcmp(&symbol->fault, &reading->fault, sizeof symbol->fault))
-        return fail("a reading and a normal grid are refused differently");
+        return fail("a reading and a normal symbol are refused differently");
     memset(table, 0xEE, sizeof *table);
-    if (ecc200_places(side, table) !=
-        (code == ECC200_SIDE || (code == ECC200_SHAPE && table->fault.code) ? ECC200_SIDE : 0))
+    if (ecc200_places(rows, columns, table) != (is_size(size) ? ECC200_OK : ECC200_SIZE))
         return fail("places are refused");
     return normal ? 0 : check_normal(profile);
 }
@@ -185,22 +230,25 @@ static int round_of(void) {
 int main(int argc, char **argv) {
     long rounds = argc > 1 ? atol(argv[1]) : 20000;
     extent = argc > 2 ? (uint16_t)atoi(argv[2]) : ECC200_WIDE;
-    area = guarded(AREA), reading = guarded(sizeof *reading), symbol = guarded(sizeof *symbol),
-    again = guarded(sizeof *again);
+    area = guarded(AREA), doubt_area = guarded(AREA), reading = guarded(sizeof *reading);
+    symbol = guarded(sizeof *symbol), again = guarded(sizeof *again);
     inspection = guarded(sizeof *inspection), table = guarded(sizeof *table);
-    if (ecc200_write(NULL, 0, 0, symbol) || symbol->side != 10)
+    ecc200_how how = {ECC200_ASCII, ECC200_SQUARE, 0, 0};
+    memset(symbol, 0xEE, sizeof *symbol), memset(again, 0xEE, sizeof *again);
+    if (ecc200_write(NULL, 0, &how, symbol) || symbol->rows != 10 || symbol->columns != 10)
         return fail("the empty message isn't written");
-    if (ecc200_read(NULL, 0, 0, 0, extent, reading) != ECC200_SIDE ||
-        ecc200_read(NULL, 0, 10, 0, extent, reading) != ECC200_SHAPE)
+    if (ecc200_read(NULL, 0, NULL, 0, 0, 0, 0, extent, reading) != ECC200_SIZE ||
+        ecc200_read(NULL, 0, NULL, 0, 10, 10, 0, extent, reading) != ECC200_SHAPE)
         return fail("no modules are read");
-    if (ecc200_inspect(NULL, 0, 0, inspection) != ECC200_SIDE)
+    if (ecc200_inspect(NULL, 0, NULL, 0, 0, 0, inspection) != ECC200_SIZE)
         return fail("no modules make a symbol");
-    if (ecc200_write_bytes(NULL, 0, 0, again) || memcmp(symbol, again, sizeof *symbol))
+    if (ecc200_write_bytes(NULL, 0, &how, again) || memcmp(symbol, again, sizeof *symbol))
         return fail("no bytes aren't the empty message");
     make_field(), ecc200_sizes(&sizes);
     for (long i = 0; i < rounds; i++)
         if (round_of())
             return 1;
-    printf("%ld of %ld symbols are read, %ld in both extents\n", reads, rounds, both);
+    printf("%ld of %ld symbols are read, %ld in both extents, %ld with doubtful modules\n", reads, rounds, both,
+           doubts);
     return 0;
 }

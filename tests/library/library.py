@@ -19,9 +19,7 @@ WORKED = ("1010101010 1100101101 1100000100 1100011101 1100001000 "
 @functools.cache
 def interface():
     """The interface of the header, and the version that is released."""
-    header = places.text_of("library", "ecc200.h")
-    abi = int(next(line.split()[2] for line in header.splitlines() if line.startswith("#define ECC200_ABI ")))
-    return Interface(abi, places.text_of("packaging", "version").strip())
+    return Interface(places.text_of("packaging", "version").strip())
 
 
 @functools.cache

@@ -7,30 +7,95 @@ from collections import namedtuple
 FNC1, PAD, LATCH_BASE_256, UPPER_SHIFT = 256, 129, 231, 235
 NO_MODULE, BIT, BORDER_LIGHT, BORDER_DARK, FIXED_LIGHT, FIXED_DARK = range(6)
 
-Size = namedtuple("Size", "side regions region_side mapping data check blocks limit")
-SIZES = [Size(*map(int, row.split())) for row in """\
-10 1 8 8 3 5 1 2
-12 1 10 10 5 7 1 3
-14 1 12 12 8 10 1 5
-16 1 14 14 12 12 1 6
-18 1 16 16 18 14 1 7
-20 1 18 18 22 18 1 9
-22 1 20 20 30 20 1 10
-24 1 22 22 36 24 1 12
-26 1 24 24 44 28 1 14
-32 4 14 28 62 36 1 18
-36 4 16 32 86 42 1 21
-40 4 18 36 114 48 1 24
-44 4 20 40 144 56 1 28
-48 4 22 44 174 68 1 34
-52 4 24 48 204 84 2 21
-64 16 14 56 280 112 2 28
-72 16 16 64 368 144 4 18
-80 16 18 72 456 192 4 24
-88 16 20 80 576 224 4 28
-96 16 22 88 696 272 4 34
-104 16 24 96 816 336 6 28""".splitlines()]
-SIZE_OF = {size.side: size for size in SIZES}
+SQUARE, RECTANGLE, EXTENDED, ANY, ONE = range(5)
+
+# Rows and columns of the symbol; of a region, without its border; regions down and across; data and check codewords;
+# blocks. ISO/IEC 16022, and then what ISO/IEC 21471 adds.
+STANDARD = """\
+10 10 8 8 1 1 3 5 1
+12 12 10 10 1 1 5 7 1
+14 14 12 12 1 1 8 10 1
+16 16 14 14 1 1 12 12 1
+18 18 16 16 1 1 18 14 1
+20 20 18 18 1 1 22 18 1
+22 22 20 20 1 1 30 20 1
+24 24 22 22 1 1 36 24 1
+26 26 24 24 1 1 44 28 1
+32 32 14 14 2 2 62 36 1
+36 36 16 16 2 2 86 42 1
+40 40 18 18 2 2 114 48 1
+44 44 20 20 2 2 144 56 1
+48 48 22 22 2 2 174 68 1
+52 52 24 24 2 2 204 84 2
+64 64 14 14 4 4 280 112 2
+72 72 16 16 4 4 368 144 4
+80 80 18 18 4 4 456 192 4
+88 88 20 20 4 4 576 224 4
+96 96 22 22 4 4 696 272 4
+104 104 24 24 4 4 816 336 6
+120 120 18 18 6 6 1050 408 6
+132 132 20 20 6 6 1304 496 8
+144 144 22 22 6 6 1558 620 10
+8 18 6 16 1 1 5 7 1
+8 32 6 14 1 2 10 11 1
+12 26 10 24 1 1 16 14 1
+12 36 10 16 1 2 22 18 1
+16 36 14 16 1 2 32 24 1
+16 48 14 22 1 2 49 28 1"""
+EXTENSION = """\
+8 48 6 22 1 2 18 15 1
+8 64 6 14 1 4 24 18 1
+8 80 6 18 1 4 32 22 1
+8 96 6 22 1 4 38 28 1
+8 120 6 18 1 6 49 32 1
+8 144 6 22 1 6 63 36 1
+12 64 10 14 1 4 43 27 1
+12 88 10 20 1 4 64 36 1
+16 64 14 14 1 4 62 36 1
+20 36 18 16 1 2 44 28 1
+20 44 18 20 1 2 56 34 1
+20 64 18 14 1 4 84 42 1
+22 48 20 22 1 2 72 38 1
+24 48 22 22 1 2 80 41 1
+24 64 22 14 1 4 108 46 1
+26 40 24 18 1 2 70 38 1
+26 48 24 22 1 2 90 42 1
+26 64 24 14 1 4 118 50 1"""
+
+
+class Size(namedtuple("Size", "rows columns region_rows region_columns down across mapping_rows mapping_columns data "
+                              "check blocks limit extension")):
+    """A row of the table of sizes, as the library has it."""
+
+    @property
+    def named(self):
+        return self.rows, self.columns
+
+    @property
+    def is_square(self):
+        return self.rows == self.columns
+
+    @property
+    def checks_of_a_block(self):
+        return self.check // self.blocks
+
+    def is_of(self, shape, named):
+        """Whether a choice has this size."""
+        if shape == ONE:
+            return self.named == named
+        return shape == ANY or self.is_square == (shape == SQUARE) and not (shape == RECTANGLE and self.extension)
+
+
+def size_of(row, extension):
+    rows, columns, high, wide, down, across, data, check, blocks = map(int, row.split())
+    return Size(rows, columns, high, wide, down, across, high * down, wide * across, data, check, blocks,
+                check // blocks // 2, extension)
+
+
+SIZES = sorted([*(size_of(row, 0) for row in STANDARD.splitlines()),
+                *(size_of(row, 1) for row in EXTENSION.splitlines())],
+               key=lambda size: (size.rows * size.columns, size.columns))
+SIZE_OF = {size.named: size for size in SIZES}
 
 
 class Field:
@@ -79,20 +144,22 @@ class Placement:
         [(-1, 0), (-1, -1), (0, -3), (0, -2), (0, -1), (1, -3), (1, -2), (1, -1)],
     ]
 
-    def __init__(self, side):
-        self.side, self.count = side, 0
-        self.cells = [[None] * side for _ in range(side)]
+    def __init__(self, rows, columns):
+        self.rows, self.columns, self.count = rows, columns, 0
+        self.cells = [[None] * columns for _ in range(rows)]
         self.sweep()
 
     def put(self, shape, row, column):
-        """Lays the next codeword in a shape; what falls out at the top or on the left comes back on the other side,
-        moved along."""
+        """Lays the next codeword in a shape; what falls out at the top, on the left or below comes back on the other
+        side, moved along."""
         for bit, (down, right) in enumerate(shape, 1):
             r, c = row + down, column + right
             if r < 0:
-                r, c = r + self.side, c + 4 - (self.side + 4) % 8
+                r, c = r + self.rows, c + 4 - (self.rows + 4) % 8
             if c < 0:
-                r, c = r + 4 - (self.side + 4) % 8, c + self.side
+                r, c = r + 4 - (self.columns + 4) % 8, c + self.columns
+            if r >= self.rows:
+                r -= self.rows
             self.cells[r][c] = self.count, bit
         self.count += 1
 
@@ -102,19 +169,19 @@ class Placement:
         self.count += 1
 
     def sweep(self):
-        side, row, column = self.side, 4, 0
-        while row < side or column < side:
-            for shape, at, fits in zip(self.CORNERS, [(side, 0), (side - 2, 0), (side - 2, 0), (side + 4, 2)],
-                                       [True, side % 4 != 0, side % 8 == 4, side % 8 == 0]):
+        rows, columns, row, column = self.rows, self.columns, 4, 0
+        while row < rows or column < columns:
+            for shape, at, fits in zip(self.CORNERS, [(rows, 0), (rows - 2, 0), (rows - 2, 0), (rows + 4, 2)],
+                                       [True, columns % 4 != 0, columns % 8 == 4, columns % 8 == 0]):
                 if fits and (row, column) == at:
                     self.put_corner(shape)
-            while row >= 0 and column < side:
-                if row < side and column >= 0 and self.cells[row][column] is None:
+            while row >= 0 and column < columns:
+                if row < rows and column >= 0 and self.cells[row][column] is None:
                     self.put(self.UTAH, row, column)
                 row, column = row - 2, column + 2
             row, column = row + 1, column + 3
-            while row < side and column >= 0:
-                if row >= 0 and column < side and self.cells[row][column] is None:
+            while row < rows and column >= 0:
+                if row >= 0 and column < columns and self.cells[row][column] is None:
                     self.put(self.UTAH, row, column)
                 row, column = row + 2, column - 2
             row, column = row + 3, column + 1
@@ -123,46 +190,49 @@ class Placement:
 def border(size, row, column):
     """What a module of a border is, or None inside a region: dark on the left and below, alternating above and on the
     right."""
-    r, c, last = row % (size.region_side + 2), column % (size.region_side + 2), size.region_side + 1
-    if 0 < r < last and 0 < c < last:
+    r, c = row % (size.region_rows + 2), column % (size.region_columns + 2)
+    last_row, last_column = size.region_rows + 1, size.region_columns + 1
+    if 0 < r < last_row and 0 < c < last_column:
         return None
-    dark = c == 0 or r == last or (r == 0 and c % 2 == 0) or (c == last and r % 2 == 1)
+    dark = c == 0 or r == last_row or (r == 0 and c % 2 == 0) or (c == last_column and r % 2 == 1)
     return BORDER_DARK if dark else BORDER_LIGHT
 
 
 def places_of(size):
     """Kind, codeword and bit of each module, row by row."""
-    cells = Placement(size.mapping).cells
+    cells = Placement(size.mapping_rows, size.mapping_columns).cells
     found = []
-    for row in range(size.side):
-        for column in range(size.side):
+    for row in range(size.rows):
+        for column in range(size.columns):
             kind = border(size, row, column)
-            across = size.region_side + 2
-            r, c = row - 1 - 2 * (row // across), column - 1 - 2 * (column // across)
+            r, c = row - 1 - 2 * (row // (size.region_rows + 2)), column - 1 - 2 * (column // (size.region_columns + 2))
             if kind is not None:
                 found.append((kind, 0, 0))
             elif cells[r][c] is None:
-                found.append((FIXED_DARK if r == c else FIXED_LIGHT, 0, 0))
+                is_dark = r - size.mapping_rows == c - size.mapping_columns
+                found.append((FIXED_DARK if is_dark else FIXED_LIGHT, 0, 0))
             else:
                 found.append((BIT, *cells[r][c]))
     return found
 
 
-PLACES = {size.side: places_of(size) for size in SIZES}
+PLACES = {size.named: places_of(size) for size in SIZES}
 
 
 def codewords(size, data):
-    """These data codewords with the check codewords of each block, in the order of the symbol."""
+    """These data codewords with the check codewords of each block, in the order of the symbol, in which all codewords
+    are dealt into the blocks one after another."""
     words = list(data) + [0] * size.check
     for b in range(size.blocks):
-        words[size.data + b::size.blocks] = FIELD.checks(tuple(data[b::size.blocks]), size.check // size.blocks)
+        first = size.data + (b - size.data) % size.blocks
+        words[first::size.blocks] = FIELD.checks(tuple(data[b::size.blocks]), size.checks_of_a_block)
     return words
 
 
 def modules_of(size, words):
     """The modules of a symbol that holds these codewords, row by row."""
     dark = {BORDER_DARK: 1, FIXED_DARK: 1}
-    return [words[word] >> 8 - bit & 1 if kind == BIT else dark.get(kind, 0) for kind, word, bit in PLACES[size.side]]
+    return [words[word] >> 8 - bit & 1 if kind == BIT else dark.get(kind, 0) for kind, word, bit in PLACES[size.named]]
 
 
 def padded(data, count):
@@ -215,10 +285,11 @@ def normal_words(items, profile):
     return words
 
 
-def normal_symbol(items, profile):
-    """The size and the modules of the normal grid of a message, or None if it's too long."""
+def symbol_of(items, profile=0, shape=SQUARE, named=(0, 0)):
+    """The size and the modules of the smallest symbol of a shape, or of the one that is named, that holds a message;
+    None if there is none."""
     words = normal_words(items, profile)
     for size in SIZES:
-        if len(words) <= size.data:
+        if size.is_of(shape, named) and len(words) <= size.data:
             return size, modules_of(size, codewords(size, padded(words, size.data)))
     return None

@@ -13,9 +13,9 @@ import sys
 import tempfile
 
 from tests.library.answers import Answers
-from tests.library.cases import (FNC1, LARGEST, MOST_DATA, REFUSED, TEXTS, WIDENED, WORDS, Interface, grid_of, hurt,
-                                 with_bad_border)
-from tests.library.model import PLACES, SIZES, normal_symbol
+from tests.library.cases import (FNC1, LARGEST, MOST_DATA, NO_SIZES, REFUSED, TEN, TEXTS, TWELVE, WIDENED, WORDS,
+                                 Interface, Symbol, grid_of, hurt, with_bad_border)
+from tests.library.model import ONE, PLACES, SIZES, symbol_of
 
 MODULE = os.path.abspath(sys.argv[1])
 
@@ -29,12 +29,13 @@ def module(path=MODULE):
 
 
 ecc200 = module()
-INTERFACE = Interface(ecc200._library.ecc200_abi(), os.environ["VERSION"])
+INTERFACE = Interface(os.environ["VERSION"])
 
 
 def rows(grid):
-    side = round(len(grid) ** 0.5)
-    return [bytes(grid[at:at + side]) for at in range(0, len(grid), side)]
+    """The rows of a symbol."""
+    columns = grid.named[1]
+    return [bytes(grid[at:at + columns]) for at in range(0, len(grid), columns)]
 
 
 def said_by(call):
@@ -54,12 +55,13 @@ def refused(code, value=0, place=0):
 WORKED = [bytes(int(digit) for digit in row) for row in
           ("1010101010 1100101101 1100000100 1100011101 1100001000 "
            "1000001111 1110110000 1111011001 1001110100 1111111111").split()]
+FLAT = Symbol([module for row in WORKED for module in row], TEN)
 LIGHT = [bytes(10)] * 10
 
 
 def requests():
     """What all callers are asked."""
-    answers = Answers(ecc200, INTERFACE.abi >= 2)
+    answers = Answers(ecc200)
     for request, wanted in INTERFACE.calls():
         got = answers.to(request)
         if got is not None:
@@ -70,30 +72,33 @@ def names():
     """What is public, and the numbers."""
     public = {"ABI", "Code", "Extent", "FNC1", "Found", "Inspection", "Kind", "MOST_ITEMS", "Place", "Profile",
               "Reading", "Refused",
-              "SamplerMissing", "Size", "decode", "find", "inspect", "normal", "places", "read", "sizes", "usual_limit",
-              "write"}
+              "SamplerMissing", "Shape", "Size", "decode", "find", "inspect", "normal", "places", "read", "sizes",
+              "usual_limit", "write"}
     yield "public names", public - set(ecc200.__all__), set()
     yield "names that are there", [name for name in ecc200.__all__ if not hasattr(ecc200, name)], []
     yield "numbers", (ecc200.ABI, ecc200.FNC1, ecc200.MOST_ITEMS), (INTERFACE.abi, FNC1,
                                                                     INTERFACE.constants["MOST_ITEMS"])
     for kind, wanted in ((ecc200.Code, {name: code for name, code in INTERFACE.codes.items() if code}),
                          (ecc200.Profile, {"ASCII": 0, "SHORTER": 1}),
+                         (ecc200.Shape, {"SQUARE": 0, "RECTANGLE": 1, "EXTENDED": 2, "ANY": 3}),
                          (ecc200.Extent, INTERFACE.extent_names),
                          (ecc200.Kind,
                           {"BIT": 1, "BORDER_LIGHT": 2, "BORDER_DARK": 3, "FIXED_LIGHT": 4, "FIXED_DARK": 5})):
         yield f"numbers of {kind.__name__}", {it.name: int(it) for it in kind}, wanted
-    for kind, wanted in ((ecc200.Reading, "data gs1 items corrected border_faults side corners"),
-                         (ecc200.Inspection, "held mended corrected border_faults"),
+    for kind, wanted in ((ecc200.Reading, "data gs1 items corrected border_faults rows columns erased left corners"),
+                         (ecc200.Inspection, "held mended corrected border_faults erased left"),
                          (ecc200.Place, "kind codeword bit"),
-                         (ecc200.Size, "side regions region_side mapping data_codewords check_codewords blocks limit")):
+                         (ecc200.Size, "rows columns region_rows region_columns regions_down regions_across "
+                          "mapping_rows mapping_columns data_codewords check_codewords blocks limit extension")):
         yield f"members of {kind.__name__}", " ".join(kind._fields), wanted
 
 
 def layout():
     """Where the members of the structs stand."""
-    structs = {"fault": "_Fault", "reading": "_ReadingOut", "symbol": "_SymbolOut", "inspection": "_InspectionOut",
-               "place": "_PlaceOut",
-               "place_table": "_PlacesOut", "size": "_SizeOut", "size_table": "_SizesOut"}
+    structs = {"fault": "_Fault", "reading": "_ReadingOut", "how": "_How", "symbol": "_SymbolOut",
+               "inspection": "_InspectionOut", "place": "_PlaceOut", "place_table": "_PlacesOut", "size": "_SizeOut",
+               "size_table": "_SizesOut"}
+    yield "structs", set(structs), set(INTERFACE.layout)
     for name, struct in structs.items():
         kind, (size, members) = getattr(ecc200, struct), INTERFACE.layout[name]
         yield f"the size of {struct}", ctypes.sizeof(kind), size
@@ -110,7 +115,7 @@ def exceptions():
             got = isinstance(why, ValueError), int(why.code), why.value, why.place, str(why)
             yield f"code {code}", got, (True, code, 7, 9, shown)
             yield f"code {code} by itself", (ecc200.Refused(code).value, ecc200.Refused(code).place), (0, 0)
-    for code in (0, 1, 2, 18, -1):
+    for code in (0, 1, 2, 20, -1):
         yield f"no code {code}", said_by(lambda: ecc200.Refused(code)), "ValueError"
 
 
@@ -119,7 +124,8 @@ def texts():
     for items, data, gs1 in TEXTS:
         got = ecc200.read(ecc200.write(items))
         yield f"the text of {items}", (got.data, got.gs1, got.items), (data, bool(gs1), tuple(items))
-        yield f"types for {items}", [type(part) for part in got], [bytes, bool, tuple, tuple, int, int, type(None)]
+        yield f"types for {items}", [type(part) for part in got], [bytes, bool, tuple, tuple, int, int, int, tuple,
+                                                                   tuple, type(None)]
     for data, items in ((b"", [FNC1]), (b"A", [FNC1, 65]), (b"A\x1dB\x1d", [FNC1, 65, FNC1, 66, FNC1]),
                         (b"\x1d", [FNC1, FNC1])):
         wanted = ecc200.write(items)
@@ -133,23 +139,22 @@ def texts():
 
 
 def defaults():
-    """What holds if nothing is said: the usual limit, ASCII, the wide extent, no FNC1."""
+    """What holds if nothing is said: the usual limit, ASCII, the wide extent, no FNC1, the smallest square."""
     for size in SIZES:
-        grid, usual = ecc200.write(b"A" * size.data), size.side // 4
-        flat = [module for row in grid for module in row]
+        flat, usual = Symbol(symbol_of(b"A" * size.data, 0, ONE, size.named)[1], size.named), sum(size.named) // 8
         for call in (ecc200.read, ecc200.normal):
             at, past = (said_by(lambda: call(rows(with_bad_border(flat, wrong)))) for wrong in (usual, usual + 1))
-            yield f"the usual limit of {call.__name__} at side {size.side}", at[0] == "refused", False
-            yield f"past the usual limit of {call.__name__} at side {size.side}", past, refused("BORDER", usual + 1)
-    long, short = normal_symbol(b"\x80" * 3, 0)[1], normal_symbol(b"\x80" * 3, 1)[1]
+            yield f"the usual limit of {call.__name__} at {size.named}", at[0] == "refused", False
+            yield f"past the usual limit of {call.__name__} at {size.named}", past, refused("BORDER", usual + 1)
+    long, short = (Symbol(made[1], made[0].named) for made in (symbol_of(b"\x80" * 3, 0), symbol_of(b"\x80" * 3, 1)))
     yield "write", ecc200.write(b"\x80" * 3), rows(long)
     yield "write, shorter", ecc200.write(b"\x80" * 3, profile=ecc200.Profile.SHORTER), rows(short)
     yield "write, shorter by place", ecc200.write(b"\x80" * 3, False, ecc200.Profile.SHORTER), rows(short)
     yield "normal", ecc200.normal(rows(short)), rows(long)
     yield "normal, shorter", ecc200.normal(rows(long), profile=ecc200.Profile.SHORTER), rows(short)
     yield "normal, shorter by place", ecc200.normal(rows(long), 0, ecc200.Profile.SHORTER), rows(short)
-    for data, code, value, place, items in WIDENED if INTERFACE.abi >= 2 else []:
-        grid = rows(grid_of(12, *data))
+    for data, code, value, place, items in WIDENED:
+        grid = rows(grid_of(TWELVE, *data))
         refusal = refused(ecc200.Code(code).name, value, place)
         yield f"wide {value}", ecc200.read(grid).data, items
         yield f"wide {value} by place", ecc200.read(grid, 0, ecc200.Extent.WIDE).data, items
@@ -160,20 +165,20 @@ def defaults():
 
 def limits():
     """Border limits of any size."""
-    flat = [module for row in WORKED for module in row]
-    bad = rows(with_bad_border(flat, 3))
+    bad = rows(with_bad_border(FLAT, 3))
     for call in (ecc200.read, ecc200.normal):
         for limit in (-(10 ** 20), -1, 0, 2, 3, 4, 65535, 65536, 65537, 10 ** 20):
             got = said_by(lambda: call(bad, limit))
             yield f"{call.__name__} with the limit {limit}", got != refused("BORDER", 3), limit >= 3
             yield f"{call.__name__} with border_limit={limit}", said_by(lambda: call(bad, border_limit=limit)), got
-        yield f"{call.__name__} with the limit 0", said_by(lambda: call(rows(with_bad_border(flat, 1)),
+        yield f"{call.__name__} with the limit 0", said_by(lambda: call(rows(with_bad_border(FLAT, 1)),
                                                                         0)), refused("BORDER", 1)
         is_same = said_by(lambda: call(WORKED, -1)) == said_by(lambda: call(WORKED))
         yield f"{call.__name__} with no wrong module and the limit -1", is_same, True
     yield "border faults", ecc200.read(bad, 3).border_faults, 3
     yield "border faults that are inspected", ecc200.inspect(bad).border_faults, 3
-    yield "usual limits", [ecc200.usual_limit(side) for side in range(200)], [side // 4 for side in range(200)]
+    yield "usual limits of squares", [ecc200.usual_limit(side) for side in range(200)], [side // 4 for side
+                                                                                         in range(200)]
 
 
 # The same grid in other forms, and what isn't a grid with how it's refused.
@@ -192,14 +197,16 @@ NO_GRIDS = [
     ("a shorter row", [b"\1\0", b"\1"], refused("SHAPE")),
     ("a longer row", [*WORKED[:-1], WORKED[-1] + b"\1"], refused("SHAPE")),
     ("rows of other lengths and as many modules", [b"\1" * 9, b"\1" * 11, *WORKED[2:]], refused("SHAPE")),
-    ("a row too many", [*WORKED, WORKED[-1]], refused("SHAPE")),
-    ("a row too few", WORKED[1:], refused("SHAPE")),
-    ("no rows", [], refused("SIDE", 0)),
-    ("an empty row", [b""], refused("SHAPE")),
-    ("one module", [b"\1"], refused("SIDE", 1)),
-    ("side 11", [bytes(11)] * 11, refused("SIDE", 11)),
-    ("the next side", [bytes(LARGEST.side + 1)] * (LARGEST.side + 1), refused("SIDE", LARGEST.side + 1)),
-    ("side 144", [bytes(144)] * 144, refused("SIDE", 144)),
+    ("a row too many", [*WORKED, WORKED[-1]], refused("SIZE", 11, 10)),
+    ("a row too few", WORKED[1:], refused("SIZE", 9, 10)),
+    ("no rows", [], refused("SIZE", 0, 0)),
+    ("an empty row", [b""], refused("SIZE", 1, 0)),
+    ("one module", [b"\1"], refused("SIZE", 1, 1)),
+    ("side 11", [bytes(11)] * 11, refused("SIZE", 11, 11)),
+    ("a rectangle that lies down", [bytes(8)] * 18, refused("SIZE", 18, 8)),
+    ("the next side", [bytes(LARGEST.columns + 1)] * (LARGEST.rows + 1), refused("SIZE", LARGEST.rows + 1,
+                                                                                LARGEST.columns + 1)),
+    ("too many rows", [b""] * 65536, refused("SIZE", 65536, 0)),
     ("None", None, "TypeError"),
     ("a number", 7, "TypeError"),
     ("a row that is a number", [1], "TypeError"),
@@ -261,19 +268,23 @@ NUMBERS = [
     ("PROFILE", 0)),
     ("profile -65535", lambda: ecc200.write(b"A", profile=-65535), ("PROFILE", 0)),
     ("normal profile -65536", lambda: ecc200.normal(WORKED, profile=-65536), ("PROFILE", 0)),
-    ("places -65526", lambda: ecc200.places(-65526), ("SIDE", 0)),
+    ("places -65526", lambda: ecc200.places(-65526), ("SIZE", -65526, -65526)),
     ("normal profile 2", lambda: ecc200.normal(WORKED, profile=2),
     ("PROFILE", 2, 0)),
     ("normal profile 65536", lambda: ecc200.normal(WORKED, profile=65536),
     ("PROFILE", 0)),
-    ("places -1", lambda: ecc200.places(-1),
-    ("SIDE", 0)),
-    ("places 0", lambda: ecc200.places(0),
-    ("SIDE", 0, 0)),
-    ("places 65546", lambda: ecc200.places(65546),
-    ("SIDE", 0)),
-    ("places 10^20", lambda: ecc200.places(10 ** 20),
-    ("SIDE", 0)),
+    ("places -1", lambda: ecc200.places(-1), ("SIZE", -1, -1)),
+    ("places 0", lambda: ecc200.places(0), ("SIZE", 0, 0)),
+    ("places 65546", lambda: ecc200.places(65546), ("SIZE", 65546, 65546)),
+    ("places 8 by 65554", lambda: ecc200.places(8, 65554), ("SIZE", 8, 65554)),
+    ("places 10^20", lambda: ecc200.places(10 ** 20), ("SIZE", 10 ** 20, 10 ** 20)),
+    ("shape 4", lambda: ecc200.write(b"A", shape=4), ("CHOICE", 4, 0)),
+    ("shape -1", lambda: ecc200.write(b"A", shape=-1), ("CHOICE", -1, 0)),
+    ("shape 65536", lambda: ecc200.write(b"A", shape=65536), ("CHOICE", 65536, 0)),
+    ("shape of a text", lambda: ecc200.write(b"A", shape="any"), "TypeError"),
+    ("a size of a text", lambda: ecc200.write(b"A", size="8x32"), "TypeError"),
+    ("a size of one number", lambda: ecc200.write(b"A", size=(8,)), "TypeError"),
+    ("a size and a shape", lambda: ecc200.write(b"A", size=(8, 32), shape=0), "TypeError"),
     ("places ten", lambda: ecc200.places("ten"), "TypeError"),
     ("limit of a text", lambda: ecc200.usual_limit("ten"), "TypeError"),
     ("a limit that is a text", lambda: ecc200.read(WORKED, "2"), "TypeError"),
@@ -282,7 +293,8 @@ NUMBERS = [
     ("TOO_LONG", 0, 0)),
     ("too long, shorter", lambda: ecc200.write(b"\xff" * (MOST_DATA - 2), profile=1),
     ("TOO_LONG", 0, 0)),
-    ("longest", lambda: len(ecc200.write(b"7" * 2 * MOST_DATA)), LARGEST.side),
+    ("longest", lambda: len(ecc200.write(b"7" * 2 * MOST_DATA)), LARGEST.rows),
+    *((f"size {named}", lambda named=named: ecc200.write(b"A", size=named), ("SIZE", *named)) for named in NO_SIZES),
 ]
 
 
@@ -293,39 +305,36 @@ def numbers():
         if isinstance(wanted, tuple) and isinstance(got, tuple):
             got = got[1::2] if len(wanted) == 2 else got[1:]
         yield name, got, wanted
-    if INTERFACE.abi >= 2:
-        for extent in (2, -1, 65535, 65536, 65537, -65535, -65536):
-            for call in (ecc200.read, ecc200.normal):
-                got = said_by(lambda: call(WORKED, extent=extent))
-                got = got[1::2] if isinstance(got, tuple) else got
-                yield f"{call.__name__} with the extent {extent}", got, ("EXTENT", 0)
+    for extent in (2, -1, 65535, 65536, 65537, -65535, -65536):
+        for call in (ecc200.read, ecc200.normal):
+            got = said_by(lambda: call(WORKED, extent=extent))
+            got = got[1::2] if isinstance(got, tuple) else got
+            yield f"{call.__name__} with the extent {extent}", got, ("EXTENT", 0)
 
 
 def results():
     """Types and forms of what is returned."""
     for size in SIZES:
-        grid = ecc200.write(b"A" * size.data)
+        grid = ecc200.write(b"A" * size.data, size=size.named)
         got = type(grid), {type(row) for row in grid}, {len(row) for row in grid}, len(grid)
-        yield f"rows at side {size.side}", got, (list, {bytes}, {size.side}, size.side)
-        places = ecc200.places(size.side)
-        yield f"places at side {size.side}", [tuple(at) for row in places for at in row], PLACES[size.side]
-        yield f"their rows at side {size.side}", [len(row) for row in places], [size.side] * size.side
+        yield f"rows of {size.named}", got, (list, {bytes}, {size.columns}, size.rows)
+        places = ecc200.places(*size.named)
+        yield f"places of {size.named}", [tuple(at) for row in places for at in row], PLACES[size.named]
+        yield f"their rows of {size.named}", [len(row) for row in places], [size.columns] * size.rows
         each = [at for row in places for at in row]
-        yield f"their types at side {size.side}", {type(at)
-                                                   for at in each} | {type(at.kind)
-                                                                      for at in each}, {ecc200.Place, ecc200.Kind}
+        types = {type(at) for at in each} | {type(at.kind) for at in each}
+        yield f"their types of {size.named}", types, {ecc200.Place, ecc200.Kind}
     seen = ecc200.inspect(WORKED)
     words = bytes([142, 164, 186, 114, 25, 5, 88, 102])
-    yield "an inspection", tuple(seen), (words, words, (0,), 0)
-    yield "its types", [type(part) for part in seen], [bytes, bytes, tuple, int]
-    flat = [module for row in WORKED for module in row]
-    yield "beyond correction", ecc200.inspect(rows(hurt(flat, 0, 5))).corrected, (None,)
-    yield "corrected", ecc200.read(rows(hurt(flat, 0, 2))).corrected, (2,)
+    yield "an inspection", tuple(seen), (words, words, (0,), 0, (0,), (5,))
+    yield "its types", [type(part) for part in seen], [bytes, bytes, tuple, int, tuple, tuple]
+    yield "beyond correction", ecc200.inspect(rows(hurt(FLAT, 0, 5))).corrected, (None,)
+    yield "corrected", ecc200.read(rows(hurt(FLAT, 0, 2))).corrected, (2,)
     yield "sizes", [tuple(size) for size in ecc200.sizes()], [tuple(size) for size in SIZES]
     types = {type(size) for size in ecc200.sizes()} | {type(number) for size in ecc200.sizes() for number in size}
     yield "their types", types, {ecc200.Size, int}
     for data, code, value, place in REFUSED:
-        got = said_by(lambda: ecc200.read(rows(grid_of(12, *data))))
+        got = said_by(lambda: ecc200.read(rows(grid_of(TWELVE, *data))))
         yield f"refused {data}", got, refused(ecc200.Code(code).name, value, place)
 
 

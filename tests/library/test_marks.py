@@ -13,6 +13,17 @@ def spelled(items):
     return "".join(map(letter, items))
 
 
+MOST_SIDE = 104  # of the symbols that the program writes
+
+
+def written(ecc200, grid):
+    """The normal grid of what a grid says, if the program has it."""
+    rows = ecc200.normal(grid, extent=ecc200.Extent.USUAL)
+    if len(rows) > MOST_SIDE:
+        raise ecc200.Refused(ecc200.Code.TOO_LONG)
+    return rows
+
+
 def answers(ecc200, grid):
     """The lines of read, check and normal for a grid."""
     try:
@@ -22,7 +33,7 @@ def answers(ecc200, grid):
     counts = " ".join(map(str, reading.corrected))
     read, check = spelled(reading.items), f"ok {len(grid)} border {reading.border_faults} corrected {counts}"
     try:
-        return read, check, "\n".join("".join(map(str, row)) for row in ecc200.normal(grid, extent=ecc200.Extent.USUAL))
+        return read, check, "\n".join("".join(map(str, row)) for row in written(ecc200, grid))
     except ecc200.Refused as why:
         return read, check, spelling.refused(why)
 

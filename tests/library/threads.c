@@ -12,8 +12,8 @@
 enum { THREADS = 8, ROUNDS = 300, CASES = 64, STACK = 1 << 20 };
 
 typedef struct {
-    uint8_t modules[ECC200_MOST_MODULES];
-    uint16_t side;
+    uint8_t modules[ECC200_MOST_MODULES], doubtful[ECC200_MOST_MODULES];
+    uint16_t rows, columns;
     ecc200_reading reading;
     ecc200_symbol normal;
     ecc200_inspection inspection;
@@ -32,13 +32,14 @@ static uint16_t items[ECC200_MOST_ITEMS];
 static uint8_t many[ECC200_MOST_ITEMS];
 static size_t most_data; /* codewords of the largest size */
 
+/* what the calls say of an example, with nothing from before in the elements that don't count */
 static void answer(const example *e, ecc200_reading *reading, ecc200_symbol *normal, ecc200_inspection *inspection) {
-    size_t count = (size_t)e->side * e->side;
-    ecc200_read(e->modules, count, e->side, ecc200_usual_limit(e->side), e->side % 3 ? ECC200_WIDE : ECC200_USUAL,
-                reading);
-    ecc200_normal(e->modules, count, e->side, ecc200_usual_limit(e->side), e->side % 3 ? ECC200_WIDE : ECC200_USUAL,
-                  e->side % 4 == 0, normal);
-    ecc200_inspect(e->modules, count, e->side, inspection);
+    size_t count = (size_t)e->rows * e->columns, marked = e->rows % 4 ? count : 0;
+    uint16_t limit = ecc200_usual_limit(e->rows, e->columns), extent = e->rows % 3 ? ECC200_WIDE : ECC200_USUAL;
+    memset(reading, 0, sizeof *reading), memset(normal, 0, sizeof *normal), memset(inspection, 0, sizeof *inspection);
+    ecc200_read(e->modules, count, e->doubtful, marked, e->rows, e->columns, limit, extent, reading);
+    ecc200_normal(e->modules, count, e->doubtful, marked, e->rows, e->columns, limit, extent, e->rows % 4 == 0, normal);
+    ecc200_inspect(e->modules, count, e->doubtful, marked, e->rows, e->columns, inspection);
 }
 
 static void *work(void *at) {
@@ -53,17 +54,23 @@ static void *work(void *at) {
     return 0;
 }
 
-/* a symbol of random items, with some modules turned over */
+/* a symbol of random items, with some modules turned over, and some of them known to be */
 static void make(example *e, size_t count, int turns) {
     static ecc200_symbol symbol;
+    ecc200_how how = {ECC200_ASCII, (uint16_t)(count < 50 ? rand() % 4 : ECC200_ANY), 0, 0};
     for (size_t i = 0; i < count; i++)
         items[i] = (uint16_t)(rand() % 257);
-    if (ecc200_write(items, count, ECC200_ASCII, &symbol))
-        exit(2);
-    e->side = symbol.side;
+    if (ecc200_write(items, count, &how, &symbol)) {
+        how.shape = ECC200_SQUARE;
+        if (ecc200_write(items, count, &how, &symbol))
+            exit(2);
+    }
+    e->rows = symbol.rows, e->columns = symbol.columns;
     memcpy(e->modules, symbol.modules, sizeof symbol.modules);
-    for (; turns > 0; turns--)
-        e->modules[rand() % (e->side * e->side)] ^= 1;
+    for (; turns > 0; turns--) {
+        int at = rand() % (e->rows * e->columns);
+        e->modules[at] ^= 1, e->doubtful[at] = turns % 2;
+    }
     answer(e, &e->reading, &e->normal, &e->inspection);
 }
 
@@ -86,30 +93,34 @@ static int threads_agree(size_t kib) {
 }
 
 static void *do_nothing(void *at) { return at; }
-static void *do_read(void *at) {
-    return ecc200_read(largest.modules, ECC200_MOST_MODULES, ECC200_MOST_SIDE, ECC200_ANY_LIMIT, ECC200_WIDE,
-                       &largest.reading),
+static void read_largest(size_t marked) {
+    ecc200_read(largest.modules, ECC200_MOST_MODULES, largest.doubtful, marked, ECC200_MOST_ROWS, ECC200_MOST_COLUMNS,
+                ECC200_ANY_LIMIT, ECC200_WIDE, &largest.reading);
+}
+static void *do_read(void *at) { return read_largest(0), at; }
+static void *do_read_doubtful(void *at) { return read_largest(ECC200_MOST_MODULES), at; }
+static void *do_inspect(void *at) {
+    return ecc200_inspect(largest.modules, ECC200_MOST_MODULES, largest.doubtful, ECC200_MOST_MODULES, ECC200_MOST_ROWS,
+                          ECC200_MOST_COLUMNS, &largest.inspection),
            at;
 }
-static void *do_inspect(void *at) {
-    return ecc200_inspect(largest.modules, ECC200_MOST_MODULES, ECC200_MOST_SIDE, &largest.inspection), at;
-}
 static void normal_of_largest(uint16_t profile) {
-    ecc200_normal(largest.modules, ECC200_MOST_MODULES, ECC200_MOST_SIDE, ECC200_ANY_LIMIT, ECC200_WIDE, profile,
-                  &largest.normal);
+    ecc200_normal(largest.modules, ECC200_MOST_MODULES, largest.doubtful, ECC200_MOST_MODULES, ECC200_MOST_ROWS,
+                  ECC200_MOST_COLUMNS, ECC200_ANY_LIMIT, ECC200_WIDE, profile, &largest.normal);
 }
+static const ecc200_how in_ascii = {ECC200_ASCII, ECC200_ANY, 0, 0}, shorter = {ECC200_SHORTER, ECC200_SQUARE, 0, 0};
 static void *do_normal(void *at) { return normal_of_largest(ECC200_ASCII), at; }
 static void *do_normal_shorter(void *at) { return normal_of_largest(ECC200_SHORTER), at; }
-static void *do_write(void *at) { return ecc200_write(items, 2 * most_data, ECC200_ASCII, &largest.normal), at; }
+static void *do_write(void *at) { return ecc200_write(items, 2 * most_data, &in_ascii, &largest.normal), at; }
 static void *do_write_shorter(void *at) {
-    return ecc200_write(items, most_data - 3, ECC200_SHORTER, &largest.normal), at;
+    return ecc200_write(items, most_data - 3, &shorter, &largest.normal), at;
 }
 static void *do_write_bytes(void *at) {
-    return ecc200_write_bytes(many, most_data - 3, ECC200_SHORTER, &largest.normal), at;
+    return ecc200_write_bytes(many, most_data - 3, &shorter, &largest.normal), at;
 }
 static void *do_places(void *at) {
     static ecc200_place_table table;
-    return ecc200_places(ECC200_MOST_SIDE, &table), at;
+    return ecc200_places(ECC200_MOST_ROWS, ECC200_MOST_COLUMNS, &table), at;
 }
 static void *do_sizes(void *at) { static ecc200_size_table table; return ecc200_sizes(&table), at; }
 
@@ -142,16 +153,19 @@ int main(int argc, char **argv) {
     most_data = sizes.sizes[ECC200_SIZE_COUNT - 1].data_codewords;
     for (size_t i = 0; i < most_data; i++)
         items[i] = 255;
-    if (ecc200_write(items, most_data - 3, ECC200_SHORTER, &largest.normal) || largest.normal.side != ECC200_MOST_SIDE)
+    if (ecc200_write(items, most_data - 3, &shorter, &largest.normal) || largest.normal.rows != ECC200_MOST_ROWS)
         return puts("no symbol of the largest side"), 1;
     memcpy(largest.modules, largest.normal.modules, sizeof largest.modules);
-    for (int turns = 60; turns > 0; turns--)
-        largest.modules[rand() % ECC200_MOST_MODULES] ^= 1;
+    for (int turns = 60; turns > 0; turns--) {
+        int at = rand() % ECC200_MOST_MODULES;
+        largest.modules[at] ^= 1, largest.doubtful[at] = turns % 2;
+    }
     static const struct {
         const char *name;
         void *(*call)(void *);
     } calls[] = {
         {"ecc200_read", do_read},
+        {"ecc200_read, doubtful modules", do_read_doubtful},
         {"ecc200_inspect", do_inspect},
         {"ecc200_normal", do_normal},
         {"ecc200_normal, shorter", do_normal_shorter},

@@ -24,14 +24,16 @@ def struct_of(*fields):
 
 
 FAULT = [("code", u16), ("value", u16), ("place", u16)]
-READING = struct_of(*FAULT, ("side", u16), ("border_faults", u16), ("block_count", u16), ("item_count", u16),
-                    ("items", u16 * MOST_ITEMS),
-                    ("corrected", u8 * MOST_BLOCKS))
-INSPECTION = struct_of(*FAULT, ("side", u16), ("border_faults", u16), ("block_count", u16), ("codeword_count", u16),
-                       ("held", u8 * MOST_CODEWORDS), ("mended", u8 * MOST_CODEWORDS), ("corrected", u8 * MOST_BLOCKS))
+NUMBERS = [*FAULT, ("rows", u16), ("columns", u16)]
+COUNTS = [(name, u8 * MOST_BLOCKS) for name in ("corrected", "erased", "left")]
+READING = struct_of(*NUMBERS, ("border_faults", u16), ("block_count", u16), ("item_count", u16), *COUNTS,
+                    ("items", u16 * MOST_ITEMS))
+INSPECTION = struct_of(*NUMBERS, ("border_faults", u16), ("block_count", u16), ("codeword_count", u16), *COUNTS,
+                       ("held", u8 * MOST_CODEWORDS), ("mended", u8 * MOST_CODEWORDS))
 PLACE = struct_of(("codeword", u16), ("bit", u8), ("kind", u8))
-PLACES = struct_of(*FAULT, ("side", u16), ("places", PLACE * MOST_MODULES))
-SIZE = struct_of(*((name, u16) for name in "side regions region_side mapping data checks blocks limit".split()))
+PLACES = struct_of(*NUMBERS, ("places", PLACE * MOST_MODULES))
+SIZE = struct_of(*((name, u16) for name in "rows columns region_rows region_columns down across mapping_rows "
+                   "mapping_columns data checks blocks limit extension".split()))
 
 
 class Library:
@@ -41,26 +43,31 @@ class Library:
         self.calls = ctypes.CDLL(places.SHARED)
         table = (SIZE * SIZE_COUNT)()
         self.calls.ecc200_sizes(table)
-        self.sizes = {size.side: size for size in table}
+        self.sizes = {(size.rows, size.columns): size for size in table}
 
-    def read(self, modules, side, extent):
+    @staticmethod
+    def symbol(modules, size):
+        """Modules of which none is doubtful, with their rows and columns, as the calls take them."""
+        return modules, ctypes.c_size_t(len(modules)), None, ctypes.c_size_t(0), u16(size[0]), u16(size[1])
+
+    def read(self, modules, size, extent):
         """The items of a symbol, or the fault: code, value and place."""
         out = READING()
-        code = self.calls.ecc200_read(modules, ctypes.c_size_t(len(modules)), u16(side), u16(ANY_LIMIT),
-                                      u16(EXTENTS[extent]), ctypes.byref(out))
+        code = self.calls.ecc200_read(*self.symbol(modules, size), u16(ANY_LIMIT), u16(EXTENTS[extent]),
+                                      ctypes.byref(out))
         return (out.code, out.value, out.place) if code else list(out.items[:out.item_count])
 
-    def data_codewords(self, modules, side):
+    def data_codewords(self, modules, size):
         out = INSPECTION()
-        self.calls.ecc200_inspect(modules, ctypes.c_size_t(len(modules)), u16(side), ctypes.byref(out))
-        return list(out.mended[:self.sizes[side].data])
+        self.calls.ecc200_inspect(*self.symbol(modules, size), ctypes.byref(out))
+        return list(out.mended[:self.sizes[size].data])
 
-    def places(self, side):
+    def places(self, size):
         """For each module, the index of its codeword and the weight of its bit, or None; and the modules without
         any."""
         out = PLACES()
-        self.calls.ecc200_places(u16(side), ctypes.byref(out))
-        at = out.places[:side * side]
+        self.calls.ecc200_places(u16(size[0]), u16(size[1]), ctypes.byref(out))
+        at = out.places[:size[0] * size[1]]
         return [(it.codeword, 8 - it.bit) if it.kind == BIT else None
                 for it in at], bytes(it.kind in (3, 5) for it in at)
 
@@ -97,16 +104,18 @@ def checks_of(words, generator):
 
 
 class Printer:
-    """Lays data codewords in a symbol of one side."""
+    """Lays data codewords in a symbol of one size."""
 
-    def __init__(self, library, side):
-        self.size = library.sizes[side]
-        self.bits, self.others = library.places(side)
+    def __init__(self, library, size):
+        self.size = library.sizes[size]
+        self.bits, self.others = library.places(size)
         self.generator = generator_of(self.size.checks // self.size.blocks)
 
     def modules(self, words):
         blocks = self.size.blocks
-        dealt = [checks_of(words[block::blocks], self.generator) for block in range(blocks)]
+        # (the block behind that of the last data codeword has the first check codeword)
+        order = [(self.size.data + block) % blocks for block in range(blocks)]
+        dealt = [checks_of(words[block::blocks], self.generator) for block in order]
         whole = words + [check for row in zip(*dealt) for check in row]
         return bytes(other if bit is None else whole[bit[0]] >> bit[1] & 1
                      for bit, other in zip(self.bits, self.others))
@@ -162,15 +171,15 @@ def some_list(chance, count):
 def lists(library, count):
     """Codewords at random, in symbols of all sizes, most of them small."""
     chance = random.Random(240)
-    printers = {side: Printer(library, side) for side in library.sizes}
-    sides = sorted(printers)
+    printers = {size: Printer(library, size) for size in library.sizes}
+    sizes = sorted(printers, key=lambda size: size[0] * size[1])
     wrong, read = [], 0
     for _ in range(count):
-        side = sides[min(chance.randrange(len(sides)) for _ in range(4))]
-        words = some_list(chance, printers[side].size.data)
-        modules = printers[side].modules(words)
+        size = sizes[min(chance.randrange(len(sizes)) for _ in range(4))]
+        words = some_list(chance, printers[size].size.data)
+        modules = printers[size].modules(words)
         for extent in EXTENTS:
-            given, wanted = library.read(modules, side, extent), wanted_of(words, extent)
+            given, wanted = library.read(modules, size, extent), wanted_of(words, extent)
             read += isinstance(given, list) and extent == "wide"
             if given != wanted:
                 wrong.append(f"{words} in the {extent} extent: {given}, and not {wanted}")
@@ -185,11 +194,10 @@ def marks(made, records, message_of):
     library = Library()
     for line, record in zip(made, records):
         encoder, side, *texts = line.split("\t")
-        modules = bytes(cell == "1" for cell in record.replace("\n", ""))
+        modules, size = bytes(cell == "1" for cell in record.replace("\n", "")), (int(side), int(side))
         name = f"{encoder}, side {side}"
-        said, wanted = library.read(modules, int(side), "wide"), list(message_of(texts[-1]))
+        said, wanted = library.read(modules, size, "wide"), list(message_of(texts[-1]))
         yield f"{name}, wide", None if said == wanted else f"{said}, and not {wanted}"
-        said, wanted = library.read(modules, int(side),
-                                    "usual"), wanted_of(library.data_codewords(modules, int(side)), "usual")
+        said, wanted = library.read(modules, size, "usual"), wanted_of(library.data_codewords(modules, size), "usual")
         is_left_out = isinstance(wanted, tuple) and wanted[:2] in ((8, 236), (8, 237), (8, 240))
         yield f"{name}, usual", None if said == wanted and is_left_out else f"{said}, and not {wanted}"
