@@ -1,6 +1,6 @@
-//! Data Matrix ECC 200 (ISO/IEC 16022), the square symbols, by the C library ecc200: a safe interface over `ecc200.h`,
-//! whose conventions hold here too. Put this file beside yours, write `mod ecc200;`, and link the library: `rustc -l
-//! ecc200`, with `-L` for its folder. It needs Rust 1.82 or later.
+//! Data Matrix ECC 200, the squares and rectangles of ISO/IEC 16022 and of ISO/IEC 21471, by the C library ecc200: a
+//! safe interface over `ecc200.h`, whose conventions hold here too. Put this file beside yours, write `mod ecc200;`,
+//! and link the library: `rustc -l ecc200`, with `-L` for its folder. It needs Rust 1.82 or later.
 //!
 //! What `ecc200.h` asks of callers holds here for any arguments: slices point to all of their elements, and a `&mut`
 //! overlaps nothing.
@@ -141,11 +141,56 @@ impl fmt::Display for Fault {
 
 impl std::error::Error for Fault {}
 
-/// A symbol: `side * side` modules, row by row from the top, 1 for dark.
+/// A symbol: `rows * columns` modules, row by row from the top, 1 for dark.
 #[derive(Clone, Debug, PartialEq, Eq)]
 pub struct Symbol {
-    pub side: u16,
+    pub rows: u16,
+    pub columns: u16,
     pub modules: Vec<u8>,
+}
+
+impl Symbol {
+    /// The symbol as it is read, with no module doubtful.
+    pub fn grid(&self) -> Grid<'_> {
+        Grid::new(&self.modules, self.rows, self.columns)
+    }
+}
+
+/// What is read: modules, row by row from the top, anything but 0 for dark; and as many bytes that are 0 but for those
+/// modules of which it is known that their colours tell nothing, or none.
+#[derive(Clone, Copy, Debug, PartialEq, Eq)]
+pub struct Grid<'a> {
+    pub modules: &'a [u8],
+    pub doubtful: &'a [u8],
+    pub rows: u16,
+    pub columns: u16,
+}
+
+impl<'a> Grid<'a> {
+    /// A grid with no module doubtful.
+    pub fn new(modules: &'a [u8], rows: u16, columns: u16) -> Self {
+        Grid { modules, doubtful: &[], rows, columns }
+    }
+
+    /// The same grid with these modules doubtful.
+    pub fn doubting(self, doubtful: &'a [u8]) -> Self {
+        Grid { doubtful, ..self }
+    }
+}
+
+/// The sizes that a symbol that is written may have: of the squares, of the rectangles of ISO/IEC 16022, of these and
+/// those of ISO/IEC 21471, or of all, the smallest that holds the message; or the one with these rows and columns.
+#[derive(Clone, Copy, Debug, Default, PartialEq, Eq)]
+pub enum Shape {
+    #[default]
+    Square,
+    Rectangle,
+    Extended,
+    Any,
+    One {
+        rows: u16,
+        columns: u16,
+    },
 }
 
 /// What a symbol says, and how much of it was wrong.
@@ -153,9 +198,13 @@ pub struct Symbol {
 pub struct Reading {
     /// The message: 0 to 255, or [`FNC1`].
     pub items: Vec<u16>,
-    /// For each block, how many of its codewords were corrected.
+    /// For each block, how many of its codewords were corrected, those not counted that are erased.
     pub corrected: Vec<u8>,
-    /// How many border modules have the wrong colour.
+    /// For each block, how many of its codewords are erased, since a module of theirs is doubtful.
+    pub erased: Vec<u8>,
+    /// For each block, how many of its check codewords neither have used: a correction uses two, an erasure one.
+    pub left: Vec<u8>,
+    /// How many border modules that aren't doubtful have the wrong colour.
     pub border_faults: u16,
 }
 
@@ -176,9 +225,13 @@ pub struct Inspection {
     pub held: Vec<u8>,
     /// With each block corrected; a block beyond correction is left as it is.
     pub mended: Vec<u8>,
-    /// For each block, in how many codewords the two differ, or None beyond correction.
+    /// For each block as in a [`Reading`], or None beyond correction.
     pub corrected: Vec<Option<u8>>,
-    /// How many border modules have the wrong colour.
+    /// For each block as in a [`Reading`], or 0 beyond correction.
+    pub erased: Vec<u8>,
+    /// The same.
+    pub left: Vec<u8>,
+    /// How many border modules that aren't doubtful have the wrong colour.
     pub border_faults: u16,
 }
 
@@ -288,29 +341,43 @@ mod sys {
 
     unsafe extern "C" {
         pub safe fn ecc200_abi() -> u16;
-        pub safe fn ecc200_usual_limit(side: u16) -> u16;
+        pub safe fn ecc200_usual_limit(rows: u16, columns: u16) -> u16;
         pub fn ecc200_read(
             modules: *const u8,
             count: usize,
-            side: u16,
+            doubtful: *const u8,
+            doubtful_count: usize,
+            rows: u16,
+            columns: u16,
             border_limit: u16,
             extent: u16,
             out: *mut ReadingOut,
         ) -> u16;
         pub safe fn ecc200_version() -> *const c_char;
-        pub fn ecc200_write_bytes(bytes: *const u8, count: usize, profile: u16, out: *mut SymbolOut) -> u16;
-        pub fn ecc200_write(items: *const u16, count: usize, profile: u16, out: *mut SymbolOut) -> u16;
+        pub fn ecc200_write_bytes(bytes: *const u8, count: usize, how: *const How, out: *mut SymbolOut) -> u16;
+        pub fn ecc200_write(items: *const u16, count: usize, how: *const How, out: *mut SymbolOut) -> u16;
         pub fn ecc200_normal(
             modules: *const u8,
             count: usize,
-            side: u16,
+            doubtful: *const u8,
+            doubtful_count: usize,
+            rows: u16,
+            columns: u16,
             border_limit: u16,
             extent: u16,
             profile: u16,
             out: *mut SymbolOut,
         ) -> u16;
-        pub fn ecc200_inspect(modules: *const u8, count: usize, side: u16, out: *mut InspectionOut) -> u16;
-        pub safe fn ecc200_places(side: u16, out: &mut PlacesOut) -> u16;
+        pub fn ecc200_inspect(
+            modules: *const u8,
+            count: usize,
+            doubtful: *const u8,
+            doubtful_count: usize,
+            rows: u16,
+            columns: u16,
+            out: *mut InspectionOut,
+        ) -> u16;
+        pub safe fn ecc200_places(rows: u16, columns: u16, out: &mut PlacesOut) -> u16;
         pub safe fn ecc200_sizes(out: &mut SizesOut);
     }
 
@@ -403,23 +470,40 @@ pub fn version() -> &'static str {
     unsafe { CStr::from_ptr(sys::ecc200_version()) }.to_str().unwrap_or_default()
 }
 
-/// A quarter of the side, rounded down.
-pub fn usual_limit(side: u16) -> u16 {
-    sys::ecc200_usual_limit(side)
+/// The sum of the rows and the columns, divided by 8 and rounded down.
+pub fn usual_limit(rows: u16, columns: u16) -> u16 {
+    sys::ecc200_usual_limit(rows, columns)
 }
 
 /// What a symbol says, in the extent `Wide`. `border_limit`: how many border modules may have the wrong colour.
-pub fn read(modules: &[u8], side: u16, border_limit: u16) -> Result<Reading, Fault> {
-    read_as(Extent::Wide, modules, side, border_limit)
+pub fn read(grid: Grid<'_>, border_limit: u16) -> Result<Reading, Fault> {
+    read_as(Extent::Wide, grid, border_limit)
 }
 
 /// What a symbol says, in an extent.
-pub fn read_as(extent: Extent, modules: &[u8], side: u16, border_limit: u16) -> Result<Reading, Fault> {
+pub fn read_as(extent: Extent, grid: Grid<'_>, border_limit: u16) -> Result<Reading, Fault> {
     let mut out = unsafe { zeros::<sys::ReadingOut>() };
-    match unsafe { sys::ecc200_read(modules.as_ptr(), modules.len(), side, border_limit, extent as u16, &mut *out) } {
+    let (modules, doubtful) = (grid.modules, grid.doubtful);
+    let code = unsafe {
+        sys::ecc200_read(
+            modules.as_ptr(),
+            modules.len(),
+            doubtful.as_ptr(),
+            doubtful.len(),
+            grid.rows,
+            grid.columns,
+            border_limit,
+            extent as u16,
+            &mut *out,
+        )
+    };
+    let blocks = usize::from(out.block_count);
+    match code {
         0 => Ok(Reading {
             items: out.items[..usize::from(out.item_count)].to_vec(),
-            corrected: out.corrected[..usize::from(out.block_count)].to_vec(),
+            corrected: out.corrected[..blocks].to_vec(),
+            erased: out.erased[..blocks].to_vec(),
+            left: out.left[..blocks].to_vec(),
             border_faults: out.border_faults,
         }),
         _ => Err(out.fault),
@@ -427,69 +511,98 @@ pub fn read_as(extent: Extent, modules: &[u8], side: u16, border_limit: u16) -> 
 }
 
 fn symbol(code: u16, out: &sys::SymbolOut) -> Result<Symbol, Fault> {
-    let side = usize::from(out.side);
+    let (rows, columns) = (out.rows, out.columns);
     match code {
-        0 => Ok(Symbol { side: out.side, modules: out.modules[..side * side].to_vec() }),
+        0 => Ok(Symbol { rows, columns, modules: out.modules[..usize::from(rows) * usize::from(columns)].to_vec() }),
         _ => Err(out.fault),
     }
 }
 
-/// The normal grid of a message.
-pub fn write(items: &[u16], profile: Profile) -> Result<Symbol, Fault> {
+fn how(profile: Profile, shape: Shape) -> sys::How {
+    let (shape, rows, columns) = match shape {
+        Shape::Square => (SQUARE, 0, 0),
+        Shape::Rectangle => (RECTANGLE, 0, 0),
+        Shape::Extended => (EXTENDED, 0, 0),
+        Shape::Any => (ANY, 0, 0),
+        Shape::One { rows, columns } => (ONE, rows, columns),
+    };
+    sys::How { form: profile as u16, shape, rows, columns }
+}
+
+/// The symbol of a message; in `Shape::Square` its normal grid.
+pub fn write(items: &[u16], profile: Profile, shape: Shape) -> Result<Symbol, Fault> {
     let mut out = unsafe { zeros::<sys::SymbolOut>() };
-    let code = unsafe { sys::ecc200_write(items.as_ptr(), items.len(), profile as u16, &mut *out) };
+    let code = unsafe { sys::ecc200_write(items.as_ptr(), items.len(), &how(profile, shape), &mut *out) };
     symbol(code, &out)
 }
 
-/// The normal grid of bytes, each of which is an item.
-pub fn write_bytes(bytes: &[u8], profile: Profile) -> Result<Symbol, Fault> {
+/// The symbol of bytes, each of which is an item.
+pub fn write_bytes(bytes: &[u8], profile: Profile, shape: Shape) -> Result<Symbol, Fault> {
     let mut out = unsafe { zeros::<sys::SymbolOut>() };
-    let code = unsafe { sys::ecc200_write_bytes(bytes.as_ptr(), bytes.len(), profile as u16, &mut *out) };
+    let code = unsafe { sys::ecc200_write_bytes(bytes.as_ptr(), bytes.len(), &how(profile, shape), &mut *out) };
     symbol(code, &out)
 }
 
 /// The normal grid of what a symbol says, read in the extent `Wide`.
-pub fn normal(modules: &[u8], side: u16, border_limit: u16, profile: Profile) -> Result<Symbol, Fault> {
-    normal_as(Extent::Wide, modules, side, border_limit, profile)
+pub fn normal(grid: Grid<'_>, border_limit: u16, profile: Profile) -> Result<Symbol, Fault> {
+    normal_as(Extent::Wide, grid, border_limit, profile)
 }
 
 /// The normal grid of what a symbol says, read in an extent.
-pub fn normal_as(
-    extent: Extent,
-    modules: &[u8],
-    side: u16,
-    border_limit: u16,
-    profile: Profile,
-) -> Result<Symbol, Fault> {
+pub fn normal_as(extent: Extent, grid: Grid<'_>, border_limit: u16, profile: Profile) -> Result<Symbol, Fault> {
     let mut out = unsafe { zeros::<sys::SymbolOut>() };
-    let (first, count, form) = (modules.as_ptr(), modules.len(), profile as u16);
-    let code = unsafe { sys::ecc200_normal(first, count, side, border_limit, extent as u16, form, &mut *out) };
+    let (modules, doubtful) = (grid.modules, grid.doubtful);
+    let code = unsafe {
+        sys::ecc200_normal(
+            modules.as_ptr(),
+            modules.len(),
+            doubtful.as_ptr(),
+            doubtful.len(),
+            grid.rows,
+            grid.columns,
+            border_limit,
+            extent as u16,
+            profile as u16,
+            &mut *out,
+        )
+    };
     symbol(code, &out)
 }
 
 /// The codewords of a symbol, even if it can't be read.
-pub fn inspect(modules: &[u8], side: u16) -> Result<Inspection, Fault> {
+pub fn inspect(grid: Grid<'_>) -> Result<Inspection, Fault> {
     let mut out = unsafe { zeros::<sys::InspectionOut>() };
-    match unsafe { sys::ecc200_inspect(modules.as_ptr(), modules.len(), side, &mut *out) } {
-        0 => {
-            let count = usize::from(out.codeword_count);
-            let corrected = out.corrected[..usize::from(out.block_count)].iter();
-            Ok(Inspection {
-                held: out.held[..count].to_vec(),
-                mended: out.mended[..count].to_vec(),
-                corrected: corrected.map(|count| (*count != BEYOND).then_some(*count)).collect(),
-                border_faults: out.border_faults,
-            })
-        }
+    let (modules, doubtful) = (grid.modules, grid.doubtful);
+    let code = unsafe {
+        sys::ecc200_inspect(
+            modules.as_ptr(),
+            modules.len(),
+            doubtful.as_ptr(),
+            doubtful.len(),
+            grid.rows,
+            grid.columns,
+            &mut *out,
+        )
+    };
+    let (blocks, count) = (usize::from(out.block_count), usize::from(out.codeword_count));
+    match code {
+        0 => Ok(Inspection {
+            held: out.held[..count].to_vec(),
+            mended: out.mended[..count].to_vec(),
+            corrected: out.corrected[..blocks].iter().map(|count| (*count != BEYOND).then_some(*count)).collect(),
+            erased: out.erased[..blocks].to_vec(),
+            left: out.left[..blocks].to_vec(),
+            border_faults: out.border_faults,
+        }),
         _ => Err(out.fault),
     }
 }
 
-/// What each module of a symbol of this side is, row by row.
-pub fn places(side: u16) -> Result<Vec<Place>, Fault> {
+/// What each module of a symbol of these rows and columns is, row by row.
+pub fn places(rows: u16, columns: u16) -> Result<Vec<Place>, Fault> {
     let mut out = unsafe { zeros::<sys::PlacesOut>() };
-    match sys::ecc200_places(side, &mut out) {
-        0 => Ok(out.places[..usize::from(side) * usize::from(side)].iter().map(place).collect()),
+    match sys::ecc200_places(rows, columns, &mut out) {
+        0 => Ok(out.places[..usize::from(rows) * usize::from(columns)].iter().map(place).collect()),
         _ => Err(out.fault),
     }
 }
@@ -510,7 +623,7 @@ fn place(at: &sys::PlaceOut) -> Place {
     }
 }
 
-/// The table of sizes, by rising side.
+/// The table of sizes, by rising number of modules, and of those with as many by rising columns.
 pub fn sizes() -> [Size; SIZE_COUNT] {
     let mut out = sys::SizesOut { sizes: [Size::default(); SIZE_COUNT] };
     sys::ecc200_sizes(&mut out);

@@ -7,14 +7,21 @@
 
 /* A symbol with a quiet zone of one module on all sides. */
 static void print(const ecc200_symbol *symbol) {
-    int side = symbol->side;
-    for (int row = -1; row <= side; row++) {
-        for (int column = -1; column <= side; column++) {
-            int inside = row >= 0 && row < side && column >= 0 && column < side;
-            fputs(inside && symbol->modules[row * side + column] ? "##" : "  ", stdout);
+    int rows = symbol->rows, columns = symbol->columns;
+    for (int row = -1; row <= rows; row++) {
+        for (int column = -1; column <= columns; column++) {
+            int inside = row >= 0 && row < rows && column >= 0 && column < columns;
+            fputs(inside && symbol->modules[row * columns + column] ? "##" : "  ", stdout);
         }
         puts("");
     }
+}
+
+/* What a symbol says, with no module doubtful. */
+static uint16_t read(const ecc200_symbol *symbol, ecc200_reading *reading) {
+    uint16_t rows = symbol->rows, columns = symbol->columns;
+    return ecc200_read(symbol->modules, (size_t)rows * columns, NULL, 0, rows, columns,
+                       ecc200_usual_limit(rows, columns), ECC200_WIDE, reading);
 }
 
 int main(void) {
@@ -26,16 +33,16 @@ int main(void) {
 
     /* a printed symbol */
     size_t count = ecc200_items((const uint8_t *)text, strlen(text), 0, items, ECC200_MOST_ITEMS);
-    if (ecc200_write(items, count, ECC200_ASCII, &symbol) != ECC200_OK)
+    const ecc200_how how = {ECC200_ASCII, ECC200_SQUARE, 0, 0};
+    if (ecc200_write(items, count, &how, &symbol) != ECC200_OK)
         return 1;
     print(&symbol);
 
     /* a damaged symbol: four modules in one corner */
-    uint16_t side = symbol.side;
+    uint16_t side = symbol.columns;
     for (int at = 1; at < 5; at++)
         symbol.modules[at * side + at] ^= 1;
-    if (ecc200_read(symbol.modules, (size_t)side * side, side, ecc200_usual_limit(side), ECC200_WIDE, &reading) !=
-        ECC200_OK)
+    if (read(&symbol, &reading) != ECC200_OK)
         return 2;
     count = ecc200_text(&reading, bytes, sizeof bytes, NULL);
     printf("%.*s: %d codewords corrected, %d border modules wrong\n", (int)count, bytes, reading.corrected[0],
@@ -43,8 +50,7 @@ int main(void) {
 
     /* a refusal: a symbol that is cut off below */
     memset(symbol.modules + (side - 1) * side, 0, side);
-    if (ecc200_read(symbol.modules, (size_t)side * side, side, ecc200_usual_limit(side), ECC200_WIDE, &reading) ==
-        ECC200_OK)
+    if (read(&symbol, &reading) == ECC200_OK)
         return 3;
     printf("refused with %d: %s (%d)\n", reading.fault.code, ecc200_words(reading.fault.code), reading.fault.value);
     return 0;

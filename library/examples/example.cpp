@@ -22,15 +22,16 @@ static Symbol write(std::string_view text) {
     std::vector<uint16_t> items;
     for (unsigned char byte : text) items.push_back(byte);
     auto symbol = std::make_unique<ecc200_symbol>();
-    if (ecc200_write(items.data(), items.size(), ECC200_ASCII, symbol.get()) != ECC200_OK) throw Refused(symbol->fault);
+    const ecc200_how how = {ECC200_ASCII, ECC200_SQUARE, 0, 0};
+    if (ecc200_write(items.data(), items.size(), &how, symbol.get()) != ECC200_OK) throw Refused(symbol->fault);
     return symbol;
 }
 
 static Reading read(const ecc200_symbol &symbol) {
-    size_t count = size_t{symbol.side} * symbol.side;
+    uint16_t rows = symbol.rows, columns = symbol.columns;
     auto reading = std::make_unique<ecc200_reading>();
-    if (ecc200_read(symbol.modules, count, symbol.side, ecc200_usual_limit(symbol.side), ECC200_WIDE, reading.get()) !=
-        ECC200_OK)
+    if (ecc200_read(symbol.modules, size_t{rows} * columns, nullptr, 0, rows, columns,
+                    ecc200_usual_limit(rows, columns), ECC200_WIDE, reading.get()) != ECC200_OK)
         throw Refused(reading->fault);
     return reading;
 }
@@ -43,11 +44,11 @@ static std::string text_of(const ecc200_reading &reading) {
 
 // A symbol with a quiet zone of one module on all sides.
 static void print(const ecc200_symbol &symbol) {
-    int side = symbol.side;
-    for (int row = -1; row <= side; row++, std::cout << '\n')
-        for (int column = -1; column <= side; column++) {
-            bool inside = row >= 0 && row < side && column >= 0 && column < side;
-            std::cout << (inside && symbol.modules[row * side + column] ? "##" : "  ");
+    int rows = symbol.rows, columns = symbol.columns;
+    for (int row = -1; row <= rows; row++, std::cout << '\n')
+        for (int column = -1; column <= columns; column++) {
+            bool inside = row >= 0 && row < rows && column >= 0 && column < columns;
+            std::cout << (inside && symbol.modules[row * columns + column] ? "##" : "  ");
         }
 }
 
@@ -57,7 +58,7 @@ int main() {
     print(*symbol);
 
     // a damaged symbol: four modules in one corner
-    int side = symbol->side;
+    int side = symbol->columns;
     for (int at = 1; at < 5; at++) symbol->modules[at * side + at] ^= 1;
     Reading reading = read(*symbol);
     std::cout << text_of(*reading) << ": " << int{reading->corrected[0]} << " codewords corrected, "

@@ -4,11 +4,11 @@
 #[path = "../ecc200.rs"]
 mod ecc200;
 
-use ecc200::{Fault, Profile, Symbol};
+use ecc200::{Fault, Profile, Shape, Symbol};
 
 /// A symbol with a quiet zone of one module on all sides.
 fn print(symbol: &Symbol) {
-    let blank = vec![0; usize::from(symbol.side)];
+    let blank = vec![0; usize::from(symbol.columns)];
     let rows = symbol.modules.chunks(blank.len());
     for row in std::iter::once(&blank[..]).chain(rows).chain(std::iter::once(&blank[..])) {
         let inside: String = row.iter().map(|module| if *module == 1 { "##" } else { "  " }).collect();
@@ -19,16 +19,16 @@ fn print(symbol: &Symbol) {
 fn main() -> Result<(), Fault> {
     // a printed symbol
     let items: Vec<u16> = "Mitsubadoor".bytes().map(u16::from).collect();
-    let mut symbol = ecc200::write(&items, Profile::Ascii)?;
+    let mut symbol = ecc200::write(&items, Profile::Ascii, Shape::Square)?;
     print(&symbol);
 
     // a damaged symbol: four modules in one corner
-    let side = usize::from(symbol.side);
-    let limit = ecc200::usual_limit(symbol.side);
+    let side = usize::from(symbol.columns);
+    let limit = ecc200::usual_limit(symbol.rows, symbol.columns);
     for at in 1..5 {
         symbol.modules[at * side + at] ^= 1;
     }
-    let reading = ecc200::read(&symbol.modules, symbol.side, limit)?;
+    let reading = ecc200::read(symbol.grid(), limit)?;
     let (text, _) = reading.text();
     println!(
         "{}: {} codewords corrected, {} border modules wrong",
@@ -39,7 +39,7 @@ fn main() -> Result<(), Fault> {
 
     // a refusal: a symbol that is cut off below
     symbol.modules[(side - 1) * side..].fill(0);
-    if let Err(why) = ecc200::read(&symbol.modules, symbol.side, limit) {
+    if let Err(why) = ecc200::read(symbol.grid(), limit) {
         println!("refused with {}: {why} ({})", why.code, why.value);
     }
     Ok(())

@@ -2,7 +2,7 @@
 //! each. `tests/library/cases.py` has the requests and the answers that are wanted.
 mod ecc200;
 
-use ecc200::{Extent, Fault, Inspection, Place, Profile, Reading, Size, Symbol};
+use ecc200::{Extent, Fault, Grid, Inspection, Place, Profile, Reading, Shape, Size, Symbol};
 use std::error::Error;
 use std::io::{self, BufRead, Write};
 
@@ -39,6 +39,18 @@ impl Words<'_> {
         }
     }
 
+    /// A shape that exists, or a size.
+    fn shape(&mut self) -> Shape {
+        let (shape, rows, columns) = (self.number(), self.number(), self.number());
+        match shape {
+            0 => Shape::Square,
+            1 => Shape::Rectangle,
+            2 => Shape::Extended,
+            3 => Shape::Any,
+            _ => Shape::One { rows, columns },
+        }
+    }
+
     /// A profile that exists.
     fn profile(&mut self) -> Profile {
         match self.number() {
@@ -59,11 +71,18 @@ fn refused(why: Fault) -> String {
     format!("no {} {} {}", why.code, why.value, why.place)
 }
 
-fn reading(side: u16, got: Result<Reading, Fault>) -> String {
+/// What each block had.
+fn blocks(corrected: &[String], erased: &[u8], left: &[u8]) -> String {
+    let counts = format!("corrected {} erased {} left {}", numbers(corrected), numbers(erased), numbers(left));
+    format!("blocks {} {counts}", corrected.len())
+}
+
+fn reading(rows: u16, columns: u16, got: Result<Reading, Fault>) -> String {
     match got {
-        Ok(Reading { items, corrected, border_faults }) => {
-            let counts = format!("border {border_faults} blocks {}", corrected.len());
-            format!("side {side} {counts} items {} corrected {}", numbers(&items), numbers(&corrected))
+        Ok(Reading { items, corrected, erased, left, border_faults }) => {
+            let counted: Vec<_> = corrected.iter().map(u8::to_string).collect();
+            let counts = blocks(&counted, &erased, &left);
+            format!("rows {rows} columns {columns} border {border_faults} {counts} items {}", numbers(&items))
         }
         Err(why) => refused(why),
     }
@@ -71,20 +90,22 @@ fn reading(side: u16, got: Result<Reading, Fault>) -> String {
 
 fn symbol(got: Result<Symbol, Fault>) -> String {
     match got {
-        Ok(Symbol { side, modules }) => {
-            format!("side {side} modules {}", modules.iter().map(u8::to_string).collect::<String>())
+        Ok(Symbol { rows, columns, modules }) => {
+            let shown = modules.iter().map(u8::to_string).collect::<String>();
+            format!("rows {rows} columns {columns} modules {shown}")
         }
         Err(why) => refused(why),
     }
 }
 
-fn inspection(side: u16, got: Result<Inspection, Fault>) -> String {
+fn inspection(rows: u16, columns: u16, got: Result<Inspection, Fault>) -> String {
     match got {
-        Ok(Inspection { held, mended, corrected, border_faults }) => {
+        Ok(Inspection { held, mended, corrected, erased, left, border_faults }) => {
             let shown = |count: &Option<u8>| count.map_or("beyond".to_string(), |it| it.to_string());
-            let counts: Vec<_> = corrected.iter().map(shown).collect();
+            let counted: Vec<_> = corrected.iter().map(shown).collect();
             let words = format!("held {} mended {}", numbers(&held), numbers(&mended));
-            format!("side {side} border {border_faults} blocks {} {words} corrected {}", counts.len(), counts.join(","))
+            let counts = blocks(&counted, &erased, &left);
+            format!("rows {rows} columns {columns} border {border_faults} {counts} {words}")
         }
         Err(why) => refused(why),
     }
@@ -99,8 +120,11 @@ fn place(at: &Place) -> String {
 }
 
 fn size(row: &Size) -> String {
-    let Size { side, regions, region_side, mapping, data_codewords, check_codewords, blocks, limit } = row;
-    format!("{side} {regions} {region_side} {mapping} {data_codewords} {check_codewords} {blocks} {limit}")
+    let Size { rows, columns, region_rows, region_columns, regions_down, regions_across, .. } = row;
+    let Size { mapping_rows, mapping_columns, data_codewords, check_codewords, blocks, limit, extension, .. } = row;
+    let regions = format!("{rows} {columns} {region_rows} {region_columns} {regions_down} {regions_across}");
+    let codewords = format!("{data_codewords} {check_codewords} {blocks} {limit} {extension}");
+    format!("{regions} {mapping_rows} {mapping_columns} {codewords}")
 }
 
 fn constants() -> String {
@@ -110,15 +134,15 @@ fn constants() -> String {
     shown.extend(extents.map(|(name, extent)| format!("{name}={} ", extent as u16)));
     let profiles = [("ASCII", Profile::Ascii), ("SHORTER", Profile::Shorter)];
     shown.extend(profiles.map(|(name, profile)| format!("{name}={} ", profile as u16)));
-    shown += &format!("OK={OK} SHAPE={SHAPE} SIDE={SIDE} BORDER={BORDER} BLOCK={BLOCK} RESERVED={RESERVED} ");
+    shown += &format!("OK={OK} SHAPE={SHAPE} SIZE={SIZE} BORDER={BORDER} BLOCK={BLOCK} RESERVED={RESERVED} ");
     shown += &format!("LEFT_OUT={LEFT_OUT} UPPER_SHIFT={UPPER_SHIFT} TRIPLET={TRIPLET} VALUE={VALUE} ");
     shown += &format!("LENGTH={LENGTH} UNFINISHED={UNFINISHED} ");
-    shown + &format!("TOO_LONG={TOO_LONG} ITEM={ITEM} PROFILE={PROFILE} EXTENT={EXTENT} ")
+    shown + &format!("TOO_LONG={TOO_LONG} ITEM={ITEM} PROFILE={PROFILE} EXTENT={EXTENT} CHOICE={CHOICE} DOUBT={DOUBT} ")
 }
 
 /// The bytes of items as a reading gives them, and whether FNC1 stands in front.
 fn text(items: Vec<u16>) -> String {
-    let (bytes, gs1) = Reading { items, corrected: vec![0], border_faults: 0 }.text();
+    let (bytes, gs1) = Reading { items, corrected: vec![0], erased: vec![0], left: vec![0], border_faults: 0 }.text();
     format!("{} gs1 {} bytes {}", bytes.len(), u8::from(gs1), numbers(&bytes))
 }
 
@@ -130,23 +154,47 @@ fn words(code: u16) -> String {
     fault.to_string()
 }
 
+/// Rows, columns, modules and doubtful modules.
+struct Given {
+    rows: u16,
+    columns: u16,
+    modules: Vec<u8>,
+    doubtful: Vec<u8>,
+}
+
+impl Given {
+    fn of(words: &mut Words) -> Self {
+        let (rows, columns) = (words.number(), words.number());
+        Given { rows, columns, modules: words.bytes(), doubtful: words.bytes() }
+    }
+
+    fn grid(&self) -> Grid<'_> {
+        let grid = Grid::new(&self.modules, self.rows, self.columns);
+        assert!(grid.doubtful.is_empty());
+        grid.doubting(&self.doubtful)
+    }
+}
+
 fn answer_read(words: &mut Words) -> String {
-    let (extent, limit, side) = (words.extent(), words.number(), words.number());
-    let modules = words.bytes();
-    let got = ecc200::read_as(extent, &modules, side, limit);
+    let (extent, limit) = (words.extent(), words.number());
+    let given = Given::of(words);
+    let got = ecc200::read_as(extent, given.grid(), limit);
     assert_eq!(Extent::default(), Extent::Wide);
     if extent == Extent::Wide {
-        assert_eq!(ecc200::read(&modules, side, limit), got);
+        assert_eq!(ecc200::read(given.grid(), limit), got);
     }
-    reading(side, got)
+    reading(given.rows, given.columns, got)
 }
 
 fn answer_normal(words: &mut Words) -> String {
-    let (extent, profile, limit, side) = (words.extent(), words.profile(), words.number(), words.number());
-    let modules = words.bytes();
-    let got = ecc200::normal_as(extent, &modules, side, limit, profile);
+    let (extent, profile, limit) = (words.extent(), words.profile(), words.number());
+    let given = Given::of(words);
+    let got = ecc200::normal_as(extent, given.grid(), limit, profile);
     if extent == Extent::Wide {
-        assert_eq!(ecc200::normal(&modules, side, limit, profile), got);
+        assert_eq!(ecc200::normal(given.grid(), limit, profile), got);
+    }
+    if let Ok(made) = &got {
+        assert_eq!(made.grid(), Grid::new(&made.modules, made.rows, made.columns));
     }
     symbol(got)
 }
@@ -158,27 +206,34 @@ fn answer(line: &str) -> String {
         "read" => answer_read(&mut words),
         "normal" => answer_normal(&mut words),
         "write" => {
-            let profile = words.profile();
-            symbol(ecc200::write(&words.items(), profile))
+            let (profile, shape) = (words.profile(), words.shape());
+            assert_eq!(Shape::default(), Shape::Square);
+            symbol(ecc200::write(&words.items(), profile, shape))
         }
         "write_bytes" => {
-            let profile = words.profile();
-            symbol(ecc200::write_bytes(&words.bytes(), profile))
+            let (profile, shape) = (words.profile(), words.shape());
+            symbol(ecc200::write_bytes(&words.bytes(), profile, shape))
         }
         "inspect" => {
-            let side = words.number();
-            inspection(side, ecc200::inspect(&words.bytes(), side))
+            let given = Given::of(&mut words);
+            inspection(given.rows, given.columns, ecc200::inspect(given.grid()))
         }
         "places" => {
-            let side = words.number();
-            match ecc200::places(side) {
-                Ok(places) => format!("side {side}{}", places.iter().map(place).collect::<String>()),
+            let (rows, columns) = (words.number(), words.number());
+            match ecc200::places(rows, columns) {
+                Ok(places) => {
+                    let each = places.iter().map(place).collect::<String>();
+                    format!("rows {rows} columns {columns}{each}")
+                }
                 Err(why) => refused(why),
             }
         }
         "sizes" => ecc200::sizes().iter().map(size).collect::<Vec<_>>().join(" | "),
         "compatible" => u8::from(ecc200::is_compatible()).to_string(),
-        "limit" => ecc200::usual_limit(words.number()).to_string(),
+        "limit" => {
+            let (rows, columns) = (words.number(), words.number());
+            ecc200::usual_limit(rows, columns).to_string()
+        }
         "words" => self::words(words.number()),
         "text" => text(words.items()),
         "constants" => constants(),
