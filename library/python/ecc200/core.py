@@ -468,9 +468,7 @@ def _modules(grid: Grid) -> Tuple[bytes, int, int]:
     rows = grid if isinstance(grid, list) else _plain(grid)
     if isinstance(rows, bytes):
         modules, count = rows, math.isqrt(len(rows))
-        columns = count
-        if count * count != len(rows):
-            raise Refused(Code.SHAPE)
+        columns = count  # (the library refuses what is no square)
     else:
         count = len(rows)
         modules, columns = _joined(rows)
