@@ -50,7 +50,7 @@ async function startCamera() {
   } catch (why) {
     if (session !== own) return;
     session = null;
-    const isForbidden = why?.name === "NotAllowedError";
+    const isForbidden = why instanceof Error && why.name === "NotAllowedError";
     const words = "The browser doesn’t allow the camera here.", none = "There is no camera that this page can use.";
     hint("picture-hint", isForbidden ? words : none, true);
     return;

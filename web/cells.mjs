@@ -11,15 +11,15 @@ const STATES = ["", "corrected", "beyond"];
 // What a screen reader says of a codeword.
 /** @type {(seen: Seen, w: number) => string} */
 function cellName(seen, w) {
-  const { size, held, mended, states, told } = seen, what = told?.[w] ? `, ${told[w].text}` : "";
-  const corrected = states[w] === 1 ? `, corrected to ${mended[w]}` : "";
-  const state = states[w] === 2 ? ", in a block beyond correction" : corrected;
+  const { size, held, mended, states, isErased, told } = seen, what = told?.[w] ? `, ${told[w].text}` : "";
+  const corrected = states[w] === 1 ? `, corrected to ${mended[w]}` : "", doubt = isErased[w] ? ", doubtful" : "";
+  const state = `${doubt}${states[w] === 2 ? ", in a block beyond correction" : corrected}`;
   return `${w < size.data ? "data" : "check"} codeword ${w + 1}: ${held[w]}${state}${what}`;
 }
 /** @type {(node: Element, seen: Seen, w: number) => void} */
 function drawCell(node, seen, w) {
-  const { size, held, mended, states, told } = seen, all = held.length, name = cellName(seen, w);
-  const className = [w >= size.data && "check", STATES[states[w]]].filter(Boolean).join(" ");
+  const { size, held, mended, states, isErased, told } = seen, all = held.length, name = cellName(seen, w);
+  const className = [w >= size.data && "check", STATES[states[w]], isErased[w] && "erased"].filter(Boolean).join(" ");
   const meaning = states[w] === 1 ? `→${mended[w]}` : (told?.[w]?.brief ?? "");
   const below = all > CELLS_WITH_MEANINGS ? null : meaning;
   if (node.className !== className) node.className = className;
@@ -53,27 +53,31 @@ export const bitsOf = (value) => value.toString(2).padStart(8, "0");
 const bitsAgainst = (value, other) => Array.from(bitsOf(value), (bit, k) =>
   (bit === bitsOf(other)[k] ? bit : made("u", { textContent: bit })));
 const isBorder = (kind) => kind === BORDER_LIGHT || kind === BORDER_DARK;
-/** @type {(k: number, side: number) => string} */
-export const placeOf = (k, side) => `Row ${Math.floor(k / side) + 1}, column ${(k % side) + 1}`;
+/** @type {(k: number, shape: import("./common.mjs").Shape) => string} */
+export const placeOf = (k, { columns }) => `Row ${Math.floor(k / columns) + 1}, column ${(k % columns) + 1}`;
+const isDoubtful = ({ doubtful }, k) => Boolean(doubtful?.[k]);
 export const bold = (text) => made("b", { textContent: text });
 
 /** @type {(seen: Seen, k: number) => (Node | string)[]} */
 function aboutModule(seen, k) {
-  const { kind } = mapOf(seen.side), what = isBorder(kind[k]) ? "the border, which shows where the modules lie"
+  const { kind } = mapOf(seen), what = isBorder(kind[k]) ? "the border, which shows where the modules lie"
     : "the fixed square in the corner, which holds no codeword and isn’t looked at";
   const wrong = isWrong(seen, seen.modules, k) ? ` It should be ${kind[k] === BORDER_DARK ? "dark" : "light"}.` : "";
-  return [bold(placeOf(k, seen.side)), ` belongs to ${what}.${wrong}`];
+  const doubt = isDoubtful(seen, k) ? " It is doubtful, and so isn’t counted." : "";
+  return [bold(placeOf(k, seen)), ` belongs to ${what}.${wrong}${doubt}`];
 }
 /** @type {(seen: Seen, w: number) => (Node | string)[]} */
-function aboutWord({ size, held, mended, states, told }, w) {
+function aboutWord({ size, held, mended, states, isErased, told }, w) {
   const block = size.blocks > 1 ? `, block ${(w % size.blocks) + 1}` : "", what = w < size.data ? "data" : "check";
   const value = (one, other) =>
     [bold(one), ", ", made("span", { className: "bits" }, ...bitsAgainst(one, other))];
   const mending = states[w] === 1 ? [", and is corrected to ", ...value(mended[w], held[w])] : [];
   const beyond = states[w] === 2 ? "; its block is beyond correction" : "";
+  const doubt = isErased[w] ? " It is doubtful: the reader takes it for unknown, which costs its block one check "
+    + "codeword, and not two." : "";
   const meaning = w < size.data && told ? ` It stands for ${told[w].text}.` : "";
   return [bold(`Codeword ${w + 1}`), ` of ${held.length}: ${what}${block}. It is `, ...value(held[w], mended[w]),
-    ...mending, `${beyond}.${meaning}`];
+    ...mending, `${beyond}.${doubt}${meaning}`];
 }
 const POINT = "Point at a codeword, or in Learn at a module: its eight modules are shown in the symbol, with bit 1, "
   + "the highest, to bit 8.";
@@ -84,8 +88,8 @@ export function drawAbout() {
 }
 /** @type {(seen: Seen, k: number) => string} */
 export function spokenModule(seen, k) {
-  const map = mapOf(seen.side), kind = map.kind[k], fixed = isBorder(kind) ? "border" : "fixed square";
+  const map = mapOf(seen), kind = map.kind[k], fixed = isBorder(kind) ? "border" : "fixed square";
   const what = kind === BIT ? `codeword ${map.word[k] + 1}, bit ${map.bit[k]}` : fixed;
-  const wrong = isWrong(seen, seen.modules, k) ? ", wrong" : "";
-  return `${placeOf(k, seen.side)}: ${seen.modules[k] ? "dark" : "light"}, ${what}${wrong}`;
+  const wrong = isWrong(seen, seen.modules, k) ? ", wrong" : "", doubt = isDoubtful(seen, k) ? ", doubtful" : "";
+  return `${placeOf(k, seen)}: ${seen.modules[k] ? "dark" : "light"}, ${what}${wrong}${doubt}`;
 }

@@ -1,12 +1,14 @@
 // What both the page and its worker know: numbers of the library's interface, and small helpers.
 
-export const ABI = 2, FNC1 = 256, BEYOND = 255;
-export const MOST_SIDE = 104, MOST_ITEMS = 1639, MOST_CODEWORDS = 1152, SIZE_COUNT = 21;
+export const ABI = 3, FNC1 = 256, BEYOND = 255;
+export const MOST_LINE = 144, MOST_ITEMS = 3123, MOST_CODEWORDS = 2178, MOST_BLOCKS = 10, SIZE_COUNT = 48;
 export const USUAL = 0, WIDE = 1, ASCII = 0, SHORTER = 1;
+// The sizes of which a symbol that is written may have the smallest, or the one that it is to have.
+export const SQUARE = 0, RECTANGLE = 1, EXTENDED = 2, ANY = 3, ONE = 4;
 export const BORDER_FAULT = 5, BLOCK_FAULT = 6, TOO_LONG = 14;
 export const BIT = 1, BORDER_LIGHT = 2, BORDER_DARK = 3;
 // Characters and lines of a message, or of a grid: the longest of either has fewer.
-export const MOST_TEXT = 20000, MOST_LINES = 1000;
+export const MOST_TEXT = 25000, MOST_LINES = 1000;
 export const MOST_OF_SHEET = 200000; // characters of the messages of a sheet
 
 export const MOST_LIMIT = 65535; // of wrong border modules
@@ -19,7 +21,17 @@ export function limitIn(text) {
 
 /** @type {(count: number, one: string, many: string) => string} */
 export const plural = (count, one, many) => `${count.toLocaleString("en")} ${count === 1 ? one : many}`;
-/** @type {(modules: Uint8Array) => number} */
-export const sideOf = (modules) => Math.round(Math.sqrt(modules.length));
+/** @typedef {{ rows: number, columns: number }} Shape of a symbol, in modules */
+/** @typedef {Shape & { modules: Uint8Array }} Grid its modules row by row: 1 is dark */
+/** @type {(shape: Shape) => string} */
+export const shapeWords = ({ rows, columns }) => `${rows} × ${columns}`;
+// In names of files and in links: of a square its side.
+/** @type {(shape: Shape) => string} */
+export const shapeName = ({ rows, columns }) => (rows === columns ? String(rows) : `${rows}x${columns}`);
+/** @type {(a: Shape, b: Shape) => boolean} */
+export const isSameShape = (a, b) => a.rows === b.rows && a.columns === b.columns;
+// What something that was thrown says.
+/** @type {(why: unknown) => string} */
+export const messageOf = (why) => (why instanceof Error ? why.message : String(why));
 /** @type {(a: ArrayLike<number> & { every: any }, b: ArrayLike<number>) => boolean} */
 export const isSame = (a, b) => a.length === b.length && a.every((value, k) => value === b[k]);

@@ -1,5 +1,5 @@
 // Two symbols compared: each is a message, a grid or a picture.
-import { ASCII, SHORTER, isSame, sideOf } from "./common.mjs";
+import { ASCII, SHORTER, isSame, isSameShape, shapeWords } from "./common.mjs";
 import { $, made, shape } from "./dom.mjs";
 import { bound, broughtBy, textOfFile } from "./dropping.mjs";
 import { C40, DAMAGED_GRID } from "./examples.mjs";
@@ -13,8 +13,9 @@ import { VALID, mark, stamp } from "./state.mjs";
 import { drawSmall } from "./symbol.mjs";
 import { borne, refusal } from "./words.mjs";
 
-/** @typedef {{ why?: string, words?: string, note?: string, isWaiting?: boolean, modules?: Uint8Array, seen?: any,
-    how?: string, normals?: (Uint8Array | null)[] }} Judged */
+/** @typedef {import("./common.mjs").Grid} Grid */
+/** @typedef {{ why?: string, words?: string, note?: string, isWaiting?: boolean, how?: string,
+    seen?: import("./examine.mjs").Seen, normals?: (Grid | null)[] }} Judged */
 /** @type {Judged} */
 const WAITING = { why: "is being looked at", isWaiting: true };
 
@@ -95,7 +96,7 @@ class Slot {
     await settled(it);
     if (this.asked !== own) return;
     if (it.stage !== VALID) { this.settle({ why: "isn’t there: the symbol above isn’t valid" }); return; }
-    this.area.value = gridText(it.modules);
+    this.area.value = gridText(it.seen);
     this.enterText();
   }
   async enterText(note = "") {
@@ -123,16 +124,16 @@ class Slot {
     this.settle({ ...judgedOf(judged, "isn’t found in the picture"), note });
   }
   draw() {
-    const { modules, words, seen, how, note = "" } = this.judged;
-    drawSmall(this.svg, modules);
-    const label = modules ? `, of side ${sideOf(modules)}` : ": none";
+    const { words, seen = null, how, note = "" } = this.judged;
+    drawSmall(this.svg, seen);
+    const label = seen ? `, of ${shapeWords(seen)} modules` : ": none";
     this.svg.setAttribute("aria-label", `Symbol ${this.name}${label}`);
     this.reads.textContent = `${words ?? ""}${note} `.trimStart();
     if (!seen || seen.answer.fault) return;
-    const { side, answer } = seen, stands = how ? `, ${how}` : "";
-    const mended = borne(answer.corrected, answer.border) || "nothing had to be corrected";
+    const { answer } = seen, stands = how ? `, ${how}` : "";
+    const mended = borne(answer) || "nothing had to be corrected";
     const text = readable(answer.items) || "the empty message";
-    this.reads.append(`${side} × ${side}${stands}; ${mended}: `, made("b", { textContent: text }));
+    this.reads.append(`${shapeWords(seen)}${stands}; ${mended}: `, made("b", { textContent: text }));
   }
 }
 /** @type {(answer: any, why: string) => Judged} */
@@ -142,12 +143,12 @@ function judgedOf(answer, why) {
   if (!answer.modules) return { why, words: answer.why };
   const { fault } = answer.seen.answer;
   if (!fault) return answer;
-  return { ...answer, why: "isn’t read", words: `Refused. ${refusal(fault, answer.seen.size, answer.seen.limit)}` };
+  return { ...answer, why: "isn’t read", words: `Refused. ${refusal(fault, answer.seen)}` };
 }
 
 // ---- The verdict on both
 
-/** @type {(kind: string, title: string, words: string, grids?: Uint8Array[]) => void} */
+/** @type {(kind: string, title: string, words: string, grids?: Grid[]) => void} */
 function sayOnBoth(kind, title, words, grids = []) {
   const box = $("same"), [head, text, normals] = box.children;
   box.className = kind;
@@ -156,7 +157,7 @@ function sayOnBoth(kind, title, words, grids = []) {
   normals.textContent = "";
   normals.className = grids.length > 1 ? "normals two" : "normals";
   for (const grid of grids) {
-    const svg = shape("svg", { role: "img", "aria-label": `a normal grid of side ${sideOf(grid)}` });
+    const svg = shape("svg", { role: "img", "aria-label": `a normal grid of ${shapeWords(grid)} modules` });
     drawSmall(svg, grid);
     normals.append(svg);
   }
@@ -174,9 +175,10 @@ function compare(slots) {
     sayOnBoth("unknown", "No answer", "Both are read, but the normal form of a message fits no size.");
     return;
   }
-  const [a, b] = under, isOne = isSame(judged[0].modules, judged[1].modules);
+  const [a, b] = under, isEqual = (one, other) => isSameShape(one, other) && isSame(one.modules, other.modules);
+  const isOne = isEqual(judged[0].seen, judged[1].seen);
   const both = isOne ? "Both" : "Their modules differ, but both";
-  if (!isSame(a, b)) sayOnBoth("differ", "No, they say different things.", "Their normal grids differ:", [a, b]);
+  if (!isEqual(a, b)) sayOnBoth("differ", "No, they say different things.", "Their normal grids differ:", [a, b]);
   else sayOnBoth("", "Yes, they say the same.", `${both} have this one normal grid:`, [a]);
 }
 export function wireCompare() {

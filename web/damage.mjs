@@ -1,21 +1,22 @@
 // Pointing at modules and codewords, and turning modules over: with the mouse, a finger, or keys. Only where one
 // learns; elsewhere the symbol is a picture.
 import { drawAbout, drawWords, spokenModule } from "./cells.mjs";
-import { BIT, limitIn, sideOf } from "./common.mjs";
+import { BIT, limitIn } from "./common.mjs";
 import { $, hint, setUsable, whenUsed } from "./dom.mjs";
-import { begin, damage, look, redo, setLimit, undo, undoAll } from "./flow.mjs";
+import { begin, damage, doubtDamage, look, redo, setLimit, undo, undoAll } from "./flow.mjs";
 import { afterThat, inTurn, settled } from "./order.mjs";
 import { mapOf, mark, store } from "./state.mjs";
-import { QUIET, drawSymbol } from "./symbol.mjs";
+import { QUIET, drawSymbol, withQuiet } from "./symbol.mjs";
 import { noLimit } from "./words.mjs";
 
 /** @typedef {import("./state.mjs").Mark} Mark */
+/** @typedef {import("./common.mjs").Shape} Shape */
 const isLearning = () => store.task === "learn";
 /** @type {(module: number | null, word?: number | null) => void} */
 function point(module, word = null) {
   const it = mark();
   if (!it.seen) return;
-  const map = mapOf(it.seen.side);
+  const map = mapOf(it.seen);
   if (module !== null && map.kind[module] === BIT) word = map.word[module];
   if (module === it.module && word === it.word) return;
   it.module = module;
@@ -28,19 +29,21 @@ function placeOfEvent({ clientX, clientY }) {
   const share = (from, length) => (from - edge) / (length - 2 * edge);
   return { x: share(clientX - box.left, box.width), y: share(clientY - box.top, box.height) };
 }
-// The module of a symbol of this side that is there, if one is.
-/** @type {(place: { x: number, y: number }, side: number) => number | null} */
-function moduleAt({ x, y }, side) {
-  const line = (share) => Math.floor(share * (side + 2 * QUIET)) - QUIET, r = line(y), c = line(x);
-  return r >= 0 && c >= 0 && r < side && c < side ? r * side + c : null;
+// The module of a symbol of this shape that is there, if one is.
+/** @type {(place: { x: number, y: number }, shape: Shape) => number | null} */
+function moduleAt({ x, y }, shape) {
+  const { rows, columns } = shape, all = withQuiet(shape);
+  const r = Math.floor(y * all.rows) - QUIET, c = Math.floor(x * all.columns) - QUIET;
+  return r >= 0 && c >= 0 && r < rows && c < columns ? r * columns + c : null;
 }
-const moduleUnder = (event) => (mark().seen ? moduleAt(placeOfEvent(event), mark().seen.side) : null);
+const moduleUnder = (event) => (mark().seen ? moduleAt(placeOfEvent(event), mark().seen) : null);
 
 // The modules on the line from one to another, so that a quick drag leaves none out.
-function between(from, to, side) {
-  const [r, c, R, C] = [Math.floor(from / side), from % side, Math.floor(to / side), to % side];
+/** @type {(from: number, to: number, shape: Shape) => number[]} */
+function between(from, to, { columns }) {
+  const [r, c, R, C] = [Math.floor(from / columns), from % columns, Math.floor(to / columns), to % columns];
   const steps = Math.max(Math.abs(R - r), Math.abs(C - c)), share = (k) => k / (steps || 1);
-  const at = (k) => Math.round(r + (R - r) * share(k)) * side + Math.round(c + (C - c) * share(k));
+  const at = (k) => Math.round(r + (R - r) * share(k)) * columns + Math.round(c + (C - c) * share(k));
   return Array.from({ length: steps + 1 }, (_, k) => at(k));
 }
 /** @type {(it: Mark, cells: number[]) => void} */
@@ -49,8 +52,19 @@ function turn(it, cells) {
   for (const cell of cells) it.modules[cell] ^= 1;
   look(it);
 }
+// Tells the reader that these modules are doubtful, or no longer so.
+/** @type {(it: Mark, cells: number[], isDoubtful: boolean) => void} */
+function doubt(it, cells, isDoubtful) {
+  const doubtful = it.doubtful?.slice() ?? new Uint8Array(it.modules.length);
+  for (const cell of cells) doubtful[cell] = isDoubtful ? 1 : 0;
+  it.doubtful = doubtful.includes(1) ? doubtful : null;
+  look(it);
+}
+// What a click, a drag or a key does to modules: turns them over, or marks them as doubtful.
+const isDoubting = () => $("brush-doubt").checked;
 
-// A click or a drag: one step, in which each module is turned over once.
+// A click or a drag: one step, in which each module is turned over once, or all become what the first one does:
+// doubtful, or no longer so.
 class Stroke {
   /** @type {number | null} the stamp of what the symbol was entered by */
   entered = null;
@@ -58,23 +72,26 @@ class Stroke {
   turned = new Set();
   /** @type {number | null} the module that was reached last */
   last = null;
+  isDoubt = isDoubting();
+  isMarking = true; // whether modules become doubtful
   /** @param {Mark} it */
   constructor(it) { this.it = it; }
   /** @type {(place: { x: number, y: number }) => void} */
-  to(place) { inTurn(this.it, (it) => this.reach(it, moduleAt(place, sideOf(it.modules)))); }
+  to(place) { inTurn(this.it, (it) => this.reach(it, moduleAt(place, it))); }
   /** @type {(it: Mark, k: number | null) => void} */
   reach(it, k) {
     if (k === null) return;
     if (this.entered !== it.entered) {
       [this.entered, this.turned, this.last] = [it.entered, new Set(), k];
       [it.byKeys, it.module, it.word] = [false, null, null];
+      this.isMarking = !it.doubtful?.[k];
       begin(it);
     }
-    const fresh = between(this.last, k, sideOf(it.modules)).filter((cell) => !this.turned.has(cell));
+    const fresh = between(this.last, k, it).filter((cell) => !this.turned.has(cell));
     this.last = it.cursor = k;
     if (!fresh.length) return;
     for (const cell of fresh) this.turned.add(cell);
-    turn(it, fresh);
+    if (this.isDoubt) doubt(it, fresh, this.isMarking); else turn(it, fresh);
   }
 }
 
@@ -111,13 +128,19 @@ const STEPS = {
   Home: (r) => [r, 0], End: (r) => [r, -1], PageUp: (_r, c) => [0, c], PageDown: (_r, c) => [-1, c],
 };
 function moveCursor(it, key) {
-  const { side } = it.seen, to = STEPS[key](Math.floor(it.cursor / side), it.cursor % side);
-  it.cursor = ((to[0] + side) % side) * side + ((to[1] + side) % side);
+  const { rows, columns } = it.seen, to = STEPS[key](Math.floor(it.cursor / columns), it.cursor % columns);
+  it.cursor = ((to[0] + rows) % rows) * columns + ((to[1] + columns) % columns);
+}
+/** @type {(it: Mark, isDoubt: boolean) => void} */
+function changeAtCursor(it, isDoubt) {
+  begin(it);
+  if (isDoubt) doubt(it, [it.cursor], !it.doubtful?.[it.cursor]); else turn(it, [it.cursor]);
 }
 // What a key does to the symbol, if anything.
 function actOf({ key, shiftKey, ctrlKey, metaKey }) {
   const isCommand = ctrlKey || metaKey;
-  if (key === " " || key === "Enter") return (it) => inTurn(it, () => { begin(it); turn(it, [it.cursor]); });
+  const isDoubt = isDoubting();
+  if (key === " " || key === "Enter") return (it) => inTurn(it, () => changeAtCursor(it, isDoubt));
   if (key.toLowerCase() === "z" && isCommand) return shiftKey ? redo : undo;
   return key === "y" && isCommand ? redo : null;
 }
@@ -196,7 +219,7 @@ export function wireDamage() {
   wirePointer(); wireKeys(); wireWords(); setZoom(1);
   const acts = {
     "to-limit": () => damage("limit"), "one-more": () => damage("more"), scratch: () => damage("scratch"),
-    undo, redo, "undo-all": undoAll,
+    undo, redo, "undo-all": undoAll, tell: doubtDamage,
     usual: () => inTurn(mark(), (it) => setLimit(it, null)),
   };
   for (const [id, act] of Object.entries(acts)) $(id).addEventListener("click", () => act());

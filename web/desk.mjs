@@ -1,6 +1,7 @@
 // Where the page asks its workers. Each desk has one, which answers one question at a time; a question that waits is
 // replaced by a newer one of its lane. An answer never throws: it is what the worker says, { failed: why },
 // { stopped: true }, or undefined if replaced.
+import { messageOf } from "./common.mjs";
 
 /** @typedef {{ number: number, kind: string, given: any, lane: string, transfer: Transferable[], since: number,
     tell: ((progress: string) => void) | null, resolve: (answer: any) => void }} Question */
@@ -62,7 +63,7 @@ export class Desk {
       this.running.since = performance.now();
       const { number, kind, given, transfer } = this.running;
       try { this.worker.postMessage({ number, kind, given }, transfer); } catch (why) {
-        this.hear({ number, failed: why.message });
+        this.hear({ number, failed: messageOf(why) });
         return;
       }
     }

@@ -1,15 +1,15 @@
 // Drawing what is read: the stage, facts, the verdict and the meters.
 import { drawAbout, drawWords } from "./cells.mjs";
-import { BEYOND, FNC1, plural } from "./common.mjs";
+import { BEYOND, FNC1, plural, shapeWords } from "./common.mjs";
 import { $, hint, made, setUsable, shape } from "./dom.mjs";
 import { drawElements, elementsOf, faultsOf } from "./elements.mjs";
 import { elementString } from "./gs1.mjs";
 import { drawLesson } from "./lesson.mjs";
 import { isPlain, spelled, spelledItem, visibleUtf8Of } from "./messages.mjs";
-import { BAD, EMPTY, VALID, WORKING, isDamaged, mark } from "./state.mjs";
+import { BAD, EMPTY, VALID, WORKING, isChanged, isDamaged, mark } from "./state.mjs";
 import { drawSymbol } from "./symbol.mjs";
 import { drawPrintSize } from "./taking.mjs";
-import { borne, refusal } from "./words.mjs";
+import { borne, refusal, spentBy } from "./words.mjs";
 
 export function drawAll() {
   drawStage(); drawFacts(); drawSymbol(); drawVerdict(); drawMeters();
@@ -27,7 +27,8 @@ export function drawStage() {
   for (const id of ["to-limit", "one-more", "scratch"]) setUsable(id, canAct);
   setUsable("undo", canAct && it.past.length > 0);
   setUsable("redo", canAct && it.future.length > 0);
-  setUsable("undo-all", canAct && isDamaged(it));
+  setUsable("undo-all", canAct && isChanged(it));
+  setUsable("tell", canAct && isDamaged(it));
   const wasHidden = $("which").hidden;
   $("which").hidden = !(it.modules && isDamaged(it));
   if ($("which").hidden && !wasHidden) $("which-undamaged").checked = true;
@@ -36,9 +37,9 @@ export function drawStage() {
 const fact = (number, what) =>
   made("div", {}, made("dt", { textContent: what }), made("dd", { textContent: number }));
 function drawFacts() {
-  const { seen } = mark(), { side, size } = seen ?? {};
+  const { seen } = mark(), { size } = seen ?? {};
   const each = size?.blocks > 1 ? ` in each of ${size.blocks} blocks` : "";
-  const facts = !seen ? [] : [fact(`${side} × ${side}`, "modules"), fact(size.data, "data codewords"),
+  const facts = !seen ? [] : [fact(shapeWords(seen), "modules"), fact(size.data, "data codewords"),
     fact(size.check, "check codewords"), fact(size.limit, `wrong codewords can be corrected${each}`)];
   $("facts").replaceChildren(...facts);
   drawPrintSize();
@@ -86,46 +87,69 @@ function drawVerdict() {
   const it = mark();
   if (it.stage === BAD) say("none", "Nothing is read", it.why);
   else if (it.stage !== VALID) say("none", NONE[it.stage], "");
-  else if (it.seen.answer.fault) say("refused", "Refused", refusal(it.seen.answer.fault, it.seen.size, it.seen.limit));
+  else if (it.seen.answer.fault) say("refused", "Refused", refusal(it.seen.answer.fault, it.seen));
   else sayRead(it, it.seen.answer);
 }
-function sayRead(it, { items, corrected, border }) {
-  const words = borne(corrected, border), isGs1 = items[0] === FNC1, faults = isGs1 ? faultsOf(elementsOf(items)) : 0;
+/** @type {(it: import("./state.mjs").Mark, answer: import("./library.mjs").Answer) => void} */
+function sayRead(it, { items, corrected, erased, left, border }) {
+  const isGs1 = items[0] === FNC1, faults = isGs1 ? faultsOf(elementsOf(items)) : 0;
+  const words = borne({ corrected, erased, border }), isSpent = spentBy(erased, left);
   if (it.items && spelled(it.items) !== spelled(items)) {
     say("other", "Read as another message", OTHER, items);
     return;
   }
   const asText = visibleUtf8Of(items) ? ` It is text in UTF-8, of these bytes: ${spelled(items)}` : "";
-  const within = it.items ? " Damage within the limits never changes the message." : "";
+  const within = isSpent || !it.items ? isSpent : " Damage within the limits never changes the message.";
   const why = `${words ? `${words}.${within}` : "Nothing had to be corrected."}${asText}`;
   const wrong = `${plural(faults, "element is", "elements are")} wrong, as the table says.`;
-  if (faults) say("other", "Read, but it isn’t right as GS1 data", `${wrong} ${why}`, items);
+  if (isSpent && !it.items) say("other", "Read, but nothing shows that it is right", why, items);
+  else if (faults) say("other", "Read, but it isn’t right as GS1 data", `${wrong} ${why}`, items);
   else say("good", isGs1 ? "Read, as GS1 data" : "Read", why, items);
 }
 
 // ---- Meters
 
-/** @type {(name: string, count: number, limit: number, isOver: boolean, allowed: string) => Node} */
-function meter(name, count, limit, isOver, allowed) {
-  const segments = Math.min(Math.max(limit, 1), 60), isBeyond = isOver && count === BEYOND;
-  const wrong = isBeyond ? `more than ${limit}` : String(count), now = count === BEYOND ? limit + 1 : count;
+// A bar of so many parts, of which some are on and some, behind them, are doubtful; and its words, of which the first
+// is the count.
+/** @type {(name: string, parts: { on: number, doubtful?: number, all: number, isOver: boolean }, words: string[]) =>
+    Node} */
+function meter(name, { on, doubtful = 0, all, isOver }, [count, ...words]) {
+  const segments = Math.min(Math.max(all, 1), 60), said = words.join("");
   const bar = made("span", { className: `bar${segments > 24 ? " fine" : ""}`, role: "meter", ariaLabel: name });
   bar.setAttribute("aria-valuemin", "0");
-  bar.setAttribute("aria-valuemax", Math.max(limit, now));
-  bar.setAttribute("aria-valuenow", now);
-  bar.setAttribute("aria-valuetext", `${name}: ${wrong} wrong, ${limit} ${allowed}`);
-  for (let k = 0; k < segments; k++) bar.append(made("i", { className: isOver || k < count ? "on" : "" }));
-  const counted = made("span", { className: "count" });
-  counted.append(made("b", { textContent: wrong }), ` wrong, ${limit} ${allowed}`);
+  bar.setAttribute("aria-valuemax", String(Math.max(all, on + doubtful)));
+  bar.setAttribute("aria-valuenow", String(on + doubtful));
+  bar.setAttribute("aria-valuetext", `${name}: ${count}${said}`);
+  const at = (k) => (isOver || k < on ? "on" : k < on + doubtful ? "doubtful" : "");
+  for (let k = 0; k < segments; k++) bar.append(made("i", { className: at((k * Math.max(all, 1)) / segments) }));
+  const counted = made("span", { className: "count" }, made("b", { textContent: count }), said);
   return made("div", { className: `meter${isOver ? " over" : ""}` }, made("span", { textContent: name }), bar, counted);
+}
+// The meter of a block: of the wrong codewords that can be corrected; or, where it has doubtful ones, of its check
+// codewords, of which a wrong codeword takes two and a doubtful one takes one.
+/** @type {(name: string, seen: import("./examine.mjs").Seen, b: number) => Node} */
+function meterOfBlock(name, { size, corrected, erased, left }, b) {
+  const { limit } = size, isOver = corrected[b] === BEYOND, checks = size.check / size.blocks;
+  const wrong = isOver ? 0 : corrected[b];
+  if (!erased[b]) {
+    const count = isOver ? `more than ${limit}` : String(wrong);
+    return meter(name, { on: isOver ? limit + 1 : wrong, all: limit, isOver },
+      [count, ` wrong, ${limit} can be corrected`]);
+  }
+  const parts = { on: isOver ? checks : 2 * wrong, doubtful: isOver ? 0 : erased[b], all: checks, isOver };
+  const words = isOver ? ["too many", ` wrong beside ${erased[b]} doubtful`]
+    : [String(wrong), ` wrong, ${erased[b]} doubtful; ${left[b]} of ${checks} checks left`];
+  return meter(name, parts, words);
 }
 function drawMeters() {
   const it = mark();
   setUsable("usual", it.limit !== null);
   if (!it.seen) { $("meters").replaceChildren(); return; }
   const { size, corrected, border, limit } = it.seen, name = (b) => (size.blocks > 1 ? `Block ${b + 1}` : "Codewords");
-  const blocks = corrected.map((count, b) => meter(name(b), count, size.limit, count === BEYOND, "can be corrected"));
-  $("meters").replaceChildren(...blocks, meter("Border", border, limit, border > limit, "accepted"));
+  const blocks = corrected.map((_, b) => meterOfBlock(name(b), it.seen, b));
+  const ofBorder = meter("Border", { on: border, all: limit, isOver: border > limit },
+    [String(border), ` wrong, ${limit} accepted`]);
+  $("meters").replaceChildren(...blocks, ofBorder);
   hint("border-hint", it.limitWhy, Boolean(it.limitWhy));
   if (document.activeElement !== $("border-limit")) {
     $("border-limit").value = limit;

@@ -1,42 +1,56 @@
 // Everything that is shown about modules, and damage to them; all by the library.
-import { BEYOND, MOST_ITEMS, sideOf } from "./common.mjs";
+import { BEYOND, BIT, MOST_ITEMS } from "./common.mjs";
 import { meanings } from "./codewords.mjs";
 
-/** @typedef {{ side: number, regions: number, regionSide: number, mapping: number, data: number, check: number,
-    blocks: number, limit: number }} Size */
-/** @typedef {{ modules: Uint8Array, side: number, size: Size, limit: number, usual: number, answer: any,
-    states: number[], told: { text: string, brief: string, items: number[] }[] | null, border: number,
-    held: Uint8Array, mended: Uint8Array, corrected: number[], map?: any }} Seen what the library says of modules */
+/** @typedef {import("./common.mjs").Grid} Grid */
+/** @typedef {import("./library.mjs").Library} Library */
+/** @typedef {import("./library.mjs").Size} Size */
+/** @typedef {Grid & import("./library.mjs").Inspection & { doubtful: Uint8Array | null, size: Size, limit: number,
+    usual: number, answer: import("./library.mjs").Answer, states: number[], isErased: boolean[],
+    told: import("./codewords.mjs").Meaning[] | null, map?: any }} Seen what the library says of a symbol */
 
-// The state of a codeword: 0 as it should be, 1 corrected, 2 in a block beyond correction.
-/** @type {(lib: import("./library.mjs").Library, modules: Uint8Array, givenLimit: number | null) => Seen} */
-export function examine(lib, modules, givenLimit) {
-  const side = sideOf(modules), size = lib.sizes.get(side), usual = lib.usualLimit(side), limit = givenLimit ?? usual;
-  const answer = lib.read(modules, limit), { border, held, mended, corrected } = lib.inspect(modules);
-  const isRight = (w) => held[w] === mended[w];
-  const states = Array.from(held, (_, w) => (corrected[w % size.blocks] === BEYOND ? 2 : isRight(w) ? 0 : 1));
+// The state of a codeword: 0 as it should be, 1 corrected, 2 in a block beyond correction. One with a doubtful module
+// is erased.
+/** @type {(lib: Library, grid: Grid, doubtful: Uint8Array | null, givenLimit: number | null) => Seen} */
+export function examine(lib, { modules, rows, columns }, doubtful, givenLimit) {
+  const grid = { modules, rows, columns }, size = lib.sizeOf(grid), usual = lib.usualLimit(grid);
+  const limit = givenLimit ?? usual, answer = lib.read(grid, limit, doubtful), inspected = lib.inspect(grid, doubtful);
+  const { held, mended, corrected } = inspected, isErased = erasedBy(lib, grid, doubtful);
+  const isRight = (w) => held[w] === mended[w], isBeyond = (w) => corrected[w % size.blocks] === BEYOND;
+  const states = Array.from(held, (_, w) => (isBeyond(w) ? 2 : isRight(w) ? 0 : 1));
   const told = corrected.includes(BEYOND) ? null : meanings(mended.subarray(0, size.data));
-  return { modules, side, size, limit, usual, answer, states, told, border, held, mended, corrected };
+  const erased = corrected.map((_, b) => isErased.filter((is, w) => is && w % size.blocks === b).length);
+  return { ...grid, ...inspected, erased, doubtful, size, limit, usual, answer, states, isErased, told };
+}
+// Of each codeword whether one of its modules is doubtful.
+/** @type {(lib: Library, grid: Grid, doubtful: Uint8Array | null) => boolean[]} */
+function erasedBy(lib, grid, doubtful) {
+  const { kind, word, modules } = lib.map(grid), isErased = modules.map(() => false);
+  doubtful?.forEach((is, k) => { if (is && kind[k] === BIT) isErased[word[k]] = true; });
+  return isErased;
 }
 
 const any = (list) => list[Math.floor(Math.random() * list.length)];
 
 // Modules in the making, with what the library says of them after each change.
 class Spoiling {
-  /** @param {import("./library.mjs").Library} lib @param {Uint8Array} modules @param {Uint8Array | null} original */
-  constructor(lib, modules, original) {
+  /** @param {Library} lib @param {Grid} grid @param {Uint8Array | null} original @param {Uint8Array | null} doubtful */
+  constructor(lib, grid, original, doubtful) {
     this.lib = lib;
-    this.modules = modules.slice();
-    this.size = lib.sizes.get(sideOf(modules));
-    this.map = lib.map(sideOf(modules));
-    this.truth = original && lib.inspect(original).held;
+    this.doubtful = doubtful;
+    this.grid = { ...grid, modules: grid.modules.slice() };
+    this.modules = this.grid.modules;
+    this.size = lib.sizeOf(grid);
+    this.map = lib.map(grid);
+    this.isErased = erasedBy(lib, grid, doubtful);
+    this.truth = original && lib.inspect({ ...grid, modules: original }).held;
     this.look();
   }
-  look() { this.held = this.lib.inspect(this.modules); }
+  look() { this.held = this.lib.inspect(this.grid, this.doubtful); }
   // Turns over one module of a codeword of this block that is still right.
   spoilOne(block) {
     const { held, mended } = this.held, truth = this.truth ?? mended, isBeyond = this.held.corrected[block] === BEYOND;
-    const isRight = (w) => held[w] === truth[w] && (isBeyond || held[w] === mended[w]);
+    const isRight = (w) => !this.isErased[w] && held[w] === truth[w] && (isBeyond || held[w] === mended[w]);
     const right = [...held.keys()].filter((w) => w % this.size.blocks === block && isRight(w));
     if (right.length) this.modules[any(this.map.modules[any(right)])] ^= 1;
     this.look();
@@ -44,46 +58,49 @@ class Spoiling {
 }
 
 const ACTS = {
-  // Each block has as many wrong codewords as can be corrected.
+  // Each block has as many wrong codewords as can be corrected: each takes two check codewords.
   limit(spoiling) {
     const { size } = spoiling;
-    const isDone = (block) => spoiling.held.corrected[block] >= size.limit;
+    const isDone = (block) => spoiling.held.corrected[block] === BEYOND || spoiling.held.left[block] < 2;
     for (let block = 0; block < size.blocks; block++)
       for (let guard = 0; guard < size.limit && !isDone(block); guard++) spoiling.spoilOne(block);
   },
   // One codeword more is wrong, in the block that is nearest to its limit.
   more(spoiling) {
-    const near = spoiling.held.corrected.map((count) => (count === BEYOND ? -1 : count));
-    spoiling.spoilOne(near.indexOf(Math.max(...near)));
+    const { corrected, left } = spoiling.held;
+    const far = left.map((count, block) => (corrected[block] === BEYOND ? Infinity : count));
+    spoiling.spoilOne(far.indexOf(Math.min(...far)));
   },
   // A light line across.
   scratch(spoiling) {
-    const { side } = spoiling.size, length = Math.max(4, Math.round(side * 0.42));
+    const { rows, columns } = spoiling.size, length = Math.max(4, Math.round(rows * 0.42));
     const slope = any([-1, 1]) * (0.35 + Math.random() * 0.5);
-    const top = Math.floor(Math.random() * side * 0.6), left = Math.floor(side / 4 + Math.random() * side * 0.6);
+    const top = Math.floor(Math.random() * rows * 0.6), left = Math.floor(columns / 4 + Math.random() * columns * 0.6);
     for (let k = 0; k < length; k++) {
       const r = top + k, c = Math.round(left + k * slope);
-      if (r < side && c >= 0 && c < side) spoiling.modules[r * side + c] = 0;
+      if (r < rows && c >= 0 && c < columns) spoiling.modules[r * columns + c] = 0;
     }
   },
 };
 
-// The modules after an act of damage. The original is that of a written message, or null.
-export function damaged(lib, act, modules, original) {
-  const spoiling = new Spoiling(lib, modules, original);
+// The symbol after an act of damage. The original modules are those of a written message, or null.
+/** @type {(lib: Library, act: string, grid: Grid, original: Uint8Array | null, doubtful: Uint8Array | null) => Grid} */
+export function damaged(lib, act, grid, original, doubtful) {
+  const spoiling = new Spoiling(lib, grid, original, doubtful);
   ACTS[act](spoiling);
-  return spoiling.modules;
+  return spoiling.grid;
 }
 
-// How many of the items fit a symbol under this profile.
-export function mostThatFit(lib, items, profile) {
+// How many of the items fit a symbol that is written so.
+/** @type {(lib: Library, items: number[], how: import("./library.mjs").How) => number} */
+export function mostThatFit(lib, items, how) {
   let low = 0, high = Math.min(items.length, MOST_ITEMS);
   while (low < high) {
     const middle = Math.ceil((low + high) / 2);
-    if (lib.write(items.slice(0, middle), profile).fault) high = middle - 1; else low = middle;
+    if (lib.write(items.slice(0, middle), how).fault) high = middle - 1; else low = middle;
   }
   return low;
 }
 
-// The map of a side, without the lists that the page makes itself.
+// The map of a shape, without the lists that the page makes itself.
 export const plainMap = ({ kind, word, bit }) => ({ kind, word, bit });

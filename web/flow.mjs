@@ -5,9 +5,10 @@ import { $, allOf } from "./dom.mjs";
 import { drawAll } from "./draw.mjs";
 import { tellLink } from "./link.mjs";
 import { brokenWords, inTurn, isBroken, refuse, validate, work } from "./order.mjs";
-import { PANE_OF, TASKS, VALID, WORKING, keepMap, mark, store } from "./state.mjs";
+import { PANE_OF, TASKS, VALID, WORKING, isChanged, isDamaged, keepMap, mark, store } from "./state.mjs";
 
 /** @typedef {import("./state.mjs").Mark} Mark */
+/** @typedef {import("./state.mjs").Step} Step */
 const MOST_ACTS = 500; // that can be undone
 
 /** @type {{ quick: Desk | null, pictures: Desk | null, readsFiles: boolean }} */
@@ -19,16 +20,20 @@ export function openDesks(script, library) {
 }
 
 // Another symbol was written or opened.
-/** @type {(it: Mark, symbol: { modules: Uint8Array, items?: number[] | null, seen: any }) => void} */
-export function take(it, { modules, items = null, seen }) {
-  it.hold(modules, items);
-  keepMap(seen.side, seen.map);
+/** @type {(it: Mark, symbol: import("./common.mjs").Grid & { items?: number[] | null, seen: any }) => void} */
+export function take(it, { items = null, seen, ...grid }) {
+  it.hold(grid, items);
+  keepMap(seen, seen.map);
   if (it.limit !== null) { it.seen = seen; look(it); return; }
   validate(it, seen);
   if (it === mark()) { $("which-undamaged").checked = true; drawAll(); }
   tellLink();
 }
 
+// What the worker is told of a symbol as it is now.
+/** @type {(it: Mark) => any} */
+const asked = ({ modules, rows, columns, doubtful, limit }) =>
+  ({ grid: { modules, rows, columns }, doubtful, limit });
 // Asks what is read of the modules as they are now. During a drag older answers are drawn too, but aren't valid.
 /** @type {(it: Mark) => void} */
 export function look(it) {
@@ -37,7 +42,7 @@ export function look(it) {
 /** @type {(it: Mark) => Promise<void>} */
 async function looked(it) {
   const own = work(it), { entered } = it;
-  const seen = await desks.quick.ask("look", { modules: it.modules, limit: it.limit }, `look ${it.name}`);
+  const seen = await desks.quick.ask("look", asked(it), `look ${it.name}`);
   if (!seen || it.entered !== entered) return;
   if (isBroken(seen)) { if (it.changed === own) refuse(it, brokenWords(seen)); return; }
   if (it.changed === own) validate(it, seen); else if (it.stage !== WORKING) return;
@@ -50,23 +55,31 @@ async function looked(it) {
 
 /** @type {(it: Mark) => void} */
 export function begin(it) {
-  it.past.push(it.modules.slice());
+  it.past.push(it.step());
   if (it.past.length > MOST_ACTS) it.past.shift();
   it.future = [];
 }
 const differ = (a, b) => a.some((module, k) => module !== b[k]);
+/** @type {(it: Mark, from: Step[], to: Step[]) => void} */
 function goBack(it, from, to) {
   if (!from.length) return;
-  to.push(it.modules);
-  it.modules = from.pop();
+  to.push(it.step());
+  it.goTo(from.pop());
   look(it);
 }
 export const undo = () => inTurn(mark(), (it) => goBack(it, it.past, it.future));
 export const redo = () => inTurn(mark(), (it) => goBack(it, it.future, it.past));
 export const undoAll = () => inTurn(mark(), (it) => {
-  if (!differ(it.original, it.modules)) return;
+  if (!isChanged(it)) return;
   begin(it);
-  it.modules = it.original.slice();
+  it.goTo({ modules: it.original.slice(), doubtful: null });
+  look(it);
+});
+// Tells the reader that all that was turned over is doubtful.
+export const doubtDamage = () => inTurn(mark(), (it) => {
+  if (!isDamaged(it)) return;
+  begin(it);
+  it.doubtful = it.modules.map((module, k) => (it.doubtful?.[k] || module !== it.original[k] ? 1 : 0));
   look(it);
 });
 
@@ -76,8 +89,8 @@ export const damage = (what) => inTurn(mark(), (it) => damageNow(it, what));
 /** @type {(it: Mark, what: string) => Promise<void>} */
 async function damageNow(it, what) {
   work(it);
-  const { entered, modules, limit } = it, original = it.items ? it.original : null;
-  const seen = await desks.quick.ask("damage", { act: what, modules, original, limit }, `damage ${it.name}`);
+  const { entered } = it, original = it.items ? it.original : null;
+  const seen = await desks.quick.ask("damage", { act: what, original, ...asked(it) }, `damage ${it.name}`);
   if (it.entered !== entered) return;
   if (isBroken(seen)) { refuse(it, brokenWords(seen)); return; }
   if (differ(seen.modules, it.modules)) begin(it);

@@ -1,12 +1,14 @@
 // Grids: as text, and turned.
-import { MOST_SIDE, MOST_TEXT, plural, sideOf } from "./common.mjs";
+import { MOST_LINE, MOST_TEXT, plural } from "./common.mjs";
 import { tooMuch } from "./messages.mjs";
 
-/** @type {(modules: Uint8Array) => string} */
-export function gridText(modules) {
-  const side = sideOf(modules), lines = [];
-  for (let r = 0; r < side; r++) lines.push(Array.from(modules.subarray(r * side, r * side + side)).join(""));
-  return lines.join("\n") + "\n";
+/** @typedef {import("./common.mjs").Grid} Grid */
+/** @typedef {import("./library.mjs").Library} Library */
+/** @typedef {{ quarters: number, mirrored: boolean, inverted: boolean }} Stand how a symbol stands */
+/** @type {(grid: Grid) => string} */
+export function gridText({ modules, rows, columns }) {
+  const lineAt = (r) => Array.from(modules.subarray(r * columns, (r + 1) * columns)).join("");
+  return Array.from({ length: rows }, (_, r) => `${lineAt(r)}\n`).join("");
 }
 
 // Whether a text is meant as a grid, and not as a message: several lines of nothing else than modules.
@@ -15,9 +17,9 @@ export const isGrid = (text) =>
   text.length <= MOST_TEXT && /\S.*\n.*\S/s.test(text) && (/^[01\s]+$/.test(text) || /^[#Xx.\s]+$/.test(text));
 
 // Rows of 0 and 1; or with # or X for dark and . or space for light, in which spaces that an editor cut off at the
-// right are restored.
-/** @type {(text: string, sides: Map<number, any>) => { why?: string, modules?: Uint8Array }} */
-export function gridFrom(text, sides) {
+// right are restored. Symbols may lie on their side.
+/** @type {(text: string, lib: Library) => { why?: string, grid?: Grid }} */
+export function gridFrom(text, lib) {
   const much = tooMuch(text);
   if (much) return { why: much };
   const isPictured = /[#Xx]/.test(text);
@@ -28,41 +30,52 @@ export function gridFrom(text, sides) {
     const indent = lines.reduce((least, line) => Math.min(least, line.search(/\S/)), width);
     lines = lines.map((line) => line.trimEnd().padEnd(width).slice(indent));
   } else lines = lines.map((line) => line.trim());
-  const why = unfit(lines, isPictured, sides);
-  return why ? { why } : { modules: Uint8Array.from(Array.from(lines.join(""), (c) => Number(/[1#Xx]/.test(c)))) };
+  const why = unfit(lines, isPictured, lib);
+  if (why) return { why };
+  const modules = Uint8Array.from(Array.from(lines.join(""), (c) => Number(/[1#Xx]/.test(c))));
+  return { grid: { modules, rows: lines.length, columns: lines[0].length } };
 }
 
-// Why lines are no grid of a side that there is, if they aren't.
-/** @type {(lines: string[], isPictured: boolean, sides: Map<number, any>) => string} */
-function unfit(lines, isPictured, sides) {
+// Why lines are no grid of a size that there is, if they aren't.
+/** @type {(lines: string[], isPictured: boolean, lib: Library) => string} */
+function unfit(lines, isPictured, lib) {
   const odd = lines.findIndex((line) => (isPictured ? /[^#Xx. ]/ : /[^01]/).test(line));
   if (odd >= 0) return `Row ${odd + 1} has a character other than ${isPictured ? "#, X, . and space" : "0 and 1"}.`;
-  const isLarge = lines.length > MOST_SIDE || lines.some((line) => line.length > MOST_SIDE);
-  if (isLarge) return `More than ${MOST_SIDE} rows or columns: symbols as large as that aren’t read here.`;
-  const uneven = lines.findIndex((line) => line.length !== lines.length);
-  const rows = lines.length === 1 ? "is 1 row" : `are ${lines.length} rows`;
+  const isLarge = lines.length > MOST_LINE || lines.some((line) => line.length > MOST_LINE);
+  if (isLarge) return `More than ${MOST_LINE} rows or columns, and no symbol has as many.`;
+  const columns = lines[0].length, uneven = lines.findIndex((line) => line.length !== columns);
   const has = (row) => `row ${row + 1} has ${plural(lines[row].length, "module", "modules")}`;
-  if (uneven >= 0) return `Not a square: there ${rows}, and ${has(uneven)}.`;
-  if (!sides.has(lines.length)) return `A square of side ${lines.length}, but no size has this side.`;
-  return "";
+  if (uneven >= 0) return `Not a rectangle: ${has(0)}, and ${has(uneven)}.`;
+  if (standsOf(lib, { rows: lines.length, columns }).length) return "";
+  const rows = plural(lines.length, "row", "rows");
+  return `There ${lines.length === 1 ? "is" : "are"} ${rows} of ${plural(columns, "module", "modules")}, and no size `
+    + "has these, upright or on its side.";
 }
 
-// The upright modules of a symbol that was mirrored left to right or not, then turned clockwise by so many quarters,
-// and inverted or not.
-/** @type {(modules: Uint8Array, stand: { quarters: number, mirrored: boolean, inverted: boolean }) => Uint8Array} */
-export function upright(modules, { quarters, mirrored, inverted }) {
-  const side = sideOf(modules), out = new Uint8Array(modules.length);
-  for (let k = 0; k < out.length; k++) {
-    let r = Math.floor(k / side), c = k % side;
-    if (mirrored) c = side - 1 - c;
-    for (let q = 0; q < quarters; q++) [r, c] = [c, side - 1 - r];
-    out[k] = modules[r * side + c] ^ (inverted ? 1 : 0);
+// The upright symbol of one that was mirrored left to right or not, then turned clockwise by so many quarters, and
+// inverted or not.
+/** @type {(grid: Grid, stand: Stand) => Grid} */
+export function upright(grid, { quarters, mirrored, inverted }) {
+  const { rows, columns } = shapeOf(grid, quarters), modules = new Uint8Array(grid.modules.length);
+  for (let k = 0; k < modules.length; k++) {
+    let [r, c, down, across] = [Math.floor(k / columns), k % columns, rows, columns];
+    if (mirrored) c = columns - 1 - c;
+    for (let q = 0; q < quarters; q++) [r, c, down, across] = [c, down - 1 - r, across, down];
+    modules[k] = grid.modules[r * across + c] ^ (inverted ? 1 : 0);
   }
-  return out;
+  return { modules, rows, columns };
 }
+// The shape of what stands so many quarters from upright.
+/** @type {(shape: import("./common.mjs").Shape, quarters: number) => import("./common.mjs").Shape} */
+const shapeOf = ({ rows, columns }, quarters) => (quarters % 2 ? { rows: columns, columns: rows } : { rows, columns });
 const TURNS = [0, 1, 2, 3];
+/** @type {Stand[]} */
 const STANDS = [false, true].flatMap((inverted) => [false, true].flatMap((mirrored) =>
   TURNS.map((quarters) => ({ quarters, mirrored, inverted }))));
+// The ways in which a grid of this shape can stand, upright first: all sixteen if it is a square, half of them if not.
+/** @type {(lib: Library, shape: import("./common.mjs").Shape) => Stand[]} */
+const standsOf = (lib, shape) => STANDS.filter(({ quarters }) => lib.sizeOf(shapeOf(shape, quarters)));
+/** @type {(stand: Stand) => string} */
 export function standsHow({ quarters, mirrored, inverted }) {
   const ways = ["", "a quarter to the right", "upside down", "a quarter to the left"];
   const turned = quarters && `turned ${ways[quarters]}`;
@@ -70,13 +83,15 @@ export function standsHow({ quarters, mirrored, inverted }) {
   return parts.filter(Boolean).join(", and ");
 }
 
-// The first way to stand in which the modules are read, upright first; if there is none, as they are.
-export function found(lib, modules) {
-  const limit = lib.usualLimit(sideOf(modules));
-  const how = STANDS.find((stand) => !lib.read(upright(modules, stand), limit).fault);
-  return { modules: how ? upright(modules, how) : modules, isRead: Boolean(how), how: how ? standsHow(how) : "" };
+// The first way to stand in which a grid is read, upright first; if there is none, the first one that it can have.
+/** @type {(lib: Library, grid: Grid) => Grid & { isRead: boolean, how: string }} */
+export function found(lib, grid) {
+  const limit = lib.usualLimit(grid), stands = standsOf(lib, grid);
+  const how = stands.find((stand) => !lib.read(upright(grid, stand), limit).fault);
+  return { ...upright(grid, how ?? stands[0]), isRead: Boolean(how), how: standsHow(how ?? stands[0]) };
 }
 
-// Whether modules have the border of a symbol, however they stand.
-export const hasBorder = (lib, modules) =>
-  STANDS.some((stand) => lib.inspect(upright(modules, stand)).border <= lib.usualLimit(sideOf(modules)));
+// Whether a grid has the border of a symbol, however it stands.
+/** @type {(lib: Library, grid: Grid) => boolean} */
+export const hasBorder = (lib, grid) =>
+  standsOf(lib, grid).some((stand) => lib.inspect(upright(grid, stand)).border <= lib.usualLimit(grid));

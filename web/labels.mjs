@@ -1,8 +1,7 @@
 // Labels of stock sizes, of which sheets of A4 have rows and columns; where each symbol stands on them.
-import { sideOf } from "./common.mjs";
 import { $ } from "./dom.mjs";
 import { TEXT_HEIGHT } from "./pdf.mjs";
-import { QUIET } from "./symbol.mjs";
+import { withQuiet } from "./symbol.mjs";
 
 /** @typedef {{ page: [number, number], columns: number, rows: number, width: number, height: number,
     across: number }} Stock in millimetres: of a page, of a label, and from one label to the next */
@@ -33,23 +32,24 @@ export function stockNow() {
   return { why: `A label has ${LEAST_LABEL} to ${MOST_LABEL} mm on each side.` };
 }
 // Where symbols stand on labels, each in the middle of one with its text below, page by page; or why one doesn't fit.
-/** @type {(entries: { modules: Uint8Array, text: string }[], stock: Stock, module: number) =>
+/** @type {(entries: { grid: import("./common.mjs").Grid, text: string }[], stock: Stock, module: number) =>
     { why?: string, pages?: import("./pdf.mjs").Page[] }} */
 export function laidOut(entries, { page: [width, height], columns, rows, ...label }, module) {
   const left = (width - (columns - 1) * label.across - label.width) / 2, top = (height - rows * label.height) / 2;
   const pages = [];
-  for (const [k, { modules, text }] of entries.entries()) {
-    const length = (sideOf(modules) + 2 * QUIET) * module, below = text ? TEXT_HEIGHT : 0;
-    if (length > label.width || length + below > label.height) {
-      const size = `${+length.toFixed(2)} mm${text ? ` and ${TEXT_HEIGHT} mm of text` : ""}`;
+  for (const [k, { grid, text }] of entries.entries()) {
+    const { rows: down, columns: wide } = withQuiet(grid), below = text ? TEXT_HEIGHT : 0;
+    const [across, high] = [wide * module, down * module];
+    if (across > label.width || high + below > label.height) {
+      const size = `${+across.toFixed(2)} × ${+high.toFixed(2)} mm${text ? ` and ${TEXT_HEIGHT} mm of text` : ""}`;
       return { why: `Message ${k + 1} takes ${size}, and a label is ${label.width} × ${label.height} mm. `
         + "Take narrower modules or larger labels." };
     }
     const at = k % (columns * rows), column = at % columns, row = Math.floor(at / columns);
     if (!at) pages.push({ width, height, placed: [] });
-    const x = left + column * label.across + (label.width - length) / 2;
-    const y = top + row * label.height + (label.height - length - below) / 2;
-    pages[pages.length - 1].placed.push({ modules, x, y, module, text, width: label.width - 2 });
+    const x = left + column * label.across + (label.width - across) / 2;
+    const y = top + row * label.height + (label.height - high - below) / 2;
+    pages[pages.length - 1].placed.push({ grid, x, y, module, text, width: label.width - 2 });
   }
   return { pages };
 }

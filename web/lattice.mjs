@@ -1,6 +1,10 @@
-// A symbol's modules in a photograph: a homography, how well a side's border agrees with the picture there, and the
+// A symbol's modules in a photograph: a homography, how well a size's border agrees with the picture there, and the
 // modules by their medians.
+import { shapeName } from "./common.mjs";
 import { sumsOf } from "./regions.mjs";
+
+/** @typedef {import("./common.mjs").Shape} Shape */
+/** @typedef {import("./library.mjs").Size} Size */
 
 // The picture, with the means of its windows at hand.
 export class Photograph {
@@ -41,32 +45,40 @@ export function homography([a, b, c, d]) {
   const row = (at) => [b[at] - a[at] + g * b[at], d[at] - a[at] + h * d[at], a[at]];
   return [...row(0), ...row(1), g, h];
 }
-const reach = ([a, b, c, d]) => Math.sqrt(Math.abs((c[0] - a[0]) * (d[1] - b[1]) - (c[1] - a[1]) * (d[0] - b[0])) / 2);
+// How long a module is, between these corners of a symbol.
+/** @type {(corners: number[][], shape: Shape) => number} */
+const moduleIn = ([a, b, c, d], { rows, columns }) =>
+  Math.sqrt(Math.abs((c[0] - a[0]) * (d[1] - b[1]) - (c[1] - a[1]) * (d[0] - b[0])) / (2 * rows * columns));
 
-// The border modules of a side: [row, column, whether dark], those of all its regions.
+// The border modules of a size: [row, column, whether dark], those of all its regions.
+/** @type {Map<string, [number, number, number][]>} */
 const borders = new Map();
-export function borderOf({ side, regions }) {
-  if (!borders.has(side)) {
-    const across = Math.sqrt(regions), each = side / across, list = [];
-    for (let r = 0; r < side; r++) {
-      for (let c = 0; c < side; c++) {
-        const y = r % each, x = c % each;
-        if (x === 0 || y === each - 1) list.push([r, c, 1]);
+/** @type {(size: Size) => [number, number, number][]} */
+export function borderOf({ rows, columns, regionRows, regionColumns }) {
+  const name = shapeName({ rows, columns }), [down, across] = [regionRows + 2, regionColumns + 2];
+  if (!borders.has(name)) {
+    /** @type {[number, number, number][]} */
+    const list = [];
+    for (let r = 0; r < rows; r++) {
+      for (let c = 0; c < columns; c++) {
+        const y = r % down, x = c % across;
+        if (x === 0 || y === down - 1) list.push([r, c, 1]);
         else if (y === 0) list.push([r, c, x % 2 ? 0 : 1]);
-        else if (x === each - 1) list.push([r, c, y % 2 ? 1 : 0]);
+        else if (x === across - 1) list.push([r, c, y % 2 ? 1 : 0]);
       }
     }
-    borders.set(side, list);
+    borders.set(name, list);
   }
-  return borders.get(side);
+  return borders.get(name);
 }
 
 // How far apart light and dark border modules are, in spreads: from minus to plus some 10; noise gives 0.
 export function borderScore(photo, corners, size) {
-  const [p, q, x0, r, s, y0, g, h] = homography(corners), { side } = size, radius = (0.28 * reach(corners)) / side;
+  const [p, q, x0, r, s, y0, g, h] = homography(corners), { rows, columns } = size;
+  const radius = 0.28 * moduleIn(corners, size);
   let dark = 0, light = 0, darks = 0, lights = 0, squares = 0;
   for (const [row, column, isDark] of borderOf(size)) {
-    const u = (column + 0.5) / side, v = 1 - (row + 0.5) / side, w = g * u + h * v + 1;
+    const u = (column + 0.5) / columns, v = 1 - (row + 0.5) / rows, w = g * u + h * v + 1;
     const value = photo.mean((p * u + q * v + x0) / w, (r * u + s * v + y0) / w, radius);
     squares += value * value;
     if (isDark) { dark += value; darks++; } else { light += value; lights++; }
@@ -76,9 +88,9 @@ export function borderScore(photo, corners, size) {
   return (meanLight - meanDark) / (Math.sqrt(Math.max(0, spread) / (darks + lights)) + 3);
 }
 // The corners moved a little, as long as that brings the score up. Steps are in modules.
-export function climbed(score, corners, side, steps, rounds = 3) {
+export function climbed(score, corners, shape, steps, rounds = 3) {
   let best = corners.map((corner) => corner.slice()), top = score(best);
-  const module = reach(corners) / side;
+  const module = moduleIn(corners, shape);
   const tried = (moved) => {
     const value = score(moved), isBetter = value > top + 1e-6;
     if (isBetter) [top, best] = [value, moved];
@@ -102,14 +114,14 @@ const MOVES = MOVED.flatMap((which) => [[...which].map((on) => [+on, 0]), [...wh
 
 const LOOKS = [-0.26, -0.13, 0, 0.13, 0.26];
 // The median of each module, row by row.
-export function medians(photo, corners, side) {
-  const [p, q, x0, r, s, y0, g, h] = homography(corners), out = new Float32Array(side * side);
+export function medians(photo, corners, { rows, columns }) {
+  const [p, q, x0, r, s, y0, g, h] = homography(corners), out = new Float32Array(rows * columns);
   const some = new Float32Array(LOOKS.length ** 2);
   for (let k = 0; k < out.length; k++) {
     let count = 0;
     for (const dy of LOOKS) {
       for (const dx of LOOKS) {
-        const u = ((k % side) + 0.5 + dx) / side, v = 1 - (Math.floor(k / side) + 0.5 + dy) / side;
+        const u = ((k % columns) + 0.5 + dx) / columns, v = 1 - (Math.floor(k / columns) + 0.5 + dy) / rows;
         const w = g * u + h * v + 1;
         some[count++] = photo.at((p * u + q * v + x0) / w, (r * u + s * v + y0) / w);
       }
@@ -118,21 +130,22 @@ export function medians(photo, corners, side) {
   }
   return out;
 }
-// Sums over all entries above and to the left, and the sum over a window of the side.
+// Sums over all entries above and to the left, and the sum over a window of the symbol.
 class Sums {
-  /** @param {number} side @param {(k: number) => number} valueOf */
-  constructor(side, valueOf) {
-    this.side = side;
-    this.sums = new Float64Array((side + 1) ** 2);
-    for (let k = 0; k < side * side; k++) {
-      const at = (Math.floor(k / side) + 1) * (side + 1) + (k % side) + 1;
-      this.sums[at] = valueOf(k) + this.sums[at - 1] + this.sums[at - side - 1] - this.sums[at - side - 2];
+  /** @param {Shape} shape @param {(k: number) => number} valueOf */
+  constructor({ rows, columns }, valueOf) {
+    this.rows = rows;
+    this.columns = columns;
+    this.sums = new Float64Array((rows + 1) * (columns + 1));
+    for (let k = 0; k < rows * columns; k++) {
+      const at = (Math.floor(k / columns) + 1) * (columns + 1) + (k % columns) + 1;
+      this.sums[at] = valueOf(k) + this.sums[at - 1] + this.sums[at - columns - 1] - this.sums[at - columns - 2];
     }
   }
   around(k, far) {
-    const { side, sums } = this, r = Math.floor(k / side), c = k % side, across = side + 1;
-    const top = Math.max(0, r - far), bottom = Math.min(side, r + far + 1);
-    const left = Math.max(0, c - far), right = Math.min(side, c + far + 1);
+    const { rows, columns, sums } = this, r = Math.floor(k / columns), c = k % columns, across = columns + 1;
+    const top = Math.max(0, r - far), bottom = Math.min(rows, r + far + 1);
+    const left = Math.max(0, c - far), right = Math.min(columns, c + far + 1);
     const below = sums[bottom * across + right] - sums[bottom * across + left];
     return below - sums[top * across + right] + sums[top * across + left];
   }
@@ -140,11 +153,11 @@ class Sums {
 const NEIGHBOURS = 6; // modules on each side by which a level is told
 
 // The level between dark and light around each module: of the means of what is darker and lighter than the middle.
-function middles(values, side) {
+function middles(values, shape) {
   const sorted = Float32Array.from(values).sort(), { length } = sorted;
   const middle = (sorted[length >> 3] + sorted[(7 * length) >> 3]) / 2;
   const halves = [(k) => values[k] <= middle, (k) => values[k] > middle].map((isIn) =>
-    ({ sums: new Sums(side, (k) => (isIn(k) ? values[k] : 0)), counts: new Sums(side, (k) => (isIn(k) ? 1 : 0)) }));
+    ({ sums: new Sums(shape, (k) => (isIn(k) ? values[k] : 0)), counts: new Sums(shape, (k) => (isIn(k) ? 1 : 0)) }));
   return Float32Array.from(values, (_, k) => {
     const [dark, light] = halves.map(({ sums, counts }) =>
       sums.around(k, NEIGHBOURS) / Math.max(1, counts.around(k, NEIGHBOURS)));
@@ -152,21 +165,23 @@ function middles(values, side) {
   });
 }
 // The modules: dark where the median is below the level around it.
-export function modulesAt(photo, corners, side) {
-  const values = medians(photo, corners, side), level = middles(values, side);
-  return Uint8Array.from(values, (value, k) => (value < level[k] ? 1 : 0));
+/** @type {(photo: Photograph, corners: number[][], shape: Shape) => import("./common.mjs").Grid} */
+export function gridAt(photo, corners, { rows, columns }) {
+  const values = medians(photo, corners, { rows, columns }), level = middles(values, { rows, columns });
+  return { modules: Uint8Array.from(values, (value, k) => (value < level[k] ? 1 : 0)), rows, columns };
 }
 // How far all modules are from the level between dark and light: it grows as the lattice comes to lie on the modules.
-export function contrast(photo, corners, side) {
-  const [p, q, x0, r, s, y0, g, h] = homography(corners), radius = (0.25 * reach(corners)) / side;
+export function contrast(photo, corners, shape) {
+  const [p, q, x0, r, s, y0, g, h] = homography(corners), { rows, columns } = shape, count = rows * columns;
+  const radius = 0.25 * moduleIn(corners, shape);
   let sum = 0, squares = 0;
-  for (let row = 0; row < side; row++) {
-    for (let column = 0; column < side; column++) {
-      const u = (column + 0.5) / side, v = 1 - (row + 0.5) / side, w = g * u + h * v + 1;
+  for (let row = 0; row < rows; row++) {
+    for (let column = 0; column < columns; column++) {
+      const u = (column + 0.5) / columns, v = 1 - (row + 0.5) / rows, w = g * u + h * v + 1;
       const value = photo.mean((p * u + q * v + x0) / w, (r * u + s * v + y0) / w, radius);
       sum += value;
       squares += value * value;
     }
   }
-  return squares / (side * side) - (sum / (side * side)) ** 2;
+  return squares / count - (sum / count) ** 2;
 }

@@ -1,7 +1,7 @@
 // The lesson: from the message to codewords, blocks, check codewords and places, each with the numbers of the symbol at
 // hand.
 import { bitsOf, bold } from "./cells.mjs";
-import { BEYOND, plural } from "./common.mjs";
+import { BEYOND, plural, shapeWords } from "./common.mjs";
 import { $, made, setUsable, shape, whenUsed } from "./dom.mjs";
 import { isPlain, spelledItem } from "./messages.mjs";
 import { VALID, mapOf, mark } from "./state.mjs";
@@ -33,8 +33,8 @@ function codewordStep({ told, held, size }) {
   const end = told.findIndex(({ brief }) => brief === "end"), count = end < 0 ? told.length : end;
   const pads = size.data - count, follow = plural(pads, "pad follows", "pads follow");
   const rest = pads === 0 ? `They fill the ${size.data} of this size.`
-    : `The smallest size that holds them has room for ${size.data}, so that ${follow}: the first is 129, and to each `
-      + "further one a number is added that depends on its place.";
+    : `This size has room for ${size.data}, so that ${follow}: the first is 129, and to each further one a number is `
+      + "added that depends on its place.";
   return [paragraph(`They become ${plural(count, "data codeword", "data codewords")} of eight bits. `
     + "In ASCII encodation a character is its number and 1, two digits together are their value and 130, and FNC1 is "
     + `232; latches change to another encodation. ${rest}`), chips(list)];
@@ -49,7 +49,7 @@ function blockStep({ size, held }) {
       chips(own.map((word, k) => chip(word, String(k * size.blocks + b + 1))))];
   });
   const how = size.blocks > 1 ? `are dealt like cards to ${size.blocks} blocks, so that a stain is shared by all`
-    : "are one block: smaller sizes have no more";
+    : "are one block: larger squares alone have more";
   return [paragraph(`The data codewords ${how}. Below each stands its number.`), ...rows.flat()];
 }
 
@@ -89,25 +89,26 @@ function checkStep({ size, mended, held }) {
 }
 
 // The path of the placement: from the eighth bit of each codeword to that of the next.
-/** @type {(map: any, side: number, count: number) => number[][]} */
-export const pathOf = (map, side, count) =>
-  map.modules.slice(0, count).map(([, , , , , , , last]) => [last % side, Math.floor(last / side)]);
+/** @type {(shape: import("./common.mjs").Shape, count: number) => number[][]} */
+export const pathOf = (of, count) => mapOf(of).modules.slice(0, count)
+  .map(([, , , , , , , last]) => [last % of.columns, Math.floor(last / of.columns)]);
 const place = { word: 0 };
 const wordShown = ({ held }) => Math.min(place.word, held.length - 1);
 // Of a light module and its number, and of a dark one.
 const PATH_INKS = [["#c5e3f6", "#00456e"], ["#00629b", "#fff"]];
 /** @type {(seen: Seen, word: number) => SVGElement} */
-function pathDrawn({ side, held, modules }, word) {
-  const map = mapOf(side), points = pathOf(map, side, word + 1);
+function pathDrawn(seen, word) {
+  const { rows, columns, held, modules } = seen, map = mapOf(seen), points = pathOf(seen, word + 1);
   const d = points.map(([x, y], k) => `${k ? "L" : "M"}${x + 0.5} ${y + 0.5}`).join("");
-  const square = (k) => shape("path", { d: `M${k % side} ${Math.floor(k / side)}h1v1h-1z`,
+  const square = (k) => shape("path", { d: `M${k % columns} ${Math.floor(k / columns)}h1v1h-1z`,
     fill: PATH_INKS[modules[k]][0] });
   const label = `The path of the placement up to codeword ${word + 1} of ${held.length}`;
-  return shape("svg", { id: "path", viewBox: viewBox(side), role: "img", "aria-label": label },
-    shape("path", { fill: "#fff", d: `M-2-2h${side + 4}v${side + 4}h-${side + 4}z` }),
-    shape("path", { fill: "#aab2bb", "shape-rendering": "crispEdges", d: runs(side, (k) => modules[k]) }),
-    ...map.modules[word].map(square), numbersDrawn(word, side, (k) => PATH_INKS[modules[k]][1], {}),
-    shape("path", { class: "way", d, fill: "none", stroke: "#d9480f", "stroke-width": Math.max(0.16, side / 260),
+  const width = Math.max(0.16, Math.max(rows, columns) / 260);
+  return shape("svg", { id: "path", viewBox: viewBox(seen), role: "img", "aria-label": label },
+    shape("path", { fill: "#fff", d: `M-2-2h${columns + 4}v${rows + 4}h-${columns + 4}z` }),
+    shape("path", { fill: "#aab2bb", "shape-rendering": "crispEdges", d: runs(seen, (k) => modules[k]) }),
+    ...map.modules[word].map(square), numbersDrawn(word, seen, (k) => PATH_INKS[modules[k]][1], {}),
+    shape("path", { class: "way", d, fill: "none", stroke: "#d9480f", "stroke-width": width,
       "stroke-linejoin": "round" }));
 }
 /** @type {(seen: Seen, word: number) => string} */
@@ -135,11 +136,12 @@ function walkTo(seen) {
   $("path").replaceWith(pathDrawn(seen, word));
 }
 /** @type {(seen: Seen) => Content} */
-function borderStep({ side, size }) {
-  const regions = size.regions > 1 ? `This size has ${size.regions} regions, each with a border of its own. ` : "";
+function borderStep(seen) {
+  const count = seen.size.down * seen.size.across;
+  const regions = count > 1 ? `This size has ${count} regions, each with a border of its own. ` : "";
   return [paragraph("Last comes the border: a solid column on the left and a solid row at the bottom show where the "
     + "symbol lies and how it stands, and the alternating row and column opposite count its modules. "
-    + `${regions}Around the symbol of ${side} × ${side} modules stays a light quiet zone, at least one module wide.`)];
+    + `${regions}Around the ${shapeWords(seen)} modules stays a light quiet zone, at least one module wide.`)];
 }
 /** @type {[string, (seen: Seen) => Content][]} */
 const STEPS_OF_LESSON = [["The message", messageStep], ["Data codewords", codewordStep], ["Blocks", blockStep],

@@ -1,11 +1,14 @@
 // The link: the fragment of the address holds the task and what is entered, so that reload, Back and a bookmark keep
 // it. The browser sends fragments to no server. It begins with the task: read, make or learn. Its fields: message, as,
-// profile, damage; grid, grid-damage; border and grid-border; and pane, which says whose symbol is learnt about.
-import { MOST_SIDE, MOST_TEXT, limitIn, sideOf } from "./common.mjs";
+// profile, size, damage, doubtful; grid, grid-damage, grid-doubtful; border and grid-border; and pane, which says whose
+// symbol is learnt about.
+import { MOST_TEXT, limitIn } from "./common.mjs";
 import { $ } from "./dom.mjs";
-import { PANE_OF, TASKS, VALID, WORKING, damageOf, isDamaged, panes, store } from "./state.mjs";
+import { isSize, sizeChosen } from "./sizes.mjs";
+import { PANE_OF, TASKS, VALID, WORKING, damageOf, doubtsOf, isDamaged, panes, store } from "./state.mjs";
 import { noLimit } from "./words.mjs";
 
+/** @typedef {import("./common.mjs").Grid} Grid */
 const LONGEST = 300000; // characters of a fragment that is looked at: more than all that can be entered takes
 const LINK_AFTER = 150, LINK_AGAIN = 2000; // milliseconds: browsers bound how often an address may change
 
@@ -25,19 +28,30 @@ function placesOf(gaps, count) {
 }
 // Modules of 0 and 1 as letters for six each, row by row.
 const LETTERS = "ABCDEFGHIJKLMNOPQRSTUVWXYZabcdefghijklmnopqrstuvwxyz0123456789-_";
-/** @type {(modules: Uint8Array) => string} */
-export function lettersOf(modules) {
+// Before them a square has its side, and a rectangle its rows and columns, as 8.18.
+/** @type {(grid: Grid) => string} */
+export function lettersOf({ modules, rows, columns }) {
   const six = (at) => [0, 1, 2, 3, 4, 5].reduce((sum, bit) => 2 * sum + (modules[at + bit] ?? 0), 0);
   let text = "";
   for (let k = 0; k < modules.length; k += 6) text += LETTERS[six(k)];
-  return `${sideOf(modules)}${text}`;
+  return `${rows === columns ? rows : `${rows}.${columns}.`}${text}`;
 }
-/** @type {(text: string) => Uint8Array | null} */
+// Letters begin with digits too: a side has two or three, as their number says.
+/** @type {(text: string) => Grid | null} */
 export function fromLetters(text) {
-  const [, side, letters] = /^(\d{2,3})([\w-]*)$/.exec(text) ?? [], count = Number(side) ** 2;
-  if (!side || Number(side) > MOST_SIDE || letters.length !== Math.ceil(count / 6)) return null;
+  const [, down, across, rest] = /^(\d{1,3})\.(\d{1,3})\.([\w-]*)$/.exec(text) ?? [];
+  if (down) return gridOf(Number(down), Number(across), rest);
+  const sides = [2, 3].filter((digits) => /^\d+$/.test(text.slice(0, digits)));
+  return sides.map((digits) => gridOf(+text.slice(0, digits), +text.slice(0, digits), text.slice(digits)))
+    .find(Boolean) ?? null;
+}
+/** @type {(rows: number, columns: number, letters: string) => Grid | null} */
+function gridOf(rows, columns, letters) {
+  const count = rows * columns;
+  if (!isSize({ rows, columns }) || letters.length !== Math.ceil(count / 6) || /[^\w-]/.test(letters)) return null;
   const sixOf = (k) => LETTERS.indexOf(letters[Math.floor(k / 6)]);
-  return Uint8Array.from({ length: count }, (_, k) => (sixOf(k) >> (5 - (k % 6))) & 1);
+  const modules = Uint8Array.from({ length: count }, (_, k) => (sixOf(k) >> (5 - (k % 6))) & 1);
+  return { modules, rows, columns };
 }
 
 // Whether there is a symbol of what is entered.
@@ -47,11 +61,14 @@ function fragment() {
   if ($("message").value.length <= MOST_TEXT) fields.set("message", $("message").value);
   if ($("kind-text").checked) fields.set("as", "text");
   if ($("profile-1").checked) fields.set("profile", "shorter");
+  if (sizeChosen() !== "square") fields.set("size", sizeChosen());
   if (isThere(write) && isDamaged(write)) fields.set("damage", gapsOf(damageOf(write)));
+  if (isThere(write) && write.doubtful) fields.set("doubtful", gapsOf(doubtsOf(write)));
   if (write.limit !== null) fields.set("border", String(write.limit));
   if (isThere(read)) {
-    fields.set("grid", lettersOf(read.original));
+    fields.set("grid", lettersOf(read.undamaged()));
     if (isDamaged(read)) fields.set("grid-damage", gapsOf(damageOf(read)));
+    if (read.doubtful) fields.set("grid-doubtful", gapsOf(doubtsOf(read)));
     if (read.limit !== null) fields.set("grid-border", String(read.limit));
   }
   if (store.task === "learn" && store.pane === "read") fields.set("pane", "read");
@@ -113,10 +130,13 @@ export function fromFragment(text) {
     message: fields.get("message") ?? "",
     isText: fields.get("as") === "text",
     isShorter: fields.get("profile") === "shorter",
+    size: fields.get("size") ?? "square",
     damage: (count) => placesOf(fields.get("damage"), count),
+    doubtful: (count) => placesOf(fields.get("doubtful"), count),
     limit: limit("border"),
     grid: fromLetters(fields.get("grid") ?? ""),
     gridDamage: (count) => placesOf(fields.get("grid-damage"), count),
+    gridDoubtful: (count) => placesOf(fields.get("grid-doubtful"), count),
     gridLimit: limit("grid-border"),
     task,
     pane: PANE_OF[task] ?? (fields.get("pane") === "read" ? "read" : "write"),

@@ -4,6 +4,7 @@
 import { wireCamera } from "./camera.mjs";
 import { wireCompare } from "./compare.mjs";
 import { wireDamage } from "./damage.mjs";
+import { ASCII, SQUARE, messageOf } from "./common.mjs";
 import { isWorking, stopAll, whenChanged, workingSince } from "./desk.mjs";
 import { $ } from "./dom.mjs";
 import { wireDropping } from "./dropping.mjs";
@@ -15,6 +16,7 @@ import { isLinked, wireLink } from "./link.mjs";
 import { spelled } from "./messages.mjs";
 import { wirePrinting } from "./printing.mjs";
 import { pending, restore, wireSource } from "./source.mjs";
+import { listSizes } from "./sizes.mjs";
 import { mark, panes, store } from "./state.mjs";
 import { drawSmall } from "./symbol.mjs";
 import { toast, wireTaking } from "./taking.mjs";
@@ -48,11 +50,12 @@ async function startPage() {
   const loaded = await openDesks(URL.createObjectURL(script), library);
   if (loaded.failed !== undefined) throw new Error(loaded.failed);
   desks.readsFiles = loaded.readsFiles;
+  listSizes(loaded.sizes);
   wireBusy(); wireDetails(); wireDamage(); wireSource(); wireDropping();
   wireTaking(); wirePrinting(); wireLesson(); wireCamera();
   const items = Array.from("Mitsubadoor", (c) => c.charCodeAt(0));
-  const logo = await desks.quick.ask("write", { items, profile: 0, hasLook: false }, "logo");
-  drawSmall($("logo"), logo.modules);
+  const how = { form: ASCII, shape: SQUARE, rows: 0, columns: 0 };
+  drawSmall($("logo"), await desks.quick.ask("write", { items, how, hasLook: false }, "logo"));
   await wireLink(restore, toast);
   wireCompare();
   const forTests = { get mark() { return mark(); }, panes, store, desks, idle, isLinked, spelled, gridText };
@@ -65,6 +68,6 @@ try {
   if (hasVectors()) await startPage(); else showInstead();
 } catch (why) {
   showInstead();
-  $("broken").textContent = `The library couldn’t be loaded: ${why.message}`;
+  $("broken").textContent = `The library couldn’t be loaded: ${messageOf(why)}`;
   throw why;
 }

@@ -19,10 +19,10 @@ export function tooWide(millimetres) {
   return `${paper.name} has room for ${paper.across} mm within its margins. Take narrower modules, or a label.`;
 }
 // Sets the page for symbols of at most so many millimetres.
-/** @type {(millimetres: number) => void} */
-export function setPage(millimetres) {
+/** @type {(width: number, height: number) => void} */
+export function setPage(width, height) {
   const paper = paperNow();
-  if (paper) setPageSize(paper.width, paper.height, MARGIN); else setPageSize(millimetres, millimetres);
+  if (paper) setPageSize(paper.width, paper.height, MARGIN); else setPageSize(width, height);
 }
 // Sets the page to these millimetres.
 /** @type {(width: number, height: number, margin?: number) => void} */
@@ -32,6 +32,6 @@ export function setPageSize(width, height, margin = 0) {
 /** @type {(changed: () => void) => void} */
 export function wirePaper(changed) {
   document.head.append(rule);
-  setPage(0);
+  setPage(0, 0);
   $("paper-size").addEventListener("change", changed);
 }

@@ -1,41 +1,42 @@
 // A PDF of pages in millimetres, on which symbols are drawn as rectangles of exact size, with texts below them.
-import { sideOf } from "./common.mjs";
-import { QUIET } from "./symbol.mjs";
+import { QUIET, runsOf, withQuiet } from "./symbol.mjs";
 
-/** @typedef {{ modules: Uint8Array, x: number, y: number, module: number, text: string, width: number }} Placed
-    the upper left corner of a symbol's quiet zone, in millimetres from that of the page; a module's width; a text below
-    and how wide that may be */
+/** @typedef {import("./common.mjs").Grid} Grid */
+/** @typedef {{ grid: Grid, x: number, y: number, module: number, text: string, width: number }} Placed
+    a symbol, with the upper left corner of its quiet zone, in millimetres from that of the page; a module's width; a
+    text below and how wide that may be */
 /** @typedef {{ width: number, height: number, placed: Placed[] }} Page */
 const MILLIMETRES = 25.4 / 72; // of a point
 export const TEXT_HEIGHT = 3; // millimetres of the text below a symbol, with the gap above it
-const SIZE = 2.4, WIDTH_OF_LETTER = 0.6; // of a letter of Courier: its height in millimetres, and its width as a share
+export const SIZE = 2.4; // millimetres: the height of a letter of Courier
+const LEAST_SIZE = 0.6 * SIZE, WIDTH_OF_LETTER = 0.6; // as a share of its height
 
 const number = (value) => String(+value.toFixed(4));
 // The rectangles of a symbol, runs of dark modules along its rows; y grows upwards.
 /** @type {(placed: Placed, height: number) => string} */
-function symbolDrawn({ modules, x, y, module }, height) {
-  const side = sideOf(modules), lines = [];
-  for (let r = 0; r < side; r++) {
-    for (let c = 0; c < side; c++) {
-      let end = c;
-      while (end < side && modules[r * side + end]) end++;
-      const place = [x + (c + QUIET) * module, height - y - (r + QUIET + 1) * module, (end - c) * module, module];
-      if (end > c) lines.push(`${place.map(number).join(" ")} re`);
-      c = Math.max(c, end);
-    }
-  }
+function symbolDrawn({ grid, x, y, module }, height) {
+  const lines = runsOf(grid, (k) => grid.modules[k]).map(([r, c, length]) => {
+    const place = [x + (c + QUIET) * module, height - y - (r + QUIET + 1) * module, length * module, module];
+    return `${place.map(number).join(" ")} re`;
+  });
   return `${lines.join("\n")}\nf\n`;
 }
 const escaped = (text) => text.replace(/[\\()]/g, "\\$&").replace(/[^ -~\u00a1-\u00ff]/g, "?");
-// A text below a symbol, in the middle; smaller, and then cut, where it is too wide.
+// A text that is to be so many millimetres wide at most: smaller, and then cut, where it is too wide; the height and
+// the width that it then has.
+/** @type {(text: string, width: number) => { cut: string, size: number, length: number }} */
+export function fittedText(text, width) {
+  const fitting = width / (WIDTH_OF_LETTER * text.length), size = Math.max(LEAST_SIZE, Math.min(SIZE, fitting));
+  const most = Math.floor(width / (WIDTH_OF_LETTER * LEAST_SIZE));
+  const cut = fitting < LEAST_SIZE ? `${text.slice(0, most - 3)}...` : text;
+  return { cut, size, length: cut.length * WIDTH_OF_LETTER * size };
+}
+// A text below a symbol, in the middle.
 /** @type {(placed: Placed, height: number) => string} */
-function textDrawn({ modules, x, y, module, text, width }, height) {
+function textDrawn({ grid, x, y, module, text, width }, height) {
   if (!text) return "";
-  const length = (sideOf(modules) + 2 * QUIET) * module, least = SIZE * 0.6;
-  const size = Math.max(least, Math.min(SIZE, width / (WIDTH_OF_LETTER * text.length)));
-  const most = Math.floor(width / (WIDTH_OF_LETTER * size));
-  const cut = text.length > most ? `${text.slice(0, most - 3)}...` : text;
-  const left = x + length / 2 - (cut.length * WIDTH_OF_LETTER * size) / 2, base = height - y - length - SIZE;
+  const { rows, columns } = withQuiet(grid), { cut, size, length } = fittedText(text, width);
+  const left = x + (columns * module) / 2 - length / 2, base = height - y - rows * module - SIZE;
   return `BT /F ${number(size)} Tf ${number(left)} ${number(base)} Td (${escaped(cut)}) Tj ET\n`;
 }
 /** @type {(page: Page) => string} */

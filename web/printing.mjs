@@ -1,6 +1,6 @@
 // Printing: the symbol at its size with its text, on one page; or a sheet of many messages; or each on a label as large
 // as itself.
-import { FNC1, SHORTER, plural, sideOf } from "./common.mjs";
+import { FNC1, SHORTER, plural, shapeName, shapeWords } from "./common.mjs";
 import { linesOfCsv } from "./csv.mjs";
 import { $, hint, made } from "./dom.mjs";
 import { elementsOf } from "./elements.mjs";
@@ -10,26 +10,28 @@ import { laidOut, stockNow } from "./labels.mjs";
 import { brokenWords, isBroken } from "./order.mjs";
 import { paperNow, setPage, setPageSize, tooWide } from "./paper.mjs";
 import { pdfOf } from "./pdf.mjs";
+import { howIn } from "./sizes.mjs";
 import { itemsNow, profileNow } from "./source.mjs";
 import { VALID, WORKING, mark } from "./state.mjs";
 import { QUIET } from "./symbol.mjs";
-import { drawingOf, given, giving, lengthNow, millimetres, pageOf, pngOf, save, svgOf, toast } from "./taking.mjs";
+import { drawingOf, given, giving, millimetres, pageOf, pngOf, save, sizeNow, svgOf, toast } from "./taking.mjs";
+import { tooLong } from "./words.mjs";
 import { zipOf } from "./zip.mjs";
 
 const MOST_ON_SHEET = 500;
 const LINE = 5.5, CHARACTER = 2.5; // millimetres of the text below a symbol, a little more than they are
 let isSheet = false;
 
-const lengthOf = (modules) => lengthNow(sideOf(modules));
+/** @typedef {import("./common.mjs").Grid} Grid */
 // A symbol with what stands below it; on a label nothing does.
-/** @type {(modules: Uint8Array, texts: Node[]) => HTMLElement} */
-function figure(modules, texts) {
-  return made("figure", {}, drawingOf(modules), ...(paperNow() ? texts : []));
+/** @type {(grid: Grid, texts: Node[]) => HTMLElement} */
+function figure(grid, texts) {
+  return made("figure", {}, drawingOf(grid), ...(paperNow() ? texts : []));
 }
-/** @type {(className: string, figures: Node[], length: number) => void} */
-function layOut(className, figures, length) {
+/** @type {(className: string, figures: Node[], width: number, height: number) => void} */
+function layOut(className, figures, width, height) {
   $("paper").className = paperNow() ? className : "labels";
-  setPage(length);
+  setPage(width, height);
   $("paper").replaceChildren(...figures);
 }
 const captionOf = (textContent) => made("figcaption", { textContent });
@@ -46,11 +48,11 @@ function wrongGs1(items) {
 
 // ---- One symbol
 
-// A text cut to what has room below a symbol of so many millimetres.
-/** @type {(text: string, length: number) => string} */
-function fitted(text, length) {
+// A text cut to what has room below a symbol that is so many millimetres high.
+/** @type {(text: string, height: number) => string} */
+function fitted(text, height) {
   const { across, down } = paperNow() ?? { across: 0, down: 0 };
-  const lines = Math.floor((down - length - 4 * LINE) / LINE), most = lines * Math.floor(across / CHARACTER);
+  const lines = Math.floor((down - height - 4 * LINE) / LINE), most = lines * Math.floor(across / CHARACTER);
   const over = text.length - most;
   return over > 0 ? `${text.slice(0, most)}… and ${plural(over, "character", "characters")} more` : text;
 }
@@ -58,18 +60,19 @@ function whyNotPrinted() {
   const it = mark();
   if (it.stage === WORKING) return "What is entered isn’t written or read yet.";
   if (it.stage !== VALID) return "There is no symbol to print: what is entered can’t be taken.";
-  const length = lengthOf(it.modules), why = tooWide(length);
-  return why && `A symbol of ${length} mm isn’t printed: ${why}`;
+  const { width } = sizeNow(it), why = tooWide(width);
+  return why && `A symbol that is ${width} mm wide isn’t printed: ${why}`;
 }
 function fillPaper() {
   if (isSheet) return;
   const why = whyNotPrinted();
-  if (why) { layOut("one", [noteOf(why)], 100); return; }
-  const { modules, isDamagedOne, items } = given(), length = lengthOf(modules), side = sideOf(modules);
+  if (why) { layOut("one", [noteOf(why)], 100, 100); return; }
+  const { grid, isDamagedOne, items } = given(), { width, height } = sizeNow(grid);
   const damage = isDamagedOne ? "; damaged" : "", wrong = wrongGs1(items);
-  const size = `${side} × ${side} modules of ${millimetres()} mm, ${QUIET} of quiet zone${damage}`;
-  const text = items ? fitted(readable(items), length) || "the empty message" : "not read";
-  layOut("one", [figure(modules, [captionOf(text), noteOf(size), ...(wrong ? [noteOf(wrong)] : [])])], length);
+  const size = `${shapeWords(grid)} modules of ${millimetres()} mm, ${QUIET} of quiet zone${damage}`;
+  const text = items ? fitted(readable(items), height) || "the empty message" : "not read";
+  const texts = [captionOf(text), noteOf(size), ...(wrong ? [noteOf(wrong)] : [])];
+  layOut("one", [figure(grid, texts)], width, height);
 }
 function printOne() {
   const why = whyNotPrinted();
@@ -78,7 +81,7 @@ function printOne() {
 
 // ---- Many symbols
 
-/** @typedef {{ modules: Uint8Array, text: string }} Entry */
+/** @typedef {{ grid: Grid, text: string }} Entry */
 const isCsv = () => $("lines-as").value === "csv";
 /** @type {() => import("./csv.mjs").Line[]} */
 function linesNow() {
@@ -92,8 +95,8 @@ function whyNotOnSheet({ items, column, why }) {
   return items ? wrongGs1(items) : column ? `column ${column} ${why}` : why;
 }
 // The symbols of all lines, with their texts; or why there are none.
-/** @type {(profile: number) => Promise<{ why?: string, entries?: Entry[] }>} */
-async function entriesNow(profile) {
+/** @type {() => Promise<{ why?: string, entries?: Entry[] }>} */
+async function entriesNow() {
   const lines = linesNow(), count = plural(lines.length, "message", "messages");
   const reads = lines.slice(0, MOST_ON_SHEET).map(({ message }) => itemsNow(message));
   const faults = reads.map(whyNotOnSheet), bad = faults.findIndex(Boolean);
@@ -101,13 +104,14 @@ async function entriesNow(profile) {
     : "Enter a message on each line." };
   if (lines.length > MOST_ON_SHEET) return { why: `${count}, and a sheet takes no more than ${MOST_ON_SHEET}.` };
   if (bad >= 0) return { why: `Message ${bad + 1}: ${faults[bad]}` };
-  const symbols = await desks.quick.ask("sheet", { messages: reads.map(({ items }) => items), profile }, "sheet");
+  const how = howIn(profileNow()), messages = reads.map(({ items }) => items);
+  const symbols = await desks.quick.ask("sheet", { messages, how }, "sheet");
   if (!symbols || isBroken(symbols)) return { why: brokenWords(symbols ?? { stopped: true }) };
-  const long = symbols.findIndex((modules) => !modules);
-  if (long >= 0) return { why: `Message ${long + 1} fits no size.` };
+  const long = symbols.findIndex((grid) => !grid);
+  if (long >= 0) return { why: `Message ${long + 1}: ${tooLong(how)}` };
   const hasText = $("label-text").checked;
   const textOf = ({ message, text }) => (hasText ? text ?? message : "");
-  return { entries: symbols.map((modules, k) => ({ modules, text: textOf(lines[k]) })) };
+  return { entries: symbols.map((grid, k) => ({ grid, text: textOf(lines[k]) })) };
 }
 // The pages of labels that are chosen; none if symbols follow one another; or why there are none.
 /** @type {(entries: Entry[]) => { why?: string, pages?: import("./pdf.mjs").Page[] | null }} */
@@ -117,11 +121,12 @@ function pagesNow(entries) {
   return "why" in stock ? stock : laidOut(entries, stock, millimetres());
 }
 // A label on a page, at its place.
-function labelled({ modules, x, y, text, width }) {
-  const node = made("figure", {}, drawingOf(modules), made("figcaption", { textContent: text }));
+/** @type {(placed: import("./pdf.mjs").Placed) => Node} */
+function labelled({ grid, x, y, text, width }) {
+  const node = made("figure", {}, drawingOf(grid), made("figcaption", { textContent: text })), own = sizeNow(grid);
   Object.assign(node.style, { left: `${x}mm`, top: `${y}mm` });
-  const length = lengthOf(modules);
-  Object.assign(node.lastChild.style, { width: `${width}mm`, left: `${(length - width) / 2}mm`, top: `${length}mm` });
+  const left = `${(own.width - width) / 2}mm`;
+  Object.assign(node.lastChild.style, { width: `${width}mm`, left, top: `${own.height}mm` });
   return node;
 }
 /** @type {(pages: import("./pdf.mjs").Page[]) => void} */
@@ -136,16 +141,17 @@ function layOutLabels(pages) {
 // One symbol after another on the paper; why not, or "".
 /** @type {(entries: Entry[]) => string} */
 function layOutSheet(entries) {
-  const lengths = entries.map(({ modules }) => lengthOf(modules)), wide = lengths.findIndex(tooWide);
-  if (wide >= 0) return `Message ${wide + 1} makes a symbol of ${lengths[wide]} mm: ${tooWide(lengths[wide])}`;
-  const figures = entries.map(({ modules, text }) => figure(modules, text ? [captionOf(text)] : []));
-  layOut("sheet", figures, Math.max(...lengths));
+  const sizes = entries.map(({ grid }) => sizeNow(grid)), widths = sizes.map(({ width }) => width);
+  const wide = widths.findIndex(tooWide);
+  if (wide >= 0) return `Message ${wide + 1} makes a symbol that is ${widths[wide]} mm wide: ${tooWide(widths[wide])}`;
+  const figures = entries.map(({ grid, text }) => figure(grid, text ? [captionOf(text)] : []));
+  layOut("sheet", figures, Math.max(...widths), Math.max(...sizes.map(({ height }) => height)));
   return "";
 }
 // Does something with all symbols and their pages, and says how many there are, or why not.
 /** @type {(act: (entries: Entry[], pages: import("./pdf.mjs").Page[] | null) => any, where: string) => any} */
 const withAll = (act, where) => async () => {
-  const profile = profileNow(), { why, entries } = await entriesNow(profile);
+  const profile = profileNow(), { why, entries } = await entriesNow();
   const laid = entries ? pagesNow(entries) : { why };
   const fault = laid.why || await act(entries, laid.pages);
   hint("sheet-hint", fault || "", Boolean(fault), "messages");
@@ -160,17 +166,17 @@ async function printSheet() {
   isSheet = true;
   window.print();
 }
-const fileName = (k, modules, ending) => `${String(k + 1).padStart(3, "0")}-symbol-${sideOf(modules)}.${ending}`;
-// Saves a file for each symbol, in one archive.
-/** @type {(ending: string, bytesOf: (modules: Uint8Array) => Uint8Array | Promise<Uint8Array>) => any} */
+const fileName = (k, grid, ending) => `${String(k + 1).padStart(3, "0")}-symbol-${shapeName(grid)}.${ending}`;
+// Saves a file for each symbol with its text, in one archive.
+/** @type {(ending: string, bytesOf: (grid: Grid, text: string) => Uint8Array | Promise<Uint8Array>) => any} */
 const zipping = (ending, bytesOf) => withAll(async (entries) => {
   const files = [];
-  for (const [k, { modules }] of entries.entries())
-    files.push({ name: fileName(k, modules, ending), bytes: await bytesOf(modules) });
+  for (const [k, { grid, text }] of entries.entries())
+    files.push({ name: fileName(k, grid, ending), bytes: await bytesOf(grid, text) });
   save(zipOf(files), `symbols-${ending}.zip`);
 }, "in the archive");
 const savePdf = withAll((entries, pages) => {
-  save(pdfOf(pages ?? entries.map(({ modules, text }) => pageOf(modules, text))), "symbols.pdf");
+  save(pdfOf(pages ?? entries.map(({ grid, text }) => pageOf(grid, text))), "symbols.pdf");
 }, "in the PDF");
 export function wirePrinting() {
   addEventListener("beforeprint", fillPaper);
@@ -180,5 +186,6 @@ export function wirePrinting() {
   $("stock").addEventListener("change", () => { $("own-size").hidden = $("stock").value !== "own"; });
   $("many-pdf").addEventListener("click", savePdf);
   $("many-png").addEventListener("click", zipping("png", pngOf));
-  $("many-svg").addEventListener("click", zipping("svg", (modules) => new TextEncoder().encode(svgOf(modules))));
+  $("many-svg").addEventListener("click",
+    zipping("svg", (grid, text) => new TextEncoder().encode(svgOf(grid, text))));
 }

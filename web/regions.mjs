@@ -3,6 +3,7 @@
 
 const COARSE = 640; // pixels of the longer side in which regions are looked for
 const MOST_REGIONS = 14, LEAST_LENGTH = 16;
+const LONGEST_SHAPE = 20; // the longer side of a region by the shorter one: symbols have up to 18
 
 // The sums of all pixels above and to the left, with a row and a column of zeros before them.
 export function sumsOf(grey, width, height) {
@@ -138,11 +139,11 @@ function quadrilateral(hull) {
   }
   return corners.length === 4 ? corners : null;
 }
-const lengthOf = (a, b) => Math.hypot(a[0] - b[0], a[1] - b[1]);
+export const lengthOf = (a, b) => Math.hypot(a[0] - b[0], a[1] - b[1]);
 function isLikely(corners, area) {
   const sides = corners.map((corner, k) => lengthOf(corner, corners[(k + 1) % 4])), whole = areaOf(corners);
   const least = Math.min(...sides), most = Math.max(...sides);
-  return least >= LEAST_LENGTH && most < 2.2 * least && area > 0.35 * whole && whole > 200;
+  return least >= LEAST_LENGTH && most < LONGEST_SHAPE * least && area > 0.35 * whole && whole > 200;
 }
 
 // The quadrilaterals around what may be symbols, larger first, in pixels of the picture: for each way to look, a list.

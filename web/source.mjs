@@ -1,17 +1,18 @@
 // Where the symbol comes from: a message, a grid, or a picture.
 import { bitmapOf } from "./bitmap.mjs";
-import { ASCII, MOST_TEXT, SHORTER, plural } from "./common.mjs";
+import { ASCII, MOST_TEXT, SHORTER, TOO_LONG, plural, shapeWords } from "./common.mjs";
 import { $, allOf, hint, made, withCode } from "./dom.mjs";
 import { C40, EDIFACT, TURNED } from "./examples.mjs";
-import { desks, setLimit, showTask, take } from "./flow.mjs";
+import { begin, desks, setLimit, showTask, take } from "./flow.mjs";
 import { gridText } from "./grids.mjs";
 import { itemsOf, whyNot } from "./gs1.mjs";
 import { beginEntry, tellLink } from "./link.mjs";
 import { itemsOfText, tooMuch } from "./messages.mjs";
 import { brokenWords, clear, enter, inTurn, isBroken, refuse, settled } from "./order.mjs";
+import { chooseSize, howIn, showChoice } from "./sizes.mjs";
 import { TASKS, VALID, panes } from "./state.mjs";
 import { drawnSvg } from "./svg.mjs";
-import { refusal, stood } from "./words.mjs";
+import { refusal, stood, tooLong } from "./words.mjs";
 
 /** @typedef {import("./state.mjs").Mark} Mark */
 export const profileNow = () => ($("profile-1").checked ? SHORTER : ASCII);
@@ -44,9 +45,10 @@ function refuseMessage(words, ways = []) {
   offer(ways);
   refuse(panes.write, words);
 }
-function showSides(sides) {
+/** @type {(shapes: (import("./common.mjs").Shape | null)[]) => void} */
+function showShapes(shapes) {
   for (const profile of [ASCII, SHORTER])
-    $(`side-${profile}`).textContent = sides[profile] ? `${sides[profile]} × ${sides[profile]}` : "fits no size";
+    $(`side-${profile}`).textContent = shapes[profile] ? shapeWords(shapes[profile]) : "doesn’t fit";
   $("side-now").textContent = $(`side-${profileNow()}`).textContent;
 }
 const SPELLINGS = "`\\\\` is the backslash, `\\xHH` a byte, `\\F` FNC1.";
@@ -67,17 +69,19 @@ export function writeMessage() {
     refuseMessage(`${whyNot(read)}${read.isTooMuch ? " The link doesn’t keep them." : ""}`, read.ways);
     return;
   }
-  const { items } = read, profile = profileNow();
-  enter(it, () => desks.quick.ask("write", { items: read.items, profile }, "write"), (written) => {
+  const { items } = read, how = howIn(profileNow());
+  enter(it, () => desks.quick.ask("write", { items, how }, "write"), (written) => {
     if (isBroken(written)) { refuseMessage(brokenWords(written)); return; }
     if (written.fault) {
-      const over = items.length - written.fits;
-      refuseMessage(`${refusal(written.fault)} It is ${plural(over, "character", "characters")} too long.`);
+      const over = plural(items.length - written.fits, "character", "characters");
+      const why = written.fault.code === TOO_LONG ? tooLong(how) : refusal(written.fault);
+      refuseMessage(`${why} It is ${over} too long.`);
     } else {
+      const { modules, rows, columns, seen } = written;
       hint("message-hint", withCode(hintOn(text, read)), false, "message");
-      take(it, { modules: written.modules, items, seen: written.seen });
+      take(it, { modules, rows, columns, items, seen });
     }
-    showSides(written.sides);
+    showShapes(written.shapes);
   });
 }
 /** @type {(text: string, isText?: boolean) => void} */
@@ -98,8 +102,10 @@ function takeGrid(symbol) {
     return;
   }
   hint("grid-hint", stood(symbol, "The grid is"), false, "grid");
-  take(it, symbol);
+  takeSymbol(symbol);
 }
+/** @type {(symbol: any) => void} */
+const takeSymbol = ({ modules, rows, columns, seen }) => take(panes.read, { modules, rows, columns, seen });
 export function readGrid(text = $("grid").value) {
   const it = panes.read;
   if (!text.trim()) {
@@ -122,7 +128,7 @@ export function readWritten() {
   enter(read, async () => {
     await settled(write);
     if (write.stage !== VALID) return { why: "There is no written symbol: the message can’t be taken." };
-    const text = gridText(write.modules);
+    const text = gridText(write.seen);
     return { ...await desks.quick.ask("grid", text, "written"), text };
   }, (symbol) => {
     $("grid").value = symbol.text ?? "";
@@ -173,26 +179,30 @@ function takePicture(symbol, name, note = "") {
   }
   const how = symbol.how ? `, ${symbol.how}` : "";
   const words = symbol.isPhotograph ? `Found in the picture${how}, and shown upright.` : stood(symbol, "The symbol is");
-  hint("picture-hint", `${name}: side ${symbol.seen.side}. ${words}${note}`);
-  $("grid").value = gridText(symbol.modules);
+  hint("picture-hint", `${name}: ${shapeWords(symbol)}. ${words}${note}`);
+  $("grid").value = gridText(symbol);
   hint("grid-hint", "The grid of the picture.", false, "grid");
-  take(it, symbol);
+  takeSymbol(symbol);
 }
 
 // ---- From a link
 
-// Turns these modules over, in one step, and sets the limit.
-/** @type {(it: Mark, places: number[], limit: { limit: number | null, why: string }) => void} */
-function spoil(it, places, { limit, why }) {
-  if (!places.length && limit === null && !why) return;
-  if (places.length) it.past.push(it.modules.slice());
-  for (const place of places) it.modules[place] ^= 1;
+// Turns modules over and marks others as doubtful, in one step, and sets the limit.
+/** @type {(it: Mark, turned: number[], doubtful: number[], limit: { limit: number | null, why: string }) => void} */
+function spoil(it, turned, doubtful, { limit, why }) {
+  if (!turned.length && !doubtful.length && limit === null && !why) return;
+  if (turned.length || doubtful.length) begin(it);
+  it.modules = it.modules.slice();
+  for (const place of turned) it.modules[place] ^= 1;
+  if (doubtful.length) it.doubtful = new Uint8Array(it.modules.length);
+  for (const place of doubtful) it.doubtful[place] = 1;
   setLimit(it, limit, why);
 }
 // What an address without a fragment holds.
 const begun = () => ({
-  message: $("message").defaultValue, isText: false, isShorter: false, grid: null, task: "make", pane: "write",
-  damage: () => [], gridDamage: () => [], limit: { limit: null, why: "" }, gridLimit: { limit: null, why: "" },
+  message: $("message").defaultValue, isText: false, isShorter: false, size: "square", grid: null, task: "make",
+  pane: "write", damage: () => [], doubtful: () => [], gridDamage: () => [], gridDoubtful: () => [],
+  limit: { limit: null, why: "" }, gridLimit: { limit: null, why: "" },
 });
 // Shows what a link holds. One that names a task alone keeps what is entered.
 /** @type {(linked: any, isFirst: boolean) => Promise<any>} */
@@ -202,12 +212,14 @@ export async function restore(linked, isFirst) {
   $("message").value = held.message;
   $(held.isText ? "kind-text" : "kind-message").checked = true;
   $(held.isShorter ? "profile-1" : "profile-0").checked = true;
+  chooseSize(held.size);
   $("grid").value = held.grid ? gridText(held.grid) : "";
   readGrid();
-  inTurn(read, () => spoil(read, held.gridDamage(read.modules.length), held.gridLimit));
+  const count = (it) => it.modules.length;
+  inTurn(read, (it) => spoil(it, held.gridDamage(count(it)), held.gridDoubtful(count(it)), held.gridLimit));
   showTask(held.task, held.pane);
   writeMessage();
-  inTurn(write, () => spoil(write, held.damage(write.modules.length), held.limit));
+  inTurn(write, (it) => spoil(it, held.damage(count(it)), held.doubtful(count(it)), held.limit));
   await Promise.all([read.turn, write.turn]);
 }
 
@@ -239,8 +251,9 @@ function wireMessage() {
   $("message").addEventListener("keydown", (event) => {
     if (event.key === "Enter" && !$("kind-text").checked) event.preventDefault();
   });
-  for (const id of ["profile-0", "profile-1", "kind-message", "kind-text"])
+  for (const id of ["profile-0", "profile-1", "kind-message", "kind-text", "shape", "size"])
     $(id).addEventListener("change", () => writeMessage());
+  $("shape").addEventListener("change", showChoice);
   for (const button of allOf("[data-message]")) {
     const { message, kind } = button.dataset;
     button.addEventListener("click", () => enterMessage(message, kind === "text"));

@@ -1,6 +1,10 @@
 // What the page has at hand: the task that is open, and for messages and for what is read a symbol each, with its
 // damage and what is read of it.
-import { BIT } from "./common.mjs";
+import { BIT, isSameShape, shapeName } from "./common.mjs";
+
+/** @typedef {import("./common.mjs").Shape} Shape */
+/** @typedef {import("./common.mjs").Grid} Grid */
+/** @typedef {{ modules: Uint8Array, doubtful: Uint8Array | null }} Step what acts change */
 
 // Only a valid mark has a verdict, and is saved, copied or damaged. EMPTY: nothing was entered; WORKING: the worker is
 // asked; BAD: what is entered makes no symbol, or the worker was stopped or broke off.
@@ -16,18 +20,22 @@ export class Mark {
   turn = Promise.resolve();
   /** @type {Promise<any>} ends when the modules, as they were last, are looked at */
   looking = Promise.resolve();
+  rows = 0;
+  columns = 0;
   /** @type {Uint8Array | null} as they are now */
   modules = null;
   /** @type {Uint8Array | null} as they were written or opened */
   original = null;
+  /** @type {Uint8Array | null} which modules the reader is told to be doubtful, if some are */
+  doubtful = null;
   /** @type {number[] | null} the message that was written, if one was */
   items = null;
   /** @type {number | null} how many border modules may be wrong, if not as many as usual */
   limit = null;
   limitWhy = ""; // why another limit, which was entered or linked, isn't taken
-  /** @type {Uint8Array[]} the modules before each act, to be undone */
+  /** @type {Step[]} what was before each act, to be undone */
   past = [];
-  /** @type {Uint8Array[]} the modules after each act that was undone */
+  /** @type {Step[]} what was after each act that was undone */
   future = [];
   /** @type {import("./examine.mjs").Seen | null} what the library says of modules: with them it is drawn */
   seen = null;
@@ -42,18 +50,28 @@ export class Mark {
   constructor(name) { this.name = name; }
   // The symbol goes, with all that was done to it.
   empty() {
-    [this.modules, this.original, this.items, this.seen] = [null, null, null, null];
+    [this.modules, this.original, this.doubtful, this.items, this.seen] = [null, null, null, null, null];
+    [this.rows, this.columns] = [0, 0];
     [this.limit, this.limitWhy, this.past, this.future] = [null, "", [], []];
     [this.cursor, this.byKeys, this.module, this.word] = [0, false, null, null];
     [this.stage, this.why] = [EMPTY, ""];
   }
   // Another symbol takes its place.
-  /** @type {(modules: Uint8Array, items: number[] | null) => void} */
-  hold(modules, items) {
-    if (this.modules?.length !== modules.length) [this.limit, this.limitWhy, this.cursor] = [null, "", 0];
-    [this.modules, this.original, this.items] = [modules.slice(), modules.slice(), items];
+  /** @type {(grid: Grid, items: number[] | null) => void} */
+  hold({ modules, rows, columns }, items) {
+    if (!isSameShape(this, { rows, columns })) [this.limit, this.limitWhy, this.cursor] = [null, "", 0];
+    [this.rows, this.columns, this.modules, this.original] = [rows, columns, modules.slice(), modules.slice()];
+    [this.items, this.doubtful] = [items, null];
     [this.past, this.future, this.module, this.word] = [[], [], null, null];
   }
+  // What an act changes, as it is now, and as it was.
+  /** @type {() => Step} */
+  step() { return { modules: this.modules, doubtful: this.doubtful }; }
+  /** @type {(step: Step) => void} */
+  goTo({ modules, doubtful }) { [this.modules, this.doubtful] = [modules, doubtful]; }
+  // The symbol as it was written or opened.
+  /** @type {() => Grid} */
+  undamaged() { return { modules: this.original, rows: this.rows, columns: this.columns }; }
 }
 
 // The three tasks. What is read and what is made have a symbol each, and what is learnt is about one of these.
@@ -69,19 +87,28 @@ export const { panes } = store;
 export const stamp = () => ++store.version;
 export const mark = () => panes[store.pane];
 
-// What each module of a symbol is, for each side that was met; with the modules of each codeword, by their bits.
+// What each module of a symbol is, for each shape that was met; with the modules of each codeword, by their bits.
+/** @type {Map<string, import("./library.mjs").Places>} */
 const maps = new Map();
-/** @type {(side: number, map: { kind: Uint8Array, word: Uint16Array, bit: Uint8Array }) => void} */
-export function keepMap(side, { kind, word, bit }) {
-  if (maps.has(side)) return;
+/** @type {(shape: Shape, map: { kind: Uint8Array, word: Uint16Array, bit: Uint8Array }) => void} */
+export function keepMap(shape, { kind, word, bit }) {
+  const name = shapeName(shape);
+  if (maps.has(name)) return;
+  /** @type {number[][]} */
   const modules = [];
   for (let k = 0; k < kind.length; k++) if (kind[k] === BIT) (modules[word[k]] ??= Array(8))[bit[k] - 1] = k;
-  maps.set(side, { kind, word, bit, modules });
+  maps.set(name, { kind, word, bit, modules });
 }
-export const mapOf = (side) => maps.get(side);
+/** @type {(shape: Shape) => import("./library.mjs").Places} */
+export const mapOf = (shape) => maps.get(shapeName(shape));
 
 /** @type {(it: { modules: Uint8Array | null, original: Uint8Array | null }) => boolean} */
 export const isDamaged = ({ modules, original }) =>
   Boolean(modules) && modules.some((module, k) => module !== original[k]);
+// Whether there is something to be undone: damage, or doubtful modules.
+/** @type {(it: Mark) => boolean} */
+export const isChanged = (it) => isDamaged(it) || it.doubtful !== null;
+/** @type {(it: Mark) => number[]} */
+export const doubtsOf = ({ doubtful }) => (doubtful ? [...doubtful.keys()].filter((k) => doubtful[k]) : []);
 /** @type {(it: { modules: Uint8Array, original: Uint8Array }) => number[]} */
 export const damageOf = ({ modules, original }) => [...modules.keys()].filter((k) => modules[k] !== original[k]);

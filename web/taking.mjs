@@ -1,5 +1,5 @@
 // Taking a symbol away: copied, or saved as SVG or PNG. By default it is the undamaged one. And what it says.
-import { sideOf } from "./common.mjs";
+import { shapeName } from "./common.mjs";
 import { $, hint, made, shape } from "./dom.mjs";
 import { gridText } from "./grids.mjs";
 import { elementString } from "./gs1.mjs";
@@ -7,12 +7,14 @@ import { linkNow } from "./link.mjs";
 import { spelled, utf8Of } from "./messages.mjs";
 import { settled } from "./order.mjs";
 import { tooWide, wirePaper } from "./paper.mjs";
-import { TEXT_HEIGHT, pdfOf } from "./pdf.mjs";
+import { SIZE, TEXT_HEIGHT, fittedText, pdfOf } from "./pdf.mjs";
 import { VALID, isDamaged, mark } from "./state.mjs";
-import { QUIET, runs, viewBox } from "./symbol.mjs";
+import { QUIET, runs, withQuiet } from "./symbol.mjs";
 import { crcOf } from "./zip.mjs";
 
-/** @typedef {{ modules: Uint8Array, isDamagedOne: boolean, items: number[] | null }} Given */
+/** @typedef {import("./common.mjs").Grid} Grid */
+/** @typedef {import("./common.mjs").Shape} Shape */
+/** @typedef {{ grid: Grid, isDamagedOne: boolean, items: number[] | null }} Given */
 let toasted = null; // the timer that ends it
 /** @type {(text: string) => void} */
 export function toast(text) {
@@ -22,13 +24,13 @@ export function toast(text) {
   toasted = setTimeout(() => $("toast").classList.remove("on"), 2500);
 }
 
-// What is given: the modules, and how they are called.
+// What is given: the symbol, and how it is called.
 const isDamagedChosen = () => !$("which").hidden && $("which-damaged").checked;
 /** @type {(it?: import("./state.mjs").Mark, isChosen?: boolean) => Given} */
 export function given(it = mark(), isChosen = isDamagedChosen()) {
   const isDamagedOne = isChosen && isDamaged(it);
-  const modules = isDamagedOne ? it.modules : it.original;
-  return { modules, isDamagedOne, items: it.items ?? it.seen.answer.items ?? null };
+  const { modules, rows, columns } = it, grid = isDamagedOne ? { modules, rows, columns } : it.undamaged();
+  return { grid, isDamagedOne, items: it.items ?? it.seen.answer.items ?? null };
 }
 // Gives the symbol that is entered now, once there is an answer about it.
 /** @type {(give: (what: Given) => any) => () => Promise<void>} */
@@ -37,8 +39,8 @@ export const giving = (give) => async () => {
   await settled(it);
   if (it.stage === VALID) give(given(it, isChosen));
 };
-const nameOf = ({ modules, isDamagedOne }, ending) =>
-  `symbol-${sideOf(modules)}${isDamagedOne ? "-damaged" : ""}.${ending}`;
+const nameOf = ({ grid, isDamagedOne }, ending) =>
+  `symbol-${shapeName(grid)}${isDamagedOne ? "-damaged" : ""}.${ending}`;
 
 // Whether a text went to the clipboard.
 async function isCopied(text) {
@@ -53,8 +55,8 @@ async function isCopied(text) {
   }
 }
 const NOT_COPIED = "This browser doesn’t let the page copy. Save the symbol instead.";
-async function copySymbol({ modules, isDamagedOne }) {
-  const isDone = await isCopied(gridText(modules));
+async function copySymbol({ grid, isDamagedOne }) {
+  const isDone = await isCopied(gridText(grid));
   toast(isDone ? `Copied: ${isDamagedOne ? "the damaged symbol" : "the symbol"}, a line for each row` : NOT_COPIED);
 }
 // The message as a person would type it, if it is text; else as it is spelled.
@@ -87,27 +89,40 @@ const isMillimetres = () => {
 };
 export const millimetres = () => (isMillimetres() ? +$("millimetres").value : USUAL_WIDTH);
 const rounded = (value) => String(+value.toFixed(2));
-// The millimetres of a symbol of this side, with its quiet zone.
-/** @type {(side: number) => number} */
-export const lengthNow = (side) => +rounded((side + 2 * QUIET) * millimetres());
+// The millimetres of a symbol of this shape, with its quiet zone.
+/** @type {(shape: Shape) => { width: number, height: number }} */
+export function sizeNow(of) {
+  const { rows, columns } = withQuiet(of), length = (modules) => +rounded(modules * millimetres());
+  return { width: length(columns), height: length(rows) };
+}
 export function drawPrintSize() {
   const { seen } = mark();
   if (!isMillimetres()) {
     hint("print-size", `Enter ${LEAST} to ${MOST} mm. ${USUAL_WIDTH} mm is taken.`, true, "millimetres");
     return;
   }
-  const all = seen ? lengthNow(seen.side) : 0, why = tooWide(all);
-  const words = `${all} × ${all} mm with ${QUIET} modules of quiet zone`;
+  const { width, height } = seen ? sizeNow(seen) : { width: 0, height: 0 }, why = tooWide(width);
+  const words = `${width} × ${height} mm with ${QUIET} modules of quiet zone`;
   hint("print-size", seen ? `${words}${why && `. It can’t be printed: ${why}`}` : "", false, "millimetres");
   $("print-size").classList.toggle("bad", Boolean(why));
 }
-// The symbol at its size, as a drawing.
-/** @type {(modules: Uint8Array) => SVGElement} */
-export function drawingOf(modules) {
-  const side = sideOf(modules), all = side + 2 * QUIET, length = `${lengthNow(side)}mm`;
-  return shape("svg", { width: length, height: length, viewBox: viewBox(side), "shape-rendering": "crispEdges" },
-    shape("path", { fill: "#fff", d: `M${-QUIET} ${-QUIET}h${all}v${all}h${-all}z` }),
-    shape("path", { d: runs(side, (k) => modules[k]) }));
+// The symbol at its size, as a drawing, with a text below it if there is one.
+/** @type {(grid: Grid, text?: string) => SVGElement} */
+export function drawingOf(grid, text = "") {
+  const { rows, columns } = withQuiet(grid), { width, height } = sizeNow(grid), below = text ? TEXT_HEIGHT : 0;
+  const high = +(rows + below / millimetres()).toFixed(4), box = `${-QUIET} ${-QUIET} ${columns} ${high}`;
+  const all = { width: `${width}mm`, height: `${+rounded(height + below)}mm`, viewBox: box };
+  return shape("svg", { ...all, "shape-rendering": "crispEdges" },
+    shape("path", { fill: "#fff", d: `M${-QUIET} ${-QUIET}h${columns}v${high}h${-columns}z` }),
+    shape("path", { d: runs(grid, (k) => grid.modules[k]) }), ...(text ? [textBelow(grid, text)] : []));
+}
+/** @type {(grid: Grid, text: string) => SVGElement} */
+function textBelow(grid, text) {
+  const { rows, columns } = withQuiet(grid), each = millimetres(), inModules = (length) => +(length / each).toFixed(4);
+  const { cut, size, length } = fittedText(text, columns * each);
+  const place = { x: columns / 2 - QUIET, y: +(rows - QUIET + inModules(SIZE)).toFixed(4), "text-anchor": "middle" };
+  const font = { "font-family": "Courier, monospace", "font-size": inModules(size) };
+  return shape("text", { ...place, ...font, textLength: inModules(length), lengthAdjust: "spacingAndGlyphs" }, cut);
 }
 
 // ---- Files
@@ -125,32 +140,42 @@ function withResolution(png, perMetre) {
   all.set(png.subarray(33), 33 + chunk.length);
   return all;
 }
-/** @type {(modules: Uint8Array) => Promise<Uint8Array>} */
-export async function pngOf(modules) {
-  const side = sideOf(modules), millimetre = millimetres();
+/** @type {(grid: Grid, text?: string) => Promise<Uint8Array>} */
+export async function pngOf(grid, text = "") {
+  const { rows, columns } = withQuiet(grid), millimetre = millimetres();
   const each = Math.min(32, Math.max(8, Math.round(24 * millimetre))); // about 600 an inch
-  const all = (side + 2 * QUIET) * each;
-  const canvas = made("canvas", { width: all, height: all }), pen = canvas.getContext("2d");
-  pen.fillStyle = "#fff"; pen.fillRect(0, 0, all, all); pen.fillStyle = "#000";
-  const at = (line) => (line + QUIET) * each;
-  modules.forEach((dark, k) => { if (dark) pen.fillRect(at(k % side), at(Math.floor(k / side)), each, each); });
+  const perMillimetre = each / millimetre, below = text ? Math.round(TEXT_HEIGHT * perMillimetre) : 0;
+  const width = columns * each, height = rows * each + below;
+  /** @type {HTMLCanvasElement} */
+  const canvas = made("canvas", { width, height });
+  const pen = canvas.getContext("2d");
+  pen.fillStyle = "#fff"; pen.fillRect(0, 0, width, height); pen.fillStyle = "#000";
+  const at = (line) => (line + QUIET) * each, { modules } = grid;
+  const fill = (k) => pen.fillRect(at(k % grid.columns), at(Math.floor(k / grid.columns)), each, each);
+  modules.forEach((dark, k) => { if (dark) fill(k); });
+  if (text) {
+    const { cut, size, length } = fittedText(text, columns * millimetre);
+    [pen.font, pen.textAlign] = [`${size * perMillimetre}px Courier, monospace`, "center"];
+    pen.fillText(cut, width / 2, rows * each + SIZE * perMillimetre, length * perMillimetre);
+  }
   const blob = await new Promise((then) => canvas.toBlob(then, "image/png"));
-  return withResolution(new Uint8Array(await blob.arrayBuffer()), Math.round((1000 * each) / millimetre));
+  return withResolution(new Uint8Array(await blob.arrayBuffer()), Math.round(1000 * perMillimetre));
 }
-/** @type {(modules: Uint8Array) => string} */
-export const svgOf = (modules) => `${new XMLSerializer().serializeToString(drawingOf(modules))}\n`;
+/** @type {(grid: Grid, text?: string) => string} */
+export const svgOf = (grid, text = "") => `${new XMLSerializer().serializeToString(drawingOf(grid, text))}\n`;
 // A page that is as large as a symbol, with a text below it if there is one.
-/** @type {(modules: Uint8Array, text: string) => import("./pdf.mjs").Page} */
-export function pageOf(modules, text) {
-  const width = (sideOf(modules) + 2 * QUIET) * millimetres(), height = width + (text ? TEXT_HEIGHT : 0);
-  return { width, height, placed: [{ modules, x: 0, y: 0, module: millimetres(), text, width }] };
+/** @type {(grid: Grid, text: string) => import("./pdf.mjs").Page} */
+export function pageOf(grid, text) {
+  const { rows, columns } = withQuiet(grid), module = millimetres(), width = columns * module;
+  const height = rows * module + (text ? TEXT_HEIGHT : 0);
+  return { width, height, placed: [{ grid, x: 0, y: 0, module, text, width }] };
 }
 const saving = (ending, type, bodyOf) => async (what) =>
-  save(new Blob([await bodyOf(what.modules)], { type }), nameOf(what, ending));
+  save(new Blob([await bodyOf(what.grid)], { type }), nameOf(what, ending));
 export function wireTaking() {
   const actions = { copy: copySymbol, "copy-link": copyLink, "copy-message": copyMessage,
     "save-svg": saving("svg", "image/svg+xml", svgOf), "save-png": saving("png", "image/png", pngOf),
-    "save-pdf": saving("pdf", "application/pdf", (modules) => pdfOf([pageOf(modules, "")])) };
+    "save-pdf": saving("pdf", "application/pdf", (grid) => pdfOf([pageOf(grid, "")])) };
   for (const [id, action] of Object.entries(actions)) $(id).addEventListener("click", giving(action));
   $("millimetres").addEventListener("input", drawPrintSize);
   wirePaper(drawPrintSize);

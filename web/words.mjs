@@ -1,5 +1,7 @@
 // Refusals and corrections in words.
-import { BLOCK_FAULT, BORDER_FAULT, MOST_LIMIT, MOST_SIDE, TOO_LONG, plural } from "./common.mjs";
+import {
+  ANY, BLOCK_FAULT, BORDER_FAULT, EXTENDED, MOST_LIMIT, ONE, RECTANGLE, TOO_LONG, plural, shapeWords,
+} from "./common.mjs";
 
 const LEFT_OUT = {
   233: "structured append: this symbol has one part of a message that several symbols share",
@@ -13,21 +15,43 @@ const MISPLACED = {
 };
 const isMisplaced = (value, place) => value in MISPLACED && place > 1;
 
-/** @type {(fault: { code: number, value: number, place: number }, size?: any, limit?: number) => string} */
-export function refusal({ code, value, place }, size = undefined, limit = undefined) {
+/** @typedef {import("./examine.mjs").Seen} Seen */
+// Why a block is beyond correction, which has doubtful codewords or not.
+/** @type {(seen: Seen, block: number) => string} */
+function blockRefusal({ size, erased }, block) {
+  const where = size.blocks > 1 ? ` in block ${block + 1} of ${size.blocks}` : "", doubtful = erased[block];
+  const checks = size.check / size.blocks, whose = size.blocks > 1 ? "Its" : "The";
+  if (!doubtful) return `More than ${size.limit} codewords are wrong${where}. ${whose} ${checks} check codewords `
+    + "correct no more than that, and nothing is guessed.";
+  const are = `${plural(doubtful, "codeword is", "codewords are")} doubtful${where}`;
+  if (doubtful > checks) return `${are}, and ${whose.toLowerCase()} ${checks} check codewords replace no more than `
+    + `${checks}.`;
+  const others = Math.floor((checks - doubtful) / 2);
+  const wrong = others ? `more than ${others} are wrong` : "some are wrong";
+  return `${are}, and of the others ${wrong}. ${whose} ${checks} check codewords bear no more `
+    + "than that: a doubtful codeword takes one of them, and a wrong one two.";
+}
+/** @type {Record<number, string>} by shape */
+const NONE_HOLDS = {
+  [RECTANGLE]: "No rectangle up to 16 × 48 modules holds", [EXTENDED]: "No rectangle up to 26 × 64 modules holds",
+  [ANY]: "No size holds",
+};
+// Of a message that isn't written, where it isn't to be a square.
+/** @type {(how: import("./library.mjs").How) => string} */
+export function tooLong(how) {
+  const none = how.shape === ONE ? `${shapeWords(how)} modules don’t hold` : NONE_HOLDS[how.shape];
+  return `${none ?? "No square up to 144 × 144 modules holds"} this message in this form.`;
+}
+/** @type {(fault: { code: number, value: number, place: number }, seen?: Seen) => string} */
+export function refusal({ code, value, place }, seen = undefined) {
   const at = `data codeword ${place}`;
   switch (code) {
     case BORDER_FAULT: {
       const count = plural(value, "module", "modules"), have = value === 1 ? "has" : "have";
       const wrong = `${count} of the border ${have} the wrong colour`;
-      return `${wrong}, and ${limit} may. The message may still be readable: accept more under “Details”.`;
+      return `${wrong}, and ${seen.limit} may. The message may still be readable: accept more under “Details”.`;
     }
-    case BLOCK_FAULT: {
-      const where = size.blocks > 1 ? ` in block ${place + 1} of ${size.blocks}` : "";
-      const whose = size.blocks > 1 ? "Its" : "The", wrong = `More than ${size.limit} codewords are wrong${where}.`;
-      const checks = `${whose} ${size.check / size.blocks} check codewords`;
-      return `${wrong} ${checks} correct no more than that, and nothing is guessed.`;
-    }
+    case BLOCK_FAULT: return blockRefusal(seen, place);
     case 7: return `The value of ${at}, 0 or 242 to 255, is one that the standard reserves.`;
     case 8: return `Data codeword ${place} begins ${isMisplaced(value, place) ? MISPLACED[value] : LEFT_OUT[value]}.`;
     case 9: return `No character follows the Upper Shift that ${at}, or the pair that begins there, holds.`;
@@ -38,23 +62,34 @@ export function refusal({ code, value, place }, size = undefined, limit = undefi
       const shift = `the Upper Shift that ${at}, or the pair that begins there, holds`;
       return `The run or the symbol ends before the character that is due after ${shift}.`;
     }
-    case TOO_LONG: return `No size of symbol up to side ${MOST_SIDE} holds this message in this form.`;
+    case TOO_LONG: return "No square up to 144 × 144 modules holds this message in this form.";
     default: return `Refused: ${code} ${value} ${place}.`;
   }
 }
 export const noLimit = (text, limit) =>
   `${text || "This"} isn’t a whole number from 0 to ${MOST_LIMIT}: ${limit ?? "the usual limit"} is taken.`;
+const sumOf = (list) => list.reduce((a, b) => a + b, 0);
 // What had to be corrected or accepted, in words; empty if nothing had.
-/** @type {(corrected: number[], border: number) => string} */
-export function borne(corrected, border) {
-  const sum = corrected.reduce((a, b) => a + b, 0), parts = [];
+/** @type {(answer: { corrected?: number[], erased?: number[], border?: number }) => string} */
+export function borne({ corrected, erased, border }) {
+  const sum = sumOf(corrected), doubtful = sumOf(erased), parts = [];
   if (sum) parts.push(`${plural(sum, "wrong codeword was", "wrong codewords were")} corrected`);
+  if (doubtful) parts.push(`${plural(doubtful, "doubtful codeword was", "doubtful codewords were")} replaced`);
   const have = plural(border, "module of the border has", "modules of the border have");
   if (border) parts.push(`${have} the wrong colour`);
   return parts.join(", and ");
 }
+// Where a block has spent all its checks on doubtful codewords, it would have been read whatever it held.
+/** @type {(erased: number[], left: number[]) => string} */
+export function spentBy(erased, left) {
+  const spent = erased.findIndex((count, b) => count && !left[b]);
+  if (spent < 0) return "";
+  const which = erased.length > 1 ? `In block ${spent + 1} no` : "No";
+  return ` ${which} check codeword is left to tell whether that is right.`;
+}
 /** @type {(symbol: { isRead: boolean, how: string }, as: string) => string} */
 export function stood({ isRead, how }, as) {
-  if (!isRead) return "It can’t be read as it stands, nor turned, mirrored or inverted. It is shown as it stands.";
+  const shown = how ? `shown upright, as if it were ${how}` : "shown as it stands";
+  if (!isRead) return `It can’t be read as it stands, nor turned, mirrored or inverted. It is ${shown}.`;
   return how ? `${as} ${how}: found by trying, and shown upright.` : "Read as it stands.";
 }

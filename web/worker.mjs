@@ -1,69 +1,76 @@
 // The worker: it has the library, and answers the page's questions, one at a time. A question is { number, kind, given
 // }, its answer { number, answer } or, if something went wrong, { number, failed }.
 import { readsFiles } from "./bitmap.mjs";
-import { ASCII, SHORTER, TOO_LONG, sideOf } from "./common.mjs";
+import { ASCII, SHORTER, SQUARE, TOO_LONG, messageOf } from "./common.mjs";
 import { damaged, examine, mostThatFit, plainMap } from "./examine.mjs";
 import { found, gridFrom } from "./grids.mjs";
 import { Library } from "./library.mjs";
 import { symbolInPicture } from "./pictures.mjs";
 
+/** @typedef {import("./common.mjs").Grid} Grid */
 /** @type {Library} */
 let lib;
 const PROFILES = [ASCII, SHORTER];
-const sideUnder = (items, profile) => lib.write(items, profile).side ?? null;
+// In the smallest square.
+const squarely = (form) => ({ form, shape: SQUARE, rows: 0, columns: 0 });
 
-// What is shown of modules; the map of a side goes along.
-const seen = (modules, limit = null) => ({ ...examine(lib, modules, limit), map: plainMap(lib.map(sideOf(modules))) });
-const shownOf = (symbol) => (symbol.modules ? { ...symbol, seen: seen(symbol.modules) } : symbol);
+// What is shown of a symbol; the map of its shape goes along.
+/** @type {(grid: Grid, doubtful?: Uint8Array | null, limit?: number | null) => import("./examine.mjs").Seen} */
+const seen = (grid, doubtful = null, limit = null) =>
+  ({ ...examine(lib, grid, doubtful, limit), map: plainMap(lib.map(grid)) });
+const shownOf = (symbol) => (symbol.modules ? { ...symbol, seen: seen(symbol) } : symbol);
 
-// Modules with their normal grids under both profiles, where they have them.
+// A symbol with its normal grids under both profiles, where it has them.
 function judged(symbol) {
   if (!symbol.modules) return symbol;
   const shown = shownOf(symbol), { limit, answer } = shown.seen;
-  const normal = (profile) => (answer.fault ? null : lib.normal(symbol.modules, limit, profile).modules ?? null);
-  return { ...shown, normals: PROFILES.map(normal) };
+  const under = (profile) => {
+    const normal = lib.normal(symbol, limit, profile);
+    return normal.fault ? null : normal;
+  };
+  return { ...shown, normals: answer.fault ? PROFILES.map(() => null) : PROFILES.map(under) };
 }
 const gridGiven = (text) => {
-  const grid = gridFrom(text, lib.sizes);
-  return grid.modules ? found(lib, grid.modules) : grid;
+  const { why, grid } = gridFrom(text, lib);
+  return grid ? found(lib, grid) : { why };
 };
 const picture = (given) => symbolInPicture(lib, given, (progress) => postMessage({ progress }));
 
 const ANSWERS = {
   async load(bytes) {
     lib = await Library.load(bytes);
-    return { readsFiles: await readsFiles() };
+    return { readsFiles: await readsFiles(), sizes: [...lib.sizes.values()] };
   },
-  // The symbol of items, the sides that both profiles take, and if no size holds them how many would fit.
-  write({ items, profile, hasLook = true }) {
-    const symbol = lib.write(items, profile), sides = PROFILES.map((each) => sideUnder(items, each));
-    const isTooLong = symbol.fault?.code === TOO_LONG, fits = isTooLong ? mostThatFit(lib, items, profile) : null;
-    if (symbol.fault) return { fault: symbol.fault, sides, fits };
-    return { ...symbol, sides, seen: hasLook ? seen(symbol.modules) : null };
+  // The symbol of items, the shapes that both profiles take, and if no size holds them how many would fit.
+  write({ items, how, hasLook = true }) {
+    const symbol = lib.write(items, how), isTooLong = symbol.fault?.code === TOO_LONG;
+    const shapes = PROFILES.map((form) => lib.write(items, { ...how, form }))
+      .map(({ fault, rows, columns }) => (fault ? null : { rows, columns }));
+    if (symbol.fault) return { fault: symbol.fault, shapes, fits: isTooLong ? mostThatFit(lib, items, how) : null };
+    return { ...symbol, shapes, seen: hasLook ? seen(/** @type {Grid} */ (symbol)) : null };
   },
-  look: ({ modules, limit }) => seen(modules, limit),
-  damage({ act, modules, original, limit }) {
-    const after = damaged(lib, act, modules, original);
-    return seen(after, limit);
-  },
+  look: ({ grid, doubtful, limit }) => seen(grid, doubtful, limit),
+  damage: ({ act, original, grid, doubtful, limit }) =>
+    seen(damaged(lib, act, grid, original, doubtful), doubtful, limit),
   grid: (text) => shownOf(gridGiven(text)),
   picture: async (given) => shownOf(await picture(given)),
   // What stands in one side of the comparison: items, the text of a grid, or a picture.
   async judge({ items, grid, picture: image }) {
     if (image) return judged(await picture(image));
     if (grid !== undefined) return judged(gridGiven(grid));
-    const symbol = PROFILES.map((profile) => lib.write(items, profile)).find(({ fault }) => !fault);
-    if (!symbol) return { fault: lib.write(items, ASCII).fault };
-    return judged({ modules: symbol.modules, isRead: true, how: "" });
+    const symbol = PROFILES.map((form) => lib.write(items, squarely(form))).find(({ fault }) => !fault);
+    if (!symbol) return { fault: lib.write(items, squarely(ASCII)).fault };
+    return judged({ ...symbol, isRead: true, how: "" });
   },
-  // The symbols of many messages: modules, or null for one that fits no size.
-  sheet: ({ messages, profile }) => messages.map((items) => lib.write(items, profile).modules ?? null),
+  // The symbols of many messages, or null for one that fits no size.
+  sheet: ({ messages, how }) => messages.map((items) => lib.write(items, how))
+    .map((symbol) => (symbol.fault ? null : symbol)),
 };
 
 addEventListener("message", async ({ data: { number, kind, given } }) => {
   try {
     postMessage({ number, answer: await ANSWERS[kind](given) });
   } catch (why) {
-    postMessage({ number, failed: String(why?.message ?? why) });
+    postMessage({ number, failed: messageOf(why) });
   }
 });

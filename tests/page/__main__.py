@@ -119,7 +119,7 @@ def main():
     options.add_argument("word", metavar="WORD", nargs="?", default="")
     options.add_argument("--pictures", metavar="FOLDER", type=pathlib.Path)
     given = options.parse_args()
-    if problem := needs.lacking("chromium", "chromedriver", "wasm-opt") or (
+    if problem := needs.lacking("chromium", "chromedriver", "wasm-opt", "node") or (
         "" if webdriver else "selenium isn't installed"
     ):
         sys.exit(problem)

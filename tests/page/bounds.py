@@ -51,7 +51,7 @@ def much_is_refused():
         push(tab)
         before = area.get_attribute("value")
         taken = seconds_of(lambda: area.send_keys(Keys.CONTROL, "v", Keys.NULL))
-        most = "200,000" if name == "messages" else "20,000"
+        most = "200,000" if name == "messages" else "25,000"
         wanted = f"Nothing was taken: {260000 + len(before):,} characters, and no more than {most} are taken."
         count.expect(
             f"130,000 lines pasted in {name}",
@@ -155,7 +155,7 @@ def drawings():
         taken = seconds_of(lambda: opened("drawing.svg", body))
         count.expect(
             f"a drawing of {name}",
-            (text_of("picture-hint").startswith(f"drawing.svg: side {text.index(chr(10))}."), grid(), taken < 3 * SOON),
+            (text_of("picture-hint").startswith(f"drawing.svg: {text.index(chr(10))} × {text.index(chr(10))}."), grid(), taken < 3 * SOON),
             (True, text, True),
         )
     many = "The drawing has more than 60,000 elements, as often as they are used."
@@ -256,7 +256,7 @@ def many_files():
     count.expect_soon(
         "the first of 200 pictures",
         lambda: (text_of("picture-hint"), shown()["says"]),
-        (f"mark0.png: side 16. Read as it stands. {note}", "the first"),
+        (f"mark0.png: 16 × 16. Read as it stands. {note}", "the first"),
     )
     settle()
     drop("#slot-a", some)
@@ -349,7 +349,7 @@ def low_contrast():
     for light, dark in ((200, 180), (130, 124), (255, 251)):
         said = opened("faint.png", png(rows, 6, 2, light, dark))
         count.expect(
-            f"greys {dark} and {light}", (said, shown()["says"]), ("faint.png: side 12. Read as it stands.", "faint")
+            f"greys {dark} and {light}", (said, shown()["says"]), ("faint.png: 12 × 12. Read as it stands.", "faint")
         )
     count.expect(
         "greys 200 and 201",

@@ -130,7 +130,7 @@ TAKEN = """
             await mitsubadoor.idle();
             const isGreen = document.getElementById("verdict").className.includes("good");
             const state = document.getElementById("state").textContent;
-            out.push([isGreen, state, isGreen ? mitsubadoor.gridText(mitsubadoor.mark.modules).trim() : null]);
+            out.push([isGreen, state, isGreen ? mitsubadoor.gridText(mitsubadoor.mark).trim() : null]);
         }
         done(out);
     })();"""

@@ -131,11 +131,11 @@ def long_links():
     write("short")
     push("copy-link")
     count.expect_soon("a short link", lambda: text_of("toast"), "Copied: a link that holds what is entered")
-    put("message", "~" * 20001)
+    put("message", "~" * 25001)
     count.expect(
         "what isn't kept",
         text_of("message-hint").startswith(
-            "20,001 characters, and no more than 20,000 are taken. The link doesn’t keep them."
+            "25,001 characters, and no more than 25,000 are taken. The link doesn’t keep them."
         ),
         True,
     )

@@ -144,14 +144,14 @@ def labels_printed():
             "a4-5x13",
             "1",
             "123456789012345678901234567890",
-            "Message 1 takes 22 mm and 3 mm of text, and a label is "
+            "Message 1 takes 22 × 22 mm and 3 mm of text, and a label is "
             "38.1 × 21.2 mm. Take narrower modules or larger labels.",
         ),
         (
             "25x25",
             "2",
             "123456",
-            "Message 1 takes 28 mm and 3 mm of text, and a label is 25 × 25 mm. "
+            "Message 1 takes 28 × 28 mm and 3 mm of text, and a label is 25 × 25 mm. "
             "Take narrower modules or larger labels.",
         ),
     ):
@@ -233,8 +233,8 @@ def in_archives():
         count.expect(f"{ending}: what is said", text_of("sheet-hint"), "3 symbols are in the archive.")
         for message, side, body in zip(messages, sides, bodies):
             if ending == "svg":
-                length = f"{round((side + 4) * 0.4, 2):g}mm"
-                count.expect(f"SVG of {message}", f'width="{length}" height="{length}"' in body.decode(), True)
+                width, height = (f"{round((side + 4) * 0.4 + more, 2):g}mm" for more in (0, 3))
+                count.expect(f"SVG of {message}", f'width="{width}" height="{height}"' in body.decode(), True)
             else:
                 at = body.index(b"pHYs") + 4
                 width, across = struct.unpack(">I", body[16:20])[0], struct.unpack(">I", body[at : at + 4])[0]

@@ -96,7 +96,7 @@ def words_and_looks():
             text_of("message-hint").startswith(f"Column 2 is {name}, which has no spelling of its own."),
             True,
         )
-    for text, more in (("A" * 817, "1 character"), ("0" * 1640, "8 characters"), ("A" * 900, "84 characters")):
+    for text, more in (("A" * 1559, "1 character"), ("0" * 3124, "8 characters"), ("A" * 1642, "84 characters")):
         write(text)
         count.expect(
             f"{len(text)} of {text[0]} are too long", f"It is {more} too long." in text_of("message-hint"), True

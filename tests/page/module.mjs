@@ -1,10 +1,10 @@
 // Puts calls that tests/page/recorded.c wrote down to the library for WebAssembly:
-// node module.mjs LIBRARY.wasm < CALLS. Each has to answer as it did there, and to write nothing but its output; input
+// node module.mjs LIBRARY.wasm < CALLS. Each has to answer as it did there, and to write nothing but its output; inputs
 // and output lie in turn directly before the end of the memory, behind which each access traps. Prints how many calls
 // there were, or the first that differs, with status 1.
 import { readFileSync, readSync } from "node:fs";
 
-const HEAD = 56, NAME = 20, PAGE = 65536, PAGES = 3, FIRST = 4096, FILLED = 0xee;
+const HEAD = 76, NAME = 20, PAGE = 65536, PAGES = 3, FIRST = 4096, FILLED = 0xee;
 const STDIN = 0, BLOCK = 1 << 20;
 let block = Buffer.alloc(0); // what is read and not taken yet
 
@@ -32,9 +32,11 @@ function nextCall() {
   if (!head) return null;
   const name = head.toString("latin1", 0, NAME).replace(/\0.*/s, "");
   const told = Array.from({ length: (HEAD - NAME) / 4 }, (_, k) => head.readUInt32LE(NAME + 4 * k));
-  const [width, count, numberCount, ...rest] = told;
+  const [firstWidth, secondWidth, firstCount, secondCount, isFirstCounted, isSecondCounted, numberCount, ...rest] = told;
   const numbers = rest.slice(0, numberCount), [answer, size] = rest.slice(-2);
-  return { name, width, count, numbers, answer, input: taken(width * count), output: taken(size) };
+  const input = (width, count, isCounted) => ({ width, count, isCounted, bytes: taken(width * count) });
+  const inputs = [input(firstWidth, firstCount, isFirstCounted), input(secondWidth, secondCount, isSecondCounted)];
+  return { name, numbers, answer, inputs: inputs.filter(({ width }) => width), output: taken(size) };
 }
 
 class Room {
@@ -47,19 +49,24 @@ class Room {
   }
   part(at, size) { return this.bytes.subarray(at - this.begin, at - this.begin + size); }
   // What is wrong about a call, or null.
-  fault({ name, width, count, numbers, answer, input, output }, isInputLast) {
-    const first = this.begin + FIRST;
-    const inputAt = isInputLast ? this.end - input.length : first;
-    const outputAt = isInputLast ? first : this.end - output.length;
-    const given = this.part(inputAt, input.length), made = this.part(outputAt, output.length);
-    given.set(input);
-    const list = width ? [BigInt(inputAt), BigInt(count)] : [], out = output.length ? [BigInt(outputAt)] : [];
+  fault({ name, numbers, answer, inputs, output }, turn) {
+    const parts = [...inputs.map(({ bytes }) => bytes), output], last = turn % parts.length;
+    let next = this.begin + FIRST;
+    const places = parts.map(({ length }, k) => {
+      if (k === last) return this.end - length;
+      const at = next;
+      next += length + (8 - (length % 8)) + 64; // each of them is aligned, with a gap behind it
+      return at;
+    });
+    const views = parts.map(({ length }, k) => this.part(places[k], length)), made = views[views.length - 1];
+    inputs.forEach(({ bytes }, k) => views[k].set(bytes));
+    const list = inputs.flatMap(({ count, isCounted }, k) => [BigInt(places[k]), ...(isCounted ? [BigInt(count)] : [])]);
+    const out = output.length ? [BigInt(places[inputs.length])] : [];
     const got = this.library[name](...list, ...numbers, ...out) ?? 0;
     if (got !== answer) return `${got}, and not ${answer}`;
     if (!made.equals(output)) return "another output";
-    if (!given.equals(input)) return "the input is changed";
-    given.fill(FILLED);
-    made.fill(FILLED);
+    if (inputs.some(({ bytes }, k) => !views[k].equals(bytes))) return "an input is changed";
+    for (const view of views) view.fill(FILLED);
     return this.bytes.equals(this.untouched) ? null : "something is written beside the output";
   }
 }
@@ -68,7 +75,7 @@ const { instance } = await WebAssembly.instantiate(readFileSync(process.argv[2])
 const room = new Room(instance.exports);
 let calls = 0;
 for (let call = nextCall(); call; call = nextCall()) {
-  const fault = room.fault(call, calls++ % 2 === 0);
+  const fault = room.fault(call, calls++);
   if (fault) {
     console.log(`call ${calls}, ${call.name}: ${fault}`);
     process.exit(1);

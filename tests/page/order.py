@@ -1,9 +1,10 @@
 """The order of things: what is done right after something was entered is done to that, nothing that was entered is lost
 to it, and what is shown, copied and linked is about what stands in the field. Random bursts of acts are judged by the
-program and by a model of their order."""
+program, by the library where that reads no such symbol, and by a model of their order."""
 import random
 import urllib.parse
 
+from tests.page.judge import asked_to_read, asked_to_write, in_lines, judged, line_of_items
 from tests.page.stage import (QUIET, SHOWN, Keys, acting, as_program, changed, count, find, fold, grid, offset, on,
                               push, put, run, settle, shown, text_of, told, write, written)
 
@@ -154,6 +155,8 @@ MESSAGES = [
     "1234567812345678",
 ]  # of sides 10, 12 and 14
 BYTES = "\\xE9\\xE8\\xEA"  # of which both profiles make other symbols
+SIZES = ["square", "square", "rectangle", "any", "8x18", "12x26", "24"]
+COLUMNS = (10, 12, 14, 18, 24, 26, 32)  # of all symbols that these make
 IMPOSSIBLE = "caf\u00e9"
 WAITS = [None] * 6 + [0, 4, 15, 40]  # milliseconds after an act, or none at all
 TASKS = {"read": "read", "make": "write", "learn": None}  # with their panes
@@ -179,7 +182,12 @@ PLAY = (
     let isOn = true;
     const frame = () => { look(); if (isOn) requestAnimationFrame(frame); };
     frame();
-    const ACTS = { put: ({ id, text }) => put(id, text), push: ({ id }) => at(id).click(), tap };
+    const size = ({ shape, one }) => {
+        at("shape").value = shape;
+        if (one) at("size").value = one;
+        at("shape").dispatchEvent(new Event("change", { bubbles: true }));
+    };
+    const ACTS = { put: ({ id, text }) => put(id, text), push: ({ id }) => at(id).click(), tap, size };
     (async () => {
         for (const acts of bursts) {
             for (const act of acts) {
@@ -188,9 +196,13 @@ PLAY = (
             }
             await mitsubadoor.idle();
             const { panes, mark, gridText } = mitsubadoor;
-            const text = (modules) => (modules ? gridText(modules).trim() : null);
-            const marks = Object.fromEntries(Object.values(panes).map(({ name, stage, past, modules, future, limit }) =>
-                [name, { stage, past: past.map(text), now: text(modules), future: future.map(text), limit }]));
+            const marks = Object.fromEntries(Object.values(panes).map((it) => {
+                const { name, stage, past, future, limit, rows, columns } = it;
+                const state = ({ modules, doubtful }) =>
+                    [gridText({ modules, rows, columns }).trim(), doubtful ? [...doubtful].join("") : ""];
+                const now = it.modules ? state(it) : [null, ""];
+                return [name, { stage, past: past.map(state), now, future: future.map(state), limit }];
+            }));
             const isLooked = told.length %% LINKED_EACH === 0, wait = (then) => setTimeout(then, 20);
             while (isLooked && !mitsubadoor.isLinked()) await new Promise(wait);
             const linked = isLooked ? location.hash : null;
@@ -203,15 +215,19 @@ PLAY = (
 )
 
 
-ALL = "everything undone"
+ALL, TELL = "everything undone", "all damage marked as doubtful"
 
 
 class Modelled:
     """What one pane must come to, if each act is done to what stands there when it is done. A step is the module that
-    is turned over, None for one that the page chooses, or ALL."""
+    is turned over, None for one that the page chooses, a module in a list that is marked as doubtful or no longer so,
+    ALL, or TELL."""
 
     def __init__(self):
         self.original, self.steps, self.undone = None, [], []
+
+    def columns(self):
+        return self.original.index("\n")
 
     def enter(self, original):
         self.original, self.steps, self.undone = original, [], []
@@ -229,14 +245,27 @@ class Modelled:
         if self.undone:
             self.steps.append(self.undone.pop())
 
-    def undo_all(self):
-        turned = set()
+    def marked(self):
+        """What is turned over, and what is doubtful."""
+        turned, doubtful = set(), set()
         for step in self.steps:
-            turned = (
-                set() if step == ALL else turned ^ {object() if step is None else step}
-            )  # what the page has chosen is never turned back by hand
-        if turned:
+            if step == ALL:
+                turned, doubtful = set(), set()
+            elif step == TELL:
+                doubtful |= turned
+            elif isinstance(step, list):
+                doubtful ^= set(step)
+            else:  # what the page has chosen is never turned back by hand
+                turned ^= {object() if step is None else step}
+        return turned, doubtful
+
+    def undo_all(self):
+        if any(self.marked()):
             self.step(ALL)
+
+    def tell(self):
+        if self.marked()[0]:
+            self.step(TELL)
 
     def end(self):
         return self.original, [*self.steps, *reversed(self.undone)], len(self.steps)
@@ -249,13 +278,24 @@ def differs(end, shown_there):
     states = [*past, now, *reversed(future)]
     if (len(past), len(states)) != (place, len(steps) + 1):
         return f"{len(past)} steps of {len(states) - 1}, and not {place} of {len(steps)}"
-    if states[0] != original:
+    if states[0] != [original, ""]:
         return "another symbol"
-    for before, after, step in zip(states, states[1:], steps):
-        turned = changed(before, after)
-        if after != original if step == ALL else len(turned) != 1 if step is None else turned != [step]:
+    for (before, had), (after, has), step in zip(states, states[1:], steps):
+        turned, doubted = changed(before, after), set(places_in(had)) ^ set(places_in(has))
+        due = {None: set(), ALL: set(places_in(had)), TELL: set(changed(original, before)) - set(places_in(had))}
+        if doubted != (set(step) if isinstance(step, list) else due.get(step, set())):
+            return f"{doubted} marked in the step {step}"
+        if isinstance(step, list) or step == TELL:
+            is_right = not turned
+        else:
+            is_right = after == original if step == ALL else len(turned) == 1 if step is None else turned == [step]
+        if not is_right:
             return f"{turned} turned over in the step {step}"
     return ""
+
+
+def places_in(marks):
+    return [k for k, mark in enumerate(marks) if mark == "1"]
 
 
 class Generator:
@@ -264,21 +304,27 @@ class Generator:
     def __init__(self, seed):
         self.chance, self.panes = random.Random(seed), {"write": Modelled(), "read": Modelled()}
         self.task, self.here, self.profile, self.text = "make", "write", 0, ""
-        self.symbols = {}
+        self.size, self.is_doubting = "square", False
+        self.symbols = {(IMPOSSIBLE, profile, size): None for profile in (0, 1) for size in SIZES}
+        others = [(text, profile, size) for text in [*MESSAGES, BYTES] for profile in (0, 1) for size in set(SIZES)]
+        others = [each for each in others if each[2] != "square"]
+        for each, symbol in zip(others, judged([asked_to_write(text, size, form) for text, form, size in others])):
+            self.symbols[each] = in_lines(symbol) if "text" in symbol else None
 
-    def symbol(self, text, profile=0):
-        if (text, profile) not in self.symbols:
-            self.symbols[text, profile] = written(text, profile)
-        return self.symbols[text, profile]
+    def symbol(self, text, profile=0, size="square"):
+        """The symbol of a message in a size, or None if it has none."""
+        if (text, profile, size) not in self.symbols:
+            self.symbols[text, profile, size] = written(text, profile)
+        return self.symbols[text, profile, size]
 
     def enter_message(self, text):
         self.text = text
-        self.panes["write"].enter(None if text == IMPOSSIBLE else self.symbol(text, self.profile))
+        self.panes["write"].enter(self.symbol(text, self.profile, self.size))
         return {"kind": "put", "id": "message", "text": text}
 
-    def enter_grid(self, text):
-        self.panes["read"].enter(self.symbol(text))
-        return {"kind": "put", "id": "grid", "text": self.symbol(text)}
+    def enter_grid(self, text, size="square"):
+        self.panes["read"].enter(self.symbol(text, 0, size))
+        return {"kind": "put", "id": "grid", "text": self.symbol(text, 0, size)}
 
     def enter(self):
         """Enters something, or, where one learns, turns to the other symbol."""
@@ -286,7 +332,8 @@ class Generator:
             self.here = "read" if self.here == "write" else "write"
             return {"kind": "push", "id": f"learn-{self.here}"}
         if self.task == "read":
-            return self.enter_grid(self.chance.choice(MESSAGES))
+            size = self.chance.choice(SIZES)
+            return self.enter_grid(self.chance.choice([it for it in MESSAGES if self.symbol(it, 0, size)]), size)
         return self.enter_message(self.chance.choice([*MESSAGES, BYTES, IMPOSSIBLE]))
 
     def store(self):
@@ -294,25 +341,46 @@ class Generator:
         self.enter_message(self.text)
         return {"kind": "push", "id": f"profile-{self.profile}"}
 
+    def take_size(self):
+        self.size = self.chance.choice(SIZES)
+        self.enter_message(self.text)
+        is_one = self.size[0].isdigit()
+        return {"kind": "size", "shape": "one" if is_one else self.size, "one": self.size if is_one else None}
+
+    def take_brush(self):
+        self.is_doubting = not self.is_doubting
+        return {"kind": "push", "id": "brush-doubt" if self.is_doubting else "brush-turn"}
+
     def tap(self):
-        """Taps on a module of the upper border: none that a button damages. Only where one learns it is turned over."""
+        """Taps on a module of the upper border: none that a button damages. Only where one learns it is turned over, or
+        marked."""
         across, here = self.across(), self.panes[self.here]
-        if here.original is not None and self.task == "learn":
-            here.step(int(across * (here.original.index("\n") + 2 * QUIET)) - QUIET)
-        return {"kind": "tap", "across": across, "down": 0.15}
+        if here.original is None:
+            return {"kind": "tap", "across": across, "down": 0.15}
+        if self.task == "learn":
+            module = int(across * (here.columns() + 2 * QUIET)) - QUIET
+            here.step([module] if self.is_doubting else module)
+        rows = here.original.count("\n") + 1
+        return {"kind": "tap", "across": across, "down": (QUIET + 0.5) / (rows + 2 * QUIET)}
 
     def across(self):
         """A share of the symbol's width that is away from the edges of modules, since a finger's place is in pixels."""
         while True:
             share = self.chance.uniform(0.16, 0.84)
-            if all(0.1 < (share * (side + 2 * QUIET)) % 1 < 0.9 for side in (10, 12, 14)):
+            if all(0.1 < (share * (columns + 2 * QUIET)) % 1 < 0.9 for columns in COLUMNS):
                 return share
 
     def press(self):
         here, name = self.panes[self.here], self.chance.choice(
-            ["one-more", "one-more", "undo", "undo", "redo", "undo-all"]
+            ["one-more", "one-more", "undo", "undo", "redo", "undo-all", "tell"]
         )
-        {"one-more": lambda: here.step(None), "undo": here.undo, "redo": here.redo, "undo-all": here.undo_all}[name]()
+        {
+            "one-more": lambda: here.step(None),
+            "undo": here.undo,
+            "redo": here.redo,
+            "undo-all": here.undo_all,
+            "tell": here.tell,
+        }[name]()
         return {"kind": "push", "id": name}
 
     def accept(self):
@@ -326,14 +394,15 @@ class Generator:
     def burst(self, has_waits):
         acts = [self.change(self.chance.choice(["read", "make"])), self.enter()]
         some = [self.enter] * 2 + [self.tap] * 3 + [self.press] * 3
-        some += [self.accept, self.change, self.change, self.store]
+        some += [self.accept, self.change, self.change, self.store, self.take_size, self.take_brush]
+        where = {self.store: "make", self.take_size: "make", self.take_brush: "learn"}
         for _ in range(self.chance.randrange(1, MOST_ACTS)):
             act = self.chance.choice(some)
-            if act != self.store or self.task == "make":
+            if where.get(act, self.task) == self.task:
                 acts.append(act())
         for act in acts:
             act["wait"] = self.chance.choice(WAITS) if has_waits else None
-        return acts, {name: pane.end() for name, pane in self.panes.items()}
+        return acts, {name: pane.end() for name, pane in self.panes.items()}, self.size
 
 
 def bursts():
@@ -344,16 +413,16 @@ def bursts():
     push("tab-make")
     maker = Generator(11)
     begin = [maker.enter_message("123456"), maker.change("read"), maker.enter_grid("123456"), maker.change("make")]
-    some = [(begin, {})]
+    some = [(begin, {}, "square")]
     for act in some[0][0]:
         act["wait"] = None
     some += [maker.burst(False) for _ in range(BURSTS)] + [maker.burst(True) for _ in range(WITH_WAITS)]
-    push("profile-0")
-    told_of = on.page.execute_async_script(PLAY, [acts for acts, _ in some])
+    push("profile-0", "brush-turn")
+    told_of = on.page.execute_async_script(PLAY, [acts for acts, *_ in some])
     count.expect("no green verdict is about anything else than what is entered", told_of["wrong"][:3], [])
-    count.expect("acts", sum(len(acts) for acts, _ in some) > 5000, True)
-    odd, grids = [], {}
-    for (acts, ends), now in list(zip(some, told_of["told"]))[1:]:
+    count.expect("acts", sum(len(acts) for acts, *_ in some) > 5000, True)
+    odd, grids, others = [], {}, []
+    for (acts, ends, size), now in list(zip(some, told_of["told"]))[1:]:
         for name, end in ends.items():
             pane = now["marks"][name]
             fault = (
@@ -365,10 +434,13 @@ def bursts():
             )
             odd += [(fault, name, acts)] if fault else []
         if now["linked"]:
-            odd += [("linked", now["linked"], acts)] if not is_linked(now, ends) else []
+            odd += [("linked", now["linked"], acts)] if not is_linked(now, ends, size) else []
         here = now["marks"][now["pane"]]
-        if here["stage"] == "valid":
-            grids.setdefault(here["limit"], []).append((here["now"], as_program(now["shown"])))
+        text, doubtful = here["now"]
+        if here["stage"] == "valid" and (doubtful or text.index("\n") != text.count("\n") + 1):
+            others.append((asked_to_read(text, doubtful, here["limit"]), now["shown"]))
+        elif here["stage"] == "valid":
+            grids.setdefault(here["limit"], []).append((text, as_program(now["shown"])))
         elif (now["shown"]["state"], here["stage"]) != ("Nothing is read", "bad"):
             odd.append((now["shown"], here["stage"], acts))
     count.expect(f"each of {len(some)} bursts has come to what was entered and done last", odd[:1], [])
@@ -379,22 +451,44 @@ def bursts():
             [shown for _, shown in both],
             told([text for text, _ in both], *more),
         )
+    count.expect("rectangles, and what has doubtful modules", len(others) > 300, True)
+    answers = judged([question for question, _ in others])
+    count.expect(
+        "what is read of these",
+        [as_program(shown) if shown["state"] != "Refused" else None for _, shown in others],
+        [as_answered(question, answer) for (question, _), answer in zip(others, answers)],
+    )
     said = [entry["message"] for entry in on.page.get_log("browser")]
     # (it bounds how often an address may change, and says so)
     count.expect("console", [message for message in said if "Throttling navigation" not in message], [])
-    push("profile-0", "tab-make", "usual")
+    push("profile-0", "tab-make", "usual", "brush-turn")
     write("123456")
 
 
-def is_linked(now, ends):
-    """Whether the address says what is entered, and which of its modules are turned over."""
+def as_answered(question, answer):
+    """What the library answers, in the program's words; None for a refusal."""
+    if "fault" in answer:
+        return None
+    corrected = " ".join(map(str, answer["corrected"]))
+    return line_of_items(answer["items"]), f"ok {question['rows']} border {answer['border']} corrected {corrected}"
+
+
+def is_linked(now, ends, size):
+    """Whether the address says what is entered and in which size, and which of its modules are turned over or
+    doubtful."""
     linked, (original, _, _) = fields(now["linked"][1:]), ends["write"]
-    damage = [] if original is None else changed(original, now["marks"]["write"]["now"])
-    places, at = [], -1
-    for gap in filter(None, linked.get("damage", "").split(".")):
-        at += int(gap, 36) + 1
-        places.append(at)
-    return (linked["message"], places) == (now["field"], damage)
+    text, doubtful = now["marks"]["write"]["now"]
+    damage, doubts = ([], []) if original is None else (changed(original, text), places_in(doubtful))
+
+    def places(name):
+        found, at = [], -1
+        for gap in filter(None, linked.get(name, "").split(".")):
+            at += int(gap, 36) + 1
+            found.append(at)
+        return found
+
+    held = (linked["message"], linked.get("size", "square"), places("damage"), places("doubtful"))
+    return held == (now["field"], size, damage, doubts)
 
 
 PARTS = [typed_and_done_at_once, taken_at_once, bursts]

@@ -167,7 +167,7 @@ def sheets():
             "a4",
             "12",
             "12\n0123456789",
-            "Message 2 makes a symbol of 192 mm: "
+            "Message 2 makes a symbol that is 192 mm wide: "
             "A4 has room for 180 mm within its margins. Take narrower modules, or a label.",
         ),
     ):

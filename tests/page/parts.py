@@ -16,6 +16,7 @@ from tests.page import (
     paper,
     photographs,
     pictures,
+    sizes,
     tasks,
     texts,
 )
@@ -48,6 +49,7 @@ PARTS = [
     *elements.PARTS,
     *paper.PARTS,
     *labels.PARTS,
+    *sizes.PARTS,
     *bounds.PARTS,
     damage.blocks,
     damage.sizes,

@@ -42,8 +42,8 @@ def photographs():
         is_read = shown()["state"] == "Read"
         count.expect(f"{file.name} isn't misread", is_read and shown()["says"] not in picture["messages"], False)
         read += is_read
-        if is_read and not said.startswith(f"{file.name}: side "):
-            count.expect(f"{file.name}: what is said", said, "side")
+        if is_read and not said.startswith(f"{file.name}: "):
+            count.expect(f"{file.name}: what is said", said, file.name)
     if pictures:
         count.expect(
             f"{read} of {len(pictures)} photographs read, at least nine of ten", 10 * read >= 9 * len(pictures), True
@@ -85,7 +85,7 @@ def turned_about():
         said = opened(name, body)
         count.expect(
             name,
-            (shown()["state"], shown()["says"], said.startswith(f"{name}: side {side}. Found in the picture")),
+            (shown()["state"], shown()["says"], said.startswith(f"{name}: {side} × {side}. Found in the picture")),
             ("Read", "Turned about", True),
         )
 
@@ -146,7 +146,7 @@ def camera():
     settle()
     count.expect(
         "the camera reads",
-        (shown()["state"], shown()["says"], text_of("picture-hint").startswith("The camera: side")),
+        (shown()["state"], shown()["says"], text_of("picture-hint").startswith("The camera: ")),
         ("Read", "by the camera", True),
     )
     count.expect(
@@ -228,7 +228,7 @@ def beside_pictures(allow):
     run("document.getElementById('camera').click()")
     allow()
     wait_for(lambda: asked() > before)
-    said = "waiting.png: side 16. Read as it stands."
+    said = "waiting.png: 16 × 16. Read as it stands."
     count.expect_soon("a picture that waits", lambda: text_of("picture-hint"), said)
     run("document.getElementById('camera-off').click()")
     settle()

@@ -29,8 +29,8 @@ from tests.page.stage import (
 
 def png(rows, scale, around, light=255, dark=0):
     """A grey picture of a grid."""
-    side = len(rows) + 2 * around
-    blank = [bytes([light]) * (side * scale)] * (around * scale)
+    down, across = len(rows) + 2 * around, len(rows[0]) + 2 * around
+    blank = [bytes([light]) * (across * scale)] * (around * scale)
     lines = (
         blank
         + [
@@ -40,7 +40,7 @@ def png(rows, scale, around, light=255, dark=0):
         ]
         + blank
     )
-    return chunks(side * scale, side * scale, b"".join(b"\0" + line for line in lines))
+    return chunks(across * scale, down * scale, b"".join(b"\0" + line for line in lines))
 
 
 def chunks(width, height, lines):
@@ -113,7 +113,7 @@ def pictures():
         count.expect(
             f"picture {name}: said",
             said,
-            f"{name}: side {side}. "
+            f"{name}: {side} × {side}. "
             + (f"The symbol is {how}: found by trying, and shown upright." if how else "Read as it stands."),
         )
     rows = written("123456").split("\n")
@@ -121,7 +121,7 @@ def pictures():
     count.expect(
         "of two sides that fit about equally well the smaller is taken",
         (shown()["says"], said),
-        ("123456", "specked.png: side 10. Read as it stands."),
+        ("123456", "specked.png: 10 × 10. Read as it stands."),
     )
     spoilt = [
         rows[0],
@@ -133,7 +133,7 @@ def pictures():
         "a symbol that isn't read is shown as it stands",
         (said, shown()["state"]),
         (
-            "i.png: side 10. It can’t be read as it stands, nor turned, mirrored or inverted. It is shown as it "
+            "i.png: 10 × 10. It can’t be read as it stands, nor turned, mirrored or inverted. It is shown as it "
             "stands.",
             "Refused",
         ),
@@ -198,7 +198,7 @@ def saved():
         count.expect(
             f"{name} opened again",
             (opened(f"again{file.suffix}", file.read_bytes()), grid()),
-            (f"again{file.suffix}: side 10. Read as it stands.", written("123456")),
+            (f"again{file.suffix}: 10 × 10. Read as it stands.", written("123456")),
         )
     if shutil.which("dmtxread"):
         out = subprocess.run(

@@ -1,75 +1,109 @@
 /* The rounds of tests/library/hostile.c, of which each call is written to standard output, with what the library
- * answers, so that the same calls can be put to another build of it: a head, the bytes of the input, and those of the
- * output. */
+ * answers, so that the same calls can be put to another build of it: a head, the bytes of the inputs, and those of the
+ * output, of which each was FILLED before. */
 #define _GNU_SOURCE
 #include <ecc200.h>
 #include <stdio.h>
 #include <stdlib.h>
+#include <string.h>
+
+#define FILLED 0xee
+
+typedef struct input {
+    const void *at;
+    size_t width; /* bytes of each element; 0 if the call takes no such input */
+    size_t count; /* elements */
+} input;
 
 typedef struct head {
-    char name[20];        /* of the call */
-    uint32_t width;       /* bytes of each element of the input; 0 if the call takes none */
-    uint32_t count;       /* elements of the input */
+    char name[20];           /* of the call */
+    uint32_t widths[2];      /* of the inputs */
+    uint32_t counts[2];
+    uint32_t is_counted[2];  /* whether the call is given the count */
     uint32_t number_count;
-    uint32_t numbers[4];  /* the call's other arguments, but for the output */
+    uint32_t numbers[5];     /* the call's other arguments, but for the output */
     uint32_t answer;
-    uint32_t output_size; /* 0 if the call has none but its answer */
+    uint32_t output_size;    /* 0 if the call has none but its answer */
 } head;
 
-static void record(head made, const void *input, const void *output) {
-    size_t size = (size_t)made.width * made.count;
-    if (fwrite(&made, sizeof made, 1, stdout) != 1 || (size && fwrite(input, size, 1, stdout) != 1) ||
-        (made.output_size && fwrite(output, made.output_size, 1, stdout) != 1))
+static void put(const void *bytes, size_t size) {
+    if (size && fwrite(bytes, size, 1, stdout) != 1)
         exit(2);
 }
 
-static uint16_t recorded_read(const uint8_t *modules, size_t count, uint16_t side, uint16_t limit, uint16_t extent,
-                              ecc200_reading *out) {
-    uint16_t code = ecc200_read(modules, count, side, limit, extent, out);
-    record((head){"ecc200_read", 1, (uint32_t)count, 3, {side, limit, extent}, code, sizeof *out}, modules, out);
+static void record(head made, input first, input second, const void *output) {
+    const input both[2] = {first, second};
+    for (int k = 0; k < 2; k++) {
+        made.widths[k] = (uint32_t)both[k].width;
+        made.counts[k] = (uint32_t)both[k].count;
+    }
+    put(&made, sizeof made);
+    put(first.at, first.width * first.count);
+    put(second.at, second.width * second.count);
+    put(output, made.output_size);
+}
+
+static const input NONE = {NULL, 0, 0};
+
+static uint16_t recorded_read(const uint8_t *modules, size_t count, const uint8_t *doubtful, size_t doubtful_count,
+                              uint16_t rows, uint16_t columns, uint16_t limit, uint16_t extent, ecc200_reading *out) {
+    memset(out, FILLED, sizeof *out);
+    uint16_t code = ecc200_read(modules, count, doubtful, doubtful_count, rows, columns, limit, extent, out);
+    head made = {"ecc200_read", {0}, {0}, {1, 1}, 4, {rows, columns, limit, extent}, code, sizeof *out};
+    record(made, (input){modules, 1, count}, (input){doubtful, 1, doubtful_count}, out);
     return code;
 }
 
-static uint16_t recorded_normal(const uint8_t *modules, size_t count, uint16_t side, uint16_t limit, uint16_t extent,
-                                uint16_t profile, ecc200_symbol *out) {
-    uint16_t code = ecc200_normal(modules, count, side, limit, extent, profile, out);
-    head made = {"ecc200_normal", 1, (uint32_t)count, 4, {side, limit, extent, profile}, code, sizeof *out};
-    record(made, modules, out);
+static uint16_t recorded_normal(const uint8_t *modules, size_t count, const uint8_t *doubtful, size_t doubtful_count,
+                                uint16_t rows, uint16_t columns, uint16_t limit, uint16_t extent, uint16_t profile,
+                                ecc200_symbol *out) {
+    memset(out, FILLED, sizeof *out);
+    uint16_t code = ecc200_normal(modules, count, doubtful, doubtful_count, rows, columns, limit, extent, profile, out);
+    head made = {"ecc200_normal", {0}, {0}, {1, 1}, 5, {rows, columns, limit, extent, profile}, code, sizeof *out};
+    record(made, (input){modules, 1, count}, (input){doubtful, 1, doubtful_count}, out);
     return code;
 }
 
-static uint16_t recorded_inspect(const uint8_t *modules, size_t count, uint16_t side, ecc200_inspection *out) {
-    uint16_t code = ecc200_inspect(modules, count, side, out);
-    record((head){"ecc200_inspect", 1, (uint32_t)count, 1, {side}, code, sizeof *out}, modules, out);
+static uint16_t recorded_inspect(const uint8_t *modules, size_t count, const uint8_t *doubtful, size_t doubtful_count,
+                                 uint16_t rows, uint16_t columns, ecc200_inspection *out) {
+    memset(out, FILLED, sizeof *out);
+    uint16_t code = ecc200_inspect(modules, count, doubtful, doubtful_count, rows, columns, out);
+    head made = {"ecc200_inspect", {0}, {0}, {1, 1}, 2, {rows, columns}, code, sizeof *out};
+    record(made, (input){modules, 1, count}, (input){doubtful, 1, doubtful_count}, out);
     return code;
 }
 
-static uint16_t recorded_write(const uint16_t *items, size_t count, uint16_t profile, ecc200_symbol *out) {
-    uint16_t code = ecc200_write(items, count, profile, out);
-    record((head){"ecc200_write", 2, (uint32_t)count, 1, {profile}, code, sizeof *out}, items, out);
+static uint16_t recorded_write(const uint16_t *items, size_t count, const ecc200_how *how, ecc200_symbol *out) {
+    memset(out, FILLED, sizeof *out);
+    uint16_t code = ecc200_write(items, count, how, out);
+    head made = {"ecc200_write", {0}, {0}, {1, 0}, 0, {0}, code, sizeof *out};
+    record(made, (input){items, 2, count}, (input){how, sizeof *how, 1}, out);
     return code;
 }
 
-static uint16_t recorded_write_bytes(const uint8_t *bytes, size_t count, uint16_t profile, ecc200_symbol *out) {
-    uint16_t code = ecc200_write_bytes(bytes, count, profile, out);
-    record((head){"ecc200_write_bytes", 1, (uint32_t)count, 1, {profile}, code, sizeof *out}, bytes, out);
+static uint16_t recorded_write_bytes(const uint8_t *bytes, size_t count, const ecc200_how *how, ecc200_symbol *out) {
+    memset(out, FILLED, sizeof *out);
+    uint16_t code = ecc200_write_bytes(bytes, count, how, out);
+    head made = {"ecc200_write_bytes", {0}, {0}, {1, 0}, 0, {0}, code, sizeof *out};
+    record(made, (input){bytes, 1, count}, (input){how, sizeof *how, 1}, out);
     return code;
 }
 
-static uint16_t recorded_usual_limit(uint16_t side) {
-    uint16_t limit = ecc200_usual_limit(side);
-    record((head){"ecc200_usual_limit", 0, 0, 1, {side}, limit, 0}, NULL, NULL);
+static uint16_t recorded_usual_limit(uint16_t rows, uint16_t columns) {
+    uint16_t limit = ecc200_usual_limit(rows, columns);
+    record((head){"ecc200_usual_limit", {0}, {0}, {0}, 2, {rows, columns}, limit, 0}, NONE, NONE, NULL);
     return limit;
 }
 
 static void recorded_sizes(ecc200_size_table *out) {
     ecc200_sizes(out);
-    record((head){"ecc200_sizes", 0, 0, 0, {0}, 0, sizeof *out}, NULL, out);
+    record((head){"ecc200_sizes", {0}, {0}, {0}, 0, {0}, 0, sizeof *out}, NONE, NONE, out);
 }
 
-static uint16_t recorded_places(uint16_t side, ecc200_place_table *out) {
-    uint16_t code = ecc200_places(side, out);
-    record((head){"ecc200_places", 0, 0, 1, {side}, code, sizeof *out}, NULL, out);
+static uint16_t recorded_places(uint16_t rows, uint16_t columns, ecc200_place_table *out) {
+    memset(out, FILLED, sizeof *out);
+    uint16_t code = ecc200_places(rows, columns, out);
+    record((head){"ecc200_places", {0}, {0}, {0}, 2, {rows, columns}, code, sizeof *out}, NONE, NONE, out);
     return code;
 }
 

@@ -238,8 +238,26 @@ def push(*names):
         settle()
 
 
-def write(message, profile=0):
+def choose(name, value):
+    """Chooses one of a list, as a person does."""
+    run(
+        """const node = document.getElementById(arguments[0]);
+           node.value = arguments[1];
+           node.dispatchEvent(new Event('change', { bubbles: true }))""",
+        name,
+        value,
+    )
+    settle()
+
+
+def write(message, profile=0, size="square"):
+    """Writes a message in the smallest size of a shape, or in one size, which is named by rows and columns."""
     push("tab-make", "kind-message", f"profile-{profile}")
+    shape = "one" if size[0].isdigit() else size
+    if run("return document.getElementById('shape').value") != shape:
+        choose("shape", shape)
+    if shape == "one":
+        choose("size", size)
     put("message", message)
 
 
@@ -270,7 +288,7 @@ def usable(name):
 
 
 def grid():
-    return run("return mitsubadoor.gridText(mitsubadoor.mark.modules)").rstrip("\n")
+    return run("return mitsubadoor.gridText(mitsubadoor.mark)").rstrip("\n")
 
 
 def agree(name):
@@ -295,11 +313,12 @@ def turned(text, quarters, mirrored, inverted):
     return "\n".join(rows).translate(str.maketrans("01", "10") if inverted else {})
 
 
-def offset(cell, side):
-    """Where a module lies from the middle of the symbol, in pixels."""
-    width = find("symbol").rect["width"]
-    scale = width / (side + 2 * QUIET)
-    return [round((at + QUIET + 0.5) * scale - width / 2) for at in (cell % side, cell // side)]
+def offset(cell, columns, rows=None):
+    """Where a module of a square of this side, or of a rectangle, lies from the middle of the symbol, in pixels."""
+    scale = find("symbol").rect["width"] / (columns + 2 * QUIET)
+    middle = lambda length: length / 2 + QUIET
+    across, down = cell % columns - middle(columns), cell // columns - middle(rows or columns)
+    return [round((at + QUIET + 0.5) * scale) for at in (across, down)]
 
 
 def metrics(width, height, mobile=False, scale=1):
@@ -358,10 +377,10 @@ def acting():
     return ActionChains(on.page, duration=0)
 
 
-def click(*cells, side=10):
+def click(*cells, side=10, rows=None):
     learn()
     for cell in cells:
-        acting().move_to_element_with_offset(find("symbol"), *offset(cell, side)).click().perform()
+        acting().move_to_element_with_offset(find("symbol"), *offset(cell, side, rows)).click().perform()
         settle()
 
 
@@ -380,24 +399,25 @@ def wait_for(what, seconds=None):
     return what()
 
 
-def drawn(side):
-    """The grid according to the pixels of the screen, taken at a corner of each module, away from crosses and numbers;
-    also checks the quiet zone."""
+def drawn(columns, rows=None, share=0.12):
+    """The grid of a square of this side, or of a rectangle, according to the pixels of the screen, taken at a corner of
+    each module, away from crosses and numbers, or at another share of it; also checks the quiet zone."""
     picture = find("symbol").screenshot_as_base64
     text = on.page.execute_async_script(
         """
-        const [picture, side, quiet, done] = arguments, image = new Image(), all = side + 2 * quiet;
+        const [picture, columns, rows, quiet, share, done] = arguments, image = new Image();
+        const across = columns + 2 * quiet, down = rows + 2 * quiet;
         image.src = "data:image/png;base64," + picture;
         image.decode().then(() => {
             const { naturalWidth: width, naturalHeight: height } = image;
             const pen = Object.assign(document.createElement("canvas"), { width, height }).getContext("2d");
             pen.drawImage(image, 0, 0);
             const { data } = pen.getImageData(0, 0, width, height), rows = [];
-            const at = (line) => Math.min(width - 1, Math.floor(((line + 0.12) * width) / all));
-            for (let r = 0; r < all; r++) {
+            const at = (line, length, all) => Math.min(length - 1, Math.floor(((line + share) * length) / all));
+            for (let r = 0; r < down; r++) {
                 let row = "";
-                for (let c = 0; c < all; c++) {
-                    const p = 4 * (at(r) * width + at(c));
+                for (let c = 0; c < across; c++) {
+                    const p = 4 * (at(r, height, down) * width + at(c, width, across));
                     row += data[p] + data[p + 1] + data[p + 2] < 384 ? 1 : 0;
                 }
                 rows.push(row);
@@ -405,8 +425,10 @@ def drawn(side):
             done(rows.join("\\n"));
         });""",
         picture,
-        side,
+        columns,
+        rows or columns,
         QUIET,
+        share,
     )
     lines = text.split("\n")
     around = lines[:QUIET] + lines[-QUIET:] + [line[:QUIET] + line[-QUIET:] for line in lines]
@@ -422,8 +444,8 @@ def drawn_rows(content, height, scale):
     ]
     module, left, right = numbers[0][3], min(x for x, *_ in numbers), max(x + width for x, _, width, _ in numbers)
     top = height - max(y + tall for _, y, _, tall in numbers)
-    side = round((right - left) / module)
-    rows = [["0"] * side for _ in range(side)]
+    columns, down = round((right - left) / module), round((height - top - min(y for _, y, *_ in numbers)) / module)
+    rows = [["0"] * columns for _ in range(down)]
     for x, y, width, tall in numbers:
         assert abs(tall - module) < 0.001, content
         row, column = round((height - y - tall - top) / module), round((x - left) / module)

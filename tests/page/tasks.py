@@ -92,7 +92,7 @@ def earlier_links():
             "return [...modules.keys()].filter((k) => modules[k] !== original[k])"
         )
         count.expect(fragment.replace(letters, "..."), (seen_panes(), shown()["says"], damage), ([name], says, turned))
-    for side in (105, 120, 999):
+    for side in (105, 145, 999):
         go(f"#read&grid={side}{'A' * -(-side * side // 6)}")
         count.expect(
             f"a grid of side {side}",
@@ -135,9 +135,9 @@ def text_and_gs1():
     put("message", "\u00e9\\(01) \u20ac")
     count.expect("a backslash in text", shown()["says"], "\u00e9\\(01) \u20ac")
     agree("a backslash in text, as it is read")
-    put("message", "~" * 20001)
+    put("message", "~" * 25001)
     count.expect(
-        "too much text", (verdict(), "20,001 characters" in text_of("message-hint")), (("Nothing is read", ""), True)
+        "too much text", (verdict(), "25,001 characters" in text_of("message-hint")), (("Nothing is read", ""), True)
     )
     run(COLLECT)
     find("pane-make").find_element("css selector", "[data-message^='(01)']").click()

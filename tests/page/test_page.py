@@ -17,7 +17,7 @@ PAGE = places.path("web", "out", "mitsubadoor.html")
 
 @needs.program
 @needs.module("selenium")
-@needs.programs("chromium", "chromedriver", "wasm-opt")
+@needs.programs("chromium", "chromedriver", "wasm-opt", "node")
 class Page(Case):
     restarts = 1
 

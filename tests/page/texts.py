@@ -55,8 +55,8 @@ def spellings():
         "caf\u00e9",
         "100 \u20ac",
         "tab\t",
-        "0" * 1633,
-        "\\xFF" * 409,
+        "0" * 3117,
+        "\\xFF" * 780,
     ]:
         write(text)
         line, words = written(text), text_of("message-hint")
@@ -65,7 +65,7 @@ def spellings():
             count.expect(name, words.split(" ")[:2], ["Column", line.split(" ")[3]])
             count.expect(f"{name} is marked", find("message").get_attribute("aria-invalid"), "true")
         elif line.startswith("\\no 14"):
-            count.expect(name, words.startswith("No size of symbol up to side 104 holds this message"), True)
+            count.expect(name, words.startswith("No square up to 144 × 144 modules holds this message"), True)
         else:
             count.expect(name, grid(), line)
             agree(f"{name} read")
@@ -101,14 +101,14 @@ def profiles():
         "\\F" + letters,
         "A" * 30 + letters[:200],
         "",
-        letters * 6,
+        letters * 13,
     ):
         sides = []
         for profile in (0, 1):
             write(text, profile)
             line = written(text, profile)
             fits = not line.startswith("\\no ")
-            sides.append(f"{line.index(chr(10))} × {line.index(chr(10))}" if fits else "fits no size")
+            sides.append(f"{line.index(chr(10))} × {line.index(chr(10))}" if fits else "doesn’t fit")
             if fits:
                 count.expect(f"profile {profile} of {text[:24]}", grid(), line)
                 agree(f"profile {profile} of {text[:24]} read")
@@ -116,7 +116,7 @@ def profiles():
                 agree(f"profile {profile} of {text[:24]} at the limit")
             else:
                 count.expect(
-                    f"profile {profile} of {text[:24]}", text_of("message-hint").startswith("No size of symbol"), True
+                    f"profile {profile} of {text[:24]}", text_of("message-hint").startswith("No square up to"), True
                 )
         count.expect(f"sides told for {text[:24]}", [text_of("side-0"), text_of("side-1")], sides)
     write("123456")
@@ -142,11 +142,11 @@ def pasted():
     for text, why in [
         ("10\n1x0", "Row 1 has a character other than #, X, . and space."),
         ("10\n12", "Row 2 has a character other than 0 and 1."),
-        ("111\n11", "Not a square: there are 2 rows, and row 1 has 3 modules."),
-        ("1\n0\n1", "Not a square: there are 3 rows, and row 1 has 1 module."),
-        ("11\n11", "A square of side 2, but no size has this side."),
-        ("1" * 105, "More than 104 rows or columns: symbols as large as that aren’t read here."),
-        ("1\n" * 105, "More than 104 rows or columns: symbols as large as that aren’t read here."),
+        ("111\n11", "Not a rectangle: row 1 has 3 modules, and row 2 has 2 modules."),
+        ("1\n0\n1", "There are 3 rows of 1 module, and no size has these, upright or on its side."),
+        ("11\n11", "There are 2 rows of 2 modules, and no size has these, upright or on its side."),
+        ("1" * 145, "More than 144 rows or columns, and no symbol has as many."),
+        ("1\n" * 145, "More than 144 rows or columns, and no symbol has as many."),
     ]:
         put("grid", text)
         count.expect(
@@ -315,7 +315,7 @@ def compared():
     count.expect(
         "two profiles", head(), ["Yes, they say the same.", "Their modules differ, but both have this one normal grid:"]
     )
-    message = "".join(f"\\x{128 + k % 128:02X}" for k in range(700))
+    message = "".join(f"\\x{128 + k % 128:02X}" for k in range(800))
     write(message, 1)
     take("a")
     push("to-limit")

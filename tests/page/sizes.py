@@ -1,0 +1,654 @@
+"""Symbols of every size in the page: made in a size that is chosen, read as text and from pictures, damaged, with
+modules that the reader is told to be doubtful, linked, compared, and measured on labels. The page's library judges,
+without the page; the marks that another encoder made in every size stand beside it."""
+import base64
+import functools
+import io
+import math
+import random
+import re
+import zipfile
+
+from tests.page.conduct import linked, started
+from tests.page.history import fields
+from tests.page.judge import SHAPES, asked_to_read, asked_to_write, in_lines, items_of, judged, table, written_in
+from tests.page.labels import chosen, pages_of, saved
+from tests.page.paper import paper_is
+from tests.page.pictures import chunks, opened, png
+from tests.page.stage import (
+    QUIET,
+    acting,
+    cells,
+    changed,
+    choose,
+    click,
+    coloured,
+    count,
+    drawn,
+    find,
+    flat,
+    grid,
+    learn,
+    offset,
+    on,
+    push,
+    put,
+    run,
+    settle,
+    shown,
+    text_of,
+    turned,
+    unfold,
+    write,
+    written,
+)
+from tests.support import places
+
+MARKS = places.path("tests", "marks", "every-size.txt")
+# What the page says of a letter that has more than a message, by the codeword that begins it.
+REFUSED = {
+    "\\E": "begins an ECI, which changes how the bytes are to be interpreted.",
+    "\\A": "1 begins structured append: this symbol has one part of a message that several symbols share.",
+    "\\P": "1 begins reader programming: an instruction to the reader, and not a message.",
+}
+
+
+def agree_with_judge(name, line=None):
+    """Compares what is shown with what the library says of the grid and the doubtful modules that the page has; where
+    it is read, as this line."""
+    doubtful = run("const { doubtful } = mitsubadoor.mark; return doubtful ? [...doubtful].join('') : ''")
+    (answer,) = judged([asked_to_read(grid(), doubtful)])
+    seen = shown()
+    if "fault" in answer:
+        count.expect(name, (seen["state"], seen["says"]), ("Refused", "no message"))
+        return answer
+    size = table()[name_of(grid())]
+    checks = size["check"] // size["blocks"]
+    told_of = lambda erased, left: f"{erased} doubtful; {left} of {checks} checks left" if erased else size["limit"]
+    blocks = [
+        f"{wrong} wrong, {told_of(erased, left)}"
+        for wrong, erased, left in zip(answer["corrected"], answer["erased"], answer["left"])
+    ]
+    count.expect(f"{name}: meters", seen["meters"][:-1], blocks)
+    count.expect(f"{name}: border", seen["meters"][-1].split(" ")[0], str(answer["border"]))
+    if line is not None:
+        is_that = answer["items"] == items_of(line)
+        count.expect(name, (seen["state"] in ("Read", "Read, as GS1 data"), is_that), (is_that, is_that))
+    return answer
+
+
+def kinds(what):
+    """How many codewords have cells of a kind, data and check codewords alike."""
+    return sum(kind in (what, f"check {what}") for *_, kind in cells())
+
+
+def name_of(text):
+    rows = text.split("\n")
+    return str(len(rows)) if len(rows) == len(rows[0]) else f"{len(rows)}x{len(rows[0])}"
+
+
+def words_of(name):
+    size = table()[name]
+    return f"{size['rows']} × {size['columns']}"
+
+
+# ---- Made
+
+
+def new_sizes():
+    """The sizes that the program doesn't write: rectangles, and squares above 104."""
+    return [name for name, size in table().items() if size["rows"] != size["columns"] or size["rows"] > 104]
+
+
+def digits(count_of_them):
+    return "".join(str(k * k % 10) for k in range(count_of_them))
+
+
+def each_is_made():
+    """Each size that the program doesn't write, as it is drawn, what is said of it, and damaged to the limit and past
+    it."""
+    unfold("form")
+    for name in new_sizes():
+        size = table()[name]
+        rows, columns, limit = size["rows"], size["columns"], size["limit"]
+        line = digits(2 * size["data"] - 1)
+        write(line, size=name)
+        count.expect(f"{name} as it is written", grid(), written_in(line, name))
+        count.expect(f"{name} by its pixels", drawn(columns, rows, 0.5), grid())
+        facts = run("return [...document.querySelectorAll('#facts dd')].map((it) => it.textContent)")
+        wanted = [words_of(name), str(size["data"]), str(size["check"]), str(limit)]
+        count.expect(f"{name}: facts", facts, wanted)
+        length = lambda modules: f"{round((modules + 4) * 0.5, 2):g}"
+        said = f"{length(columns)} × {length(rows)} mm with 2 modules of quiet zone"
+        count.expect(f"{name}: what it prints", text_of("print-size").startswith(said), True)
+        count.expect(f"{name}: sides", text_of("side-now"), words_of(name))
+        push("tab-learn", "to-limit")
+        count.expect(f"{name} at the limit", shown()["meters"][:-1], [f"{limit} wrong, {limit}"] * size["blocks"])
+        agree_with_judge(f"{name} at the limit, as it is read", line)
+        count.expect(f"{name}: codewords that are corrected", kinds("corrected"), limit * size["blocks"])
+        push("one-more")
+        answer = agree_with_judge(f"{name} past the limit")
+        if "fault" in answer:
+            count.expect(f"{name}: more than can be", f"more than {limit} wrong, {limit}" in shown()["meters"], True)
+        push("undo-all")
+        count.expect(f"{name} undone", (grid(), coloured()), (written_in(line, name), []))
+    write("123456")
+
+
+def sizes_by_shape():
+    """The smallest size of each shape, and one size, for messages of many lengths under both profiles; and what fits
+    none."""
+    unfold("form")
+    letters = "".join(f"\\x{byte:02X}" for byte in range(128, 256))
+    lines = ["", "12", "123456", "A" * 9, "Ab1" * 5, "\\F0109506000134352", letters[:80], "9" * 130, "Z" * 48]
+    lines.append(letters * 7)
+    for size in (*SHAPES, "8x18", "16x48", "24", "8x144", "26x64"):
+        for profile in (0, 1):
+            symbols = judged([asked_to_write(line, size, form) for line in lines for form in (0, 1)])
+            for k, line in enumerate(lines):
+                both = symbols[2 * k : 2 * k + 2]
+                write(line, profile, size)
+                told = [f"{it['rows']} × {it['columns']}" if "text" in it else "doesn’t fit" for it in both]
+                name = f"{line[:12]!r} in {size} under profile {profile}"
+                if "text" in both[profile]:
+                    count.expect(name, grid(), in_lines(both[profile]))
+                    count.expect(f"{name}: sides", [text_of("side-0"), text_of("side-1")], told)
+                else:
+                    count.expect(f"{name}: refused", (shown()["state"], refusal_in(size)), ("Nothing is read", True))
+    count.expect("one size is listed only where it is chosen", find("size").is_displayed(), True)
+    choose("shape", "any")
+    count.expect("and else isn't", find("size").is_displayed(), False)
+    names = run("return [...document.querySelectorAll('#size option')].map((it) => it.value)")
+    count.expect("all sizes are listed", sorted(names), sorted(table()))
+    write("123456")
+
+
+def refusal_in(size):
+    """Whether it is said that a size, or no size of a shape, holds the message."""
+    whose = {
+        "square": "No square up to 144 × 144 modules holds",
+        "rectangle": "No rectangle up to 16 × 48 modules holds",
+        "extended": "No rectangle up to 26 × 64 modules holds",
+        "any": "No size holds",
+    }
+    begin = whose.get(size) or f"{words_of(size)} modules don’t hold"
+    said = text_of("message-hint")
+    return said.startswith(f"{begin} this message in this form. It is ") and " too long." in said
+
+
+# ---- Read
+
+
+@functools.cache
+def marks():
+    """The marks of another encoder in every size: rows, columns, what they say, and their grids."""
+    found = []
+    with open(MARKS, encoding="latin-1") as file:
+        for record in file.read().split("\n\n"):
+            lines = [line for line in record.split("\n") if not line.startswith("#")]
+            if len(lines) > 3:
+                rows, columns = map(int, lines[0].split()[1:3])
+                found.append((lines[0], rows, columns, lines[2], "\n".join(lines[3:])))
+    return found
+
+
+def marks_of_every_size():
+    """The marks that zint made, each as text: plain messages are read as what they say; what has an ECI or is part of
+    several symbols, or programs a reader, is refused by its name."""
+    push("tab-read")
+    read = refused = 0
+    for head, rows, columns, line, text in marks():
+        put("grid", text)
+        count.expect(f"{head}: as it stands", (grid(), shown()["side"]), (text, rows))
+        special = re.search(r"\\[EAP]", line.replace("\\\\", ""))
+        if special:
+            refused += 1
+            said = shown()["why"]
+            count.expect(head, (shown()["state"], REFUSED[special[0]] in said), ("Refused", True))
+        else:
+            read += 1
+            items = run("return mitsubadoor.mark.seen.answer.items")
+            count.expect(head, (shown()["state"] in ("Read", "Read, as GS1 data", GS1), items), (True, items_of(line)))
+    sizes = {name_of(text) for *_, text in marks()}
+    count.expect("every new size is among them", sorted(set(new_sizes()) - sizes), [])
+    count.expect("some are read and some refused", read > 50 and refused > 10, True)
+
+
+GS1 = "Read, but it isn’t right as GS1 data"
+QUARTERS = ["", "turned a quarter to the right", "turned upside down", "turned a quarter to the left"]
+
+
+def ways():
+    for inverted in (False, True):
+        for mirrored in (False, True):
+            for quarters in range(4):
+                parts = [inverted and "inverted, light for dark", mirrored and "mirrored left to right"]
+                parts.append(QUARTERS[quarters])
+                yield (quarters, mirrored, inverted), ", and ".join(filter(None, parts))
+
+
+def in_all_ways():
+    """Rectangles that stand in each of the sixteen ways, as text and as pictures."""
+    push("tab-read")
+    for name, line in (("8x32", "Rectangle"), ("12x26", "123456"), ("26x40", "A little more of it")):
+        text = written_in(line, name)
+        for way, how in ways():
+            put("grid", turned(text, *way))
+            said = f"The grid is {how}: found by trying, and shown upright." if how else "Read as it stands."
+            count.expect(f"{name} {how}", (text_of("grid-hint"), grid(), shown()["says"]), (said, text, line))
+        for scale, around, (way, how) in zip([2, 3, 4, 6] * 4, [0, 1, 2, 3] * 4, ways()):
+            _, mirrored, inverted = way
+            rows = turned(text, *way[:2], False).split("\n")
+            light, dark = (40, 210) if inverted else (230, 20)
+            said = opened(f"{name}.png", png(rows, scale, around, light, dark))
+            count.expect(
+                f"a picture of {name} {how}, {scale} pixels",
+                (said, grid(), shown()["says"]),
+                (
+                    f"{name}.png: {words_of(name)}. "
+                    + (f"The symbol is {how}: found by trying, and shown upright." if how else "Read as it stands."),
+                    text,
+                    line,
+                ),
+            )
+    text = written_in("Rectangle", "8x32")
+    beyond = "".join("0" if module == "1" and k % 32 and k < 224 else module for k, module in enumerate(flat(text)))
+    lines = "\n".join(beyond[k : k + 32] for k in range(0, 256, 32))
+    put("grid", turned(lines, 1, False, False))
+    count.expect(
+        "one that can't be read lies on its side",
+        (text_of("grid-hint"), grid()),
+        (
+            "It can’t be read as it stands, nor turned, mirrored or inverted. It is shown upright, as if it were "
+            "turned a quarter to the right.",
+            lines,
+        ),
+    )
+    push("tab-make")
+
+
+def at_an_angle():
+    """Rectangles in pictures that stand at an angle."""
+    push("tab-read")
+    for name, line, degrees in (("12x36", "At an angle", 8), ("16x48", "A longer one at an angle", -20),
+                                ("8x32", "Rectangle", 5)):
+        text = written_in(line, name)
+        said = opened(f"{name}.png", slanted(text.split("\n"), 9, degrees))
+        count.expect(
+            f"{name} at {degrees} degrees",
+            (shown()["says"], said.startswith(f"{name}.png: {words_of(name)}. Found in the picture")),
+            (line, True),
+        )
+    push("tab-make")
+
+
+def slanted(rows, scale, degrees):
+    """The picture of a grid that is turned by so many degrees, on white."""
+    down, across = len(rows), len(rows[0])
+    width = int(scale * (across + 8) * 1.15)
+    height = int(scale * (down + 8 + across * abs(math.sin(math.radians(degrees)))) * 1.15)
+    cosine, sine = math.cos(math.radians(degrees)), math.sin(math.radians(degrees))
+
+    def pixel(x, y):
+        dx, dy = (x - width / 2) / scale, (y - height / 2) / scale
+        c, r = math.floor(dx * cosine + dy * sine + across / 2), math.floor(dy * cosine - dx * sine + down / 2)
+        return 20 if 0 <= r < down and 0 <= c < across and rows[r][c] == "1" else 235
+
+    return chunks(width, height, b"".join(b"\0" + bytes(pixel(x, y) for x in range(width)) for y in range(height)))
+
+
+# ---- Linked and compared
+
+
+def rectangles_are_linked():
+    """Reload and links keep the size that is chosen, a rectangle that was read, damage and doubtful modules; a square
+    that was read is linked as ever, whatever its first modules are."""
+    push("tab-read")
+    text = written_in("Rectangle", "8x32")
+    put("grid", text)
+    write("123456", size="12x36")
+    push("tab-learn", "brush-turn")
+    click(40, 41, side=36, rows=12)
+    push("brush-doubt")
+    click(41, 60, side=36, rows=12)
+    push("brush-turn", "learn-read")
+    click(45, side=32, rows=8)
+    linked()
+    kept = """
+        const text = (list) => list && [...list].join(""), { panes } = mitsubadoor;
+        const state = ({ modules, rows, columns, doubtful, original, limit }) =>
+            [text(modules), rows, columns, text(doubtful), text(original), limit];
+        return Object.values(panes).map(state);"""
+    before, had = run(kept), fields()
+    count.expect("the link", (had["size"], had["grid"].startswith("8.32."), "doubtful" in had), ("12x36", True, True))
+    on.page.refresh()
+    started()
+    settle()
+    count.expect("after a reload", (run(kept), shown()["says"]), (before, "Rectangle"))
+    count.expect("its size is chosen", run("return ['shape', 'size'].map((it) => document.getElementById(it).value)"),
+                 ["one", "12x36"])
+    push("undo")
+    count.expect("and its damage undone", grid(), text)
+    for name in ("rectangle", "extended", "any", "square"):
+        write("123456", size=name)
+        linked()
+        count.expect(f"{name} in the link", fields().get("size", "square"), name)
+        on.page.refresh()
+        started()
+        settle()
+        count.expect(f"{name} after a reload", grid(), written_in("123456", name))
+    for first in ("110100", "111101"):
+        odd = first + written("123456").replace("\n", "")[6:]
+        put_grid("\n".join(odd[k : k + 10] for k in range(0, 100, 10)))
+        linked()
+        on.page.refresh()
+        started()
+        settle()
+        count.expect(f"a square that begins {first}", flat(run("return document.getElementById('grid').value")), odd)
+    no_sizes = ("read&grid=8.19.AAAA", "read&grid=0.0.", "read&grid=8.18.A", "read&grid=145.145.AA")
+    for fragment in (*no_sizes, "make&size=9x9", "make&size=one"):
+        run("location.hash = arguments[0]", f"#{fragment}")
+        linked()
+        settle()
+        kinds = run("return [document.getElementById('shape').value, document.getElementById('grid').value]")
+        count.expect(fragment, kinds, ["square", ""])
+    push("tab-make")
+    write("123456")
+
+
+def put_grid(text):
+    push("tab-read")
+    put("grid", text)
+
+
+def rectangles_are_compared():
+    """A rectangle and a square, in the slots: whether they say the same."""
+    push("tab-read")
+    unfold("comparison")
+    verdict = lambda: run("return document.querySelector('#same strong').textContent")
+    one, same = written_in("Rectangle", "8x32"), "Yes, they say the same."
+    for a, b, wanted in (
+        (one, written_in("Rectangle", "square"), same),
+        (one, turned(written_in("Rectangle", "16x48"), 1, True, True), same),
+        (one, written_in("Rectangles", "8x32"), "No, they say different things."),
+    ):
+        for name, text in (("a", a), ("b", b)):
+            run(
+                """const area = document.querySelector(arguments[0]);
+                   area.value = arguments[1];
+                   area.dispatchEvent(new Event('input', { bubbles: true }))""",
+                f"#slot-{name} textarea",
+                text,
+            )
+        settle()
+        count.expect(f"{name_of(a)} and {name_of(b)}", verdict(), wanted)
+    said = run("return document.querySelector('#slot-a svg').getAttribute('aria-label')")
+    count.expect("what is said of the symbol", said, "Symbol A, of 8 × 32 modules")
+    push("tab-make")
+
+
+# ---- Doubtful modules
+
+
+def doubts():
+    """Which modules the reader is told to be doubtful."""
+    return run(
+        """const { doubtful } = mitsubadoor.mark;
+           return doubtful ? [...doubtful.keys()].filter((k) => doubtful[k]) : []"""
+    )
+
+
+def doubted():
+    """Modules are marked as doubtful by clicks, drags, keys and the button; each is a step; what is read, what is
+    corrected, and what each block has left is what the library says."""
+    line = "Mitsubadoor"
+    write(line, size="16x48")
+    clean = grid()
+    push("tab-learn", "brush-doubt")
+    click(100, side=48, rows=16)
+    count.expect("a click", (doubts(), grid()), ([100], clean))
+    agree_with_judge("a click, as it is read", line)
+    at = lambda cell: offset(cell, 48, 16)
+    chain = acting().move_to_element_with_offset(find("symbol"), *at(150)).click_and_hold()
+    chain.move_to_element_with_offset(find("symbol"), *at(154)).release().perform()
+    settle()
+    count.expect("a drag", doubts(), [100, 150, 151, 152, 153, 154])
+    agree_with_judge("a drag, as it is read", line)
+    count.expect("what is marked is in the legend", "doubtful" in text_of("legend"), True)
+    chain = acting().move_to_element_with_offset(find("symbol"), *at(151)).click_and_hold()
+    chain.move_to_element_with_offset(find("symbol"), *at(153)).release().perform()
+    settle()
+    count.expect("a drag from a doubtful one takes doubt away", doubts(), [100, 150, 154])
+    push("undo")
+    count.expect("undone", doubts(), [100, 150, 151, 152, 153, 154])
+    push("undo", "undo", "undo")
+    count.expect("all undone", (doubts(), grid()), ([], clean))
+    push("redo")
+    count.expect("done again", doubts(), [100])
+    push("undo-all")
+    count.expect("undo everything", doubts(), [])
+    push("brush-turn")
+    size = table()["16x48"]
+    for _ in range(size["limit"]):
+        push("one-more")
+    agree_with_judge("at the limit", line)
+    push("tell")
+    answer = agree_with_judge("told of all that was turned over", line)
+    count.expect(
+        "each doubtful codeword takes one check codeword",
+        (answer["corrected"], answer["erased"], answer["left"]),
+        ([0], [size["limit"]], [size["check"] - size["limit"]]),
+    )
+    count.expect("the cells say so", kinds("corrected erased"), size["limit"])
+    told_of = changed(clean, grid())
+    count.expect("what is told", doubts(), told_of)
+    for step in range(size["check"]):
+        push("one-more", "tell")
+        answer = agree_with_judge(f"{step} more, and told")
+        if "fault" in answer:
+            break
+    count.expect("until all checks are spent", len(doubts()) > size["check"], True)
+    beyond = f"{size['check'] + 1} codewords are doubtful, and the {size['check']} check codewords replace no more than"
+    count.expect("and then it is said", shown()["why"].startswith(beyond), True)
+    push("undo", "undo", "undo")
+    begin = f"{size['check'] - 1} codewords are doubtful, and of the others some are wrong."
+    count.expect("beside so many doubtful ones none may be wrong", shown()["why"].startswith(begin), True)
+    agree_with_judge("beside so many doubtful ones")
+    doubted_by_keys()
+    doubted_when_read()
+
+
+def doubted_by_keys():
+    write("123456")
+    push("tab-learn", "brush-doubt")
+    run("document.getElementById('symbol').focus()")
+    for key in ("\ue014", "\ue015", " "):  # right, down, space
+        on.page.switch_to.active_element.send_keys(key)
+        settle()
+    cursor = run("return [mitsubadoor.mark.cursor, mitsubadoor.mark.doubtful?.[mitsubadoor.mark.cursor] ?? 0]")
+    count.expect("by keys", (cursor[1], "doubtful" in text_of("spoken")), (1, True))
+    on.page.switch_to.active_element.send_keys(" ")
+    settle()
+    count.expect("and back", run("return mitsubadoor.mark.doubtful"), None)
+    push("brush-turn")
+
+
+def doubted_when_read():
+    """A symbol that was opened, of which all checks are spent: no green verdict."""
+    line, name = "123456", "10"
+    put_grid(written(line))
+    push("tab-learn", "brush-doubt")
+    first_bits = run("const { kind, bit } = mitsubadoor.mark.seen.map;"
+                     "return [...kind.keys()].filter((k) => kind[k] === 1 && bit[k] === 1)")
+    for cell in first_bits[: table()[name]["check"]]:
+        click(cell, side=10)
+    agree_with_judge("all checks spent", None)
+    count.expect(
+        "no green verdict",
+        (shown()["state"], "No check codeword is left" in shown()["why"]),
+        ("Read, but nothing shows that it is right", True),
+    )
+    push("undo")
+    count.expect("one left", shown()["state"], "Read")
+    push("brush-turn", "undo-all", "tab-make")
+
+
+def damaged_at_random():
+    """Symbols of all sizes with modules turned over and others marked, at random, as they are shown and as the library
+    answers."""
+    chance = random.Random(5)
+    names = list(table())
+    questions, cases = [], []
+    push("tab-read")
+    for _ in range(60):
+        name = chance.choice(names)
+        size = table()[name]
+        line = digits(chance.randrange(1, 2 * size["data"]))
+        cases.append((name, line))
+    symbols = judged([asked_to_write(line, name) for name, line in cases])
+    for (name, line), symbol in zip(cases, symbols):
+        size, modules = table()[name], list(symbol["text"])
+        doubtful = ["0"] * len(modules)
+        turns = chance.randrange(0, 2 * size["limit"] * size["blocks"] // 3 + 2)
+        for k in chance.sample(range(len(modules)), min(turns, len(modules))):
+            modules[k] = "10"[int(modules[k])]
+            if chance.random() < 0.6:
+                doubtful[k] = "1"
+        text = in_lines({**symbol, "text": "".join(modules)})
+        put("grid", text)
+        if grid() != text:
+            continue  # it stands in another way
+        run(
+            """const it = mitsubadoor.mark;
+               it.doubtful = arguments[0].includes("1") ? Uint8Array.from(arguments[0], Number) : null;""",
+            "".join(doubtful),
+        )
+        push("usual")  # looks anew
+        run("document.getElementById('border-limit').dispatchEvent(new Event('blur'))")
+        settle()
+        agree_with_judge(f"{name} at random", None)
+    push("tab-make")
+
+
+# ---- Given
+
+
+def labels_of_rectangles():
+    """Rectangles on labels and pages, measured in the PDF; their files, with the text below them."""
+    write("Label", size="rectangle")
+    unfold("sheet")
+    paper_is("a4", "0.4")
+    lines = ["one", "Rectangle 2", "3333333333", "rectangle"]
+    put("messages", "\n".join(lines))
+    grids = [written_in(line, "rectangle") for line in lines]
+    chosen("stock", "50x30")
+    pages = pages_of(saved("symbols.pdf", "many-pdf"))
+    for line, text, (size, symbols, texts) in zip(lines, grids, pages):
+        rows = text.split("\n")
+        wide, high = (len(rows[0]) + 2 * QUIET) * 0.4, (len(rows) + 2 * QUIET) * 0.4
+        x, y = (50 - wide) / 2 + QUIET * 0.4, (30 - high - 3) / 2 + QUIET * 0.4
+        ((left, top, module, drawn_there),) = symbols
+        count.expect(f"a label of {line}: its size and text", (size, texts), ([50, 30], [line]))
+        count.expect(
+            f"a label of {line}: where it stands",
+            [round(it, 2) for it in (left, top, module)],
+            [round(x, 2), round(y, 2), 0.4],
+        )
+        count.expect(f"a label of {line}: its modules", drawn_there, text)
+    chosen("stock", "none")
+    pages = pages_of(saved("symbols.pdf", "many-pdf"))
+    length = lambda modules, more=0: round((modules + 4) * 0.4 + more, 2)
+    wanted = [[length(text.index("\n")), length(text.count("\n") + 1, 3)] for text in grids]
+    count.expect("pages as large as they are", [size for size, _, _ in pages], wanted)
+    in_files(lines, grids)
+    ((size, ((*_, rows),), _),) = pages_of(saved("symbol-8x18.pdf", "save-pdf"))
+    count.expect("one in a PDF", (size, rows), ([8.8, 4.8], written_in("Label", "rectangle")))
+    write("123456")
+
+
+def in_files(lines, grids):
+    for ending in ("svg", "png"):
+        with zipfile.ZipFile(io.BytesIO(saved(f"symbols-{ending}.zip", f"many-{ending}"))) as archive:
+            names = archive.namelist()
+            bodies = [archive.read(name) for name in names]
+        wanted = [f"{k + 1:03}-symbol-{name_of(text)}.{ending}" for k, text in enumerate(grids)]
+        count.expect(f"names of {ending}", names, wanted)
+        for line, text, body in zip(lines, grids, bodies):
+            rows = text.split("\n")
+            wide, high = round((len(rows[0]) + 4) * 0.4, 2), round((len(rows) + 4) * 0.4 + 3, 2)
+            if ending == "svg":
+                size, text_there = f'width="{wide:g}mm" height="{high:g}mm"', f">{line}</text>"
+                drawing = body.decode()
+                count.expect(f"SVG of {line}", (size in drawing, text_there in drawing), (True, True))
+            else:
+                each = 10  # pixels of a module
+                size = [int.from_bytes(body[at : at + 4], "big") for at in (16, 20)]
+                across, down = (len(rows[0]) + 4) * each, (len(rows) + 4) * each
+                count.expect(f"PNG of {line}", size, [across, down + 75])
+                count.expect(f"PNG of {line}: its text", inked_below(body, down), True)
+            push("tab-read")
+            opened(f"label.{ending}", body)
+            count.expect(f"{ending} of {line}, opened again", (grid(), shown()["says"]), (text, line))
+            push("tab-make")
+
+
+def inked_below(body, row):
+    """Whether a picture has something dark below a row of its pixels, as the browser opens it."""
+    return on.page.execute_async_script(
+        """const [picture, row, done] = arguments, image = new Image();
+           image.src = "data:image/png;base64," + picture;
+           image.decode().then(() => {
+               const { naturalWidth: width, naturalHeight: height } = image;
+               const pen = Object.assign(document.createElement("canvas"), { width, height }).getContext("2d");
+               pen.drawImage(image, 0, 0);
+               const { data } = pen.getImageData(0, row, width, height - row);
+               done(data.some((value, k) => k % 4 === 0 && value < 128));
+           });""",
+        base64.b64encode(body).decode(),
+        row,
+    )
+
+
+# ---- Told
+
+
+def lessons():
+    """The lesson's numbers for a rectangle, and for the square whose blocks have two lengths."""
+    push("tab-learn")
+    unfold("lesson")
+    for name, line in (("8x32", "Rectangle"), ("144", digits(3000)), ("26x48", "A message in 26 rows")):
+        write(line, size=name)
+        push("tab-learn")
+        size = table()[name]
+        while not run("return document.getElementById('step-back').getAttribute('aria-disabled')") == "true":
+            push("step-back")
+        push("step-on", "step-on")
+        counts = [int(it) for it in re.findall(r"(\d+) data codewords?", text_of("step"))]
+        dealt = [len(range(b, size["data"], size["blocks"])) for b in range(size["blocks"])]
+        count.expect(f"{name}: data codewords of the blocks", counts, dealt)
+        push("step-on")
+        sums = run("return [...document.querySelectorAll('#step .sums')].map((it) => it.textContent)")
+        count.expect(f"{name}: sums", sums, [" ".join(["0"] * (size["check"] // size["blocks"]))] * size["blocks"])
+        push("step-on")
+        box = run("return document.getElementById('path').getAttribute('viewBox')")
+        count.expect(f"{name}: the path", box, f"-2 -2 {size['columns'] + 4} {size['rows'] + 4}")
+        push("step-on")
+        regions = size["down"] * size["across"]
+        count.expect(f"{name}: regions", f"This size has {regions} regions" in text_of("step"), regions > 1)
+    run("document.getElementById('lesson').open = false")
+    write("123456")
+
+
+PARTS = [
+    each_is_made,
+    sizes_by_shape,
+    marks_of_every_size,
+    in_all_ways,
+    at_an_angle,
+    rectangles_are_linked,
+    rectangles_are_compared,
+    doubted,
+    damaged_at_random,
+    labels_of_rectangles,
+    lessons,
+]

@@ -1,0 +1,42 @@
+// The sizes that a symbol may have that is made: the smallest of some, or one of the 48.
+import { ANY, EXTENDED, ONE, RECTANGLE, SQUARE, shapeName, shapeWords } from "./common.mjs";
+import { $, made } from "./dom.mjs";
+
+/** @typedef {import("./library.mjs").Size} Size */
+/** @type {Record<string, number>} by the names of index.html */
+const SHAPES = { square: SQUARE, rectangle: RECTANGLE, extended: EXTENDED, any: ANY, one: ONE };
+/** @type {Map<string, Size>} */
+const sizes = new Map();
+
+// Lists the sizes, by what they are.
+/** @type {(list: Size[]) => void} */
+export function listSizes(list) {
+  /** @type {[string, (size: Size) => boolean][]} */
+  const groups = [["Squares", ({ rows, columns }) => rows === columns],
+    ["Rectangles", ({ rows, columns, isExtension }) => rows !== columns && !isExtension],
+    ["Rectangles of the extension", ({ isExtension }) => isExtension]];
+  for (const size of list) sizes.set(shapeName(size), size);
+  const option = (size) => made("option", { value: shapeName(size), textContent: shapeWords(size) });
+  $("size").replaceChildren(...groups.map(([label, isIn]) =>
+    made("optgroup", { label }, ...list.filter(isIn).map(option))));
+}
+/** @type {(shape: import("./common.mjs").Shape) => boolean} */
+export const isSize = (shape) => sizes.has(shapeName(shape));
+// The choice as links have it: the shape, or the name of one size.
+/** @type {() => string} */
+export const sizeChosen = () => ($("shape").value === "one" ? $("size").value : $("shape").value);
+// Chooses what a link has; the smallest square, if that is none.
+/** @type {(name: string) => void} */
+export function chooseSize(name) {
+  const isOne = sizes.has(name);
+  $("shape").value = isOne ? "one" : name in SHAPES && name !== "one" ? name : "square";
+  if (isOne) $("size").value = name;
+  showChoice();
+}
+export function showChoice() { $("size").hidden = $("shape").value !== "one"; }
+// How a message is written in a form.
+/** @type {(form: number) => import("./library.mjs").How} */
+export function howIn(form) {
+  const { rows = 0, columns = 0 } = ($("shape").value === "one" && sizes.get($("size").value)) || {};
+  return { form, shape: SHAPES[$("shape").value], rows, columns };
+}
