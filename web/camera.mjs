@@ -12,11 +12,12 @@ const WANTED = { video: { facingMode: "environment", width: { ideal: LENGTH } },
 /** @type {{ stream: MediaStream | null } | null} the one that is on, with its stream once the browser allows one */
 let session = null;
 
+const video = () => /** @type {HTMLVideoElement} */ ($("video"));
 async function frame() {
-  const { videoWidth: width, videoHeight: height } = $("video");
+  const { videoWidth: width, videoHeight: height } = video();
   if (!width) return null;
   const canvas = new OffscreenCanvas(width, height);
-  canvas.getContext("2d").drawImage($("video"), 0, 0);
+  canvas.getContext("2d").drawImage(video(), 0, 0);
   return canvas.convertToBlob({ type: "image/png" });
 }
 const wait = (time) => new Promise((resolve) => setTimeout(resolve, time));
@@ -36,7 +37,7 @@ function stopCamera(words = "") {
   if (!session) return;
   endStream(session.stream);
   session = null;
-  $("video").srcObject = null;
+  video().srcObject = null;
   $("viewfinder").hidden = true;
   if (words) hint("picture-hint", words);
 }
@@ -55,10 +56,10 @@ async function startCamera() {
     hint("picture-hint", isForbidden ? words : none, true);
     return;
   }
-  $("video").srcObject = own.stream;
+  video().srcObject = own.stream;
   $("viewfinder").hidden = false;
   hint("picture-hint", "Hold a symbol before the camera, so that it fills a good part of the picture.");
-  await $("video").play().catch(() => {}); // it has been stopped by then
+  await video().play().catch(() => {}); // it has been stopped by then
   watch(own);
 }
 export function wireCamera() {

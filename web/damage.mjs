@@ -2,7 +2,7 @@
 // learns; elsewhere the symbol is a picture.
 import { drawAbout, drawWords, spokenModule } from "./cells.mjs";
 import { BIT, limitIn } from "./common.mjs";
-import { $, hint, setUsable, whenUsed } from "./dom.mjs";
+import { $, field, hint, setUsable, whenUsed } from "./dom.mjs";
 import { begin, damage, doubtDamage, look, redo, setLimit, undo, undoAll } from "./flow.mjs";
 import { afterThat, inTurn, settled } from "./order.mjs";
 import { mapOf, mark, store } from "./state.mjs";
@@ -61,7 +61,7 @@ function doubt(it, cells, isDoubtful) {
   look(it);
 }
 // What a click, a drag or a key does to modules: turns them over, or marks them as doubtful.
-const isDoubting = () => $("brush-doubt").checked;
+const isDoubting = () => field("brush-doubt").checked;
 
 // A click or a drag: one step, in which each module is turned over once, or all become what the first one does:
 // doubtful, or no longer so.
@@ -113,7 +113,7 @@ function wirePointer() {
   });
   for (const name of ["pointerup", "pointercancel"]) svg.addEventListener(name, () => { stroke = null; });
   svg.addEventListener("click", (event) => {
-    const isTap = event.pointerType && event.pointerType !== "mouse";
+    const { pointerType } = /** @type {PointerEvent} */ (event), isTap = pointerType && pointerType !== "mouse";
     if (isTap && isLearning()) new Stroke(mark()).to(placeOfEvent(event));
   });
   svg.addEventListener("pointerleave", () => { if (!stroke) point(null); });
@@ -176,13 +176,14 @@ function wireKeys() {
 function wireWords() {
   const box = $("words");
   box.addEventListener("pointerover", (event) => {
-    const node = event.target.closest("#words > b");
+    const node = /** @type {Element} */ (event.target).closest("#words > b");
     if (node) point(null, Number(node.id.slice(5)));
   });
   box.addEventListener("pointerleave", () => point(null));
   box.addEventListener("blur", () => point(null));
   box.addEventListener("keydown", (event) => {
-    const cells = [...box.children], across = cells.findIndex((cell) => cell.offsetTop > cells[0].offsetTop);
+    const cells = /** @type {HTMLElement[]} */ ([...box.children]);
+    const across = cells.findIndex((cell) => cell.offsetTop > cells[0].offsetTop);
     const row = across < 0 ? cells.length : across, w = mark().word ?? -1, last = cells.length - 1;
     const steps = { ArrowRight: w + 1, ArrowLeft: w - 1, ArrowDown: w + row, ArrowUp: w - row, Home: 0, End: last };
     const to = steps[event.key];
@@ -200,18 +201,18 @@ const LARGEST_ZOOM = 5;
 let zoom = 1;
 function setZoom(to) {
   zoom = Math.max(1, Math.min(LARGEST_ZOOM, to));
-  $("easel").style.setProperty("--zoom", zoom);
+  $("easel").style.setProperty("--zoom", String(zoom));
   setUsable("zoom-out", zoom > 1);
   setUsable("zoom-in", zoom < LARGEST_ZOOM);
 }
 function limitEntered() {
-  const field = $("border-limit"), text = field.value, limit = limitIn(text);
-  if (!field.validity.badInput && (text === "" || limit !== null)) {
-    field.removeAttribute("aria-invalid");
+  const { value: text, validity } = field("border-limit"), limit = limitIn(text);
+  if (!validity.badInput && (text === "" || limit !== null)) {
+    $("border-limit").removeAttribute("aria-invalid");
     inTurn(mark(), (it) => setLimit(it, limit));
     return;
   }
-  field.setAttribute("aria-invalid", "true");
+  $("border-limit").setAttribute("aria-invalid", "true");
   mark().limitWhy = noLimit(text, mark().seen?.limit);
   hint("border-hint", mark().limitWhy, true);
 }

@@ -1,8 +1,18 @@
 // Finding and making what the page consists of. Texts are always put in as texts, and never read as markup.
 
-// An element of index.html, by its id; which kind it is, index.html says.
-/** @type {(id: string) => any} */
+// An element of index.html, by its id.
+/** @type {(id: string) => HTMLElement} */
 export const $ = (id) => document.getElementById(id);
+// One in which something is entered or chosen: an input, a field of text, or a list. What they have in common, and what
+// inputs have besides.
+/** @type {(id: string) => HTMLInputElement} */
+export const field = (id) => /** @type {HTMLInputElement} */ ($(id));
+// What is entered in, of an event.
+/** @type {(event: Event) => HTMLInputElement} */
+export const fieldOf = ({ target }) => /** @type {HTMLInputElement} */ (target);
+// One that folds.
+/** @type {(id: string) => HTMLDetailsElement} */
+export const folded = (id) => /** @type {HTMLDetailsElement} */ ($(id));
 
 // All elements that a selector says.
 /** @type {(selector: string) => any[]} */
@@ -29,7 +39,7 @@ export const withCode = (text) => text.split("`").map((part, k) => (k % 2 ? made
 // Buttons that can't be used now stay in reach of the keyboard, so that focus isn't lost; `whenUsed` acts only if they
 // can be.
 /** @type {(id: string, isUsable: boolean) => void} */
-export function setUsable(id, isUsable) { $(id).setAttribute("aria-disabled", !isUsable); }
+export function setUsable(id, isUsable) { $(id).setAttribute("aria-disabled", String(!isUsable)); }
 /** @type {(id: string, action: () => void) => void} */
 export function whenUsed(id, action) {
   $(id).addEventListener("click", () => { if ($(id).getAttribute("aria-disabled") !== "true") action(); });

@@ -1,7 +1,7 @@
 // Drawing what is read: the stage, facts, the verdict and the meters.
 import { drawAbout, drawWords } from "./cells.mjs";
 import { BEYOND, FNC1, plural, shapeWords } from "./common.mjs";
-import { $, hint, made, setUsable, shape } from "./dom.mjs";
+import { $, field, hint, made, setUsable, shape } from "./dom.mjs";
 import { drawElements, elementsOf, faultsOf } from "./elements.mjs";
 import { elementString } from "./gs1.mjs";
 import { drawLesson } from "./lesson.mjs";
@@ -31,7 +31,7 @@ export function drawStage() {
   setUsable("tell", canAct && isDamaged(it));
   const wasHidden = $("which").hidden;
   $("which").hidden = !(it.modules && isDamaged(it));
-  if ($("which").hidden && !wasHidden) $("which-undamaged").checked = true;
+  if ($("which").hidden && !wasHidden) field("which-undamaged").checked = true;
   $("which-first").textContent = it.items ? "take the undamaged symbol" : "take the symbol as it was opened";
 }
 const fact = (number, what) =>
@@ -152,7 +152,7 @@ function drawMeters() {
   $("meters").replaceChildren(...blocks, ofBorder);
   hint("border-hint", it.limitWhy, Boolean(it.limitWhy));
   if (document.activeElement !== $("border-limit")) {
-    $("border-limit").value = limit;
+    field("border-limit").value = String(limit);
     $("border-limit").removeAttribute("aria-invalid");
   }
 }

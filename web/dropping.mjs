@@ -1,7 +1,7 @@
 // Pasting and dropping: pictures, files of text, and text. What is too much for a field isn't let into it, since even
 // to lay it out takes long.
 import { MOST_OF_SHEET, MOST_TEXT } from "./common.mjs";
-import { $, hint } from "./dom.mjs";
+import { $, field, fieldOf, hint } from "./dom.mjs";
 import { showTask } from "./flow.mjs";
 import { isGrid } from "./grids.mjs";
 import { beginEntry } from "./link.mjs";
@@ -37,11 +37,12 @@ export async function textOfFile(file, most = MOST_TEXT) {
 }
 
 // Lets no more into a field than it takes, where that comes from outside; `refuse` says so.
-/** @type {(area: HTMLTextAreaElement, refuse: (why: string) => void, most?: number) => void} */
+/** @type {(area: HTMLInputElement | HTMLTextAreaElement, refuse: (why: string) => void, most?: number) => void} */
 export function bound(area, refuse, most = MOST_TEXT) {
   area.addEventListener("beforeinput", (event) => {
+    const { data, dataTransfer } = /** @type {InputEvent} */ (event);
     const { value, selectionStart: from, selectionEnd: to } = area;
-    const more = event.data ?? event.dataTransfer?.getData("text");
+    const more = data ?? dataTransfer?.getData("text");
     const much = more && tooMuch(value.slice(0, from) + more + value.slice(to), most);
     if (!much) return;
     event.preventDefault();
@@ -54,7 +55,7 @@ export function bound(area, refuse, most = MOST_TEXT) {
 /** @type {(text: string) => void} */
 function takeGridText(text) {
   beginEntry();
-  $("grid").value = text;
+  field("grid").value = text;
   showTask("read");
   readGrid();
 }
@@ -62,7 +63,7 @@ function takeGridText(text) {
 function takeText(text) {
   if (isGrid(text)) { takeGridText(text); return; }
   showTask("make");
-  $("message").value = text;
+  field("message").value = text;
   writeMessage();
 }
 /** @type {(area: HTMLTextAreaElement, text: string) => void} */
@@ -76,7 +77,7 @@ function refuseBrought(why) {
   hint("picture-hint", why, true);
 }
 // What is entered now: another text as soon as something else is.
-const entered = () => [panes.write.entered, panes.read.entered, $("messages").value].join();
+const entered = () => [panes.write.entered, panes.read.entered, field("messages").value].join();
 /** @type {(file: File, note: string, isSheet?: boolean) => Promise<void>} */
 async function takeFile(file, note, isSheet = false) {
   const before = entered(), { text, why } = await textOfFile(file, isSheet ? MOST_OF_SHEET : MOST_TEXT);
@@ -89,8 +90,8 @@ async function takeFile(file, note, isSheet = false) {
 // The lines of a file take the place of those that stand on the sheet.
 /** @type {(name: string, text: string, why: string, note: string) => void} */
 function takeLines(name, text, why, note) {
-  if (!why) $("messages").value = text;
-  if (!why) $("lines-as").value = /\.csv$/i.test(name) ? "csv" : "messages";
+  if (!why) field("messages").value = text;
+  if (!why) field("lines-as").value = /\.csv$/i.test(name) ? "csv" : "messages";
   hint("sheet-hint", why || `The lines of ${name}.${note}`, Boolean(why), "messages");
 }
 function pasted(event) {
@@ -121,10 +122,11 @@ export function wireDropping() {
   addEventListener("dragover", (event) => { event.preventDefault(); document.body.classList.add("over"); });
   addEventListener("dragleave", (event) => { if (!event.relatedTarget) document.body.classList.remove("over"); });
   addEventListener("drop", dropped);
-  for (const name of ["message", "grid"]) bound($(name), (why) => hint(`${name}-hint`, why, true));
-  bound($("messages"), (why) => hint("sheet-hint", why, true), MOST_OF_SHEET);
-  $("lines").addEventListener("change", ({ target }) => {
-    if (target.files[0]) takeFile(target.files[0], "", true);
-    target.value = "";
+  for (const name of ["message", "grid"]) bound(field(name), (why) => hint(`${name}-hint`, why, true));
+  bound(field("messages"), (why) => hint("sheet-hint", why, true), MOST_OF_SHEET);
+  $("lines").addEventListener("change", (event) => {
+    const [file] = fieldOf(event).files;
+    if (file) takeFile(file, "", true);
+    fieldOf(event).value = "";
   });
 }

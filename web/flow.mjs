@@ -1,7 +1,7 @@
 // How a mark changes: by what is entered, and by damage. What is shown is always about what is entered: from the moment
 // of a change the mark isn't valid, until the worker has answered about that very state.
 import { Desk } from "./desk.mjs";
-import { $, allOf } from "./dom.mjs";
+import { $, allOf, field, folded } from "./dom.mjs";
 import { drawAll } from "./draw.mjs";
 import { tellLink } from "./link.mjs";
 import { brokenWords, inTurn, isBroken, refuse, validate, work } from "./order.mjs";
@@ -26,7 +26,7 @@ export function take(it, { items = null, seen, ...grid }) {
   keepMap(seen, seen.map);
   if (it.limit !== null) { it.seen = seen; look(it); return; }
   validate(it, seen);
-  if (it === mark()) { $("which-undamaged").checked = true; drawAll(); }
+  if (it === mark()) { field("which-undamaged").checked = true; drawAll(); }
   tellLink();
 }
 
@@ -121,17 +121,17 @@ export function showTask(task, pane = PANE_OF[task] ?? store.pane) {
   store.pane = pane;
   document.body.dataset.task = task;
   for (const each of TASKS) {
-    $(`tab-${each}`).setAttribute("aria-selected", each === task);
+    $(`tab-${each}`).setAttribute("aria-selected", String(each === task));
     $(`tab-${each}`).tabIndex = each === task ? 0 : -1;
   }
   for (const node of allOf("[data-for]")) node.hidden = node.dataset.for !== task;
-  $(`learn-${pane}`).checked = true;
-  $("details").open = areDetailsOpen[task];
+  field(`learn-${pane}`).checked = true;
+  folded("details").open = areDetailsOpen[task];
   $("symbol").setAttribute("role", task === "learn" ? "application" : "img");
   $("symbol").tabIndex = task === "learn" ? 0 : -1;
   for (const listener of showing) listener(task);
   drawAll();
 }
 export function wireDetails() {
-  $("details").addEventListener("toggle", () => { areDetailsOpen[store.task] = $("details").open; });
+  $("details").addEventListener("toggle", () => { areDetailsOpen[store.task] = folded("details").open; });
 }

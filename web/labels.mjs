@@ -1,5 +1,5 @@
 // Labels of stock sizes, of which sheets of A4 have rows and columns; where each symbol stands on them.
-import { $ } from "./dom.mjs";
+import { field } from "./dom.mjs";
 import { TEXT_HEIGHT } from "./pdf.mjs";
 import { withQuiet } from "./symbol.mjs";
 
@@ -19,13 +19,13 @@ const STOCK = {
 };
 const LEAST_LABEL = 5, MOST_LABEL = 300; // millimetres of a label's own width or height
 const ownLength = (id) => {
-  const value = Number($(id).value);
+  const value = Number(field(id).value);
   return value >= LEAST_LABEL && value <= MOST_LABEL ? value : null;
 };
 // The labels that are chosen; { why } if their size is none; null for none at all.
 /** @type {() => Stock | { why: string } | null} */
 export function stockNow() {
-  const name = $("stock").value;
+  const name = field("stock").value;
   if (name !== "own") return STOCK[name] ?? null;
   const width = ownLength("label-width"), height = ownLength("label-height");
   if (width && height) return roll(width, height);

@@ -2,7 +2,7 @@
 // hand.
 import { bitsOf, bold } from "./cells.mjs";
 import { BEYOND, plural, shapeWords } from "./common.mjs";
-import { $, made, setUsable, shape, whenUsed } from "./dom.mjs";
+import { $, fieldOf, folded, made, setUsable, shape, whenUsed } from "./dom.mjs";
 import { isPlain, spelledItem } from "./messages.mjs";
 import { VALID, mapOf, mark } from "./state.mjs";
 import { numbersDrawn, runs, viewBox } from "./symbol.mjs";
@@ -153,7 +153,7 @@ let stepAt = 0;
 const taught = (seen) => ({ ...seen, held: stepAt === 3 ? seen.held : seen.mended });
 
 export function drawLesson() {
-  if (!$("lesson").open || $("lesson").hidden) return;
+  if (!folded("lesson").open || $("lesson").hidden) return;
   const { seen, stage } = mark(), [title, step] = STEPS_OF_LESSON[stepAt];
   $("step-count").textContent = `Step ${stepAt + 1} of ${STEPS_OF_LESSON.length}: ${title}`;
   setUsable("step-back", stepAt > 0);
@@ -170,8 +170,8 @@ export function wireLesson() {
   whenUsed("step-back", () => go(stepAt - 1));
   whenUsed("step-on", () => go(stepAt + 1));
   $("step").addEventListener("input", (event) => {
-    if (event.target.id !== "walk") return;
-    place.word = Number(event.target.value) - 1;
+    if (fieldOf(event).id !== "walk") return;
+    place.word = Number(fieldOf(event).value) - 1;
     walkTo(taught(mark().seen));
   });
 }

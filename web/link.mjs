@@ -3,7 +3,7 @@
 // profile, size, damage, doubtful; grid, grid-damage, grid-doubtful; border and grid-border; and pane, which says whose
 // symbol is learnt about.
 import { MOST_TEXT, limitIn } from "./common.mjs";
-import { $ } from "./dom.mjs";
+import { field } from "./dom.mjs";
 import { isSize, sizeChosen } from "./sizes.mjs";
 import { PANE_OF, TASKS, VALID, WORKING, damageOf, doubtsOf, isDamaged, panes, store } from "./state.mjs";
 import { noLimit } from "./words.mjs";
@@ -58,9 +58,9 @@ function gridOf(rows, columns, letters) {
 const isThere = ({ stage, isEntering }) => stage === VALID || (stage === WORKING && !isEntering);
 function fragment() {
   const { write, read } = panes, fields = new URLSearchParams();
-  if ($("message").value.length <= MOST_TEXT) fields.set("message", $("message").value);
-  if ($("kind-text").checked) fields.set("as", "text");
-  if ($("profile-1").checked) fields.set("profile", "shorter");
+  if (field("message").value.length <= MOST_TEXT) fields.set("message", field("message").value);
+  if (field("kind-text").checked) fields.set("as", "text");
+  if (field("profile-1").checked) fields.set("profile", "shorter");
   if (sizeChosen() !== "square") fields.set("size", sizeChosen());
   if (isThere(write) && isDamaged(write)) fields.set("damage", gapsOf(damageOf(write)));
   if (isThere(write) && write.doubtful) fields.set("doubtful", gapsOf(doubtsOf(write)));

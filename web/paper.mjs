@@ -1,6 +1,6 @@
 // The paper: sheets with a margin, on which nothing may be wider than there is room, since browsers would print it
 // smaller; or labels, each as large as its symbol.
-import { $, made } from "./dom.mjs";
+import { $, field, made } from "./dom.mjs";
 
 const MARGIN = 15; // millimetres on each side of a sheet
 const PAPERS = { a4: { name: "A4", width: 210, height: 297 }, letter: { name: "Letter", width: 215.9, height: 279.4 } };
@@ -8,7 +8,7 @@ const rule = made("style");
 
 // The paper that is chosen: its name and the millimetres within its margins, or null for labels.
 export function paperNow() {
-  const paper = PAPERS[$("paper-size").value];
+  const paper = PAPERS[field("paper-size").value];
   return paper ? { ...paper, across: paper.width - 2 * MARGIN, down: paper.height - 2 * MARGIN } : null;
 }
 // Why a symbol of so many millimetres can't be printed at its size, or "".

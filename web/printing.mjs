@@ -2,7 +2,7 @@
 // as itself.
 import { FNC1, SHORTER, plural, shapeName, shapeWords } from "./common.mjs";
 import { linesOfCsv } from "./csv.mjs";
-import { $, hint, made } from "./dom.mjs";
+import { $, field, hint, made } from "./dom.mjs";
 import { elementsOf } from "./elements.mjs";
 import { desks } from "./flow.mjs";
 import { readable } from "./gs1.mjs";
@@ -82,10 +82,10 @@ function printOne() {
 // ---- Many symbols
 
 /** @typedef {{ grid: Grid, text: string }} Entry */
-const isCsv = () => $("lines-as").value === "csv";
+const isCsv = () => field("lines-as").value === "csv";
 /** @type {() => import("./csv.mjs").Line[]} */
 function linesNow() {
-  const { value } = $("messages");
+  const { value } = field("messages");
   if (isCsv()) return linesOfCsv(value);
   return value.split("\n").filter((line) => line.trim()).map((message) => ({ message, text: null }));
 }
@@ -109,7 +109,7 @@ async function entriesNow() {
   if (!symbols || isBroken(symbols)) return { why: brokenWords(symbols ?? { stopped: true }) };
   const long = symbols.findIndex((grid) => !grid);
   if (long >= 0) return { why: `Message ${long + 1}: ${tooLong(how)}` };
-  const hasText = $("label-text").checked;
+  const hasText = field("label-text").checked;
   const textOf = ({ message, text }) => (hasText ? text ?? message : "");
   return { entries: symbols.map((grid, k) => ({ grid, text: textOf(lines[k]) })) };
 }
@@ -183,7 +183,7 @@ export function wirePrinting() {
   addEventListener("afterprint", () => { isSheet = false; });
   $("print").addEventListener("click", giving(printOne));
   $("print-sheet").addEventListener("click", printSheet);
-  $("stock").addEventListener("change", () => { $("own-size").hidden = $("stock").value !== "own"; });
+  $("stock").addEventListener("change", () => { $("own-size").hidden = field("stock").value !== "own"; });
   $("many-pdf").addEventListener("click", savePdf);
   $("many-png").addEventListener("click", zipping("png", pngOf));
   $("many-svg").addEventListener("click",

@@ -1,6 +1,6 @@
 // The sizes that a symbol may have that is made: the smallest of some, or one of the 48.
 import { ANY, EXTENDED, ONE, RECTANGLE, SQUARE, shapeName, shapeWords } from "./common.mjs";
-import { $, made } from "./dom.mjs";
+import { $, field, made } from "./dom.mjs";
 
 /** @typedef {import("./library.mjs").Size} Size */
 /** @type {Record<string, number>} by the names of index.html */
@@ -24,19 +24,19 @@ export function listSizes(list) {
 export const isSize = (shape) => sizes.has(shapeName(shape));
 // The choice as links have it: the shape, or the name of one size.
 /** @type {() => string} */
-export const sizeChosen = () => ($("shape").value === "one" ? $("size").value : $("shape").value);
+export const sizeChosen = () => (field("shape").value === "one" ? field("size").value : field("shape").value);
 // Chooses what a link has; the smallest square, if that is none.
 /** @type {(name: string) => void} */
 export function chooseSize(name) {
   const isOne = sizes.has(name);
-  $("shape").value = isOne ? "one" : name in SHAPES && name !== "one" ? name : "square";
-  if (isOne) $("size").value = name;
+  field("shape").value = isOne ? "one" : name in SHAPES && name !== "one" ? name : "square";
+  if (isOne) field("size").value = name;
   showChoice();
 }
-export function showChoice() { $("size").hidden = $("shape").value !== "one"; }
+export function showChoice() { $("size").hidden = field("shape").value !== "one"; }
 // How a message is written in a form.
 /** @type {(form: number) => import("./library.mjs").How} */
 export function howIn(form) {
-  const { rows = 0, columns = 0 } = ($("shape").value === "one" && sizes.get($("size").value)) || {};
-  return { form, shape: SHAPES[$("shape").value], rows, columns };
+  const { rows = 0, columns = 0 } = (field("shape").value === "one" && sizes.get(field("size").value)) || {};
+  return { form, shape: SHAPES[field("shape").value], rows, columns };
 }

@@ -1,7 +1,7 @@
 // Where the symbol comes from: a message, a grid, or a picture.
 import { bitmapOf } from "./bitmap.mjs";
 import { ASCII, MOST_TEXT, SHORTER, TOO_LONG, plural, shapeWords } from "./common.mjs";
-import { $, allOf, hint, made, withCode } from "./dom.mjs";
+import { $, allOf, field, fieldOf, hint, made, withCode } from "./dom.mjs";
 import { C40, EDIFACT, TURNED } from "./examples.mjs";
 import { begin, desks, setLimit, showTask, take } from "./flow.mjs";
 import { gridText } from "./grids.mjs";
@@ -15,15 +15,15 @@ import { drawnSvg } from "./svg.mjs";
 import { refusal, stood, tooLong } from "./words.mjs";
 
 /** @typedef {import("./state.mjs").Mark} Mark */
-export const profileNow = () => ($("profile-1").checked ? SHORTER : ASCII);
+export const profileNow = () => (field("profile-1").checked ? SHORTER : ASCII);
 // What a text that is entered as a message stands for, as it is to be taken.
 /** @type {(text: string) => any} */
-export const itemsNow = (text) => ($("kind-text").checked ? itemsOfText(text) : itemsOf(text));
+export const itemsNow = (text) => (field("kind-text").checked ? itemsOfText(text) : itemsOf(text));
 const STILL = "The symbol that is shown is the one before, and isn’t read.";
 
 // ---- The message
 
-/** @type {(area: HTMLTextAreaElement) => void} */
+/** @type {(area: HTMLInputElement | HTMLTextAreaElement) => void} */
 function fitHeight(area) {
   area.style.height = "auto";
   area.style.height = `${Math.min(200, area.value.length > MOST_TEXT ? 200 : area.scrollHeight + 2)}px`;
@@ -35,8 +35,9 @@ function offerOne(words, act) {
 }
 /** @type {(ways: { name: string, text: string }[]) => void} */
 function offer(ways) {
-  for (const { name, text } of ways) offerOne(`Spell it ${name}`, () => { $("message").value = text; });
-  if (ways.length && !$("kind-text").checked) offerOne("Take it as text", () => { $("kind-text").checked = true; });
+  for (const { name, text } of ways) offerOne(`Spell it ${name}`, () => { field("message").value = text; });
+  const isText = field("kind-text");
+  if (ways.length && !isText.checked) offerOne("Take it as text", () => { isText.checked = true; });
 }
 /** @type {(words: string, ways?: { name: string, text: string }[]) => void} */
 function refuseMessage(words, ways = []) {
@@ -57,14 +58,14 @@ const AS_ELEMENTS = "Taken as GS1 data. To take it as plain text, spell the firs
 // What there is to know about a message that is taken.
 function hintOn(text, { isElements }) {
   if (isElements) return AS_ELEMENTS;
-  if (!$("kind-text").checked && text.includes("\\")) return SPELLINGS;
+  if (!field("kind-text").checked && text.includes("\\")) return SPELLINGS;
   return "";
 }
 
 // Writes the message that is entered.
 export function writeMessage() {
-  const it = panes.write, text = $("message").value, read = itemsNow(text);
-  fitHeight($("message"));
+  const it = panes.write, text = field("message").value, read = itemsNow(text);
+  fitHeight(field("message"));
   if (!read.items) {
     refuseMessage(`${whyNot(read)}${read.isTooMuch ? " The link doesn’t keep them." : ""}`, read.ways);
     return;
@@ -86,8 +87,8 @@ export function writeMessage() {
 }
 /** @type {(text: string, isText?: boolean) => void} */
 export function enterMessage(text, isText = false) {
-  $("message").value = text;
-  $(isText ? "kind-text" : "kind-message").checked = true;
+  field("message").value = text;
+  field(isText ? "kind-text" : "kind-message").checked = true;
   writeMessage();
 }
 
@@ -106,7 +107,7 @@ function takeGrid(symbol) {
 }
 /** @type {(symbol: any) => void} */
 const takeSymbol = ({ modules, rows, columns, seen }) => take(panes.read, { modules, rows, columns, seen });
-export function readGrid(text = $("grid").value) {
+export function readGrid(text = field("grid").value) {
   const it = panes.read;
   if (!text.trim()) {
     clear(it);
@@ -116,10 +117,10 @@ export function readGrid(text = $("grid").value) {
   enter(it, () => desks.quick.ask("grid", text, "grid"), takeGrid);
 }
 function enterGrid() {
-  const much = tooMuch($("grid").value);
+  const much = tooMuch(field("grid").value);
   hint("picture-hint", "");
   if (!much) { readGrid(); return; }
-  $("grid").value = ""; // even to lay it out takes long
+  field("grid").value = ""; // even to lay it out takes long
   takeGrid({ why: much });
 }
 // Reads the symbol of the message, as it stands now.
@@ -131,7 +132,7 @@ export function readWritten() {
     const text = gridText(write.seen);
     return { ...await desks.quick.ask("grid", text, "written"), text };
   }, (symbol) => {
-    $("grid").value = symbol.text ?? "";
+    field("grid").value = symbol.text ?? "";
     takeGrid(symbol);
   });
 }
@@ -180,7 +181,7 @@ function takePicture(symbol, name, note = "") {
   const how = symbol.how ? `, ${symbol.how}` : "";
   const words = symbol.isPhotograph ? `Found in the picture${how}, and shown upright.` : stood(symbol, "The symbol is");
   hint("picture-hint", `${name}: ${shapeWords(symbol)}. ${words}${note}`);
-  $("grid").value = gridText(symbol);
+  field("grid").value = gridText(symbol);
   hint("grid-hint", "The grid of the picture.", false, "grid");
   takeSymbol(symbol);
 }
@@ -200,7 +201,7 @@ function spoil(it, turned, doubtful, { limit, why }) {
 }
 // What an address without a fragment holds.
 const begun = () => ({
-  message: $("message").defaultValue, isText: false, isShorter: false, size: "square", grid: null, task: "make",
+  message: field("message").defaultValue, isText: false, isShorter: false, size: "square", grid: null, task: "make",
   pane: "write", damage: () => [], doubtful: () => [], gridDamage: () => [], gridDoubtful: () => [],
   limit: { limit: null, why: "" }, gridLimit: { limit: null, why: "" },
 });
@@ -209,11 +210,11 @@ const begun = () => ({
 export async function restore(linked, isFirst) {
   const { write, read } = panes, held = linked?.isBare ? { ...begun(), ...linked } : linked ?? begun();
   if (linked?.isBare && !isFirst) { showTask(linked.task); return; }
-  $("message").value = held.message;
-  $(held.isText ? "kind-text" : "kind-message").checked = true;
-  $(held.isShorter ? "profile-1" : "profile-0").checked = true;
+  field("message").value = held.message;
+  field(held.isText ? "kind-text" : "kind-message").checked = true;
+  field(held.isShorter ? "profile-1" : "profile-0").checked = true;
   chooseSize(held.size);
-  $("grid").value = held.grid ? gridText(held.grid) : "";
+  field("grid").value = held.grid ? gridText(held.grid) : "";
   readGrid();
   const count = (it) => it.modules.length;
   inTurn(read, (it) => spoil(it, held.gridDamage(count(it)), held.gridDoubtful(count(it)), held.gridLimit));
@@ -249,7 +250,7 @@ function wireTabs() {
 function wireMessage() {
   $("message").addEventListener("input", () => writeMessage());
   $("message").addEventListener("keydown", (event) => {
-    if (event.key === "Enter" && !$("kind-text").checked) event.preventDefault();
+    if (event.key === "Enter" && !field("kind-text").checked) event.preventDefault();
   });
   for (const id of ["profile-0", "profile-1", "kind-message", "kind-text", "shape", "size"])
     $(id).addEventListener("change", () => writeMessage());
@@ -264,10 +265,11 @@ export function wireSource() {
   wireMessage();
   $("grid").addEventListener("input", enterGrid);
   for (const [id, text] of Object.entries({ c40: C40, turned: TURNED, edifact: EDIFACT }))
-    $(`example-${id}`).addEventListener("click", () => { $("grid").value = text; readGrid(); });
+    $(`example-${id}`).addEventListener("click", () => { field("grid").value = text; readGrid(); });
   $("take-written").addEventListener("click", readWritten);
   $("picture").addEventListener("change", (event) => {
-    if (event.target.files[0]) readPicture(event.target.files[0]);
-    event.target.value = "";
+    const [file] = fieldOf(event).files;
+    if (file) readPicture(file);
+    fieldOf(event).value = "";
   });
 }

@@ -2,6 +2,7 @@
 import { found, hasBorder } from "./grids.mjs";
 
 /** @typedef {import("./common.mjs").Shape} Shape */
+/** @typedef {{ left: number, top: number, width: number, height: number }} Frame in pixels */
 
 // The grey of each pixel, transparent ones as on white paper.
 export function greyOf({ data, width, height }) {
@@ -14,6 +15,7 @@ export function greyOf({ data, width, height }) {
 }
 
 // The smallest rectangle that holds all pixels of a kind.
+/** @type {(isInk: (k: number) => boolean, width: number, height: number) => Frame} */
 function frame(isInk, width, height) {
   let left = width, top = height, right = -1, bottom = -1;
   for (let y = 0; y < height; y++) {
@@ -29,7 +31,8 @@ function frame(isInk, width, height) {
 }
 
 // The grid of a shape in a frame, and the share of sampled pixels that differ from most of their module.
-/** @type {(isInk: (k: number) => boolean, pictureWidth: number, at: any, shape: Shape) => any} */
+/** @type {(isInk: (k: number) => boolean, pictureWidth: number, at: Frame, shape: Shape) =>
+    { grid: import("./common.mjs").Grid, odd: number }} */
 function sampled(isInk, pictureWidth, at, { rows, columns }) {
   const each = [at.width / columns, at.height / rows], looks = Math.min(5, Math.floor(Math.min(...each)));
   const modules = new Uint8Array(rows * columns);
@@ -67,7 +70,9 @@ const shapesOf = (sizes) => [...sizes].flatMap(({ rows, columns }) =>
 /** @type {(lib: import("./library.mjs").Library, grey: Uint8Array, width: number, height: number) => any} */
 export function squareSymbol(lib, grey, width, height) {
   const [least, most] = extent(grey), middle = (least + most) / 2;
-  const isDark = (k) => grey[k] < middle, likely = [];
+  const isDark = (k) => grey[k] < middle;
+  /** @type {{ grid: import("./common.mjs").Grid, odd: number, isExact: boolean }[]} */
+  const likely = [];
   for (const isInk of [isDark, (k) => !isDark(k)]) {
     const at = frame(isInk, width, height);
     for (const shape of shapesOf(lib.sizes.values())) {

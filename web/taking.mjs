@@ -1,6 +1,6 @@
 // Taking a symbol away: copied, or saved as SVG or PNG. By default it is the undamaged one. And what it says.
 import { shapeName } from "./common.mjs";
-import { $, hint, made, shape } from "./dom.mjs";
+import { $, field, hint, made, shape } from "./dom.mjs";
 import { gridText } from "./grids.mjs";
 import { elementString } from "./gs1.mjs";
 import { linkNow } from "./link.mjs";
@@ -25,7 +25,7 @@ export function toast(text) {
 }
 
 // What is given: the symbol, and how it is called.
-const isDamagedChosen = () => !$("which").hidden && $("which-damaged").checked;
+const isDamagedChosen = () => !$("which").hidden && field("which-damaged").checked;
 /** @type {(it?: import("./state.mjs").Mark, isChosen?: boolean) => Given} */
 export function given(it = mark(), isChosen = isDamagedChosen()) {
   const isDamagedOne = isChosen && isDamaged(it);
@@ -84,10 +84,10 @@ export function save(blob, name) {
 
 const LEAST = 0.05, MOST = 20, USUAL_WIDTH = 0.5; // millimetres of a module
 const isMillimetres = () => {
-  const { value } = $("millimetres");
+  const { value } = field("millimetres");
   return value !== "" && +value >= LEAST && +value <= MOST;
 };
-export const millimetres = () => (isMillimetres() ? +$("millimetres").value : USUAL_WIDTH);
+export const millimetres = () => (isMillimetres() ? +field("millimetres").value : USUAL_WIDTH);
 const rounded = (value) => String(+value.toFixed(2));
 // The millimetres of a symbol of this shape, with its quiet zone.
 /** @type {(shape: Shape) => { width: number, height: number }} */

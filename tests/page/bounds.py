@@ -152,10 +152,10 @@ def drawings():
         "nested thrice": (svg_of(small, more=f'<g visibility="hidden">{nested(3)}</g>'), small),
     }
     for name, (body, text) in paths.items():
-        taken = seconds_of(lambda: opened("drawing.svg", body))
+        taken, side = seconds_of(lambda: opened("drawing.svg", body)), text.index("\n")
         count.expect(
             f"a drawing of {name}",
-            (text_of("picture-hint").startswith(f"drawing.svg: {text.index(chr(10))} × {text.index(chr(10))}."), grid(), taken < 3 * SOON),
+            (text_of("picture-hint").startswith(f"drawing.svg: {side} × {side}."), grid(), taken < 3 * SOON),
             (True, text, True),
         )
     many = "The drawing has more than 60,000 elements, as often as they are used."

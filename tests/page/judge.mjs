@@ -1,7 +1,7 @@
-// Answers what the page's library says of symbols, without the page: node judge.mjs LIBRARY.wasm < QUESTIONS. A question
-// is a line of JSON: { items, how } asks for the symbol of a message, { rows, columns, text, doubtful, limit } what a
-// grid says, { isMap, rows, columns } for the modules of each codeword, { isTable } for the sizes. Each is answered by a
-// line.
+// Answers what the page's library says of symbols, without the page: node judge.mjs LIBRARY.wasm < QUESTIONS. A
+// question is a line of JSON: { items, how } asks for the symbol of a message, { rows, columns, text, doubtful, limit }
+// what a grid says, { isMap, rows, columns } for the modules of each codeword, { isTable } for the sizes. Each is
+// answered by a line.
 import { readFileSync } from "node:fs";
 import { Library } from "../../web/library.mjs";
 

@@ -32,10 +32,11 @@ function nextCall() {
   if (!head) return null;
   const name = head.toString("latin1", 0, NAME).replace(/\0.*/s, "");
   const told = Array.from({ length: (HEAD - NAME) / 4 }, (_, k) => head.readUInt32LE(NAME + 4 * k));
-  const [firstWidth, secondWidth, firstCount, secondCount, isFirstCounted, isSecondCounted, numberCount, ...rest] = told;
-  const numbers = rest.slice(0, numberCount), [answer, size] = rest.slice(-2);
-  const input = (width, count, isCounted) => ({ width, count, isCounted, bytes: taken(width * count) });
-  const inputs = [input(firstWidth, firstCount, isFirstCounted), input(secondWidth, secondCount, isSecondCounted)];
+  const numbers = told.slice(7, 7 + told[6]), [answer, size] = told.slice(-2);
+  const inputs = [0, 1].map((k) => {
+    const [width, count, isCounted] = [told[k], told[2 + k], told[4 + k]];
+    return { width, count, isCounted, bytes: taken(width * count) };
+  });
   return { name, numbers, answer, inputs: inputs.filter(({ width }) => width), output: taken(size) };
 }
 
@@ -60,7 +61,8 @@ class Room {
     });
     const views = parts.map(({ length }, k) => this.part(places[k], length)), made = views[views.length - 1];
     inputs.forEach(({ bytes }, k) => views[k].set(bytes));
-    const list = inputs.flatMap(({ count, isCounted }, k) => [BigInt(places[k]), ...(isCounted ? [BigInt(count)] : [])]);
+    const given = ({ count, isCounted }, k) => [places[k], ...(isCounted ? [count] : [])].map(BigInt);
+    const list = inputs.flatMap(given);
     const out = output.length ? [BigInt(places[inputs.length])] : [];
     const got = this.library[name](...list, ...numbers, ...out) ?? 0;
     if (got !== answer) return `${got}, and not ${answer}`;

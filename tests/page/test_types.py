@@ -13,6 +13,9 @@ WRONG = [
     ("link.mjs", 'fromLetters(fields.get("grid") ?? "")', "fromLetters(7)"),
     ("order.mjs", "it.changed = own;", "it.changed = 'own';"),
     ("gs1.mjs", "name: entry.name, items: value", "name: entry.title, items: value"),
+    ("paper.mjs", 'PAPERS[field("paper-size").value]', 'PAPERS[$("paper-size").value]'),
+    ("desk.mjs", "failed: messageOf(why) }", "failed: why.message }"),
+    ("squares.mjs", "found(lib, grid);", "found(lib, grid.modules);"),
 ]
 
 
