@@ -3,7 +3,7 @@ import { bitmapOf } from "./bitmap.mjs";
 import { ASCII, MOST_TEXT, SHORTER, TOO_LONG, plural, shapeWords } from "./common.mjs";
 import { $, allOf, field, fieldOf, hint, made, withCode } from "./dom.mjs";
 import { C40, EDIFACT, TURNED } from "./examples.mjs";
-import { begin, desks, setLimit, showTask, take } from "./flow.mjs";
+import { begin, desks, setLimit, showTask, take, whenShown } from "./flow.mjs";
 import { gridText } from "./grids.mjs";
 import { itemsOf, whyNot } from "./gs1.mjs";
 import { beginEntry, tellLink } from "./link.mjs";
@@ -248,6 +248,7 @@ function wireTabs() {
   $("learn-read").addEventListener("change", () => chooseTask("learn", "read"));
 }
 function wireMessage() {
+  whenShown((task) => { if (task === "make") fitHeight(field("message")); }); // which has no height out of sight
   $("message").addEventListener("input", () => writeMessage());
   $("message").addEventListener("keydown", (event) => {
     if (event.key === "Enter" && !field("kind-text").checked) event.preventDefault();

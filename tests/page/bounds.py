@@ -277,10 +277,10 @@ def many_files():
         lambda: (head(), "mark.zip is neither a picture nor a text." in text_of("slot-a")),
         (["No answer", "Symbol A isn’t there."], True),
     )
-    drop("#slot-a", [("long.txt", "text/plain", b"1" * 100000)])
+    drop("#slot-a", [("long.txt", "text/plain", b"1" * 110000)])
     count.expect_soon(
         "a long file of text",
-        lambda: "long.txt has 100,000 bytes, which are too many for a message or a grid." in text_of("slot-a"),
+        lambda: "long.txt has 110,000 bytes, which are too many for a message or a grid." in text_of("slot-a"),
         True,
     )
     drop("body", [("grid.txt", "text/plain", written("a grid in a file").encode())])

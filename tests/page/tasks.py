@@ -58,6 +58,8 @@ def tasks_are_linked():
         linked()
         run("location.hash = '#make'")
         linked()
+        height = find("message").rect["height"]
+        count.expect(f"the message after #{name} has the height of a line", 30 < height < 60, True)
         put("message", f"at {name}")
         go(f"#{name}")
         count.expect(
