@@ -268,31 +268,36 @@ def in_all_ways():
 
 
 def at_an_angle():
-    """Rectangles in pictures that stand at an angle."""
+    """Rectangles in pictures that stand at an angle, some of them mirrored or inverted."""
     push("tab-read")
-    for name, line, degrees in (("12x36", "At an angle", 8), ("16x48", "A longer one at an angle", -20),
-                                ("8x32", "Rectangle", 5)):
+    mirror, inverse = "mirrored left to right", "inverted, light for dark"
+    for name, line, degrees, how in (
+        ("12x36", "At an angle", 8, ""),
+        ("16x48", "A longer one at an angle", -20, ""),
+        ("8x32", "Rectangle", 5, ""),
+        ("16x36", "Mirrored", 12, mirror),
+        ("12x26", "Inverted", -7, inverse),
+        ("26x48", "Both of these", 100, f"{inverse}, and {mirror}"),
+    ):
         text = written_in(line, name)
-        said = opened(f"{name}.png", slanted(text.split("\n"), 9, degrees))
-        count.expect(
-            f"{name} at {degrees} degrees",
-            (shown()["says"], said.startswith(f"{name}.png: {words_of(name)}. Found in the picture")),
-            (line, True),
-        )
+        rows = turned(text, 0, mirror in how, inverse in how).split("\n")
+        said = opened(f"{name}.png", slanted(rows, 9, degrees, 20 if inverse in how else 235))
+        found = f"{name}.png: {words_of(name)}. Found in the picture{how and f', {how}'}, and shown upright."
+        count.expect(f"{name} at {degrees} degrees", (shown()["says"], grid(), said), (line, text, found))
     push("tab-make")
 
 
-def slanted(rows, scale, degrees):
-    """The picture of a grid that is turned by so many degrees, on white."""
+def slanted(rows, scale, degrees, ground):
+    """The picture of a grid that is turned by so many degrees, on a ground of this grey."""
     down, across = len(rows), len(rows[0])
-    width = int(scale * (across + 8) * 1.15)
-    height = int(scale * (down + 8 + across * abs(math.sin(math.radians(degrees)))) * 1.15)
     cosine, sine = math.cos(math.radians(degrees)), math.sin(math.radians(degrees))
+    reach = lambda one, other: int(scale * (one * abs(cosine) + other * abs(sine) + 8) * 1.1)
+    width, height = reach(across, down), reach(down, across)
 
     def pixel(x, y):
         dx, dy = (x - width / 2) / scale, (y - height / 2) / scale
         c, r = math.floor(dx * cosine + dy * sine + across / 2), math.floor(dy * cosine - dx * sine + down / 2)
-        return 20 if 0 <= r < down and 0 <= c < across and rows[r][c] == "1" else 235
+        return (235, 20)[int(rows[r][c])] if 0 <= r < down and 0 <= c < across else ground
 
     return chunks(width, height, b"".join(b"\0" + bytes(pixel(x, y) for x in range(width)) for y in range(height)))
 
@@ -421,7 +426,11 @@ def doubted():
     count.expect("a drag from a doubtful one takes doubt away", doubts(), [100, 150, 154])
     push("undo")
     count.expect("undone", doubts(), [100, 150, 151, 152, 153, 154])
-    push("undo", "undo", "undo")
+    chain = acting().move_to_element_with_offset(find("symbol"), *at(149)).click_and_hold()
+    chain.move_to_element_with_offset(find("symbol"), *at(151)).release().perform()
+    settle()
+    count.expect("a drag over doubtful ones leaves them so", doubts(), [100, 149, 150, 151, 152, 153, 154])
+    push("undo", "undo", "undo", "undo")
     count.expect("all undone", (doubts(), grid()), ([], clean))
     push("redo")
     count.expect("done again", doubts(), [100])
@@ -485,8 +494,8 @@ def doubted_when_read():
     agree_with_judge("all checks spent", None)
     count.expect(
         "no green verdict",
-        (shown()["state"], "No check codeword is left" in shown()["why"]),
-        ("Read, but nothing shows that it is right", True),
+        (shown()["state"], find("verdict").get_attribute("class"), "No check codeword is left" in shown()["why"]),
+        ("Read, but nothing shows that it is right", "card verdict other", True),
     )
     push("undo")
     count.expect("one left", shown()["state"], "Read")

@@ -4,7 +4,7 @@ import pathlib
 import random
 import subprocess
 
-from tests.page import browser, conduct, damage, everyone, tasks
+from tests.page import browser, conduct, damage, everyone, sizes, tasks
 from tests.page.parts import load
 from tests.page.pictures import opened, png
 from tests.page.stage import agree, count, grid, on, push, put, write, written
@@ -18,7 +18,7 @@ DAMAGE = {"corrected": (12, 57), "refused": range(11, 19)}  # modules of the sym
 
 @needs.program
 @needs.module("selenium")
-@needs.programs("WebKitWebDriver", "Xvfb", "wasm-opt")
+@needs.programs("WebKitWebDriver", "Xvfb", "wasm-opt", "node")
 class WebKit(Case):
     @classmethod
     def setUpClass(cls):
@@ -77,6 +77,8 @@ class WebKit(Case):
             tasks.tasks_are_linked,
             tasks.earlier_links,
             tasks.text_and_gs1,
+            sizes.marks_of_every_size,
+            sizes.in_all_ways,
         ):
             random.seed(1)
             load(PAGE)
