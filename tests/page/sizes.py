@@ -28,7 +28,6 @@ from tests.page.stage import (
     find,
     flat,
     grid,
-    learn,
     offset,
     on,
     push,
