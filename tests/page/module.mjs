@@ -4,7 +4,7 @@
 // there were, or the first that differs, with status 1.
 import { readFileSync, readSync } from "node:fs";
 
-const HEAD = 76, NAME = 20, PAGE = 65536, PAGES = 3, FIRST = 4096, FILLED = 0xee;
+const HEAD = 76, NAME = 20, PAGE = 65536, PAGES = 6, FIRST = 4096, FILLED = 0xee;
 const STDIN = 0, BLOCK = 1 << 20;
 let block = Buffer.alloc(0); // what is read and not taken yet
 
