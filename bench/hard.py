@@ -120,12 +120,12 @@ def neighbour(wide, high, pixels, chance):
 
 def crowd(ink, quiet, pixels, chance):
     """Draws what touches a symbol, on two sides at least."""
-    sides = chance.sample(range(4), chance.randint(2, 4))
+    sides, turned = chance.sample(range(4), chance.randint(2, 4)), ink
     for k in range(4):
         if k in sides:
-            wide = ink.shape[1] // pixels - 2 * quiet
-            ink[-quiet * pixels:, quiet * pixels:-quiet * pixels] = neighbour(wide, quiet, pixels, chance)
-        ink[:] = numpy.rot90(ink).copy()
+            wide = turned.shape[1] // pixels - 2 * quiet
+            turned[-quiet * pixels:, quiet * pixels:-quiet * pixels] = neighbour(wide, quiet, pixels, chance)
+        turned = numpy.rot90(turned)
 
 
 def touching(look, _):
@@ -134,17 +134,19 @@ def touching(look, _):
 
 def tear(over, quiet, pixels, chance):
     """Takes a corner off what is placed, by a ragged edge."""
-    side = over.shape[0] - 2 * quiet * pixels
     across = math.sqrt(2 * TORN) * chance.uniform(0.75, 1.35)
     down = 2 * TORN / across
     steps = numpy.linspace(0, 1, 12)
     at = [(1 - steps) * across, steps * down]
-    edge = [[quiet * pixels + side * (place + chance.gauss(0, 0.012)) for place in places] for places in at]
+    edge = [[place + chance.gauss(0, 0.012) for place in places] for places in at]
+    turned = numpy.rot90(over, -chance.randint(0, 3))
+    edge = [[quiet * pixels + (count - 2 * quiet * pixels) * place for place in places]
+            for count, places in zip(turned.shape[::-1], edge)]
     far = -3 * quiet * pixels
     points = [(edge[0][0], far), *zip(*edge), (far, edge[1][-1]), (far, far)]
-    mask = numpy.ones(over.shape, numpy.float32)
+    mask = numpy.ones(turned.shape, numpy.float32)
     cv2.fillPoly(mask, [numpy.array(points).round().astype(numpy.int32)], 0.0)
-    over *= numpy.rot90(mask, chance.randint(0, 3))
+    turned *= mask
 
 
 def torn(look, chance):
@@ -156,18 +158,19 @@ def torn(look, chance):
 def rolled(ink, chance):
     """The ink as it stands on a cylinder, whose middle is nearest, as seen from so many radii and somewhat from
     above."""
-    side = ink.shape[0]
+    high, wide = ink.shape
     reach, away, tilt = math.radians(chance.uniform(25, 40)), chance.uniform(5, 12), chance.uniform(-0.25, 0.25)
     angles = numpy.linspace(-1.25 * reach, 1.25 * reach, 400)
     nearness = (away - 1) / (away - numpy.cos(angles))
     shown = numpy.sin(angles) * nearness
-    across = numpy.linspace(-1, 1, side) * numpy.sin(reach) * (away - 1) / (away - math.cos(reach))
+    across = numpy.linspace(-1, 1, wide) * numpy.sin(reach) * (away - 1) / (away - math.cos(reach))
     angle = numpy.interp(across, shown, angles)
     near = (away - 1) / (away - numpy.cos(angle))
-    down = numpy.linspace(-1, 1, side)[:, None] * reach
-    up = (down / near[None, :] + tilt * (numpy.cos(angle) - math.cos(reach))[None, :]) / reach
+    height = reach * high / wide
+    down = numpy.linspace(-1, 1, high)[:, None] * height
+    up = (down / near[None, :] + tilt * (numpy.cos(angle) - math.cos(reach))[None, :]) / height
     right = numpy.broadcast_to(angle / reach, up.shape)
-    maps = [((places + 1) / 2 * (side - 1)).astype(numpy.float32) for places in (right, up)]
+    maps = [((places + 1) / 2 * (count - 1)).astype(numpy.float32) for count, places in ((wide, right), (high, up))]
     return cv2.remap(ink, *maps, cv2.INTER_LINEAR, borderMode=cv2.BORDER_REPLICATE)
 
 

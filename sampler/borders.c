@@ -4,6 +4,7 @@
 #include <stdlib.h>
 
 enum { WAYS = 4 };
+static const double LEAST_OF_RECTANGLE = 4.5; /* of its score: there are so many of them that chance makes some */
 static const double LEAST_SOLID = 0.55, LEAST_BROKEN = 0.62, LEAST_RIGHT = 0.72; /* of the modules of a border */
 
 /* How many modules of each row and column, before each place, are dark, and how many are dark as in a row that begins
@@ -26,55 +27,57 @@ static void sum_up(const struct field *field, struct both *both) {
         }
 }
 
-/* How many modules of a line are dark. */
-static int solid(const struct sums *sums, int line, int first, int side) {
-    return sums->dark[line][first + side] - sums->dark[line][first];
-}
-
-/* How many modules of a line are as they should be, if it alternates and begins with a dark one, or with a light one.
- */
-static int broken(const struct sums *sums, int line, int first, int side, bool begins_dark) {
-    int right = sums->alternating[line][first + side] - sums->alternating[line][first];
-    return (first % 2 == 0) == begins_dark ? right : side - right;
-}
-
-/* How many modules are right in the two solid sides of a border, and in each of the others; those of the corners are
- * counted twice. */
-struct right {
-    int solid, broken[2];
+/* Modules of a row or a column: how many are dark, how many are as they should be if they alternate and begin with a
+ * dark one, and how many there are. */
+struct strip {
+    int dark, alternating, count;
 };
 
-/* What is right in a border. An upright symbol is solid on the left and below; each turn, clockwise, takes left to top,
- * top to right, and so on. */
-static struct right right_in(const struct both *both, int x, int y, int side, int turns) {
-    int left = x, right = x + side - 1, top = y, below = y + side - 1;
-    const struct sums *rows = &both->rows, *columns = &both->columns;
-    switch (turns) {
-    case 0:
-        return (struct right){solid(columns, left, y, side) + solid(rows, below, x, side),
-                              {broken(rows, top, x, side, true), broken(columns, right, y, side, false)}};
-    case 1:
-        return (struct right){solid(rows, top, x, side) + solid(columns, left, y, side),
-                              {broken(columns, right, y, side, true), broken(rows, below, x, side, true)}};
-    case 2:
-        return (struct right){solid(columns, right, y, side) + solid(rows, top, x, side),
-                              {broken(rows, below, x, side, false), broken(columns, left, y, side, true)}};
-    default:
-        return (struct right){solid(rows, below, x, side) + solid(columns, right, y, side),
-                              {broken(columns, left, y, side, false), broken(rows, top, x, side, false)}};
-    }
+static struct strip strip_of(const struct sums *sums, int at, int first, int count) {
+    int alternating = sums->alternating[at][first + count] - sums->alternating[at][first];
+    return (struct strip){sums->dark[at][first + count] - sums->dark[at][first],
+                         first % 2 == 0 ? alternating : count - alternating, count};
+}
+
+enum { TOP, BELOW, LEFT, RIGHT, STRIPS };
+
+/* Which strips are solid in a border, which row and which column alternates, and whether they begin with a dark module.
+ * An upright symbol is solid on the left and below; each turn, clockwise, takes left to top, top to right, and so on.
+ */
+static const struct {
+    int solid[2], row, column;
+    bool is_row_dark_first, is_column_dark_first;
+} BORDERS[WAYS] = {{{LEFT, BELOW}, TOP, RIGHT, true, false},
+                   {{LEFT, TOP}, BELOW, RIGHT, true, true},
+                   {{RIGHT, TOP}, BELOW, LEFT, false, true},
+                   {{RIGHT, BELOW}, TOP, LEFT, false, false}};
+
+/* How many modules are right in the two solid strips of a border, in the row and in the column that alternates; those
+ * of the corners are counted twice. */
+struct right {
+    int solid, row, column;
+};
+
+static int right_if(struct strip strip, bool is_dark_first) {
+    return is_dark_first ? strip.alternating : strip.count - strip.alternating;
+}
+
+static struct right right_in(const struct strip strips[STRIPS], int turns) {
+    return (struct right){strips[BORDERS[turns].solid[0]].dark + strips[BORDERS[turns].solid[1]].dark,
+                          right_if(strips[BORDERS[turns].row], BORDERS[turns].is_row_dark_first),
+                          right_if(strips[BORDERS[turns].column], BORDERS[turns].is_column_dark_first)};
 }
 
 /* What is right in the same border if all modules are turned over. */
-static struct right turned_over(struct right right, int side) {
-    return (struct right){2 * side - right.solid, {side - right.broken[0], side - right.broken[1]}};
+static struct right turned_over(struct right right, struct extent box) {
+    return (struct right){box.wide + box.high - right.solid, box.wide - right.row, box.high - right.column};
 }
 
-/* A light ground, or a dark one, shows two solid sides wherever it is wide enough: the others count for more. */
-static bool is_likely(struct right right, int side) {
-    return right.solid >= LEAST_SOLID * 2 * side && right.broken[0] >= LEAST_BROKEN * side &&
-           right.broken[1] >= LEAST_BROKEN * side &&
-           right.broken[0] + right.broken[1] + right.solid >= LEAST_RIGHT * 4 * side;
+/* A light ground, or a dark one, shows two solid strips wherever it is wide enough: the others count for more. */
+static bool is_likely(struct right right, struct extent box) {
+    int both = box.wide + box.high;
+    return right.solid >= LEAST_SOLID * both && right.row >= LEAST_BROKEN * box.wide &&
+           right.column >= LEAST_BROKEN * box.high && right.row + right.column + right.solid >= LEAST_RIGHT * 2 * both;
 }
 
 static void keep_border(struct border *out, int room, int *count, struct border border) {
@@ -89,30 +92,39 @@ static void keep_border(struct border *out, int room, int *count, struct border 
     out[at] = border;
 }
 
-/* Keeps the borders of this side that begin at a module. */
-static void look_at(const struct both *both, int x, int y, int side, struct border *out, int room, int *count) {
+/* Keeps the borders of so many columns and rows that begin at a module. */
+static void look_at(const struct both *both, int x, int y, struct extent box, struct border *out, int room,
+                    int *count) {
+    const struct strip strips[STRIPS] = {[TOP] = strip_of(&both->rows, y, x, box.wide),
+                                      [BELOW] = strip_of(&both->rows, y + box.high - 1, x, box.wide),
+                                      [LEFT] = strip_of(&both->columns, x, y, box.high),
+                                      [RIGHT] = strip_of(&both->columns, x + box.wide - 1, y, box.high)};
     for (int way = 0; way < 2 * WAYS; way++) {
         int turns = way % WAYS;
         bool is_inverted = way >= WAYS;
-        struct right right = right_in(both, x, y, side, turns);
-        right = is_inverted ? turned_over(right, side) : right;
-        double more = 0.75 * right.solid + 1.25 * (right.broken[0] + right.broken[1]) - 2 * side;
-        if (is_likely(right, side))
-            keep_border(out, room, count, (struct border){x, y, side, turns, is_inverted, more / sqrt(side)});
+        struct right right = right_in(strips, turns);
+        right = is_inverted ? turned_over(right, box) : right;
+        if (!is_likely(right, box))
+            continue;
+        double more = 0.75 * right.solid + 1.25 * (right.row + right.column) - (box.wide + box.high),
+               score = more / sqrt(mean_side(box));
+        if (!is_square(box) && score < LEAST_OF_RECTANGLE)
+            continue;
+        struct extent extent = turns % 2 == 0 ? box : (struct extent){box.high, box.wide};
+        keep_border(out, room, count, (struct border){x, y, turns, extent, is_inverted, score});
     }
 }
 
-int find_borders(const struct field *field, struct border *out, int room) {
+int find_borders(const struct field *field, const struct layouts *shapes, struct border *out, int room) {
     struct both *both = calloc(1, sizeof *both);
-    int sides[SIZES], count = 0;
+    int count = 0;
     if (both == NULL)
         return -1;
     sum_up(field, both);
-    list_sides(sides);
-    for (int k = 0; k < SIZES; k++)
-        for (int y = 0; y + sides[k] <= field->high; y++)
-            for (int x = 0; x + sides[k] <= field->wide; x++)
-                look_at(both, x, y, sides[k], out, room, &count);
+    for (int k = 0; k < shapes->count; k++)
+        for (int y = 0; y + shapes->shapes[k].high <= field->high; y++)
+            for (int x = 0; x + shapes->shapes[k].wide <= field->wide; x++)
+                look_at(both, x, y, shapes->shapes[k], out, room, &count);
     free(both);
     return count;
 }

@@ -12,15 +12,17 @@ struct field {
     uint8_t dark[MOST_FIELD * MOST_FIELD];
 };
 
-/* Where a border may be: the symbol's first column and row in the field, by how many right angles it is turned, and how
- * clear it is. */
+/* Where a border may be: the first column and row in the field, the extent of the upright symbol, by how many right
+ * angles it is turned, and how clear it is. */
 struct border {
-    int x, y, side, turns;
+    int x, y, turns;
+    struct extent extent;
     bool is_inverted; /* whether its dark modules are light */
     double score;     /* how many more modules are right than by chance, beside the root of how many there are */
 };
 
-/* Writes at most `room` borders, the clearest first, and returns their number. */
-int find_borders(const struct field *field, struct border *out, int room);
+/* Writes at most `room` borders of symbols of any shape, the clearest first, and returns their number; -1 if there is
+ * no memory. */
+int find_borders(const struct field *field, const struct layouts *shapes, struct border *out, int room);
 
 #endif

@@ -13,10 +13,10 @@ static void search_field(struct search *search, int level, const struct lattice 
     struct border borders[BORDERS];
     int first_x, first_y;
     sample_field(&search->sights[0].levels[level], lattice, field, &first_x, &first_y);
-    int count = find_borders(field, borders, BORDERS);
+    int count = find_borders(field, search->judge.layouts, borders, BORDERS);
     search->judge.has_no_memory |= count < 0;
     for (int k = 0; k < count && !is_over(search); k++) {
-        struct placement placement = {.side = borders[k].side, .score = borders[k].score};
+        struct placement placement = {.extent = borders[k].extent, .score = borders[k].score};
         placement.shows_border = borders[k].score >= CLEAR;
         if (symbol_in(lattice, first_x, first_y, &borders[k], &placement.warp) &&
             judge_all(search, &search->sights[borders[k].is_inverted], &placement, 1, 1 << level))

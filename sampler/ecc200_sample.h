@@ -1,4 +1,5 @@
-/* ecc200_sample.h: finds square Data Matrix ECC 200 symbols in a picture, and samples them into grids for ecc200.h.
+/* ecc200_sample.h: finds Data Matrix ECC 200 symbols, square and rectangular, in a picture, and samples them into grids
+ * for ecc200.h.
  *
  *     ecc200_sample_picture   the symbols of a picture: grid, corners, reading
  *     ecc200_sample_usual     the usual options
@@ -10,7 +11,7 @@
  *     size_t count;
  *     uint16_t code = ecc200_sample_picture(luminance, width, height, width, NULL, &symbol, 1, &count);
  *     if (code == ECC200_SAMPLE_OK && count == 1)
- *         printf("%d by %d modules, %d items\n", symbol.side, symbol.side, symbol.reading.item_count);
+ *         printf("%d by %d modules, %d items\n", symbol.rows, symbol.columns, symbol.reading.item_count);
  *
  *     cc example.c $(pkg-config --cflags --libs ecc200_sample)
  *
@@ -35,7 +36,7 @@ extern "C" {
 
 /* The version of this interface. It changes when a program that was built with this file would no longer work with the
  * library. */
-#define ECC200_SAMPLE_ABI 1
+#define ECC200_SAMPLE_ABI 2
 
 /* The version of the library's interface, to be compared with ECC200_SAMPLE_ABI if the library is loaded at run
  * time. */
@@ -57,7 +58,7 @@ enum ecc200_sample_code {
 typedef struct ecc200_sample_options {
     uint32_t milliseconds; /* how long to try at most. What is being tried is ended, so a call may take a little
                               longer */
-    uint16_t least_side;              /* symbols of fewer modules a side are passed over; 0: none is */
+    uint16_t least_side;              /* symbols with a side of fewer modules are passed over; 0: none is */
     uint16_t margin;      /* how many corrections each block must leave unused, of those that its size allows */
     uint16_t keep_unread; /* not 0: if no symbol is read, the most likely grid that has a symbol's border is given, with
                              its fault */
@@ -70,13 +71,17 @@ typedef struct ecc200_sample_point {
 typedef struct ecc200_sample {
     ecc200_sample_point corners[4]; /* of the upright symbol: top left, top right, bottom right, bottom left, where they
                                        are in the picture */
-    uint16_t side;                    /* modules */
+    uint16_t rows, columns;           /* modules */
     uint8_t inverted;               /* 1: the symbol is light on dark in the picture; the grid has its dark modules as 1
                                        all the same */
     uint8_t mirrored;                 /* 1: the picture shows it as in a mirror */
-    uint8_t modules[ECC200_MOST_MODULES]; /* the first side * side count */
+    uint8_t modules[ECC200_MOST_MODULES]; /* row by row: the first rows * columns count */
+    uint8_t doubtful[ECC200_MOST_MODULES]; /* likewise: 1 for a module that lies outside of the picture, in a glare,
+                                              beyond a torn edge or under a blot, where it wasn't read without knowing
+                                              that; else 0 */
     ecc200_reading reading;           /* what ecc200_read says of these modules: at the usual border limit, or,
-                                         if each block leaves a correction unused, at one of side + side / 4 */
+                                         if each block leaves a correction unused, at one of
+                                         (rows + columns) * 5 / 8 */
 } ecc200_sample;
 
 /* The usual options: a second, every side, no margin, nothing unread. */

@@ -50,9 +50,12 @@ void sample_field(const struct plane *grey, const struct lattice *lattice, struc
 
 bool symbol_in(const struct lattice *lattice, int first_x, int first_y, const struct border *border, struct warp *out) {
     static const double turned[4][4] = {{1, 0, 0, 1}, {0, -1, 1, 0}, {-1, 0, 0, -1}, {0, 1, -1, 0}};
-    const double *turn = turned[border->turns], side = border->side;
-    double x = first_x + border->x + (turn[0] + turn[1] < 0 ? side : 0),
-           y = first_y + border->y + (turn[2] + turn[3] < 0 ? side : 0);
+    const double *turn = turned[border->turns];
+    bool is_on_its_side = border->turns % 2 == 1;
+    struct extent extent = border->extent;
+    double across = is_on_its_side ? extent.high : extent.wide, down = is_on_its_side ? extent.wide : extent.high,
+           x = first_x + border->x + (turn[0] + turn[1] < 0 ? across : 0),
+           y = first_y + border->y + (turn[2] + turn[3] < 0 ? down : 0);
     struct homography inner = {{{turn[0], turn[1], x}, {turn[2], turn[3], y}, {0, 0, 1}}};
-    return compose_warp(&lattice->warp, &inner, border->side, out);
+    return compose_warp(&lattice->warp, &inner, extent, out);
 }

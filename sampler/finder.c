@@ -3,11 +3,15 @@
 #include <math.h>
 #include <stdlib.h>
 
-static const double LEAST_SINE = 0.7, LEAST_RATIO = 0.4, LEAST_SOLID = 0.7;
+static const double LEAST_SINE = 0.7, LEAST_RATIO = 0.035, LEAST_SOLID = 0.7;
+/* Of the two borders' lengths: below it an elbow may be a rectangle's, and no square's. */
+static const double LEAST_OF_SQUARE = 0.4;
 /* Of the turns from dark to light and back that modules of chance have. */
 static const double LEAST_LIVELINESS = 0.3, MOST_LIVELINESS = 2.5;
-/* Of the numbers of modules that the two borders seem to have, more over fewer. */
-static const double MOST_UNEVEN = 2.5;
+/* Of the numbers of modules that the two borders seem to have, more over fewer; and of the widths of modules along the
+ * two, where these are too unlike for a square. */
+static const double MOST_UNEVEN = 2.5, MOST_OBLONG = 2;
+static const double WIDEST_MODULE = 0.1, WIDEST_OF_LONG = 0.14; /* of a border */
 
 /* ---- The width of a module */
 
@@ -78,15 +82,22 @@ static bool is_lively(const struct plane *dark, struct point from, struct point 
     return turns >= LEAST_LIVELINESS * usual && turns <= MOST_LIVELINESS * usual;
 }
 
+/* Whether a ratio is at most this one, either way. */
+static bool is_between(double ratio, double most) {
+    return ratio < most && ratio > 1 / most;
+}
+
 /* Measures the modules of an elbow, and looks at those inside of its borders. */
 static void look_inside(const struct plane *dark, struct elbow *elbow) {
     struct point along = difference(elbow->right, elbow->corner), up = difference(elbow->top, elbow->corner);
     double wide = length(along), high = length(up);
-    elbow->across = fmin(module_width(dark, elbow->corner, elbow->top, scale_by(along, 1 / wide)), 0.1 * wide);
-    elbow->upwards = fmin(module_width(dark, elbow->corner, elbow->right, scale_by(up, 1 / high)), 0.1 * high);
-    double uneven = wide / elbow->across / (high / elbow->upwards);
+    elbow->is_long = fmin(wide, high) < LEAST_OF_SQUARE * fmax(wide, high);
+    double widest = elbow->is_long ? WIDEST_OF_LONG : WIDEST_MODULE;
+    elbow->across = fmin(module_width(dark, elbow->corner, elbow->top, scale_by(along, 1 / wide)), widest * wide);
+    elbow->upwards = fmin(module_width(dark, elbow->corner, elbow->right, scale_by(up, 1 / high)), widest * high);
+    double uneven = wide / elbow->across / (high / elbow->upwards), oblong = elbow->across / elbow->upwards;
     elbow->is_lively =
-        uneven < MOST_UNEVEN && uneven > 1 / MOST_UNEVEN &&
+        (elbow->is_long ? is_between(oblong, MOST_OBLONG) : is_between(uneven, MOST_UNEVEN)) &&
         is_lively(dark, elbow->corner, elbow->right, scale_by(up, elbow->upwards / high), elbow->across) &&
         is_lively(dark, elbow->corner, elbow->top, scale_by(along, elbow->across / wide), elbow->upwards);
 }
@@ -115,15 +126,16 @@ static struct elbow elbow_of(const struct plane *dark, const struct line *bottom
     double shorter = fmin(length(difference(elbow.right, elbow.corner)), length(difference(elbow.top, elbow.corner)));
     elbow.score = solid * (shorter + 0.25 * (wide + high)) / (1 + 0.01 * (gap + other));
     look_inside(dark, &elbow);
-    return elbow;
+    return elbow.is_lively || !elbow.is_long ? elbow : none;
 }
 
 static int by_likelihood(const void *one, const void *other) {
     const struct elbow *a = one, *b = other;
     return a->is_lively != b->is_lively ? b->is_lively - a->is_lively
-           : a->score < b->score        ? 1
-           : a->score > b->score        ? -1
-                                        : 0;
+           : a->is_long != b->is_long     ? a->is_long - b->is_long
+           : a->score < b->score          ? 1
+           : a->score > b->score          ? -1
+                                          : 0;
 }
 
 static bool alike(const struct elbow *one, const struct elbow *other) {

@@ -9,12 +9,13 @@ struct elbow {
     struct point top;    /* top left: where the left border ends */
     struct point right;  /* bottom right: where the bottom border ends */
     double across, upwards; /* about the width of a module along the bottom border and along the left one, in pixels */
+    bool is_long;        /* whether it is too long for a square */
     bool is_lively;      /* whether dark and light follow one another inside as often as a symbol's modules do */
     double score;
 };
 
-/* Writes at most `room` elbows, the lively ones first, then by their scores, and returns their number. Stops at the
- * time `end`. */
+/* Writes at most `room` elbows, the lively ones first, of these the long ones last, then by their scores, and returns
+ * their number. Stops at the time `end`. */
 int find_elbows(const struct plane *dark, const struct lines *lines, int64_t end, struct elbow *out, int room);
 
 #endif

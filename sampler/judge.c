@@ -14,7 +14,15 @@ static const struct rule RULES[] = {
     {0.00, 0.20, false, 0, false},  {0.00, -0.20, false, 0, false}, {0.12, 0.25, true, 0, false},
     {0.12, -0.25, true, 0, false},  {0.00, 0.00, false, 3, false},  {0.12, 0.00, false, 2, false},
     {0.12, 0.00, false, 4, false},  {0.12, 0.00, false, 0, true}};
-enum { RULE_COUNT = sizeof RULES / sizeof *RULES, FEW_RULES = 4 };
+/* Those by which modules are told apart where some are doubtful. */
+static const struct rule DOUBT_RULES[] = {{0.00, 0.00, false, 0, false}, {0.12, 0.00, true, 0, false},
+                                          {0.00, 0.00, false, 3, false}, {0.12, 0.00, false, 0, true}};
+enum {
+    RULE_COUNT = sizeof RULES / sizeof *RULES,
+    FEW_RULES = 4,
+    DOUBT_RULE_COUNT = sizeof DOUBT_RULES / sizeof *DOUBT_RULES
+};
+enum { CHECKS_OF_A_CORRECTION = 2 };
 static const double LEAST_SHARE = 0.4, LEAST_SHARE_OF_CLEAR = 0.25, LEAST_BENT = 0.6;
 static const double LEAST_NEAR = 0.6; /* of the edges of a border that is bent: by chance, a third */
 
@@ -22,13 +30,14 @@ static const double LEAST_NEAR = 0.6; /* of the edges of a border that is bent: 
 
 /* How many wrong border modules are taken at most, where each block leaves a correction unused: as many as a torn
  * corner may take. */
-static int widest_limit(int side) {
-    return side + side / 4;
+static int widest_limit(const ecc200_sample *trial) {
+    return 5 * (trial->rows + trial->columns) / 8;
 }
 
-static uint16_t read(const uint8_t *modules, int side, int limit, ecc200_reading *out) {
-    size_t count = (size_t)side * (size_t)side;
-    return ecc200_read(modules, count, (uint16_t)side, (uint16_t)limit, ECC200_WIDE, out);
+static uint16_t read(ecc200_sample *trial, int limit) {
+    size_t count = (size_t)trial->rows * (size_t)trial->columns;
+    return ecc200_read(trial->modules, count, NULL, 0, trial->rows, trial->columns, (uint16_t)limit, ECC200_WIDE,
+                       &trial->reading);
 }
 
 /* Codewords corrected, and then border modules: the fewer the better. */
@@ -41,34 +50,23 @@ static int cost_of(const ecc200_reading *reading) {
 
 /* Whether a reading is to be trusted. Beyond the usual border limit it is only if each block leaves one correction
  * unused at least. */
-static bool leaves_margin(const ecc200_reading *reading, const struct layout *layout, int margin) {
-    bool is_usual = reading->border_faults <= ecc200_usual_limit((uint16_t)layout->side);
+static bool leaves_margin(const ecc200_sample *trial, int margin) {
+    const ecc200_reading *reading = &trial->reading;
+    bool is_usual = reading->border_faults <= ecc200_usual_limit(trial->rows, trial->columns);
     margin = margin > 0 || is_usual ? margin : 1;
     for (int block = 0; block < reading->block_count; block++)
-        if (reading->corrected[block] + margin > layout->limit)
+        if (reading->left[block] < CHECKS_OF_A_CORRECTION * margin)
             return false;
     return true;
 }
 
-static void set_corners(ecc200_sample *sample, const struct warp *warp, int side, bool is_mirrored) {
-    static const int x[] = {0, 1, 1, 0}, y[] = {0, 0, 1, 1};
+/* The corners of the upright symbol, which a mirror that leaves the solid border where it is takes across. */
+static void set_corners(ecc200_sample *sample, const struct warp *warp, struct extent extent) {
     for (int k = 0; k < 4; k++) {
-        int corner = is_mirrored && k % 2 == 0 ? 2 - k : k;
-        struct point at = warp_point(warp, x[corner] * side, y[corner] * side);
+        struct point corner = corner_of(extent, sample->mirrored && k % 2 == 0 ? 2 - k : k),
+                     at = warp_point(warp, corner.x, corner.y);
         sample->corners[k] = (ecc200_sample_point){at.x, at.y};
     }
-    sample->mirrored = is_mirrored;
-}
-
-/* The modules as a mirror on the corner opposite the solid borders shows them, which leaves the border as it is. */
-static void mirror(uint8_t *modules, int side) {
-    for (int row = 0; row < side; row++)
-        for (int column = 0; column < side - 1 - row; column++) {
-            uint8_t *one = modules + row * side + column,
-                    *other = modules + (side - 1 - column) * side + side - 1 - row, kept = *one;
-            *one = *other;
-            *other = kept;
-        }
 }
 
 /* ---- The candidates of one sampling */
@@ -82,54 +80,133 @@ struct trials {
     double score;           /* of the placement */
 };
 
-static void keep_if_best(struct trials *trials, bool is_mirrored) {
-    const ecc200_reading *reading = &trials->judge->trial->reading;
-    int cost = cost_of(reading);
-    if (!leaves_margin(reading, trials->layout, trials->judge->options->margin) ||
-        (trials->best_cost >= 0 && trials->best_cost <= cost))
+/* Keeps the candidate, unless one with no more corrections is kept. */
+static void keep(struct trials *trials) {
+    ecc200_sample *trial = trials->judge->trial;
+    int cost = cost_of(&trial->reading);
+    if (trials->best_cost >= 0 && trials->best_cost <= cost)
         return;
     trials->best_cost = cost;
-    *trials->best = *trials->judge->trial;
-    set_corners(trials->best, trials->warp, trials->layout->side, is_mirrored);
+    set_corners(trial, trials->warp, trials->layout->extent);
+    *trials->best = *trial;
+}
+
+static void keep_if_trusted(struct trials *trials) {
+    if (leaves_margin(trials->judge->trial, trials->judge->options->margin))
+        keep(trials);
 }
 
 /* A grid whose border the reader doesn't take is no symbol, but whatever else has a solid elbow. */
 static void keep_unread(struct trials *trials) {
     struct judge *judge = trials->judge;
-    bool is_wanted = judge->unread != NULL && trials->best_cost < 0 && judge->unread_score < trials->score;
-    if (!is_wanted || judge->trial->reading.fault.code == ECC200_BORDER)
-        return;
     ecc200_sample *trial = judge->trial;
-    read(trial->modules, trial->side, ecc200_usual_limit(trial->side), &trial->reading);
-    if (trial->reading.fault.code == ECC200_BORDER)
+    bool is_wanted = judge->unread != NULL && trials->best_cost < 0 && judge->unread_score < trials->score;
+    if (!is_wanted || trial->reading.fault.code == ECC200_BORDER ||
+        read(trial, ecc200_usual_limit(trial->rows, trial->columns)) == ECC200_BORDER)
         return;
     judge->unread_score = trials->score;
-    *judge->unread = *judge->trial;
-    set_corners(judge->unread, trials->warp, trials->layout->side, false);
+    set_corners(trial, trials->warp, trials->layout->extent);
+    *judge->unread = *trial;
+}
+
+/* Makes what is seen the candidate, as it is or as a mirror shows it. */
+static void take_seen(struct trials *trials, bool is_mirrored) {
+    struct judge *judge = trials->judge;
+    struct extent extent = trials->layout->extent;
+    ecc200_sample *trial = judge->trial;
+    trial->rows = (uint16_t)(is_mirrored ? extent.wide : extent.high);
+    trial->columns = (uint16_t)(is_mirrored ? extent.high : extent.wide);
+    trial->inverted = judge->is_inverted, trial->mirrored = is_mirrored;
+    if (is_mirrored)
+        mirror_modules(judge->seen, extent, trial->modules);
+    else
+        memcpy(trial->modules, judge->seen, (size_t)extent.wide * (size_t)extent.high);
 }
 
 static void try_rules(struct trials *trials, const struct brightnesses *brightnesses, int count) {
     struct judge *judge = trials->judge;
     ecc200_sample *trial = judge->trial;
-    int side = trials->layout->side, limit = widest_limit(side);
+    const struct layout *layout = trials->layout;
     for (int k = 0; k < count && trials->best_cost != 0; k++) {
-        if (!tell_apart(brightnesses, trials->layout, RULES[k], trial->modules))
+        if (!tell_apart(brightnesses, layout->colour, RULES[k], judge->seen))
             return;
-        trial->side = (uint16_t)side;
-        trial->inverted = judge->is_inverted;
-        if (read(trial->modules, side, limit, &trial->reading) == ECC200_OK) {
-            keep_if_best(trials, false);
+        take_seen(trials, layout->is_mirrored);
+        if (read(trial, widest_limit(trial)) == ECC200_OK) {
+            keep_if_trusted(trials);
             continue;
         }
         bool has_border = trial->reading.fault.code != ECC200_BORDER;
         if (RULES[k].around == 0)
             keep_unread(trials);
-        if (!has_border)
+        if (!has_border || !is_square(layout->extent))
             continue;
-        mirror(trial->modules, side);
-        if (read(trial->modules, side, limit, &trial->reading) == ECC200_OK)
-            keep_if_best(trials, true);
+        take_seen(trials, true);
+        if (read(trial, widest_limit(trial)) == ECC200_OK)
+            keep_if_trusted(trials);
     }
+}
+
+/* ---- Known damage */
+
+/* Whether a reading with doubtful modules is to be trusted: two checks of each block are unused at least. */
+static bool leaves_checks(const ecc200_sample *trial, int margin) {
+    margin = margin > 1 ? margin : 1;
+    for (int block = 0; block < trial->reading.block_count; block++)
+        if (trial->reading.left[block] < CHECKS_OF_A_CORRECTION * margin)
+            return false;
+    return true;
+}
+
+static bool says_the_same(const ecc200_reading *one, const ecc200_reading *other) {
+    return one->item_count == other->item_count &&
+           memcmp(one->items, other->items, one->item_count * sizeof *one->items) == 0;
+}
+
+/* Lets the reader judge what is seen, as it is or in a mirror, with its doubtful modules. False if this says something
+ * else than a candidate before it. */
+static bool try_doubtful(struct trials *trials, bool is_mirrored) {
+    struct judge *judge = trials->judge;
+    ecc200_sample *trial = judge->trial;
+    struct extent extent = trials->layout->extent;
+    size_t count = (size_t)extent.wide * (size_t)extent.high;
+    take_seen(trials, is_mirrored);
+    if (is_mirrored)
+        mirror_modules(judge->doubtful, extent, trial->doubtful);
+    else
+        memcpy(trial->doubtful, judge->doubtful, count);
+    bool is_read = ecc200_read(trial->modules, count, trial->doubtful, count, trial->rows, trial->columns,
+                               ecc200_usual_limit(trial->rows, trial->columns), ECC200_WIDE,
+                               &trial->reading) == ECC200_OK &&
+                   leaves_checks(trial, judge->options->margin);
+    if (is_read && trials->best_cost >= 0 && !says_the_same(&trials->best->reading, &trial->reading))
+        return false;
+    if (is_read)
+        keep(trials);
+    return true;
+}
+
+/* Tries a lie once more, without the modules that the picture tells nothing of. */
+static void try_doubt(struct trials *trials, const struct warp *warp, const struct brightnesses *brightnesses) {
+    struct judge *judge = trials->judge;
+    const struct layout *layout = trials->layout;
+    uint8_t colour[MOST_MODULES];
+    int wide = layout->extent.wide, count = wide * layout->extent.high;
+    bool is_one = true;
+    if (trials->best_cost >= 0 || clock_reached(judge->end) ||
+        find_doubt(judge->picture, layout, warp, &judge->looks, judge->doubtful) == 0)
+        return;
+    for (int k = 0; k < count; k++)
+        colour[k] = judge->doubtful[k] ? UNKNOWN : layout->colour[k];
+    for (int k = 0; k < DOUBT_RULE_COUNT && is_one; k++) {
+        if (!tell_apart(brightnesses, colour, DOUBT_RULES[k], judge->seen))
+            continue;
+        is_one = try_doubtful(trials, layout->is_mirrored);
+        if (is_one && is_square(layout->extent))
+            is_one = try_doubtful(trials, true);
+    }
+    if (!is_one)
+        trials->best_cost = -1;
+    memset(judge->trial->doubtful, 0, sizeof judge->trial->doubtful);
 }
 
 /* ---- The samplings of a placement */
@@ -145,12 +222,14 @@ static void try_moved(struct trials *trials, const struct lie *lie, struct brigh
 /* Fits each region by its own border. */
 static void try_regions(struct trials *trials, struct lie *lie, struct brightnesses *brightnesses) {
     const struct layout *layout = trials->layout;
-    if (layout->region == layout->side || trials->best_cost >= 0 || clock_reached(trials->judge->end))
+    struct extent region = layout->region;
+    int across = layout->extent.wide / region.wide, down = layout->extent.high / region.high;
+    if (across * down == 1 || trials->best_cost >= 0 || clock_reached(trials->judge->end))
         return;
-    lie->across = layout->side / layout->region;
-    for (int k = 0; k < lie->across * lie->across; k++) {
-        int x = k % lie->across * layout->region, y = k / lie->across * layout->region;
-        struct part part = {x, x + layout->region, y, y + layout->region};
+    lie->region = region;
+    for (int k = 0; k < across * down; k++) {
+        int x = k % across * region.wide, y = k / across * region.high;
+        struct part part = {x, x + region.wide, y, y + region.high};
         lie->warps[k] = *trials->warp;
         refine(trials->judge->smooth, layout, part, 0.3, 2, &lie->warps[k]);
     }
@@ -161,30 +240,38 @@ static void try_regions(struct trials *trials, struct lie *lie, struct brightnes
 /* Bends the whole by its border, and then by all edges, whatever modules they are between. */
 static void try_bent(struct trials *trials, struct lie *lie, struct brightnesses *brightnesses) {
     struct judge *judge = trials->judge;
-    int side = trials->layout->side;
-    struct warp warp = *trials->warp;
-    warp.is_bent = true, warp.middle = side / 2.0, warp.unit = side;
+    struct extent extent = trials->layout->extent;
+    struct warp warp = bendable_warp(&trials->warp->to_picture, extent);
     if (trials->score < LEAST_BENT || trials->best_cost >= 0 || clock_reached(judge->end) ||
         bend(judge->smooth, trials->layout, 4, &warp) < LEAST_NEAR)
         return;
     for (int round = 0; round < 2 && trials->best_cost < 0 && !clock_reached(judge->end); round++) {
-        lie->across = 1, lie->warps[0] = warp;
+        lie->region = extent, lie->warps[0] = warp;
         sample_modules(judge->picture, trials->layout, lie, 0, 0, brightnesses);
         try_rules(trials, brightnesses, RULE_COUNT);
-        lay_out_places(judge->places, (struct part){0, side, 0, side});
+        lay_out_places(judge->places, (struct part){0, extent.wide, 0, extent.high});
         bend(judge->smooth, judge->places, 3, &warp);
     }
 }
 
+/* Tries the placement as it is once more, and bent, without what is known to be damaged. */
+static void try_known_damage(struct trials *trials, struct lie *lie, struct brightnesses *brightnesses) {
+    const struct layout *layout = trials->layout;
+    *lie = (struct lie){.region = layout->extent, .warps = {*trials->warp}};
+    sample_modules(trials->judge->picture, layout, lie, 0, 0, brightnesses);
+    try_doubt(trials, trials->warp, brightnesses);
+}
+
 /* Whether this placement, but for a quarter of a module, was sampled before. If not, it is from now on. */
-static bool was_tried(struct judge *judge, const struct warp *warp, int side) {
-    struct tried now = {.side = side, .is_inverted = judge->is_inverted};
+static bool was_tried(struct judge *judge, const struct warp *warp, struct extent extent) {
+    struct tried now = {.extent = extent, .is_inverted = judge->is_inverted};
     for (int k = 0; k < 4; k++)
-        now.corners[k] = warp_point(warp, (k == 1 || k == 2) * side, (k > 1) * side);
-    double near = 0.25 * length(difference(now.corners[2], now.corners[0])) / side;
+        now.corners[k] = warp_point(warp, corner_of(extent, k).x, corner_of(extent, k).y);
+    double near = 0.25 * length(difference(now.corners[2], now.corners[0])) / mean_side(extent);
     for (int k = 0; k < judge->tried_count && k < MOST_TRIED; k++) {
         const struct tried *tried = &judge->tried[k];
-        bool is_same = tried->side == side && tried->is_inverted == now.is_inverted;
+        bool is_same = tried->extent.wide == extent.wide && tried->extent.high == extent.high &&
+                       tried->is_inverted == now.is_inverted;
         for (int corner = 0; corner < 4 && is_same; corner++)
             is_same = length(difference(tried->corners[corner], now.corners[corner])) < near;
         if (is_same)
@@ -195,24 +282,27 @@ static bool was_tried(struct judge *judge, const struct warp *warp, int side) {
 }
 
 bool judge_placement(struct judge *judge, const struct placement *placement, ecc200_sample *out) {
-    const struct layout *layout = layout_of(judge->layouts, placement->side);
+    const struct layout *layout = layout_of(judge->layouts, placement->extent);
     if (layout == NULL)
         judge->has_no_memory = true;
-    if (layout == NULL || placement->side < judge->options->least_side)
+    if (layout == NULL || shorter_side(placement->extent) < judge->options->least_side)
         return false;
     struct warp warp = placement->warp;
-    struct part whole = {0, layout->side, 0, layout->side};
+    struct part whole = {0, layout->extent.wide, 0, layout->extent.high};
     double share = refine(judge->smooth, layout, whole, 0.01, 4, &warp);
-    if (share < (placement->shows_border ? LEAST_SHARE_OF_CLEAR : LEAST_SHARE) || was_tried(judge, &warp, layout->side))
+    if (share < (placement->shows_border ? LEAST_SHARE_OF_CLEAR : LEAST_SHARE) ||
+        was_tried(judge, &warp, layout->extent))
         return false;
     struct trials trials = {judge, layout, &warp, out, -1, share};
     struct brightnesses brightnesses;
-    struct lie lie = {.across = 1, .warps = {warp}};
+    struct lie lie = {.region = layout->extent, .warps = {warp}};
     sample_modules(judge->picture, layout, &lie, 0, 0, &brightnesses);
     try_rules(&trials, &brightnesses, RULE_COUNT);
     try_regions(&trials, &lie, &brightnesses);
     try_bent(&trials, &lie, &brightnesses);
     if (trials.best_cost < 0)
         try_moved(&trials, &lie, &brightnesses);
+    if (trials.best_cost < 0)
+        try_known_damage(&trials, &lie, &brightnesses);
     return trials.best_cost >= 0;
 }

@@ -2,12 +2,13 @@
 #ifndef JUDGE_H
 #define JUDGE_H
 
+#include "doubt.h"
 #include "ecc200_sample.h"
 #include "track.h"
 
 /* A placement that was sampled before. */
 struct tried {
-    int side;
+    struct extent extent;
     bool is_inverted;
     struct point corners[4];
 };
@@ -23,6 +24,9 @@ struct judge {
     bool has_no_memory;                     /* whether memory was wanted that isn't there */
     bool is_inverted;                       /* whether `picture` is the picture inverted */
     ecc200_sample *trial;                   /* room for a candidate */
+    uint8_t seen[MOST_MODULES];             /* its modules as the picture shows them, in a mirror perhaps */
+    uint8_t doubtful[MOST_MODULES];         /* those of them that tell nothing, while these are given to the reader */
+    struct looks looks;
     ecc200_sample *unread; /* the likeliest one that has a border and isn't read, or NULL if none is wanted */
     double unread_score;                    /* 0: there is none yet */
     struct tried tried[MOST_TRIED];         /* the latest ones */

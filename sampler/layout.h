@@ -7,13 +7,36 @@
 #include <stdint.h>
 
 enum {
-    SIZES = ECC200_SIZE_COUNT,
-    MOST_SIDE = ECC200_MOST_SIDE,
+    MOST_SIDE = ECC200_MOST_COLUMNS, /* as many as rows */
+    MOST_MODULES = ECC200_MOST_MODULES,
+    MOST_SHAPES = 2 * ECC200_SIZE_COUNT,
     LIGHT = 0,
     DARK = 1,
     UNKNOWN = 2,
     MOST_WITNESSES = 3072
 };
+
+/* Modules each way: columns and rows. */
+struct extent {
+    int wide, high;
+};
+
+static inline bool is_square(struct extent extent) {
+    return extent.wide == extent.high;
+}
+
+/* Half of both: a square's side. */
+static inline double mean_side(struct extent extent) {
+    return (extent.wide + extent.high) / 2.0;
+}
+
+static inline int longer_side(struct extent extent) {
+    return extent.wide > extent.high ? extent.wide : extent.high;
+}
+
+static inline int shorter_side(struct extent extent) {
+    return extent.wide < extent.high ? extent.wide : extent.high;
+}
 
 /* An edge between two modules of known and different colours, of which one may lie outside the symbol; or a place where
  * there may be one. */
@@ -24,23 +47,29 @@ struct witness {
                             UNKNOWN: either, or there is no edge */
 };
 
+/* A shape in which a symbol is seen, upright, its solid border on the left and below: that of a size, or of a rectangle
+ * in a mirror, which is as high as the rectangle is wide. A square is the same in a mirror. */
 struct layout {
-    int side, region;    /* modules; `region` with its border */
-    int limit;           /* how many wrong codewords can be corrected in each block */
-    uint8_t colour[MOST_SIDE * MOST_SIDE]; /* LIGHT, DARK, UNKNOWN: row by row */
+    struct extent extent, region; /* `region` with its border */
+    int checks;                   /* check codewords of each block */
+    bool is_mirrored;             /* whether only a mirror shows it so */
+    uint8_t colour[MOST_MODULES]; /* LIGHT, DARK, UNKNOWN: row by row */
     struct witness witnesses[MOST_WITNESSES];
     int witness_count;
 };
 
-/* Writes the sides of all sizes, by rising size. */
-void list_sides(int sides[SIZES]);
-
-/* The layout of a side, made at the first call; NULL if there is no memory, or no such side. `made` holds those that
- * were made. */
+/* All shapes, and the layouts of those that were asked for. */
 struct layouts {
-    struct layout *made[SIZES];
+    struct extent shapes[MOST_SHAPES]; /* first the squares by their sides, then the rectangles */
+    int count, squares;
+    struct layout *made[MOST_SHAPES];
 };
-const struct layout *layout_of(struct layouts *layouts, int side);
+
+/* Lists the shapes. */
+void list_shapes(struct layouts *out);
+
+/* The layout of a shape, made at the first call; NULL if there is no memory, or no such shape. */
+const struct layout *layout_of(struct layouts *layouts, struct extent shape);
 void layouts_free(struct layouts *layouts);
 
 /* Columns and rows of modules from `first` up to, not including, `last`. */
@@ -54,5 +83,9 @@ void lay_out_places(struct layout *layout, struct part part);
 
 /* The colour of a module; outside, where the quiet zone is, LIGHT. */
 int colour_at(const struct layout *layout, int x, int y);
+
+/* The modules as a mirror on the diagonal from the upper left shows them that leaves the solid border on the left and
+ * below; from rows of extent.wide modules to rows of extent.high. */
+void mirror_modules(const uint8_t *from, struct extent extent, uint8_t *to);
 
 #endif

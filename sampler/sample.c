@@ -81,7 +81,7 @@ bool judge_all(struct search *search, const struct sight *sight, struct placemen
         struct placement *placement = &placements[k];
         for (int column = 0; column < 3; column++)
             placement->warp.to_picture.m[0][column] *= scale, placement->warp.to_picture.m[1][column] *= scale;
-        struct point middle = warp_point(&placement->warp, placement->side / 2.0, placement->side / 2.0);
+        struct point middle = warp_point(&placement->warp, placement->extent.wide / 2.0, placement->extent.high / 2.0);
         if (!is_known(search, middle) && judge_placement(&search->judge, placement, &search->found[search->count])) {
             search->count++;
             return true;
@@ -100,7 +100,8 @@ static void search_elbows(struct search *search, const struct sight *sight, int 
     for (const struct elbow *elbow = first; elbow < last && !is_over(search); elbow++) {
         struct point middle = scale_by(sum(elbow->top, elbow->right), 0.5 * scale);
         if (!is_known(search, middle))
-            judge_all(search, sight, placements, placements_of(&scene, elbow, placements), scale);
+            judge_all(search, sight, placements, placements_of(&scene, search->judge.layouts, elbow, placements),
+                      scale);
     }
 }
 
@@ -240,6 +241,7 @@ uint16_t ecc200_sample_picture(const uint8_t *luminance, size_t width, size_t he
         search->found = out, search->room = room;
         search->judge.options = options != NULL ? options : &usual;
         search->judge.layouts = &layouts;
+        list_shapes(&layouts);
         search->judge.places = &search->places;
         search->judge.end = clock_now() + search->judge.options->milliseconds;
         search->judge.trial = trials;

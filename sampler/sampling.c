@@ -9,18 +9,18 @@ static const double LEAST_AROUND = 0.15; /* of the contrast of the symbol, below
 
 void sample_modules(const struct plane *plane, const struct layout *layout, const struct lie *lie, double x, double y,
                     struct brightnesses *out) {
-    int side = layout->side, region = side / lie->across;
-    out->side = side;
-    for (int row = 0; row < side; row++)
-        for (int column = 0; column < side; column++) {
-            const struct warp *warp = &lie->warps[row / region * lie->across + column / region];
+    int wide = layout->extent.wide, high = layout->extent.high, across = wide / lie->region.wide;
+    out->extent = layout->extent;
+    for (int row = 0; row < high; row++)
+        for (int column = 0; column < wide; column++) {
+            const struct warp *warp = &lie->warps[row / lie->region.high * across + column / lie->region.wide];
             double total = 0;
             for (int k = 0; k < POINTS * POINTS; k++) {
                 double right = column + 0.5 + x + FIRST + APART * (k % POINTS),
                        down = row + 0.5 + y + FIRST + APART * (k / POINTS);
                 total += brightness(plane, warp_point(warp, right, down));
             }
-            out->of[row * side + column] = (float)(total / (POINTS * POINTS));
+            out->of[row * wide + column] = (float)(total / (POINTS * POINTS));
         }
 }
 
@@ -30,12 +30,12 @@ struct level {
 };
 
 /* The place of a row or column in the middle of a module, from -0.5 to 0.5. */
-static double place_of(int side, int k) {
-    return (k + 0.5) / side - 0.5;
+static double place_of(int count, int k) {
+    return (k + 0.5) / count - 0.5;
 }
 
-static double level_at(const struct level *level, int side, int column, int row) {
-    return level->a + level->b * place_of(side, column) + level->c * place_of(side, row);
+static double level_at(const struct level *level, struct extent extent, int column, int row) {
+    return level->a + level->b * place_of(extent.wide, column) + level->c * place_of(extent.high, row);
 }
 
 /* What is summed up to fit a level: of the modules, of their products with x and y, and of these with the brightness.
@@ -50,13 +50,13 @@ static void add_module(struct sums *sums, double x, double y, double v) {
 }
 
 /* The level of the modules of a class, without those that are farther than `most` from the level before. */
-static bool fit_level(const float *of, int side, const uint8_t *class, int wanted, const struct level *before,
-                      double most, struct level *out) {
+static bool fit_level(const float *of, struct extent extent, const uint8_t *class, int wanted,
+                      const struct level *before, double most, struct level *out) {
     struct sums sums = {0};
-    for (int row = 0; row < side; row++) {
-        double y = place_of(side, row);
-        for (int column = 0; column < side; column++, of++, class++) {
-            double x = place_of(side, column);
+    for (int row = 0; row < extent.high; row++) {
+        double y = place_of(extent.high, row);
+        for (int column = 0; column < extent.wide; column++, of++, class++) {
+            double x = place_of(extent.wide, column);
             if (*class == wanted && (before == NULL || fabs(*of - before->a - before->b * x - before->c * y) <= most))
                 add_module(&sums, x, y, *of);
         }
@@ -74,56 +74,58 @@ struct levels {
     struct level of[2]; /* LIGHT and DARK */
 };
 
-static bool fit_levels(const float *of, int side, const uint8_t *class, struct levels *out) {
+static bool fit_levels(const float *of, struct extent extent, const uint8_t *class, struct levels *out) {
     struct levels first;
     for (int colour = LIGHT; colour <= DARK; colour++)
-        if (!fit_level(of, side, class, colour, NULL, 0, &first.of[colour]))
+        if (!fit_level(of, extent, class, colour, NULL, 0, &first.of[colour]))
             return false;
     *out = first;
     double contrast = first.of[LIGHT].a - first.of[DARK].a;
     if (contrast < 3)
         return false;
     for (int colour = LIGHT; colour <= DARK; colour++)
-        if (!fit_level(of, side, class, colour, &first.of[colour], 0.4 * contrast, &out->of[colour]))
+        if (!fit_level(of, extent, class, colour, &first.of[colour], 0.4 * contrast, &out->of[colour]))
             out->of[colour] = first.of[colour];
     return out->of[LIGHT].a - out->of[DARK].a >= 3;
 }
 
 /* The brightness of the place (x, y), which may lie one module outside, where the quiet zone is. */
 static float around(const struct brightnesses *from, const struct levels *levels, int x, int y) {
-    int side = from->side;
-    if (x >= 0 && y >= 0 && x < side && y < side)
-        return from->of[y * side + x];
-    int column = x < 0 ? 0 : x >= side ? side - 1 : x, row = y < 0 ? 0 : y >= side ? side - 1 : y;
-    return (float)level_at(&levels->of[LIGHT], side, column, row);
+    int wide = from->extent.wide, high = from->extent.high;
+    if (x >= 0 && y >= 0 && x < wide && y < high)
+        return from->of[y * wide + x];
+    int column = x < 0 ? 0 : x >= wide ? wide - 1 : x, row = y < 0 ? 0 : y >= high ? high - 1 : y;
+    return (float)level_at(&levels->of[LIGHT], from->extent, column, row);
 }
 
 static void sharpen(const struct brightnesses *from, const struct levels *levels, double by, float *out) {
-    int side = from->side;
-    for (int y = 0; y < side; y++)
-        for (int x = 0; x < side; x++) {
+    int wide = from->extent.wide;
+    for (int y = 0; y < from->extent.high; y++)
+        for (int x = 0; x < wide; x++) {
             float beside = around(from, levels, x - 1, y) + around(from, levels, x + 1, y);
             float sum = beside + around(from, levels, x, y - 1) + around(from, levels, x, y + 1);
-            float here = from->of[y * side + x];
-            out[y * side + x] = here + (float)by * (4 * here - sum);
+            float here = from->of[y * wide + x];
+            out[y * wide + x] = here + (float)by * (4 * here - sum);
         }
 }
 
-static void divide(const float *of, int side, const struct levels *levels, double offset, uint8_t *modules) {
-    for (int row = 0; row < side; row++)
-        for (int column = 0; column < side; column++) {
-            double light = level_at(&levels->of[LIGHT], side, column, row),
-                   dark = level_at(&levels->of[DARK], side, column, row);
+static void divide(const float *of, struct extent extent, const struct levels *levels, double offset,
+                   uint8_t *modules) {
+    for (int row = 0; row < extent.high; row++)
+        for (int column = 0; column < extent.wide; column++) {
+            double light = level_at(&levels->of[LIGHT], extent, column, row),
+                   dark = level_at(&levels->of[DARK], extent, column, row);
             *modules++ = *of++ < dark + (0.5 + offset) * (light - dark);
         }
 }
 
-/* Writes for each module of a line the least and the most of those of a window of 2 * `around` + 1 of them, which is
- * moved into the line. */
-static void find_extremes(const float *least, const float *most, int side, int step, int around, float *out_least,
+/* Writes for each of the modules of a line the least and the most of those of a window of 2 * `around` + 1 of them, or
+ * as many as there are, which is moved into the line. */
+static void find_extremes(const float *least, const float *most, int count, int step, int around, float *out_least,
                           float *out_most) {
-    for (int k = 0; k < side; k++) {
-        int first = k - around < 0 ? 0 : k + around >= side ? side - 1 - 2 * around : k - around;
+    around = 2 * around < count ? around : (count - 1) / 2;
+    for (int k = 0; k < count; k++) {
+        int first = k - around < 0 ? 0 : k + around >= count ? count - 1 - 2 * around : k - around;
         float low = least[first * step], high = most[first * step];
         for (int j = first + 1; j <= first + 2 * around; j++) {
             low = least[j * step] < low ? least[j * step] : low;
@@ -135,13 +137,14 @@ static void find_extremes(const float *least, const float *most, int side, int s
 
 /* Divides by the middle between the darkest and the lightest module around each, where these differ by a share of the
  * contrast. */
-static void divide_around(const float *of, int side, double contrast, int around, uint8_t *modules) {
-    float rows[2][MOST_SIDE * MOST_SIDE], squares[2][MOST_SIDE * MOST_SIDE];
-    for (int row = 0; row < side; row++)
-        find_extremes(of + row * side, of + row * side, side, 1, around, rows[0] + row * side, rows[1] + row * side);
-    for (int column = 0; column < side; column++)
-        find_extremes(rows[0] + column, rows[1] + column, side, side, around, squares[0] + column, squares[1] + column);
-    for (int k = 0; k < side * side; k++)
+static void divide_around(const float *of, struct extent extent, double contrast, int around, uint8_t *modules) {
+    float rows[2][MOST_MODULES], squares[2][MOST_MODULES];
+    int wide = extent.wide, high = extent.high;
+    for (int row = 0; row < high; row++)
+        find_extremes(of + row * wide, of + row * wide, wide, 1, around, rows[0] + row * wide, rows[1] + row * wide);
+    for (int column = 0; column < wide; column++)
+        find_extremes(rows[0] + column, rows[1] + column, high, wide, around, squares[0] + column, squares[1] + column);
+    for (int k = 0; k < wide * high; k++)
         if (squares[1][k] - squares[0][k] >= LEAST_AROUND * contrast)
             modules[k] = 2 * of[k] < squares[0][k] + squares[1][k];
 }
@@ -160,11 +163,11 @@ static int by_brightness(const void *one, const void *other) {
     return a < b ? -1 : a > b;
 }
 
-static struct division division_of(const float *of, int side) {
+static struct division division_of(const float *of, int wide) {
     struct division best = {0};
     float sorted[MODULES], total = 0, squares = 0, below = 0;
     for (int k = 0; k < MODULES; k++) {
-        float here = of[k / SQUARE * side + k % SQUARE];
+        float here = of[k / SQUARE * wide + k % SQUARE];
         sorted[k] = here, total += here, squares += here * here;
     }
     qsort(sorted, MODULES, sizeof *sorted, by_brightness);
@@ -186,16 +189,16 @@ static int square_of(int module, bool is_last, int squares) {
 }
 
 /* Divides by that of the squares around each module whose brightnesses fall most clearly into two. */
-static void divide_cleanly(const float *of, int side, double contrast, uint8_t *modules) {
-    struct division divisions[MOST_SIDE * MOST_SIDE];
-    int squares = side - SQUARE + 1;
-    for (int k = 0; k < squares * squares; k++)
-        divisions[k] = division_of(of + k / squares * side + k % squares, side);
-    for (int k = 0; k < side * side; k++) {
+static void divide_cleanly(const float *of, struct extent extent, double contrast, uint8_t *modules) {
+    struct division divisions[MOST_MODULES];
+    int wide = extent.wide, across = wide - SQUARE + 1, down = extent.high - SQUARE + 1;
+    for (int k = 0; k < across * down; k++)
+        divisions[k] = division_of(of + k / across * wide + k % across, wide);
+    for (int k = 0; k < wide * extent.high; k++) {
         struct division best = {0};
-        for (int y = square_of(k / side, false, squares); y <= square_of(k / side, true, squares); y++)
-            for (int x = square_of(k % side, false, squares); x <= square_of(k % side, true, squares); x++) {
-                const struct division *here = &divisions[y * squares + x];
+        for (int y = square_of(k / wide, false, down); y <= square_of(k / wide, true, down); y++)
+            for (int x = square_of(k % wide, false, across); x <= square_of(k % wide, true, across); x++) {
+                const struct division *here = &divisions[y * across + x];
                 if (here->share > best.share && here->contrast >= LEAST_AROUND * contrast)
                     best = *here;
             }
@@ -204,28 +207,29 @@ static void divide_cleanly(const float *of, int side, double contrast, uint8_t *
     }
 }
 
-bool tell_apart(const struct brightnesses *from, const struct layout *layout, struct rule rule, uint8_t *modules) {
-    float sharp[MOST_SIDE * MOST_SIDE];
+bool tell_apart(const struct brightnesses *from, const uint8_t *colour, struct rule rule, uint8_t *modules) {
+    float sharp[MOST_MODULES];
     const float *of = from->of;
+    struct extent extent = from->extent;
     struct levels levels;
-    if (!fit_levels(of, from->side, layout->colour, &levels))
+    if (!fit_levels(of, extent, colour, &levels))
         return false;
     if (rule.sharpening > 0) {
         sharpen(from, &levels, rule.sharpening, sharp);
         of = sharp;
-        if (!fit_levels(of, from->side, layout->colour, &levels))
+        if (!fit_levels(of, extent, colour, &levels))
             return false;
     }
-    divide(of, from->side, &levels, 0, modules);
+    divide(of, extent, &levels, 0, modules);
     for (int round = 0; rule.is_by_all && round < 2; round++) {
-        if (!fit_levels(of, from->side, modules, &levels))
+        if (!fit_levels(of, extent, modules, &levels))
             return false;
-        divide(of, from->side, &levels, 0, modules);
+        divide(of, extent, &levels, 0, modules);
     }
-    divide(of, from->side, &levels, rule.offset, modules);
+    divide(of, extent, &levels, rule.offset, modules);
     if (rule.is_cleanest)
-        divide_cleanly(of, from->side, levels.of[LIGHT].a - levels.of[DARK].a, modules);
+        divide_cleanly(of, extent, levels.of[LIGHT].a - levels.of[DARK].a, modules);
     else if (rule.around > 0)
-        divide_around(of, from->side, levels.of[LIGHT].a - levels.of[DARK].a, rule.around, modules);
+        divide_around(of, extent, levels.of[LIGHT].a - levels.of[DARK].a, rule.around, modules);
     return true;
 }

@@ -6,16 +6,17 @@
 #include "plane.h"
 #include "warp.h"
 
+/* Of modules of an extent, row by row. */
 struct brightnesses {
-    int side;
-    float of[MOST_SIDE * MOST_SIDE];
+    struct extent extent;
+    float of[MOST_MODULES];
 };
 
 /* How a symbol lies: a warp for all of it, or for each of its regions, region by region from the top, each row from the
  * left. */
-enum { MOST_REGIONS = 16 };
+enum { MOST_REGIONS = 36 };
 struct lie {
-    int across;            /* regions in a row */
+    struct extent region;  /* that each warp is for: the layout's extent, if there is one for all */
     struct warp warps[MOST_REGIONS];
 };
 
@@ -32,7 +33,8 @@ struct rule {
     bool is_cleanest;      /* whether that is the clearest square that the module lies in, not the one around it */
 };
 
-/* Writes 1 for each dark module. False if the border shows no contrast. */
-bool tell_apart(const struct brightnesses *from, const struct layout *layout, struct rule rule, uint8_t *modules);
+/* Writes 1 for each dark module. `colour`: of each module, as a layout has it. False if those that are known show no
+ * contrast. */
+bool tell_apart(const struct brightnesses *from, const uint8_t *colour, struct rule rule, uint8_t *modules);
 
 #endif

@@ -1,11 +1,18 @@
 #include "track.h"
 
 #include <math.h>
+#include <stdlib.h>
 
 static const double WIDEST = 0.44; /* by how much, in radians, opposite borders may differ in direction */
-static const double LEAST_TRACK = 0.68, LEAST_SOLID = 0.6;
+static const double WIDEST_FOR_LONG = 1.1; /* the same as a multiple of the border's length over its distance */
+static const double LEAST_TRACK = 0.68, LEAST_TRACK_OF_RECTANGLE = 0.75, LEAST_SOLID = 0.6;
 /* Modules without a turn after which a track is given up, at its start and later. */
 static const double STILL_BEFORE = 12, STILL_BETWEEN = 6;
+
+/* Of twice the number of dark modules that a track shows, the least and the most that a square's side may be. */
+static const double LEAST_OF_COUNT = 0.75, MOST_OF_COUNT = 1.35;
+/* By how much twice that number may differ from a rectangle's side: so many modules, and this share of the side. */
+static const double UNSURE = 2, UNSURE_SHARE = 0.2;
 
 /* ---- The line along an alternating border */
 
@@ -85,6 +92,7 @@ static double darkness_beside(const struct plane *dark, const struct track *trac
 struct start {
     struct point end, inwards, along; /* the end; the directions back along its own border and the other, of length 1 */
     double whole, module;             /* pixels: the other border's length; about the width of a module */
+    double widest;                    /* how far a track's direction may differ from the other border's, in radians */
     int least;                        /* the least turn of brightness */
 };
 
@@ -116,14 +124,16 @@ static void look_around(const struct scene *scene, const struct start *start, st
 
 static struct start start_at(struct point end, struct point back, struct point other, double module, int least) {
     double whole = length(other);
-    return (struct start){end, scale_by(back, 1 / length(back)), scale_by(other, 1 / whole), whole, module, least};
+    double widest = fmin(WIDEST, WIDEST_FOR_LONG * length(back) / whole);
+    return (struct start){
+        end, scale_by(back, 1 / length(back)), scale_by(other, 1 / whole), whole, module, widest, least};
 }
 
 /* The best track of the start, among those from so many modules around `shift`. */
 static struct track track_from(const struct scene *scene, const struct start *start, double shift, double reach) {
     double fine = fmax(0.4 * start->module / start->whole, 0.003);
     struct track best = {.score = 0.5};
-    struct fan coarse = {shift, reach, 0.25, 0, WIDEST, fine};
+    struct fan coarse = {shift, reach, 0.25, 0, start->widest, fine};
     look_around(scene, start, &coarse, &best);
     struct fan narrow = {coarse.shift, 0.2, 0.1, coarse.angle, fine, fine / 4};
     look_around(scene, start, &narrow, &best);
@@ -163,22 +173,26 @@ static void look(const int of[3], bool is_dark, struct fit *fit) {
     fit->counted++;
 }
 
+static void keep_last(int of[3], int level) {
+    of[0] = of[1], of[1] = of[2], of[2] = level;
+}
+
 /* How well the outer border of a placement shows. */
-static struct fit fit_of(const struct scene *scene, const struct homography *to_picture, int side) {
-    struct fit fit = {0};
-    int top[3] = {0}, right[3] = {0};
-    for (int k = 0; k < side; k++) {
-        top[k % 3] = grey_at(scene->grey, map_point(to_picture, k + 0.5, 0.5));
-        right[k % 3] = grey_at(scene->grey, map_point(to_picture, side - 0.5, k + 0.5));
-        fit.solid += dark_at(scene->dark, map_point(to_picture, 0.5, k + 0.5)) +
-                     dark_at(scene->dark, map_point(to_picture, k + 0.5, side - 0.5));
-        fit.solid_counted += 2;
-        if (k < 2)
-            continue;
-        int along[3] = {top[(k - 2) % 3], top[(k - 1) % 3], top[k % 3]},
-            down[3] = {right[(k - 2) % 3], right[(k - 1) % 3], right[k % 3]};
-        look(along, k % 2 == 1, &fit);
-        look(down, k % 2 == 0, &fit);
+static struct fit fit_of(const struct scene *scene, const struct homography *to_picture, struct extent extent) {
+    struct fit fit = {.solid_counted = extent.wide + extent.high};
+    double right = extent.wide - 0.5, below = extent.high - 0.5;
+    int of[3] = {0};
+    for (int k = 0; k < extent.wide; k++) {
+        keep_last(of, grey_at(scene->grey, map_point(to_picture, k + 0.5, 0.5)));
+        fit.solid += dark_at(scene->dark, map_point(to_picture, k + 0.5, below));
+        if (k >= 2)
+            look(of, k % 2 == 1, &fit);
+    }
+    for (int k = 0; k < extent.high; k++) {
+        keep_last(of, grey_at(scene->grey, map_point(to_picture, right, k + 0.5)));
+        fit.solid += dark_at(scene->dark, map_point(to_picture, 0.5, k + 0.5));
+        if (k >= 2)
+            look(of, k % 2 == 0, &fit);
     }
     return fit;
 }
@@ -200,12 +214,13 @@ struct frame {
     struct point modules[4], pixels[4];
 };
 
-/* The frame of a side, with the fourth point moved by so many modules each way: the best of these. */
-static struct placement best_near(const struct scene *scene, const struct frame *frame, int side, double reach,
-                                  double step) {
-    struct placement best = {.side = side, .score = 0};
-    struct point along = scale_by(difference(frame->pixels[3], frame->pixels[0]), 1.0 / side);
-    struct point down = scale_by(difference(frame->pixels[2], frame->pixels[3]), 1.0 / side);
+/* The frame of a shape, with the fourth point moved by so many modules each way: the best of these. */
+static struct placement best_near(const struct scene *scene, const struct frame *frame, struct extent extent,
+                                  double reach, double step) {
+    struct placement best = {.extent = extent, .score = 0};
+    double least = is_square(extent) ? LEAST_TRACK : LEAST_TRACK_OF_RECTANGLE;
+    struct point along = scale_by(difference(frame->pixels[3], frame->pixels[0]), 1.0 / extent.wide);
+    struct point down = scale_by(difference(frame->pixels[2], frame->pixels[3]), 1.0 / extent.high);
     for (double x = -reach; x <= reach; x += step)
         for (double y = -reach; y <= reach; y += step) {
             struct point pixels[4] = {frame->pixels[0], frame->pixels[1], frame->pixels[2]};
@@ -213,9 +228,9 @@ static struct placement best_near(const struct scene *scene, const struct frame 
             struct homography to_picture;
             if (!through(frame->modules, pixels, &to_picture))
                 continue;
-            struct fit fit = fit_of(scene, &to_picture, side);
+            struct fit fit = fit_of(scene, &to_picture, extent);
             double track = (double)fit.right / fit.counted, solid = (double)fit.solid / fit.solid_counted;
-            double score = solid < LEAST_SOLID || track < LEAST_TRACK ? 0 : 0.75 * track + 0.25 * solid;
+            double score = solid < LEAST_SOLID || track < least ? 0 : 0.75 * track + 0.25 * solid;
             if (score > best.score)
                 best.score = score, best.warp = flat_warp(&to_picture);
         }
@@ -233,7 +248,18 @@ static int contrast_of(const struct plane *grey, struct point from, struct point
     return total / PLACES;
 }
 
-int placements_of(const struct scene *scene, const struct elbow *elbow, struct placement out[MOST_PLACEMENTS]) {
+/* Whether tracks with so many dark modules may be the borders of a shape. A rectangle is held to both counts: a square,
+ * whose sides are alike, to one of them. */
+static bool may_have(struct extent shape, bool is_long, int top, int right) {
+    int fewer = top < right ? top : right, more = top < right ? right : top;
+    if (is_square(shape))
+        return !is_long && shape.wide >= LEAST_OF_COUNT * 2 * fewer && shape.wide <= MOST_OF_COUNT * 2 * more;
+    return abs(shape.wide - 2 * top) <= UNSURE + UNSURE_SHARE * shape.wide &&
+           abs(shape.high - 2 * right) <= UNSURE + UNSURE_SHARE * shape.high;
+}
+
+int placements_of(const struct scene *scene, const struct layouts *shapes, const struct elbow *elbow,
+                  struct placement out[MOST_PLACEMENTS]) {
     struct point along = difference(elbow->right, elbow->corner), up = difference(elbow->top, elbow->corner), meeting;
     double wide = length(along), high = length(up);
     double across = elbow->across, upwards = elbow->upwards;
@@ -247,16 +273,14 @@ int placements_of(const struct scene *scene, const struct elbow *elbow, struct p
     find_tracks(scene, starts, tracks);
     if (top->score < 2 || right->score < 2 || !intersection(top->from, top->along, right->from, right->along, &meeting))
         return 0;
-    int fewer = top->darks < right->darks ? top->darks : right->darks, more = top->darks + right->darks - fewer,
-        sides[SIZES];
-    list_sides(sides);
-    for (int k = 0; k < SIZES; k++) {
-        double side = sides[k];
-        if (side < 0.75 * 2 * fewer || side > 1.35 * 2 * more)
+    for (int k = 0; k < shapes->count; k++) {
+        struct extent shape = shapes->shapes[k];
+        if (!may_have(shape, elbow->is_long, top->darks, right->darks))
             continue;
-        struct frame frame = {{{0, 0.5}, {0, side}, {side - 0.5, side}, {side - 0.5, 0.5}},
-                              {top->from, elbow->corner, right->from, meeting}};
-        struct placement placement = best_near(scene, &frame, (int)side, 1.0, 0.5);
+        struct frame frame = {
+            {{0, 0.5}, {0, shape.high}, {shape.wide - 0.5, shape.high}, {shape.wide - 0.5, 0.5}},
+            {top->from, elbow->corner, right->from, meeting}};
+        struct placement placement = best_near(scene, &frame, shape, 1.0, 0.5);
         if (placement.score > 0)
             keep_best(out, &count, placement);
     }

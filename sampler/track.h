@@ -16,7 +16,7 @@ struct scene {
 /* Where a symbol may be. */
 struct placement {
     struct warp warp; /* from modules to pixels */
-    int side;
+    struct extent extent; /* modules */
     double score;                 /* the share of border modules that have the right colour */
     bool shows_border;            /* whether nearly all have, though edges may be missing where something touches it */
 };
@@ -24,6 +24,7 @@ struct placement {
 enum { MOST_PLACEMENTS = 4 };
 
 /* The placements of an elbow, the likeliest first; returns their number. */
-int placements_of(const struct scene *scene, const struct elbow *elbow, struct placement out[MOST_PLACEMENTS]);
+int placements_of(const struct scene *scene, const struct layouts *shapes, const struct elbow *elbow,
+                  struct placement out[MOST_PLACEMENTS]);
 
 #endif

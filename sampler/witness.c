@@ -67,10 +67,12 @@ struct equations {
     double matrix[PARAMETERS * PARAMETERS], values[PARAMETERS];
 };
 
-static void add_equation(struct equations *equations, const struct witness *witness, double side, double offset,
-                         double weight) {
-    double x = witness->x / side - 0.5, y = witness->y / side - 0.5, place = witness->is_upright ? x : y;
+static void add_equation(struct equations *equations, const struct witness *witness, struct extent extent,
+                         double offset, double weight) {
+    double x = witness->x / extent.wide - 0.5, y = witness->y / extent.high - 0.5,
+           place = witness->is_upright ? x : y, side = witness->is_upright ? extent.wide : extent.high;
     double row[PARAMETERS] = {0}, *three = witness->is_upright ? row : row + 3;
+    weight *= side * side / ((double)extent.wide * extent.high); /* an equation counts as in modules */
     three[0] = 1, three[1] = x, three[2] = y, row[6] = place * x, row[7] = place * y;
     for (int k = 0; k < PARAMETERS; k++) {
         equations->values[k] += weight * row[k] * offset / side;
@@ -79,11 +81,13 @@ static void add_equation(struct equations *equations, const struct witness *witn
     }
 }
 
-static struct homography changed(const struct homography *to_picture, const double change[PARAMETERS], double side) {
-    struct homography inner = {{{1 / side, 0, -0.5}, {0, 1 / side, -0.5}, {0, 0, 1}}};
+static struct homography changed(const struct homography *to_picture, const double change[PARAMETERS],
+                                 struct extent extent) {
+    double wide = extent.wide, high = extent.high;
+    struct homography inner = {{{1 / wide, 0, -0.5}, {0, 1 / high, -0.5}, {0, 0, 1}}};
     struct homography warp = {
         {{1 + change[1], change[2], change[0]}, {change[4], 1 + change[5], change[3]}, {-change[6], -change[7], 1}}};
-    struct homography outer = {{{side, 0, 0.5 * side}, {0, side, 0.5 * side}, {0, 0, 1}}};
+    struct homography outer = {{{wide, 0, 0.5 * wide}, {0, high, 0.5 * high}, {0, 0, 1}}};
     struct homography first = compose(&warp, &inner), second = compose(&outer, &first);
     return compose(to_picture, &second);
 }
@@ -133,14 +137,14 @@ double refine(const struct plane *plane, const struct layout *layout, struct par
                 continue;
             double off = fabs(edges[k].offset), huber = HUBER * (rounds - round);
             near += off < 0.35;
-            add_equation(&equations, edges[k].witness, layout->side, edges[k].offset, off < huber ? 1 : huber / off);
+            add_equation(&equations, edges[k].witness, layout->extent, edges[k].offset, off < huber ? 1 : huber / off);
         }
         share = count > 0 ? (double)near / count : 0;
         for (int k = 0; k < PARAMETERS; k++)
             equations.matrix[k * PARAMETERS + k] += stiff * (k < 6 ? 1 : 4);
         if (near < PARAMETERS || !solve(equations.matrix, equations.values, PARAMETERS))
             break;
-        warp->to_picture = changed(&warp->to_picture, equations.values, layout->side);
+        warp->to_picture = changed(&warp->to_picture, equations.values, layout->extent);
     }
     return share;
 }
@@ -157,7 +161,7 @@ static void add_bend(struct bending *bending, const struct witness *witness, con
     double terms[TERMS];
     double *matrix = bending->matrix[witness->is_upright ? 0 : 1],
            *values = bending->values[witness->is_upright ? 0 : 1];
-    find_terms((witness->x - warp->middle) / warp->unit, (witness->y - warp->middle) / warp->unit, terms);
+    find_terms_at(warp, witness->x, witness->y, terms);
     for (int k = 0; k < TERMS; k++) {
         values[k] += weight * terms[k] * offset / warp->unit;
         for (int j = 0; j < TERMS; j++)

@@ -1,4 +1,4 @@
-/* dm_sample: finds square Data Matrix symbols in pictures, and prints their grids. */
+/* dm_sample: finds Data Matrix symbols in pictures, and prints their grids. */
 #include <signal.h>
 #include <stdio.h>
 #include <stdlib.h>
@@ -19,15 +19,28 @@ static enum outcome complain(const char *file, const char *problem) {
     return FAILED;
 }
 
-static void report(const struct options *options, const char *file, const ecc200_sample *symbol) {
-    if (options->corners && !options->json) {
+/* Says that a symbol which was found can't be handed on, and why. */
+static enum outcome hold_back(const char *file, const ecc200_sample *symbol, const char *why) {
+    fflush(stdout);
+    fprintf(stderr, "dm_sample: %s: the symbol of %d by %d modules at %.1f,%.1f %s: --json has it\n", file,
+            symbol->rows, symbol->columns, symbol->corners[0].x, symbol->corners[0].y, why);
+    return NONE_FOUND;
+}
+
+static enum outcome report(const struct options *options, const char *file, const ecc200_sample *symbol) {
+    if (options->json) {
+        report_json(file, symbol);
+        return FINE;
+    }
+    const char *why = report_no_record(symbol);
+    if (why != NULL)
+        return hold_back(file, symbol, why);
+    if (options->corners) {
         fflush(stdout);
         report_corners(file, symbol);
     }
-    if (options->json)
-        report_json(file, symbol);
-    else
-        report_record(symbol);
+    report_record(symbol);
+    return FINE;
 }
 
 /* Samples a picture. `symbols` has room for MOST_SYMBOLS. */
@@ -38,9 +51,10 @@ static enum outcome sample(const struct options *options, const char *file, cons
                                           &options->sampling, symbols, room, &count);
     if (code != ECC200_SAMPLE_OK)
         return complain(file, code == ECC200_SAMPLE_NO_MEMORY ? "no memory" : "a size that isn't sampled");
+    enum outcome outcome = count > 0 ? FINE : NONE_FOUND;
     for (size_t k = 0; k < count; k++)
-        report(options, file, &symbols[k]);
-    return count > 0 ? FINE : NONE_FOUND;
+        outcome = worse(outcome, report(options, file, &symbols[k]));
+    return outcome;
 }
 
 static enum outcome do_file(const struct options *options, const char *file, ecc200_sample *symbols) {

@@ -9,24 +9,29 @@ static const char USAGE[] =
     "usage: dm_sample [--all] [--corners] [--json] [--unread] [--time MS] [--margin N] [--min-modules N] [FILE..]\n";
 static const char HELP[] =
     "\n"
-    "Finds square Data Matrix symbols in pictures (PNG, JPEG, PNM), and prints their grids, upright, as `dm_tool read` "
-    "takes them:\n"
-    "a line of 0 and 1 for each row of modules, and an empty line. Without a FILE, or for -, it reads standard input.\n"
+    "Finds Data Matrix symbols in pictures (PNG, JPEG, PNM), and prints their grids, upright, as `dm_tool read` takes "
+    "them:\n"
+    "a line of 0 and 1 for each row of modules, and an empty line. Those that it doesn't take are named on standard "
+    "error:\n"
+    "rectangles, squares of more than 104 modules a side, and symbols that are read without doubtful modules. Without "
+    "a FILE,\n"
+    "or for -, it reads standard input.\n"
     "\n"
     "  -a, --all            all symbols of a picture, and not only the first that is found\n"
     "  -c, --corners        before each record, its file and corners on standard error: top left, top right, bottom "
     "right, bottom left\n"
-    "  -j, --json           a line of JSON for each symbol instead of a record: also message, corrections, side and "
-    "corners\n"
+    "  -j, --json           a line of JSON for each symbol of any kind instead of a record: also rows, columns, "
+    "message, corrections and corners\n"
     "  -u, --unread         where no symbol is read, print the likeliest grid that has a symbol's border\n"
     "  -t, --time MS        how long to try at most for each picture, in milliseconds (usually 1000)\n"
     "  -m, --margin N       take only readings that leave N corrections of each block unused (usually 0)\n"
-    "      --min-modules N  pass over symbols of fewer modules on a side\n"
+    "      --min-modules N  pass over symbols with a side of fewer modules\n"
     "  -h, --help           print this, and end\n"
     "  -V, --version        print the version, and end\n"
     "\n"
-    "Status: 0; 1: in some picture nothing was found; 2: the command line is wrong; 3: a file couldn't be read, or a "
-    "write failed.\n";
+    "Status: 0; 1: in some picture nothing was found, or a symbol that is no record; 2: the command line is wrong; "
+    "3: a\n"
+    "file couldn't be read, or a write failed.\n";
 
 _Noreturn static void refuse_usage(void) {
     fputs("dm_sample: ", stderr);

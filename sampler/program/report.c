@@ -4,14 +4,27 @@
 #include <stdio.h>
 #include <string.h>
 
-static void put_row(const ecc200_sample *symbol, int row) {
-    for (int column = 0; column < symbol->side; column++)
-        putchar('0' + symbol->modules[row * symbol->side + column]);
+static void put_row(const ecc200_sample *symbol, const uint8_t *modules, int row) {
+    for (int column = 0; column < symbol->columns; column++)
+        putchar('0' + modules[row * symbol->columns + column]);
+}
+
+static bool has_doubt(const ecc200_sample *symbol) {
+    return memchr(symbol->doubtful, 1, (size_t)symbol->rows * (size_t)symbol->columns) != NULL;
+}
+
+const char *report_no_record(const ecc200_sample *symbol) {
+    enum { MOST_OF_RECORDS = 104 };
+    if (symbol->rows != symbol->columns)
+        return "is no square";
+    if (symbol->rows > MOST_OF_RECORDS)
+        return "is larger than those of dm_tool";
+    return has_doubt(symbol) ? "was read without its doubtful modules, of which dm_tool knows nothing" : NULL;
 }
 
 void report_record(const ecc200_sample *symbol) {
-    for (int row = 0; row < symbol->side; row++) {
-        put_row(symbol, row);
+    for (int row = 0; row < symbol->rows; row++) {
+        put_row(symbol, symbol->modules, row);
         putchar('\n');
     }
     putchar('\n');
@@ -80,6 +93,13 @@ static void put_message(const ecc200_reading *reading) {
     putchar('"');
 }
 
+static void put_counts(const char *name, const uint8_t *counts, int count) {
+    printf(",\"%s\":[", name);
+    for (int k = 0; k < count; k++)
+        printf("%s%d", k > 0 ? "," : "", counts[k]);
+    putchar(']');
+}
+
 static void put_reading(const ecc200_reading *reading) {
     if (reading->fault.code != ECC200_OK) {
         printf("\"refused\":\"%s\"", ecc200_words(reading->fault.code));
@@ -87,26 +107,33 @@ static void put_reading(const ecc200_reading *reading) {
     }
     fputs("\"message\":", stdout);
     put_message(reading);
-    fputs(",\"corrected\":[", stdout);
-    for (int block = 0; block < reading->block_count; block++)
-        printf("%s%d", block > 0 ? "," : "", reading->corrected[block]);
-    printf("],\"border_faults\":%d", reading->border_faults);
+    put_counts("corrected", reading->corrected, reading->block_count);
+    put_counts("erased", reading->erased, reading->block_count);
+    put_counts("left", reading->left, reading->block_count);
+    printf(",\"border_faults\":%d", reading->border_faults);
+}
+
+static void put_grid(const char *name, const ecc200_sample *symbol, const uint8_t *modules) {
+    printf(",\"%s\":[", name);
+    for (int row = 0; row < symbol->rows; row++) {
+        fputs(row > 0 ? ",\"" : "\"", stdout);
+        put_row(symbol, modules, row);
+        putchar('"');
+    }
+    putchar(']');
 }
 
 void report_json(const char *file, const ecc200_sample *symbol) {
     fputs("{\"file\":", stdout);
     put_string(file);
-    printf(",\"side\":%d,\"corners\":[", symbol->side);
+    printf(",\"rows\":%d,\"columns\":%d,\"corners\":[", symbol->rows, symbol->columns);
     for (int k = 0; k < 4; k++)
         printf("%s[%.1f,%.1f]", k > 0 ? "," : "", symbol->corners[k].x, symbol->corners[k].y);
     printf("],\"inverted\":%s,\"mirrored\":%s,", symbol->inverted ? "true" : "false",
            symbol->mirrored ? "true" : "false");
     put_reading(&symbol->reading);
-    fputs(",\"grid\":[", stdout);
-    for (int row = 0; row < symbol->side; row++) {
-        fputs(row > 0 ? ",\"" : "\"", stdout);
-        put_row(symbol, row);
-        putchar('"');
-    }
-    fputs("]}\n", stdout);
+    put_grid("grid", symbol, symbol->modules);
+    if (has_doubt(symbol))
+        put_grid("doubtful", symbol, symbol->doubtful);
+    fputs("}\n", stdout);
 }

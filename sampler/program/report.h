@@ -4,6 +4,10 @@
 
 #include "../ecc200_sample.h"
 
+/* Why a symbol is no record that dm_tool takes, after 'it', or NULL if it is one. Its records are squares of sides 10
+ * to 104. */
+const char *report_no_record(const ecc200_sample *symbol);
+
 /* As a record: a line of 0 and 1 for each row, from the top, and an empty line. To standard output. */
 void report_record(const ecc200_sample *symbol);
 

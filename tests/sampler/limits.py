@@ -82,7 +82,7 @@ def library(folder, built, base):
         done = run([*words, *paths, os.path.join(folder, name), "-o", made, *with_these])
         check(f"{name} compiles", done.stderr.decode(), "")
         done = run([made, "x"], picture, env=paths_for(folder, built, base))
-        check(name, (done.returncode, done.stdout), (0, b"14 FROM C 12.0"))
+        check(name, (done.returncode, done.stdout), (0, b"14 14 FROM C 12.0"))
     names = run(["nm", "-D", "--defined-only",
                  os.path.join(built, "libecc200_sample.so")]).stdout.decode().split()[2::3]
     check("what the library exports", sorted(names), EXPORTS)

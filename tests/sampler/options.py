@@ -27,8 +27,8 @@ def options(folder, sampler):
           (record(grid), f"{path}: 12.0,12.0 52.0,12.0 52.0,52.0 12.0,52.0\n"))
     told = json.loads(run([sampler, "--json", path]).stdout)
     check("--json", {name: told[name] for name in told if name != "corners"}, {
-        "file": path, "side": 10, "inverted": False, "mirrored": False, "message": "123456", "corrected": [0],
-        "border_faults": 0,
+        "file": path, "rows": 10, "columns": 10, "inverted": False, "mirrored": False, "message": "123456",
+        "corrected": [0], "erased": [0], "left": [5], "border_faults": 0,
         "grid": ["".join(map(str, row)) for row in grid]})
     check("corners in --json", [[round(c) for c in corner] for corner in told["corners"]],
           [[12, 12], [52, 12], [52, 52], [12, 52]])

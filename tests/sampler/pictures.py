@@ -36,10 +36,9 @@ def record(grid):
 
 def pixels_of(grid, scale=4, quiet=3, dark=20, light=230):
     """The rows of a picture, each a list of brightnesses."""
-    side = len(grid)
-    wide = [[light] * (side + 2 * quiet) for _ in range(quiet)]
-    modules = wide + [[light] * quiet + [dark if module else light for module in row] + [light] * quiet
-                      for row in grid] + wide
+    empty = [[light] * (len(grid[0]) + 2 * quiet) for _ in range(quiet)]
+    modules = empty + [[light] * quiet + [dark if module else light for module in row] + [light] * quiet
+                       for row in grid] + empty
     return [[level for level in row for _ in range(scale)] for row in modules for _ in range(scale)]
 
 

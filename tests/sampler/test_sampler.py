@@ -3,7 +3,7 @@ and statuses, hostile files, and the shared library from C and C++. Nothing is p
 under it is."""
 import os
 
-from tests.sampler import hard, limits, options, reading, timing
+from tests.sampler import hard, limits, options, reading, sizes, timing
 from tests.sampler.pictures import CAREFUL, left_out, results
 from tests.support import commands, needs, places
 from tests.support.case import Case
@@ -55,6 +55,24 @@ class Sampler(Case):
 
     def test_without_quiet_zone(self):
         self.told(reading.without_quiet_zone, self.sampler, self.careful)
+
+    def test_every_other_size(self):
+        self.told(sizes.every_other_size, self.sampler)
+
+    def test_every_angle(self):
+        self.told(sizes.every_angle, self.sampler)
+
+    def test_corners(self):
+        self.told(sizes.corners, self.sampler)
+
+    def test_marks(self):
+        self.told(sizes.marks, self.sampler)
+
+    def test_zint(self):
+        self.told(sizes.zint, self.room, self.sampler)
+
+    def test_no_records(self):
+        self.told(sizes.no_records, self.sampler)
 
     def test_hard_shadow(self):
         self.told(reading.hard_shadow, self.sampler)

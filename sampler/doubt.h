@@ -1,0 +1,26 @@
+/* Which modules a picture tells nothing of, as the place itself shows: those outside of it, in a glare, beyond a torn
+ * edge, or under a blot. */
+#ifndef DOUBT_H
+#define DOUBT_H
+
+#include "layout.h"
+#include "plane.h"
+#include "warp.h"
+
+/* What is looked at to find them: modules of a symbol and of its surroundings. */
+enum { RING = 2, MOST_LOOKED_AT = (MOST_SIDE + 2 * RING) * (MOST_SIDE + 2 * RING) };
+struct looks {
+    struct extent extent;                  /* with the ring of modules around the symbol */
+    float mean[MOST_LOOKED_AT];            /* brightness */
+    uint8_t least[MOST_LOOKED_AT];         /* the darkest of a module's points */
+    uint8_t is_outside[MOST_LOOKED_AT];    /* whether a module isn't shown whole */
+    uint8_t is_flat[MOST_LOOKED_AT];       /* whether the three by three modules around one look all alike */
+    uint8_t is_in_area[MOST_LOOKED_AT];    /* what a flat area has, while it is looked at */
+    int pending[MOST_LOOKED_AT];
+};
+
+/* Writes 1 for each module of a symbol that is doubtful and 0 for the others, row by row, and returns how many are. */
+int find_doubt(const struct plane *picture, const struct layout *layout, const struct warp *warp, struct looks *room,
+               uint8_t *doubtful);
+
+#endif

@@ -1,0 +1,155 @@
+"""Symbols of the sizes that dm_tool's records don't have: rectangles, and squares of sides 120, 132 and 144."""
+import json
+import math
+import os
+import re
+import shutil
+import sys
+
+from tests.sampler.pictures import check, grid_of, left_out, message_of, pgm, pixels_of, record, run, turned
+from tests.support import places
+
+# What the library writes in each size of such a record's: its rows, columns and message, and its grid.
+WRITES = """
+import json, sys
+sys.path.append(sys.argv[1])
+import core
+for size in core.sizes():
+    if size.rows != size.columns or size.rows > 104:
+        message = "".join(chr(65 + k * k % 26) for k in range(size.data_codewords))
+        modules = core.write(message.encode(), size=(size.rows, size.columns))
+        print(json.dumps([size.rows, size.columns, message, [list(row) for row in modules]]))
+"""
+LETTERS_ONLY = re.compile(r"\\[EAP]")  # what a line has that says more than a message
+symbols_kept = []
+
+
+def symbols():
+    """Of each of these sizes: its rows, its columns, a message that fills it, and its grid."""
+    if not symbols_kept:
+        env = {**os.environ, "ECC200_LIBRARY": places.SHARED}
+        done = run([sys.executable, "-c", WRITES, os.path.dirname(places.MODULE)], env=env)
+        check("the library writes each size", done.stderr.decode(), "")
+        symbols_kept.extend(json.loads(line) for line in done.stdout.splitlines())
+    return symbols_kept
+
+
+def told(sampler, rows):
+    """What is said of the first symbol of a picture."""
+    done = run([sampler, "--json", "--time=30000"], pgm(rows))
+    return json.loads(done.stdout.splitlines()[0]) if done.stdout else {}
+
+
+def seen(said):
+    """What is told that a symbol of any size decides."""
+    return [said.get(name) for name in ("rows", "columns", "message", "grid")]
+
+
+def wanted(rows, columns, message, grid):
+    return [rows, columns, message, ["".join(map(str, row)) for row in grid]]
+
+
+def tilted(rows, angle):
+    """A picture turned by any angle, on ground as light as its first pixel: each pixel is the mean of those that its
+    place lies between."""
+    high, wide, light = len(rows), len(rows[0]), rows[0][0]
+    reach, cosine, sine = int(math.hypot(high, wide)) + 4, math.cos(angle), math.sin(angle)
+
+    def pixel(x, y):
+        right, down = x - reach / 2, y - reach / 2
+        across, along = (cosine * right + sine * down + wide / 2 - 0.5, cosine * down - sine * right + high / 2 - 0.5)
+        column, row = math.floor(across), math.floor(along)
+        if not (0 <= column < wide - 1 and 0 <= row < high - 1):
+            return light
+        right, down = across - column, along - row
+        above, below = rows[row], rows[row + 1]
+        upper = above[column] + right * (above[column + 1] - above[column])
+        lower = below[column] + right * (below[column + 1] - below[column])
+        return round(upper + down * (lower - upper))
+    return [[pixel(x + 0.5, y + 0.5) for x in range(reach)] for y in range(reach)]
+
+
+def every_other_size(sampler):
+    """Each size upright, turned by each quarter, mirrored and inverted, at three pixels a module and more, and without
+    a quiet zone."""
+    for at, (rows, columns, message, grid) in enumerate(symbols()):
+        scale = 3 + at % 4
+        plain = pixels_of(grid, scale)
+        ways = {"at 3 pixels a module": pixels_of(grid, 3), "without a quiet zone": pixels_of(grid, scale, 0),
+                "mirrored": [row[::-1] for row in plain], "turned": turned(plain),
+                "on its head": turned(turned(plain)), "turned back": turned(turned(turned(plain))),
+                "light on dark": [[255 - level for level in row] for row in plain],
+                "turned in a mirror, light on dark": turned([[255 - level for level in row[::-1]] for row in plain])}
+        for way, picture in ways.items():
+            said = told(sampler, picture)
+            check(f"{rows} by {columns} at {scale}, {way}", seen(said), wanted(rows, columns, message, grid))
+            check(f"{rows} by {columns}, {way}: mirrored, inverted", (said.get("mirrored"), said.get("inverted")),
+                  ("mirror" in way, "light" in way))
+
+
+def every_angle(sampler):
+    """Each size, turned by some angle."""
+    for at, (rows, columns, message, grid) in enumerate(symbols()):
+        angle = 0.23 + 0.61 * at
+        said = told(sampler, tilted(pixels_of(grid, 3 if rows > 100 else 4 + at % 3), angle))
+        check(f"{rows} by {columns} turned by {angle:.2f}", [said.get(name) for name in ("rows", "columns", "message")],
+              [rows, columns, message])
+
+
+def corners(sampler):
+    """The corners of a rectangle, as it stands and as a mirror shows it, are those of the upright symbol."""
+    rows, columns, _, grid = symbols()[2]
+    plain, wide, high = pixels_of(grid), 4 * columns + 24, 4 * rows + 24
+    left, right, top, below = 12, wide - 12, 12, high - 12
+    for way, picture, places_of in (
+            ("as it is", plain, [(left, top), (right, top), (right, below), (left, below)]),
+            ("mirrored", [row[::-1] for row in plain], [(right, top), (left, top), (left, below), (right, below)])):
+        said = told(sampler, picture)
+        check(f"corners of {rows} by {columns}, {way}",
+              [[round(place) for place in corner] for corner in said.get("corners", [])], [list(at) for at in places_of])
+
+
+def marks(sampler):
+    """Marks of another encoder in all these sizes, drawn."""
+    with open(places.path("tests", "marks", "every_size.txt"), encoding="ascii") as file:
+        records = [record_of.split("\n") for record_of in file.read().split("\n\n")[1:] if record_of.strip()]
+    count = 0
+    for at, lines in enumerate(records):
+        number, rows, columns = map(int, lines[0].split()[:3])
+        message, grid = lines[2], [[int(module) for module in row] for row in lines[3:3 + rows]]
+        if LETTERS_ONLY.search(message.replace("\\\\", "")):
+            continue  # more than a message
+        said, count = told(sampler, pixels_of(grid, 3 + at % 3)), count + 1
+        check(f"mark {number}, {rows} by {columns}", seen(said), wanted(rows, columns, message, grid))
+    check("marks of which each is a message", count > 50, True)
+
+
+def zint(folder, sampler):
+    """What zint prints in each size."""
+    if not shutil.which("zint"):
+        left_out.append("zint's own pictures (zint isn't installed)")
+        return
+    path = os.path.join(folder, "zint.png")
+    for version in range(22, 49):
+        message = message_of(4)
+        run(["zint", "-b", "71", f"--vers={version}", "--dmre", "-d", message, "--scale=2", "-o", path])
+        said = json.loads(run([sampler, "--json", "--time=30000", path]).stdout or b"{}")
+        check(f"zint --vers={version}", said.get("message"), message)
+
+
+def no_records(sampler):
+    """What can't be handed on to dm_tool is named, and what can is."""
+    for rows, columns, _, grid in (symbols()[1], symbols()[-1]):
+        done = run([sampler, "--time=30000"], pgm(pixels_of(grid)))
+        why = "is no square" if rows != columns else "is larger than those of dm_tool"
+        said = f"dm_sample: -: the symbol of {rows} by {columns} modules at 12.0,12.0 {why}: --json has it\n"
+        check(f"{rows} by {columns} is no record", (done.returncode, done.stdout, done.stderr.decode()), (1, b"", said))
+    rows, columns, _, grid = symbols()[0]
+    square = grid_of("SQUARE")
+    beside, other = pixels_of(grid), pixels_of(square)
+    wide = max(len(beside[0]), len(other[0]))
+    both = [row + [230] * (wide - len(row)) for row in beside + other]
+    done = run([sampler, "--all", "--corners", "--time=30000"], pgm(both))
+    said = done.stderr.decode().splitlines()
+    check("a square below a rectangle", (done.returncode, done.stdout.decode(), len(said)), (1, record(square), 2))
+    check("the rectangle is named", any(f"{rows} by {columns} modules" in line for line in said), True)
