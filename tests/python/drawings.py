@@ -3,6 +3,7 @@ import importlib.util
 import io
 import os
 import pathlib
+import warnings
 import zlib
 
 from tests.python.common import (PACKAGE, PYTHON, SAMPLER, SHARED, clean, has, has_sampler, holds, left_out, raises,
@@ -246,7 +247,17 @@ def paged(folder):
             yield same(f"a later page of Pillow's {kind}", (texts(picture, **quickly), picture.tell()), (["third"], 2))
     with open(os.path.join(folder, "pages.tiff"), "rb") as file:
         whole = file.read()
-    yield raises("a page that is cut off", ValueError, "page 3", lambda: ecc200.decode(whole[:-200], **quickly))
+    with warnings.catch_warnings(record=True) as told:
+        warnings.simplefilter("always")
+        got = texts(whole[:-200], **quickly), [symbol.page for symbol in pictures.find(whole[:-200], **quickly)]
+    yield same("pages before one that is cut off", got, (["first", "first"], [1, 1]))
+    yield same("a page that is cut off", ["page 3" in str(each.message) for each in told], [True, True])
+    pages[1].save(path, format="tiff", save_all=True, append_images=pages[:1])
+    with open(path, "rb") as file:
+        whole = file.read()
+    for call in (ecc200.decode, pictures.find):
+        yield raises("a page that is cut off behind one with nothing", ValueError, "page 2",
+                     lambda call=call: call(whole[:-200], **quickly))
 
 
 def stored(rows, orientation):

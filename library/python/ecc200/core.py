@@ -39,6 +39,7 @@ import io
 import math
 import os
 import struct
+import warnings
 from typing import (Any, Callable, Dict, Iterable, Iterator, List, NamedTuple, Optional, Protocol, Sequence, Tuple,
                     Type, Union)
 
@@ -837,23 +838,32 @@ def _loaded(given: Any) -> Any:
     return _held(data, str(getattr(given, "name", "what this file has")))
 
 
-def _pages(picture: Any) -> Iterator[Any]:
-    """The pages of a Pillow picture that stands at its first, as those of a TIFF or a GIF, one after another; else the
-    picture as it is."""
+def _pages(picture: Any, broken: List[str]) -> Iterator[Tuple[int, Any]]:
+    """The pages of a Pillow picture that stands at its first, as those of a TIFF or a GIF, one after another, each with
+    its number from 1; else the picture as it is. What is wrong with pages that can't be opened goes to `broken`."""
     count = getattr(picture, "n_frames", 1)
     if count == 1 or picture.tell() > 0:
-        yield picture
+        yield 1, picture
         return
     try:
-        for number in range(count):
+        for number in range(1, count + 1):
             try:
-                picture.seek(number)
+                picture.seek(number - 1)
                 picture.load()
             except Exception as why:  # Pillow's plugins raise what they like
-                raise ValueError(f"page {number + 1} of the picture can't be opened ({why})") from why
-            yield picture
+                broken.append(f"page {number} of the picture can't be opened ({why})")
+                continue
+            yield number, picture
     finally:
         picture.seek(0)
+
+
+def _tell_broken(broken: List[str], is_found: bool) -> None:
+    """Pages that can't be opened are a warning where something was found on others, and else an error."""
+    if broken and not is_found:
+        raise ValueError("; ".join(broken))
+    for why in broken:
+        warnings.warn(why, stacklevel=3)
 
 
 def _found(sample: Any, page: int) -> Found:
@@ -897,16 +907,19 @@ def find(picture: Any, most: int = _MOST_FOUND, milliseconds: int = 1000, margin
          unread: bool = False) -> List[Found]:
     """At most `most` symbols of each page of a picture; the search takes about `milliseconds` for a page, and ends at
     once where `most` are found. `margin`: how many corrections each block must leave unused. With `unread`, where none
-    is read, the most likely grid that isn't, with its refusal.
+    is read, the most likely grid that isn't, with its refusal. A page that can't be opened is a warning where a symbol
+    is read on another, and else ValueError is raised.
 
     Where the library ecc200_sample isn't installed SamplerMissing is raised."""
     _sampler()
     options = _Options(milliseconds, 0, margin, int(unread))
     found: List[Found] = []
     likely: List[Found] = []
-    for number, page in enumerate(_pages(_loaded(picture)), 1):
+    broken: List[str] = []
+    for number, page in _pages(_loaded(picture), broken):
         for symbol in _searched(page, number, most, options):
             (likely if isinstance(symbol.answer, Refused) else found).append(symbol)
+    _tell_broken(broken, bool(found))
     return found or likely[:1]
 
 
@@ -920,7 +933,8 @@ def decode(picture: Any, most: int = _MOST_FOUND, milliseconds: int = 1000, bord
 
     Symbols found in a picture are read at the wide extent and the usual limit. A Pillow picture in which nothing is
     found is read as one symbol with one pixel a module; where that is none, and the library ecc200_sample isn't
-    installed, SamplerMissing is raised."""
+    installed, SamplerMissing is raised. A page that can't be opened is a warning where something is read on another,
+    and else ValueError is raised."""
     given = _loaded(picture)
     if hasattr(given, "rows") or not hasattr(given, "__array_interface__"):
         readings = _only_read(read_many(_records(given), border_limit, extent))
@@ -929,10 +943,12 @@ def decode(picture: Any, most: int = _MOST_FOUND, milliseconds: int = 1000, bord
     if not hasattr(given, "getbbox"):
         return _only_read(symbol.answer for symbol in find(given, most, milliseconds))
     readings = []
+    broken: List[str] = []
     options = _Options(milliseconds, 0, 0, 0)
-    for number, page in enumerate(_pages(given), 1):
+    for number, page in _pages(given, broken):
         found = _searched(page, number, most, options) if has_sampler() else []
         readings += _only_read(symbol.answer for symbol in found) or _only_read(read_many([page], border_limit, extent))
+    _tell_broken(broken, bool(readings))
     if not readings:
         _sampler()
     return readings

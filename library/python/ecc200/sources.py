@@ -149,11 +149,14 @@ def _of_page(name: str, page: Any, number: int, most: int, options: core._Option
 def of_picture(name: str, data: bytes, most: int, milliseconds: int, margin: int) -> Iterator[Source]:
     """The symbols of a picture, page by page."""
     picture, count, options = _picture(data), 0, core._Options(milliseconds, 0, margin, True)
-    for number, page in enumerate(core._pages(picture), 1):
+    broken: List[str] = []
+    for number, page in core._pages(picture, broken):
         for source in _of_page(name, page, number, most, options):
             count += 1
             yield source._replace(number=count)
-    if not count:
+    for why in broken:
+        yield Source(name, 0, None, _OBJECT.sub("", why))
+    if not count and not broken:
         passed = f"; those that leave fewer than {margin} corrections are passed over" if margin else ""
         yield Source(name, 1, None, f"no Data Matrix symbol was found in its {picture.width} by {picture.height} "
                      "pixels; other codes, as QR codes, aren't read. A module should have at least two pixels, and the "
