@@ -9,7 +9,10 @@ mod ModulesLemmas
 mod EqualityLaws
 mod SymbolLines
 mod NoFaults
+mod Parts
+mod RowColours
 mod Drawn
 mod LaidModules
 mod FaultCounts
+mod FixedSquare
 pub mod Exported

@@ -1,19 +1,21 @@
 -- The modules of a symbol, by row and column.
-use Rattle.std.proofs.Common.{◌≡◌, ℕ, zero, suc, ◌+◌, ◌*◌, ◌/◌, ◌%◌, ◌<◌, ◌≤◌, Bool, true, false, ◌&&◌, nat_eq, List}
-use Rattle.std.proofs.Common.{[], ◌∷◌, ◌++◌, map, length, get_or, set, take, refl, sym, ◌∙◌, ap, subst, arith}
+use Rattle.std.proofs.Common.{◌≡◌, ◌≢◌, ◌⊎◌, inl, inr, ℕ, zero, suc, ◌+◌, ◌*◌, ◌/◌, ◌%◌, ◌<◌, ◌≤◌, Bool, true, false}
+use Rattle.std.proofs.Common.{◌&&◌, nat_eq, List, [], ◌∷◌, ◌++◌, map, length, get_or, set, take, refl, sym, ◌∙◌, ap, subst, arith}
 use Rattle.std.proofs.Common.{get_or-set_other, get_or-set_same}
 use Rattle.std.specs.Prelude.{All, if◌then◌else◌}
 use Rattle.std.specs.List.{range_with_len}
-use Rattle.std.proofs.lemmas.Bool.{eqb-true, and_parts}
+use Rattle.std.proofs.lemmas.Bool.{eqb-true, eqb-false, and_parts, cases_lt}
 use Rattle.std.proofs.lemmas.Nat.{div-mul-add, mod-mul-add, mul-add-lt}
-use Rattle.std.proofs.Math.Nat.{mul_comm, div-add-mod, lt_of_mul-lt-mul_right}
+use Rattle.std.proofs.Math.Nat.{mul_comm, div-add-mod, lt_of_mul-lt-mul_right, mul-le-mul_right}
 use Rattle.std.proofs.Math.ListN.{get_or-append}
 use Rattle.std.proofs.lemmas.List.{same_lists, get_or-take}
 use Rattle.std.proofs.lemmas.List.FromFn.{length-map-range_with_len, get_or-map-range_with_len, fill_by_all}
 use Rattle.std.proofs.lemmas.List.Elements.{All-get_or, All-map}
+use borrow.Rule.Slice.PartMut.{put_mid}
 use Rattle.dm_modules.specs.Sizes.{SizeEntry, IsSize}
 use Rattle.dm_modules.specs.Modules.{ModulesView, IsModules, module_at, rows_by, rows_of}
 use Rattle.dm_modules.specs.inner.Keeping.{kept_modules}
+use Rattle.dm_modules.proofs.Parts.{before_part, behind_part, in_part}
 
 -- Modules that are drawn by colours are well formed.
 pub modules_by : (size : SizeEntry) (colour : ℕ → ℕ → Bool) → IsSize size →
@@ -168,6 +170,57 @@ put_seen size kept row column dark n v en ev =
     module_at (kept_modules size (set kept (row * n + column) dark)) r c ≡
     (if nat_eq r row && nat_eq c column then dark else module_at (kept_modules size kept) r c)) (sym en)
     (put_at size kept row column dark))
+
+-- A row that is put has its new colours, and the others theirs.
+row_at : (size : SizeEntry) (kept line : List Bool) (row k : ℕ) → k ≡ size.columns → row < size.rows →
+    length line ≡ size.columns → size.rows * size.columns ≤ length kept →
+    (r c : ℕ) → r < size.rows → c < size.columns →
+    module_at (kept_modules size (put_mid (row * size.columns) k kept line)) r c ≡
+    (if nat_eq r row then get_or line c false else module_at (kept_modules size kept) r c)
+row_at size kept line row k ek hr long room r c lr lc =
+    kept_at size (put_mid (row * size.columns) k kept line) r c lr lc ∙ by_row (nat_eq r row) refl
+  where
+    n : ℕ
+    n = size.columns
+
+    start : row * n ≤ length kept
+    start =
+        let m : (row + 1) * n ≤ size.rows * n = mul-le-mul_right n (omega (arith, hr)) in
+        omega (arith, m, room)
+
+    by_side : (r < row) ⊎ (row ≤ r) → r ≢ row →
+        get_or (put_mid (row * n) k kept line) (r * n + c) false ≡ get_or kept (r * n + c) false
+    by_side (inl l) other =
+        let m : (r + 1) * n ≤ row * n = mul-le-mul_right n (omega (arith, l)) in
+        before_part (row * n) k kept line false (r * n + c) (omega (arith, m, lc)) start
+    by_side (inr l) other =
+        let m : (row + 1) * n ≤ r * n = mul-le-mul_right n (omega (arith, l, other)) in
+        behind_part (row * n) k kept line false (r * n + c) (omega (arith, m, ek)) (long ∙ sym ek) start
+
+    by_row : (t : Bool) → nat_eq r row ≡ t →
+        get_or (put_mid (row * n) k kept line) (r * n + c) false ≡
+        (if t then get_or line c false else module_at (kept_modules size kept) r c)
+    by_row true t =
+        ap (λ (i : ℕ). get_or (put_mid (row * n) k kept line) (i * n + c) false) (eqb-true r row t)
+        ∙ in_part (row * n) k kept line false c (omega (arith, lc, long)) start
+    by_row false t = by_side (cases_lt r row) (eqb-false r row t) ∙ sym (kept_at size kept r c lr lc)
+
+-- The same, as it is seen.
+pub row_seen : (size : SizeEntry) (kept line : List Bool) (row n k : ℕ) (v : ModulesView) → n ≡ size.columns →
+    k ≡ size.columns → kept_modules size kept ≡ v → row < v.size.rows → length line ≡ v.size.columns →
+    size.rows * size.columns ≤ length kept → (r c : ℕ) → r < v.size.rows → c < v.size.columns →
+    module_at (kept_modules size (put_mid (row * n) k kept line)) r c ≡
+    (if nat_eq r row then get_or line c false else module_at v r c)
+row_seen size kept line row n k v en ek ev =
+    subst (λ (v : ModulesView). row < v.size.rows → length line ≡ v.size.columns →
+    size.rows * size.columns ≤ length kept → (r c : ℕ) → r < v.size.rows → c < v.size.columns →
+    module_at (kept_modules size (put_mid (row * n) k kept line)) r c ≡
+    (if nat_eq r row then get_or line c false else module_at v r c)) ev
+    (subst (λ (n : ℕ). row < size.rows → length line ≡ size.columns → size.rows * size.columns ≤ length kept →
+    (r c : ℕ) → r < size.rows → c < size.columns →
+    module_at (kept_modules size (put_mid (row * n) k kept line)) r c ≡
+    (if nat_eq r row then get_or line c false else module_at (kept_modules size kept) r c)) (sym en)
+    (row_at size kept line row k ek))
 
 -- ---- modules that are the same
 

@@ -111,6 +111,9 @@ pub record SizeFacts (s : SizeEntry) : Type 0 where
   pub region_columns_fit : s.region_columns ≤ most_columns
   pub rows_below : mapping_rows s < s.rows
   pub columns_below : mapping_columns s < s.columns
+  pub least_matrix_rows : 6 ≤ mapping_rows s
+  pub least_matrix_columns : 6 ≤ mapping_columns s
+  pub across_fit : s.regions_across ≤ most_columns
 
 -- Each size of the table has these relations between its numbers, as the checker computes, and so has each size.
 pub size_facts : (s : SizeEntry) → IsSize s → SizeFacts s
@@ -141,6 +144,9 @@ size_facts s h = record {
   region_rows_fit = most_at_size (λ r. r.region_rows) (λ r. most_rows) s h refl;
   region_columns_fit = most_at_size (λ r. r.region_columns) (λ r. most_columns) s h refl;
   rows_below = let l = most_at_size (λ r. mapping_rows r + 1) (λ r. r.rows) s h refl in omega (arith, l);
+  least_matrix_rows = most_at_size (λ r. 6) mapping_rows s h refl;
+  least_matrix_columns = most_at_size (λ r. 6) mapping_columns s h refl;
+  across_fit = most_at_size (λ r. r.regions_across) (λ r. most_columns) s h refl;
   columns_below = let l = most_at_size (λ r. mapping_columns r + 1) (λ r. r.columns) s h refl in omega (arith, l);
 }
 

@@ -1,12 +1,14 @@
 //! Borders, which are the finder pattern and the alignment patterns, and the lines of the symbol between them: ISO/IEC
 //! 16022, symbol structure.
 
-ghost use Rattle.std.specs.Prelude.{◌≡◌, ◌<◌, ◌≤◌, count_by};
+ghost use Rattle.std.specs.Prelude.{◌≡◌, ℕ, ◌+◌, ◌%◌, ◌<◌, ◌≤◌, Some, cond, count_by, nat_eq, not};
+ghost use Rattle.std.specs.Bool.{beq};
 ghost use Rattle.std.specs.List.{range_with_len};
 ghost use Rattle.dm_modules.specs.Sizes.{mapping_rows, mapping_columns};
 ghost use Rattle.dm_place.specs.Border.{symbol_line};
-ghost use Rattle.dm_modules.specs.Border.{border_colour as border_colour_by, is_fault as is_fault_by};
-ghost use Rattle.dm_modules.specs.Border.{border_fault_count};
+ghost use Rattle.dm_modules.specs.Modules.{module_at};
+ghost use Rattle.dm_modules.specs.Border.{border_colour as border_colour_by, is_fault, border_fault_count};
+ghost use Rattle.dm_modules.specs.inner.Drawing.{edge_colour, IsBetween};
 
 use crate::modules::Modules;
 use crate::size::SymbolSize;
@@ -57,32 +59,82 @@ pub fn symbol_column(size: SymbolSize, line: u16) -> u16
     line + 2 * (line / size.region_columns()) + 1
 }
 
-/// Whether a module lies in a border and has another colour than it prescribes.
-fn is_fault(modules: &Modules, row: u16, column: u16) -> bool
+/// Gives the colour of a module of a row that lies at the top of its regions, or at the bottom, where the row is solid.
+pub(crate) fn edge_is_dark(solid: bool, column: usize) -> bool
+    ensures { result ≡ edge_colour solid column }
+{
+    solid || column % 2 == 0
+}
+
+/// Gives 1 if a module has another colour than this one, and else 0.
+fn fault(modules: &Modules, row: u16, column: u16, dark: bool) -> u16
     requires row { row < modules.now.size.rows }
     requires column { column < modules.now.size.columns }
-    ensures { result ≡ is_fault_by modules.now row column }
+    ensures value { result ≡ cond (not (beq (module_at modules.now row column) dark)) 1 0 }
+    ensures most { result ≤ 1 }
 {
-    match border_colour(modules.size(), row, column) {
-        Some(dark) => modules.is_dark(row, column) != dark,
-        None => false,
+    if modules.is_dark(row, column) == dark {
+        0
+    } else {
+        1
     }
+}
+
+/// Gives how many modules of a row that lies at the top of its regions, or at the bottom, where it is solid, have the
+/// wrong colour.
+fn edge_faults(modules: &Modules, row: u16, solid: bool) -> u16
+    requires row { row < modules.now.size.rows }
+    requires edge { (c : ℕ) → border_colour_by modules.now.size row c ≡ Some (edge_colour solid c) }
+    ensures count { result
+        ≡ count_by (is_fault modules.now row) (range_with_len 0 modules.now.size.columns) }
+    ensures most { result ≤ modules.now.size.columns }
+{
+    let mut faults = 0;
+    for column in 0..modules.size().columns() {
+        let dark = edge_is_dark(solid, column as usize);
+        faults += fault(modules, row, column, dark);
+    }
+    faults
+}
+
+/// Gives how many modules of a row that lies between the top and the bottom of its regions have the wrong colour: those
+/// at the left of a region, which are to be dark, and those at the right, which are to have this colour.
+fn side_faults(modules: &Modules, row: u16, end: bool) -> u16
+    requires row { row < modules.now.size.rows }
+    requires between { IsBetween modules.now.size row }
+    requires end { end ≡ nat_eq (row % (modules.now.size.region_rows + 2) % 2) 1 }
+    ensures count { result
+        ≡ count_by (is_fault modules.now row) (range_with_len 0 modules.now.size.columns) }
+    ensures most { result ≤ modules.now.size.columns }
+{
+    let size = modules.size();
+    let width = size.region_columns() + 2;
+    let mut faults = 0;
+    for region in 0..size.regions_across() {
+        let left = region * width;
+        let at_left = fault(modules, row, left, true);
+        let at_right = fault(modules, row, left + (width - 1), end);
+        faults += at_left + at_right;
+    }
+    faults
 }
 
 /// Gives how many border modules of a row have the wrong colour.
 fn row_faults(modules: &Modules, row: u16) -> u16
     requires { row < modules.now.size.rows }
     ensures count { result
-        ≡ count_by (is_fault_by modules.now row) (range_with_len 0 modules.now.size.columns) }
+        ≡ count_by (is_fault modules.now row) (range_with_len 0 modules.now.size.columns) }
     ensures most { result ≤ modules.now.size.columns }
 {
-    let mut faults = 0;
-    for column in 0..modules.size().columns() {
-        if is_fault(modules, row, column) {
-            faults += 1;
-        }
+    let bottom = modules.size().region_rows() + 1;
+    let line = row % (bottom + 1);
+    if line == 0 {
+        edge_faults(modules, row, false)
+    } else if line == bottom {
+        edge_faults(modules, row, true)
+    } else {
+        side_faults(modules, row, line % 2 == 1)
     }
-    faults
 }
 
 /// Gives how many border modules have another colour than [`border_colour`] prescribes.

@@ -1,7 +1,7 @@
 //! The modules of a symbol.
 
-ghost use Rattle.std.specs.Prelude.{◌≡◌, ℕ, false, nat_eq, ◌&&◌, ◌≢◌, ◌*◌, ◌<◌, ◌↔◌, if◌then◌else◌, IfOk, OnErr, OnOk};
-ghost use Rattle.std.specs.Prelude.{IsNone, ◌≤◌, ◌++◌, drop, length, map};
+ghost use Rattle.std.specs.Prelude.{◌≡◌, ℕ, false, nat_eq, ◌&&◌, ◌≢◌, ◌+◌, ◌*◌, ◌<◌, ◌≤◌, ◌↔◌, if◌then◌else◌, IfOk};
+ghost use Rattle.std.specs.Prelude.{OnErr, OnOk, IsNone, ◌++◌, drop, get_or, length, map};
 ghost use Rattle.dm_modules.specs.Sizes.{entry_with, area};
 ghost use Rattle.dm_modules.specs.Modules.{IsModules, is_dark_number, module_at, rows_of};
 
@@ -192,6 +192,32 @@ impl Modules {
             ≡ (if nat_eq r row && nat_eq c column then dark else module_at self.old r c) }
     {
         self.kept[row as usize * self.size.columns() as usize + column as usize] = dark;
+    }
+
+    /// Gives the colours of `count` modules of a row, from this column on.
+    pub(crate) fn part(&self, row: u16, column: u16, count: u16) -> &[bool]
+        requires row { row < self.now.size.rows }
+        requires part { column + count ≤ self.now.size.columns }
+        ensures count { length result.now ≡ count }
+        ensures colours { (k : ℕ) → k < count
+            → get_or result.now k false ≡ module_at self.now row (column + k) }
+    {
+        let start = row as usize * self.size.columns() as usize + column as usize;
+        &self.kept[start..start + count as usize]
+    }
+
+    /// Gives the modules of a row these colours, as many as the size has columns.
+    pub(crate) fn put_row(&mut self, row: u16, line: &[bool])
+        requires row { row < self.old.size.rows }
+        requires line { length line.now ≡ self.old.size.columns }
+        ensures size { self.new.size ≡ self.old.size }
+        ensures modules { IsModules self.new }
+        ensures colours { (r c : ℕ) → r < self.old.size.rows → c < self.old.size.columns
+            → module_at self.new r c
+            ≡ (if nat_eq r row then get_or line.now c false else module_at self.old r c) }
+    {
+        let start = row as usize * self.size.columns() as usize;
+        self.kept[start..start + line.len()].copy_from_slice(line);
     }
 
     /// Gives the colours of all modules, row by row from the top, true for dark.

@@ -7,7 +7,7 @@ ghost use Rattle.dm_modules.specs.Modules.{ModulesView};
 ghost use Rattle.dm_modules.specs.Words.{WordsView};
 ghost use Rattle.dm_modules.specs.Holding.{Holds, IsLaid};
 
-use crate::drawing::{draw, read_cells};
+use crate::drawing::{draw, put_fixed_square, read_cells};
 use crate::modules::Modules;
 use crate::size::{MOST_CELLS, SymbolSize};
 use crate::words::SymbolWords;
@@ -57,12 +57,10 @@ fn lay_cells(words: &SymbolWords, mapping: &mut [bool], modules: &mut Modules)
     ensures { IsLaid words.now modules.new }
 {
     let size = words.size();
-    dm_place::lay(
-        size.mapping_rows(),
-        size.mapping_columns(),
-        words.list(),
-        mapping,
-    );
+    let rows = size.mapping_rows();
+    let columns = size.mapping_columns();
+    put_fixed_square(rows, columns, mapping);
+    dm_place::lay(rows, columns, words.list(), mapping);
     draw(size, mapping, modules);
 }
 

@@ -1,42 +1,26 @@
-use Rattle.std.proofs.Common.{◌≡◌, ℕ, ◌+◌, ◌*◌, ◌/◌, ◌%◌, ◌∙◌, sym, ap, arith}
-use Rattle.dm_modules.specs.Sizes.{SizeEntry}
+use Rattle.std.proofs.Common.{◌≡◌, ℕ, ◌∙◌, ◌++◌, List, Bool, false, get_or, take, drop, ap, arith}
+use Rattle.std.proofs.Math.ListN.{get_or-append}
+use Rattle.std.proofs.lemmas.List.{get_or-take}
 use Rattle.dm_modules.specs.inner.Drawing.{drawn_colour}
-use Rattle.dm_modules.proofs.Drawn.{PlaceAt, place_at, drawn_more}
-use Rattle.dm_modules.proofs.ModulesLemmas.{place_below}
+use Rattle.dm_modules.proofs.Drawn.{row_more}
 use Rattle.dm_modules.proofs.drawing.draw.Goals as goal
 
-pub put-requires-clause-row : goal.put-requires-clause-row
-put-requires-clause-row c =
-    let at : PlaceAt c.rows.result c.columns-columns.result c.loop-place.place =
-    place_at c.rows.result c.columns-columns.result c.loop-place.place
-    (omega (arith, c.columns-columns.ensures.some, c.columns-columns.ensures.value)) c.loop-place-test.true in
-    let rows = ap (λ (s : SizeEntry). s.rows) c.loop-place.invariant.size in
-    omega (arith, at.row, c.rows.ensures.value, rows)
-
-pub loop-place-preserved : goal.loop-place-preserved
-loop-place-preserved c =
-    let size : SizeEntry = c.args.size in
+pub loop-row-preserved : goal.loop-row-preserved
+loop-row-preserved c =
     let n : ℕ = c.columns-columns.result in
-    let place : ℕ = c.loop-place.place in
-    let at : PlaceAt c.rows.result n place =
-    place_at c.rows.result n place (omega (arith, c.columns-columns.ensures.some, c.columns-columns.ensures.value))
-    c.loop-place-test.true in
+    let size = c.args.size in
+    let line : List Bool = c.draw_row.new.line ++ drop n c.loop-row.line in
     record {
-      size = c.put.ensures.size ∙ c.loop-place.invariant.size;
-      modules = c.put.ensures.modules;
+      size = c.put_row.ensures.size ∙ c.loop-row.invariant.size;
+      modules = c.put_row.ensures.modules;
       colours =
-          drawn_more size (drawn_colour size c.args.mapping.now) place (place / n) (place % n) c.colour-dark.result
-          c.loop-place.modules c.put.new.self c.loop-place.invariant.size
-          (omega (arith, at.column, c.columns-columns.ensures.value))
-          (ap (λ (m : ℕ). place / n * m + place % n) (sym c.columns-columns.ensures.value) ∙ at.there)
-          c.colour-dark.ensures
-          c.loop-place.invariant.colours c.put.ensures.colours;
+          row_more size (drawn_colour size c.args.mapping.now) c.loop-row.row (take n line) c.loop-row.modules
+          c.put_row.new.self c.loop-row.invariant.size
+          (omega (arith, c.loop-row-test.true, c.rows-row-end.ensures.value))
+          (λ column l.
+          get_or-take n line column false (omega (arith, l, c.columns-columns.ensures.value))
+          ∙ get_or-append c.draw_row.new.line (drop n c.loop-row.line) false column (omega (arith, l,
+          c.draw_row.ensures.count))
+          ∙ c.draw_row.ensures.colours column l)
+          c.loop-row.invariant.colours c.put_row.ensures.colours;
     }
-
-pub returns-clause-colours : goal.returns-clause-colours
-returns-clause-colours c = λ row column lr lc.
-    let all : c.rows.result * c.columns-columns.result ≡ c.args.size.rows * c.args.size.columns =
-    ap (λ (m : ℕ). m * c.columns-columns.result) c.rows.ensures.value
-    ∙ ap (λ (m : ℕ). c.args.size.rows * m) c.columns-columns.ensures.value in
-    c.loop-place.invariant.colours row column lr lc
-    (omega (arith, place_below c.args.size.rows c.args.size.columns row column lr lc, all, c.loop-place-test.false))

@@ -1,7 +1,10 @@
-use Rattle.std.proofs.Common.{◌≡◌, ℕ, ◌/◌, ◌%◌, ◌<◌, false, get_or}
+use Rattle.std.proofs.Common.{◌≡◌, ℕ, ◌<◌}
+use Rattle.dm_place.specs.Holding.{look_at}
+use Rattle.dm_modules.specs.Sizes.{mapping_columns}
 use Rattle.dm_modules.specs.Border.{mapped_cell}
 use Rattle.dm_modules.proofs.drawing.read_cells.Given as goal
 
-abbrev pub invariant-loop-place : goal.invariant-loop-place
-invariant-loop-place l =
-    (k : ℕ) → k < l.place → get_or l.mapping k false ≡ mapped_cell l.modules (k / l.columns) (k % l.columns)
+abbrev pub invariant-loop-row : goal.invariant-loop-row
+invariant-loop-row l =
+    (r c : ℕ) → r < l.row → c < mapping_columns l.modules.size →
+    look_at l.mapping (mapping_columns l.modules.size) r c ≡ mapped_cell l.modules r c
