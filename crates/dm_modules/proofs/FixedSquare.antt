@@ -5,7 +5,7 @@ use Rattle.std.proofs.Common.{get_or-set_other, get_or-set_same}
 use Rattle.std.proofs.lemmas.Bool.{eqb-true, eqb-false, eq-eqb, ne_eqb, leb-true, and_parts}
 use Rattle.std.proofs.Math.Nat.{mul-le-mul_right}
 use Rattle.std.proofs.lemmas.List.{length-set}
-use Rattle.dm_place.specs.Border.{HasFixedSquare, has_fixed_square, is_fixed}
+use Rattle.dm_place.specs.Border.{HasFixedSquare, has_fixed_square}
 use Rattle.dm_place.specs.Holding.{look_at}
 
 -- Two numbers are equal exactly where two others are.

@@ -1,6 +1,6 @@
 -- Lists of which a part is replaced, and parts of lists.
 use Rattle.std.proofs.Common.{◌≡◌, ◌≢◌, ℕ, ◌+◌, ◌-◌, ◌*◌, ◌<◌, ◌≤◌, Bool, true, false, nat_eq, List, ◌++◌, length, get_or, take, drop, ◌∙◌, ap}
-use Rattle.std.proofs.Common.{set, refl, sym, arith, length-take, get_or-set_other, get_or-set_same}
+use Rattle.std.proofs.Common.{set, refl, arith, length-take, get_or-set_other, get_or-set_same}
 use Rattle.std.specs.Prelude.{if◌then◌else◌}
 use Rattle.std.proofs.lemmas.Bool.{eqb-true, eqb-false}
 use Rattle.std.proofs.Math.ListN.{get_or-append}
@@ -61,8 +61,15 @@ region_put cells line part region left w k end ek long room here j lj = by_left 
     length-both : length both ≡ length line
     length-both =
         same_len_mid (left + 1) k first part
-        (omega (arith, long, ek, room, length-first, length-take k (drop (left + 1) first),
-        length-drop (left + 1) first)) ∙ length-first
+        (omega (
+          arith,
+          long,
+          ek,
+          room,
+          length-first,
+          length-take k (drop (left + 1) first),
+          length-drop (left + 1) first,
+        )) ∙ length-first
 
     by_right : (t : Bool) → nat_eq j (w + 1) ≡ t → j ≢ 0 →
         get_or (set both (left + w + 1) end) (left + j) false ≡

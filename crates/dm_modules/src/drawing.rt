@@ -70,7 +70,9 @@ fn draw_region(cells: &[bool], region: usize, width: usize, end: bool, line: &mu
 {
     let left = region * (width + 2);
     line[left] = true;
-    line[left + 1..left + 1 + width].copy_from_slice(&cells[region * width..region * width + width]);
+    line[left + 1..left + 1 + width].copy_from_slice(
+        &cells[region * width..region * width + width],
+    );
     line[left + width + 1] = end;
 }
 

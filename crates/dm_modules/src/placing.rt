@@ -9,7 +9,7 @@ ghost use Rattle.dm_modules.specs.Holding.{Holds, IsLaid};
 
 use crate::drawing::{draw, put_fixed_square, read_cells};
 use crate::modules::Modules;
-use crate::size::{MOST_CELLS, SymbolSize};
+use crate::size::{FEW_CELLS, MOST_CELLS, SymbolSize};
 use crate::words::SymbolWords;
 
 /// Gives the modules in which these codewords are laid: the only ones that hold them, have no border fault, and have
@@ -37,9 +37,21 @@ pub fn lay_to(words: &SymbolWords, modules: &mut Modules)
     ensures no_other_words { (other : WordsView) → Holds modules.new other
         → other ≡ words.now }
 {
-    let mut mapping = [false; MOST_CELLS];
+    lay_by_size(words, modules);
+}
+
+/// Lays codewords, by way of a mapping matrix that has no more room than it takes for small sizes.
+fn lay_by_size(words: &SymbolWords, modules: &mut Modules)
+    ensures { IsLaid words.now modules.new }
+{
     let cells = cell_count(words.size());
-    lay_cells(words, &mut mapping[..cells], modules);
+    if cells <= FEW_CELLS {
+        let mut mapping = [false; FEW_CELLS];
+        lay_cells(words, &mut mapping[..cells], modules);
+    } else {
+        let mut mapping = [false; MOST_CELLS];
+        lay_cells(words, &mut mapping[..cells], modules);
+    }
 }
 
 /// Gives how many cells the mapping matrix has.
@@ -81,9 +93,21 @@ pub fn lift_to(modules: &Modules, words: &mut SymbolWords)
     ensures holds { Holds modules.now words.new }
     ensures no_other_words { (other : WordsView) → Holds modules.now other → other ≡ words.new }
 {
-    let mut mapping = [false; MOST_CELLS];
+    lift_by_size(modules, words);
+}
+
+/// Lifts codewords, by way of a mapping matrix that has no more room than it takes for small sizes.
+fn lift_by_size(modules: &Modules, words: &mut SymbolWords)
+    ensures { Holds modules.now words.new }
+{
     let cells = cell_count(modules.size());
-    lift_cells(modules, &mut mapping[..cells], words);
+    if cells <= FEW_CELLS {
+        let mut mapping = [false; FEW_CELLS];
+        lift_cells(modules, &mut mapping[..cells], words);
+    } else {
+        let mut mapping = [false; MOST_CELLS];
+        lift_cells(modules, &mut mapping[..cells], words);
+    }
 }
 
 /// Lifts codewords, by way of a mapping matrix whose cells stand row by row and may have any colours before.

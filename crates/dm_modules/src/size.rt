@@ -24,6 +24,9 @@ pub const MOST_MODULES: usize = 20736;
 /// The most cells of a mapping matrix.
 pub(crate) const MOST_CELLS: usize = 17424;
 
+/// The most cells of a mapping matrix of a rectangle, and of a square up to 40 x 40.
+pub(crate) const FEW_CELLS: usize = 1344;
+
 /// The most data codewords of a symbol.
 pub const MOST_DATA: usize = 1558;
 

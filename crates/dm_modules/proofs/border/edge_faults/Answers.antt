@@ -1,4 +1,4 @@
-use Rattle.std.proofs.Common.{◌≡◌, ℕ, ◌∙◌, ap, sym, arith, refl, Bool, Some}
+use Rattle.std.proofs.Common.{ℕ, ◌∙◌, ap, sym, arith, refl, Bool, Some}
 use Rattle.dm_modules.specs.Border.{is_fault}
 use Rattle.dm_modules.proofs.FaultCounts.{count_more}
 use Rattle.dm_modules.proofs.RowColours.{fault_counts}

@@ -1,4 +1,4 @@
-use Rattle.std.proofs.Common.{◌≡◌, ℕ, ◌+◌, ◌%◌, ◌∙◌, sym, ap, arith}
+use Rattle.std.proofs.Common.{◌≡◌, ℕ, ◌+◌, ◌%◌, ◌∙◌, ap, arith}
 use Rattle.dm_modules.specs.Sizes.{SizeEntry}
 use Rattle.dm_modules.proofs.RowColours.{top_colour}
 use Rattle.dm_modules.proofs.border.row_faults.Goals as goal

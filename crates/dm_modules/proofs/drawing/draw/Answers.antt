@@ -1,4 +1,4 @@
-use Rattle.std.proofs.Common.{◌≡◌, ℕ, ◌∙◌, ◌++◌, List, Bool, false, get_or, take, drop, ap, arith}
+use Rattle.std.proofs.Common.{ℕ, ◌∙◌, ◌++◌, List, Bool, false, take, drop, arith}
 use Rattle.std.proofs.Math.ListN.{get_or-append}
 use Rattle.std.proofs.lemmas.List.{get_or-take}
 use Rattle.dm_modules.specs.inner.Drawing.{drawn_colour}
@@ -19,8 +19,11 @@ loop-row-preserved c =
           (omega (arith, c.loop-row-test.true, c.rows-row-end.ensures.value))
           (λ column l.
           get_or-take n line column false (omega (arith, l, c.columns-columns.ensures.value))
-          ∙ get_or-append c.draw_row.new.line (drop n c.loop-row.line) false column (omega (arith, l,
-          c.draw_row.ensures.count))
+          ∙ get_or-append c.draw_row.new.line (drop n c.loop-row.line) false column (omega (
+            arith,
+            l,
+            c.draw_row.ensures.count,
+          ))
           ∙ c.draw_row.ensures.colours column l)
           c.loop-row.invariant.colours c.put_row.ensures.colours;
     }

@@ -31,8 +31,11 @@ slice_bounds-cells-end c =
 
 pub draw_between-requires-clause-across : goal.draw_between-requires-clause-across
 draw_between-requires-clause-across c =
-    omega (arith, c.regions_across-across.ensures.value,
-    (size_facts c.args.size c.mapping_columns-columns.ensures.size).across_fit)
+    omega (
+      arith,
+      c.regions_across-across.ensures.value,
+      (size_facts c.args.size c.mapping_columns-columns.ensures.size).across_fit,
+    )
 
 pub returns-else-place-height-clause-colours : goal.returns-else-place-height-clause-colours
 returns-else-place-height-clause-colours c = λ column l.

@@ -22,6 +22,14 @@ loop-row-preserved c =
     let count : row * n + n - row * n ≡ n = omega arith in
     let taken = length-take (row * n + n - row * n) (drop (row * n) mapping) in
     row_read m row (row * n) _ n mapping c.read_row.new.line columns refl
-    (c.read_row.ensures.count ∙ omega (arith, taken, count, length-drop (row * n) mapping, below, all,
-    c.loop-row.auto.mapping, c.requires))
+    (c.read_row.ensures.count ∙ omega (
+      arith,
+      taken,
+      count,
+      length-drop (row * n) mapping,
+      below,
+      all,
+      c.loop-row.auto.mapping,
+      c.requires,
+    ))
     (omega (arith, below, all, c.loop-row.auto.mapping, c.requires)) c.loop-row.invariant c.read_row.ensures.cells

@@ -7,13 +7,19 @@ use Rattle.dm_modules.proofs.placing.lay_cells.Goals as goal
 
 pub put_fixed_square-requires-clause-rows : goal.put_fixed_square-requires-clause-rows
 put_fixed_square-requires-clause-rows c =
-    omega (arith, c.mapping_rows-rows.ensures.value,
-    (size_facts c.size-size.result c.mapping_rows-rows.ensures.size).least_matrix_rows)
+    omega (
+      arith,
+      c.mapping_rows-rows.ensures.value,
+      (size_facts c.size-size.result c.mapping_rows-rows.ensures.size).least_matrix_rows,
+    )
 
 pub put_fixed_square-requires-clause-columns : goal.put_fixed_square-requires-clause-columns
 put_fixed_square-requires-clause-columns c =
-    omega (arith, c.mapping_columns-columns.ensures.value,
-    (size_facts c.size-size.result c.mapping_rows-rows.ensures.size).least_matrix_columns)
+    omega (
+      arith,
+      c.mapping_columns-columns.ensures.value,
+      (size_facts c.size-size.result c.mapping_rows-rows.ensures.size).least_matrix_columns,
+    )
 
 pub lay-requires-clause-row : goal.lay-requires-clause-row
 lay-requires-clause-row c =

@@ -3,4 +3,4 @@ use Rattle.dm_modules.proofs.placing.lift_to.Goals as goal
 
 pub returns-clause-no_other_words : goal.returns-clause-no_other_words
 returns-clause-no_other_words c =
-    λ other holds. one_held c.args.modules.now other c.lift_cells.new.words holds c.lift_cells.ensures
+    λ other holds. one_held c.args.modules.now other c.lift_by_size.new.words holds c.lift_by_size.ensures
