@@ -1,12 +1,12 @@
 -- The shapes of a mapping matrix by fewer tests: the anchors of one sum lie all in even rows or all in odd ones, and a
 -- sum that isn't a multiple of 4 has none.
-use Rattle.std.proofs.Common.{◌≡◌, ℕ, ◌+◌, ◌-◌, ◌*◌, ◌%◌, ◌<◌, ◌≤◌, Bool, true, false, ◌&&◌, nat_eq, nat_lt, nat_le, List, []}
+use Rattle.std.proofs.Common.{◌≡◌, ℕ, ◌+◌, ◌-◌, ◌*◌, ◌%◌, ◌<◌, ◌≤◌, Bool, true, false, not, ◌&&◌, nat_eq, nat_lt, nat_le, List, []}
 use Rattle.std.proofs.Common.{◌∷◌, ◌++◌, flat_map, refl, ap, ◌∙◌, arith}
 use Rattle.std.specs.List.{range_with_len}
-use Rattle.std.proofs.lemmas.Bool.{and_parts, eqb-true, eqb-false, leb-true, ltb-true}
+use Rattle.std.proofs.lemmas.Bool.{and_parts, eqb-true, eqb-false, eq-eqb, leb-true, le-leb, ltb-true, lt-ltb}
 use Rattle.dm_place.specs.declared.shape.Shape.{Shape}
 use Rattle.dm_place.specs.declared.shape.Shape.TheVariants.{Standard}
-use Rattle.dm_place.specs.Placement.{shapes, shapes_of_sum, corner_before, in_even_row, in_odd_row, shape_at, is_anchor}
+use Rattle.dm_place.specs.Placement.{shapes, shapes_of_sum, corner_before, in_even_row, in_odd_row, shape_at, is_absent, is_anchor}
 
 -- These are the shapes of sum s, where rows are tested only if an anchor of this sum may lie in them.
 abbrev few_of_sum : ℕ → ℕ → ℕ → List Shape
@@ -107,6 +107,45 @@ none_in_row rows columns s r f = by_test (nat_le r s && nat_eq (r % 2) 1) refl
         let k = f l (eqb-true _ _ both.1) in
         outside rows columns r (s - r) (λ a b. omega (arith, l, k, b))
     by_test false h = refl
+
+-- A shape stands at a cell where an anchor lies that isn't absent.
+anchored : (rows columns r c : ℕ) (t : Bool) → r < rows → c < columns → (5 * r + c) % 8 ≡ 4 →
+    is_absent rows columns r c ≡ t →
+    shape_at rows columns r c ≡ elim t as (λ _. List Shape) [ true ↦ [] | false ↦ Standard r c ∷ [] ]
+anchored rows columns r c t lr lc four h =
+    let a : nat_lt r rows ≡ true = lt-ltb r rows lr in
+    let b : nat_lt c columns ≡ true = lt-ltb c columns lc in
+    let d : nat_eq ((5 * r + c) % 8) 4 ≡ true = eq-eqb ((5 * r + c) % 8) 4 four in
+    let anchor : is_anchor rows columns r c ≡ not t = rw (a, b, d, h) refl in
+    ap (λ (x : Bool). elim x as (λ _. List Shape) [ true ↦ Standard r c ∷ [] | false ↦ [] ]) anchor ∙ by_test t
+  where
+    by_test : (t : Bool) → elim (not t) as (λ _. List Shape) [ true ↦ Standard r c ∷ [] | false ↦ [] ] ≡
+        elim t as (λ _. List Shape) [ true ↦ [] | false ↦ Standard r c ∷ [] ]
+    by_test true = refl
+    by_test false = refl
+
+-- In an even column between the first and the last of a sum that leaves 4 when divided by 8 there is an anchor, if it
+-- isn't absent.
+pub even_anchor : (rows columns s c : ℕ) (t : Bool) → s % 8 ≡ 4 → c % 2 ≡ 0 → c ≤ s → s < rows + c → c < columns →
+    is_absent rows columns (s - c) c ≡ t →
+    in_even_row rows columns s c ≡ elim t as (λ _. List Shape) [ true ↦ [] | false ↦ Standard (s - c) c ∷ [] ]
+even_anchor rows columns s c t four even above low lc h =
+    let p : nat_le c s ≡ true = le-leb c s above in
+    let q : nat_eq ((s - c) % 2) 0 ≡ true = eq-eqb ((s - c) % 2) 0 (omega (arith, four, even, above)) in
+    let here : (nat_le c s && nat_eq ((s - c) % 2) 0) ≡ true = rw (p, q) refl in
+    ap (λ (x : Bool). elim x as (λ _. List Shape) [ true ↦ shape_at rows columns (s - c) c | false ↦ [] ]) here
+    ∙ anchored rows columns (s - c) c t (omega (arith, above, low)) lc (omega (arith, four, even, above)) h
+
+-- So it is in an odd row of a sum that is a multiple of 8.
+pub odd_anchor : (rows columns s r : ℕ) (t : Bool) → s % 8 ≡ 0 → r % 2 ≡ 1 → r ≤ s → s < columns + r → r < rows →
+    is_absent rows columns r (s - r) ≡ t →
+    in_odd_row rows columns s r ≡ elim t as (λ _. List Shape) [ true ↦ [] | false ↦ Standard r (s - r) ∷ [] ]
+odd_anchor rows columns s r t none odd above low lr h =
+    let p : nat_le r s ≡ true = le-leb r s above in
+    let q : nat_eq (r % 2) 1 ≡ true = eq-eqb (r % 2) 1 odd in
+    let here : (nat_le r s && nat_eq (r % 2) 1) ≡ true = rw (p, q) refl in
+    ap (λ (x : Bool). elim x as (λ _. List Shape) [ true ↦ shape_at rows columns r (s - r) | false ↦ [] ]) here
+    ∙ anchored rows columns r (s - r) t lr (omega (arith, above, low)) (omega (arith, none, odd, above)) h
 
 -- Where a list is empty if a test fails, the choice between it and the empty list is the list.
 chosen : (t : Bool) (xs : List Shape) → (t ≡ false → xs ≡ []) →

@@ -10,6 +10,7 @@ use crate::shape::Cell;
 use crate::shapes::Shapes;
 
 /// Gives the codeword in these cells.
+#[inline(always)]
 fn word_at(cells: &[bool], rows: u16, columns: u16, places: &[Cell; 8]) -> u8
     requires cells { length cells.now ≡ rows * columns }
     requires inside { CellsInside rows columns places.now }
@@ -39,6 +40,7 @@ pub fn lift(rows: u16, columns: u16, cells: &[bool], words: &mut [u8])
 }
 
 /// Puts the bits of a codeword into these cells.
+#[inline(always)]
 fn put_word(cells: &mut [bool], rows: u16, columns: u16, places: &[Cell; 8], word: u8)
     requires cells { length cells.old ≡ rows * columns }
     requires inside { CellsInside rows columns places.now }

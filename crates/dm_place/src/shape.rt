@@ -144,6 +144,7 @@ impl Shape {
 }
 
 /// Gives the cells of the standard shape at an anchor.
+#[inline(always)]
 fn standard_cells(rows: u16, columns: u16, row: u16, column: u16) -> [Cell; 8]
     requires rows { 6 ≤ rows }
     requires columns { 6 ≤ columns }

@@ -4,7 +4,7 @@ ghost use Rattle.std.specs.Prelude.{◌≡◌, ℕ, List, true, false, ◌+◌, 
 ghost use Rattle.std.specs.Option.{option_to_list};
 ghost use Rattle.std.specs.Iterator.{YieldsFirst, item_count};
 ghost use Rattle.dm_place.specs.Placement.{shapes as shapes_by, corner_before, in_even_row, in_odd_row};
-ghost use Rattle.dm_place.specs.Placement.{shape_at as shape_at_by, AnchorInside};
+ghost use Rattle.dm_place.specs.Placement.{is_absent as is_absent_by, AnchorInside};
 ghost use Rattle.dm_place.specs.Sides.{SidesAreSafe};
 ghost use Rattle.dm_place.specs.inner.Walking.{shapes_left, steps_left, StepsAreSafe};
 ghost use Rattle.dm_place.specs.declared.shape.Shape.{Shape};
@@ -74,24 +74,16 @@ fn corner(rows: u16, columns: u16, sum: u16) -> Option<Shape>
     }
 }
 
-/// Gives the standard shape whose anchor lies here, if one does.
-fn shape_at(rows: u16, columns: u16, row: u16, column: u16) -> Option<Shape>
+/// Whether a cell is absent, that is, no anchor although it lies where one would.
+fn is_absent(rows: u16, columns: u16, row: u16, column: u16) -> bool
     requires rows { 6 ≤ rows }
     requires columns { 6 ≤ columns }
-    requires row { row ≤ 300 }
-    requires column { column ≤ 300 }
-    ensures value { option_to_list result ≡ shape_at_by rows columns row column }
-    ensures anchor { IfSome result (AnchorInside rows columns) }
+    ensures { result ≡ is_absent_by rows columns row column }
 {
-    let absent = rows % 8 == 6
+    rows % 8 == 6
         && (row == rows - 2 && column == 0 && (columns % 8 == 6 || columns % 8 == 4)
             || columns % 8 == 6 && row == 0 && column == columns - 2
-            || columns % 8 == 0 && row == 1 && column == columns - 1);
-    if row < rows && column < columns && (5 * row + column) % 8 == 4 && !absent {
-        Some(Shape::Standard(row, column))
-    } else {
-        None
-    }
+            || columns % 8 == 0 && row == 1 && column == columns - 1)
 }
 
 /// Gives the first even column in which an anchor of a sum may lie.
@@ -99,6 +91,7 @@ fn first_even_column(rows: u16, sum: u16) -> u16
     requires { sum ≤ 300 }
     ensures even { result % 2 ≡ 0 }
     ensures before { (c : ℕ) → c < result → c % 2 ≡ 0 → rows + c ≤ sum }
+    ensures inside { sum < rows + result }
     ensures most { result + rows ≤ sum + 2 ⊎ result ≡ 0 }
 {
     if rows <= sum {
@@ -113,6 +106,7 @@ fn first_odd_row(columns: u16, sum: u16) -> u16
     requires { sum ≤ 300 }
     ensures odd { result % 2 ≡ 1 }
     ensures before { (r : ℕ) → r < result → r % 2 ≡ 1 → columns + r ≤ sum }
+    ensures inside { sum < columns + result }
     ensures most { result + columns ≤ sum + 2 ⊎ result ≡ 1 }
 {
     if columns <= sum {
@@ -126,44 +120,56 @@ fn first_odd_row(columns: u16, sum: u16) -> u16
 fn is_past(count: u16, sum: u16, index: u16) -> bool
     ensures past { result ≡ true → (count ≤ index) ⊎ (sum < index) }
     ensures inside { result ≡ false → index < count }
+    ensures above { result ≡ false → index ≤ sum }
 {
     count <= index || sum < index
 }
 
-/// Gives the standard shape of a sum whose anchor lies in this column and in an even row.
+/// Gives the standard shape of a sum whose anchor lies in this column and in an even row, if one does.
+#[inline(always)]
 fn in_even_row(rows: u16, columns: u16, sum: u16, column: u16) -> Option<Shape>
     requires rows { 6 ≤ rows }
     requires columns { 6 ≤ columns }
-    requires sum { sum ≤ 300 }
-    requires column { column ≤ 300 }
+    requires sum { sum % 8 ≡ 4 }
+    requires even { column % 2 ≡ 0 }
+    requires above { column ≤ sum }
+    requires row { sum < rows + column }
+    requires column { column < columns }
     ensures value { option_to_list result ≡ in_even_row rows columns sum column }
     ensures anchor { IfSome result (AnchorInside rows columns) }
 {
-    if column <= sum && (sum - column) % 2 == 0 {
-        shape_at(rows, columns, sum - column, column)
-    } else {
+    let row = sum - column;
+    if is_absent(rows, columns, row, column) {
         None
+    } else {
+        Some(Shape::Standard(row, column))
     }
 }
 
-/// Gives the standard shape of a sum whose anchor lies in this row, if that is odd.
+/// Gives the standard shape of a sum whose anchor lies in this row, an odd one, if one does.
+#[inline(always)]
 fn in_odd_row(rows: u16, columns: u16, sum: u16, row: u16) -> Option<Shape>
     requires rows { 6 ≤ rows }
     requires columns { 6 ≤ columns }
-    requires sum { sum ≤ 300 }
-    requires row { row ≤ 300 }
+    requires sum { sum % 8 ≡ 0 }
+    requires odd { row % 2 ≡ 1 }
+    requires above { row ≤ sum }
+    requires column { sum < columns + row }
+    requires row { row < rows }
     ensures value { option_to_list result ≡ in_odd_row rows columns sum row }
     ensures anchor { IfSome result (AnchorInside rows columns) }
 {
-    if row <= sum && row % 2 == 1 {
-        shape_at(rows, columns, row, sum - row)
-    } else {
+    let column = sum - row;
+    if is_absent(rows, columns, row, column) {
         None
+    } else {
+        Some(Shape::Standard(row, column))
     }
 }
 
 impl Steps {
     /// Makes one step, and gives the shape that it comes by, if it comes by one.
+    #[inline(always)]
     fn step(&mut self) -> Option<Shape>
         requires safe { StepsAreSafe self.old }
         requires more { self.old.sum + 1 < self.old.rows + self.old.columns }
@@ -215,6 +221,7 @@ impl Steps {
     }
 
     /// Gives the next shape.
+    #[inline(always)]
     fn next_shape(&mut self) -> Option<Shape>
         requires safe { StepsAreSafe self.old }
         ensures left { YieldsFirst shapes_left self.old result self.new }
@@ -256,6 +263,7 @@ impl Iterator for Shapes {
     ghost remaining = { item_count (λ s. s) };
 
     /// Gives the next shape.
+    #[inline(always)]
     fn next(&mut self) -> Option<Shape> {
         self.steps.next_shape()
     }

@@ -1,0 +1,13 @@
+use Rattle.std.proofs.Common.{sym, ◌∙◌}
+use Rattle.dm_place.proofs.FewerTests.{odd_anchor}
+use Rattle.dm_place.proofs.shapes.in_odd_row.Goals as goal
+
+pub returns-then-is_absent-clause-value : goal.returns-then-is_absent-clause-value
+returns-then-is_absent-clause-value c =
+    sym (odd_anchor c.args.rows c.args.columns c.args.sum c.args.row _ c.requires.sum c.requires.odd c.requires.above
+    c.requires.column c.requires.row (sym c.is_absent.ensures ∙ c.if-is_absent.true))
+
+pub returns-else-is_absent-clause-value : goal.returns-else-is_absent-clause-value
+returns-else-is_absent-clause-value c =
+    sym (odd_anchor c.args.rows c.args.columns c.args.sum c.args.row _ c.requires.sum c.requires.odd c.requires.above
+    c.requires.column c.requires.row (sym c.is_absent.ensures ∙ c.if-is_absent.false))
