@@ -97,7 +97,7 @@ def checks_of_functions():
 def home(crate, name):
     """The crate that declares what others have by this name of a crate: that crate, or another, from which it passes
     the name on; None if there is none."""
-    public = re.compile(rf"^pub (?:const )?(?:fn|struct|enum|trait) {name}\b", re.M)
+    public = re.compile(rf"^pub (?:const )?(?:fn|struct|enum|trait|type) {name}\b", re.M)
     if any(map(public.search, sources(crate).values())):
         return crate
     passes = [line for source in sources(crate).values() for line in re.findall(r"^pub use ([^;]+);", source, re.M)]
@@ -129,7 +129,7 @@ def checks_of_uses():
             yield f"docs/DEFINITIONS.md, {upper} uses {name}", any(name == there for there, _ in listed[upper])
         for name, path in sorted(listed[upper]):
             source = text(places.path(path)) if os.path.exists(places.path(path)) else ""
-            is_declared_there = re.search(rf"\b(?:fn|struct|enum|trait) {name}\b", source) is not None
+            is_declared_there = re.search(rf"\b(?:fn|struct|enum|trait|type) {name}\b", source) is not None
             is_there = path.split("/")[1] in named.get(name, ()) and is_declared_there
             yield f"docs/DEFINITIONS.md, {upper} uses {name} of {path}", is_there
 
