@@ -7,4 +7,5 @@ pub use Rattle.dm_symbol.proofs.NormalReadings.{normal_grid_fits, one_normal_res
 pub use Rattle.dm_symbol.proofs.ReadItems.{no_more_items_are_read, read_is_message}
 pub use Rattle.dm_symbol.proofs.Readings.{one_given}
 pub use Rattle.dm_symbol.proofs.SizeFacts.{has_that_side}
+pub use Rattle.dm_symbol.proofs.SymbolResults.{normal_symbol, reads_symbol, result_of_symbol}
 pub use Rattle.dm_symbol.proofs.WriteSteps.{too_long_fits_none}

@@ -24,15 +24,15 @@ use Rattle.dm_symbol.specs.declared.symbol.reading.BlockReading.{BlockReading}
 use Rattle.dm_symbol.specs.Blocks.{block_at, distances}
 use Rattle.dm_symbol.specs.NormalGrid.{IsNormalGrid}
 use Rattle.dm_symbol.specs.NormalSymbol.{IsNormalSymbol}
-use Rattle.dm_symbol.specs.Reading.{HasNear, IsCorrected, IsFirstBeyond, ReadResult}
+use Rattle.dm_symbol.specs.Reading.{HasNear, IsCorrected, IsFirstBeyond, ReadResult, Reads}
 use Rattle.dm_symbol.specs.Doubt.{sure_fault_count, erased_in}
 use Rattle.dm_symbol.specs.SymbolBlocks.{HasNearBut, block_in}
-use Rattle.dm_symbol.specs.SymbolReading.{AreRestored, IsFirstLost, SymbolReadResult, block_reading, block_readings}
-use Rattle.dm_symbol.specs.SymbolReading.{symbol_reading_of}
+use Rattle.dm_symbol.specs.SymbolReading.{AreRestored, IsFirstLost, ReadsSymbol, SymbolReadResult, block_reading}
+use Rattle.dm_symbol.specs.SymbolReading.{block_readings, symbol_reading_of}
 use Rattle.dm_symbol.specs.SymbolLaws.{AreModulesOf, none_erased, symbol_result}
 use Rattle.dm_symbol.proofs.SymbolBelow.{near_plain, plain_near, distance_plain}
 use Rattle.dm_symbol.proofs.SymbolDoubt.{erased_by_none}
-use Rattle.dm_symbol.proofs.SymbolGrids.{same_faults, of_modules, held_by, near_modules}
+use Rattle.dm_symbol.proofs.SymbolGrids.{grid_and_modules, same_faults, of_modules, held_by, near_modules}
 
 -- ---- reading
 
@@ -205,3 +205,9 @@ normal_symbol profile message grid n = record {
   data_words = n.data_words;
   checked = n.checked;
 }
+
+-- What a grid is read as, its symbol is.
+pub reads_symbol : (extent : Extent) (grid : GridView) (limit : ℕ) (message : List Item) → IsGrid grid
+    → Reads extent grid limit message → ReadsSymbol extent (symbol_modules grid) None limit message
+reads_symbol extent grid limit message g r =
+    (grid_and_modules extent grid (symbol_modules grid) limit message (are grid g)).0 r
