@@ -1,9 +1,11 @@
-pub mod Zeros
 pub mod Packing
 pub mod Unpacking
 pub mod Rows
-pub mod MadeGrids
+pub mod MadeSymbols
 pub mod Sides
+pub mod Given
+pub mod SquareReadings
+pub mod Written
 pub mod Structure
 pub mod Bits
 pub mod Messages

@@ -1,34 +1,35 @@
--- The modules of a grid make it again.
-use Rattle.std.proofs.Common.{◌≡◌, ◌∙◌, ℕ, zero, suc, ◌+◌, ◌-◌, ◌*◌, ◌<◌, ◌≤◌, Bool, true, false, List, [], ◌∷◌, ◌++◌}
-use Rattle.std.proofs.Common.{length, length-append, map, take, get_or, Some, refl, sym, ap, arith}
+-- The modules of a symbol make it again.
+use Rattle.std.proofs.Common.{◌≡◌, ◌∙◌, ℕ, zero, suc, ◌+◌, ◌-◌, ◌*◌, ◌/◌, ◌%◌, ◌<◌, ◌≤◌, Bool, true, false, List, []}
+use Rattle.std.proofs.Common.{◌∷◌, ◌++◌, length, length-append, map, take, get_or, Some, refl, sym, ap, arith}
 use Rattle.std.specs.Prelude.{All}
 use Rattle.std.specs.List.{flat_map, range_with_len}
-use Rattle.std.proofs.Math.Nat.{mul-le-mul_right}
+use Rattle.std.proofs.Math.Nat.{mul-le-mul_right, div-add-mod, lt_of_mul-lt-mul_right}
 use Rattle.std.proofs.Math.Seq.{get_or-append_right, take-append_seam}
-use Rattle.std.proofs.lemmas.List.{get_or_append_left, get_or-map, length-map}
+use Rattle.std.proofs.lemmas.List.{get_or_append_left, get_or-map, length-map, ext_get_or}
 use Rattle.std.proofs.lemmas.List.Elements.{All-get_or, All-head, All-tail}
 use Rattle.std.proofs.lemmas.List.FromFn.{fill_by_all}
-use Rattle.dm_symbol.specs.Sizes.{SizeRow, row_with_side}
-use Rattle.dm_symbol.specs.Grid.{GridView, IsGrid, square_of}
-use Rattle.ecc200_calls.specs.Laws.{ModulesMakeTheGrid, OneGridIsMade}
-use Rattle.ecc200_calls.specs.Modules.{IsGridOf, is_dark, module_of, modules_of}
+use Rattle.dm_modules.specs.Sizes.{SizeEntry, area, entry_with}
+use Rattle.dm_modules.specs.Modules.{ModulesView, IsModules, is_dark_number, rows_of}
+use Rattle.dm_modules.proofs.Exported.{module_by}
+use Rattle.ecc200_calls.specs.Laws.{ModulesMakeTheSymbol, OneSymbolIsMade}
+use Rattle.ecc200_calls.specs.Modules.{AreModulesOf, module_of, modules_of}
 use Rattle.ecc200_calls.specs.Symbols.{symbol_shown}
 
 -- A module as a number is dark where it is.
-dark_again : (dark : Bool) → is_dark (module_of dark) ≡ dark
+dark_again : (dark : Bool) → is_dark_number (module_of dark) ≡ dark
 dark_again true = refl
 dark_again false = refl
 
 -- Rows of one length have that many modules each.
-count_of_rows : (rows : List (List Bool)) (side : ℕ) → All (λ line. length line ≡ side) rows →
-    length (flat_map (map module_of) rows) ≡ length rows * side
-count_of_rows [] side wide = let none : 0 ≡ 0 * side = omega arith in none
-count_of_rows (line ∷ rows) side wide =
-    let here : length (map module_of line) ≡ side =
-    length-map line module_of ∙ All-head (λ l. length l ≡ side) line rows wide in
-    let rest = count_of_rows rows side (All-tail (λ l. length l ≡ side) line rows wide) in
+pub count_of_rows : (rows : List (List Bool)) (columns : ℕ) → All (λ line. length line ≡ columns) rows →
+    length (flat_map (map module_of) rows) ≡ length rows * columns
+count_of_rows [] columns wide = let none : 0 ≡ 0 * columns = omega arith in none
+count_of_rows (line ∷ rows) columns wide =
+    let here : length (map module_of line) ≡ columns =
+    length-map line module_of ∙ All-head (λ l. length l ≡ columns) line rows wide in
+    let rest = count_of_rows rows columns (All-tail (λ l. length l ≡ columns) line rows wide) in
     length-append (map module_of line) (flat_map (map module_of) rows)
-    ∙ ap (λ n. n + length (flat_map (map module_of) rows)) here ∙ ap (λ n. side + n) rest ∙ omega arith
+    ∙ ap (λ n. n + length (flat_map (map module_of) rows)) here ∙ ap (λ n. columns + n) rest ∙ omega arith
 
 -- Among the modules of rows of one length, that of a row and a column stands behind those of the rows above.
 module_at : (rows : List (List Bool)) (side r c : ℕ) → All (λ line. length line ≡ side) rows → r < length rows →
@@ -53,49 +54,88 @@ module_at (line ∷ rows) side (suc r) c wide lr lc =
     ∙ ap (λ i. get_or (flat_map (map module_of) rows) i 0) back
     ∙ module_at rows side r c (All-tail (λ l. length l ≡ side) line rows wide) (omega arith) lc
 
--- The modules of a grid make that grid.
-grid_again : (grid : GridView) → IsGrid grid → IsGridOf grid.size.side (modules_of grid) grid
-grid_again grid well =
-    let side = grid.size.side in
-    let count : length (modules_of grid) ≡ side * side =
-    count_of_rows grid.rows side well.width ∙ ap (λ n. n * side) well.height in
-    let cell = λ (r c : ℕ). get_or (map is_dark (modules_of grid)) (r * side + c) false in
+-- The modules of a symbol make that symbol.
+symbol_again : (symbol : ModulesView) → IsModules symbol
+    → AreModulesOf symbol.size.rows symbol.size.columns (modules_of symbol) symbol
+symbol_again symbol well =
+    let rows = symbol.size.rows in
+    let columns = symbol.size.columns in
+    let count : length (modules_of symbol) ≡ rows * columns =
+    count_of_rows symbol.rows columns well.width ∙ ap (λ n. n * columns) well.height in
+    let cell = λ (r c : ℕ). get_or (map is_dark_number (modules_of symbol)) (r * columns + c) false in
     record {
       count = count;
-      size = well.row;
-      cells = fill_by_all (λ r. map (cell r) (range_with_len 0 side)) grid.rows side [] well.height (λ r lr.
-          let high : r < length grid.rows = omega (arith, lr, well.height) in
-          fill_by_all (cell r) (get_or grid.rows r []) side false
-          (All-get_or (λ l. length l ≡ side) grid.rows r [] high well.width) (λ c lc.
-          let room : (r + 1) * side ≤ side * side = mul-le-mul_right side (omega (arith, lr)) in
-          let within : r * side + c < length (modules_of grid) = omega (arith, count, room, lc) in
-          sym (get_or-map is_dark (modules_of grid) (r * side + c) 0 false within
-          ∙ ap is_dark (module_at grid.rows side r c well.width high lc)
-          ∙ dark_again (get_or (get_or grid.rows r []) c false))));
+      size = well.size;
+      colours = fill_by_all (λ r. map (cell r) (range_with_len 0 columns)) symbol.rows rows [] well.height (λ r lr.
+          let high : r < length symbol.rows = omega (arith, lr, well.height) in
+          fill_by_all (cell r) (get_or symbol.rows r []) columns false
+          (All-get_or (λ l. length l ≡ columns) symbol.rows r [] high well.width) (λ c lc.
+          let room : (r + 1) * columns ≤ rows * columns = mul-le-mul_right columns (omega (arith, lr)) in
+          let within : r * columns + c < length (modules_of symbol) = omega (arith, count, room, lc) in
+          sym (get_or-map is_dark_number (modules_of symbol) (r * columns + c) 0 false within
+          ∙ ap is_dark_number (module_at symbol.rows columns r c well.width high lc)
+          ∙ dark_again (get_or (get_or symbol.rows r []) c false))));
     }
 
--- As many of the modules that are given as the grid has are those of the grid.
-pub made : ModulesMakeTheGrid
-made grid well =
-    let again = grid_again grid well in
-    let shown : take (grid.size.side * grid.size.side) (symbol_shown grid).modules ≡ modules_of grid =
-    ap (λ n. take n (symbol_shown grid).modules) (sym again.count) ∙ take-append_seam (modules_of grid) _ in
+-- As many of the modules that are given as the symbol has are those of the symbol.
+pub made : ModulesMakeTheSymbol
+made symbol before well =
+    let rows = symbol.size.rows in
+    let columns = symbol.size.columns in
+    let again = symbol_again symbol well in
+    let shown : take (rows * columns) (symbol_shown symbol before).modules ≡ modules_of symbol =
+    ap (λ n. take n (symbol_shown symbol before).modules) (sym again.count) ∙ take-append_seam (modules_of symbol) _ in
     record {
       count = ap length shown ∙ again.count;
       size = again.size;
-      cells =
-          again.cells ∙ ap (λ modules. square_of grid.size.side (map is_dark modules)) (sym shown);
+      colours =
+          again.colours ∙ ap (λ modules. rows_of rows columns (map is_dark_number modules)) (sym shown);
     }
 
--- Two sizes of one side are the same.
-same_size : (side : ℕ) (a b : SizeRow) → row_with_side side ≡ Some a → row_with_side side ≡ Some b → a ≡ b
-same_size side a b e f = (let both : Some a ≡ Some b = sym e ∙ f in cc)
+-- Two sizes with the same rows and columns are the same.
+same_size : (rows columns : ℕ) (a b : SizeEntry) → entry_with rows columns ≡ Some a → entry_with rows columns ≡ Some b
+    → a ≡ b
+same_size rows columns a b e f = (let both : Some a ≡ Some b = sym e ∙ f in cc)
 
--- Modules make at most one grid.
-pub one_made : OneGridIsMade
-one_made side modules grid other a b =
-    let size = same_size side grid.size other.size a.size b.size in
-    let rows : grid.rows ≡ other.rows = a.cells ∙ sym b.cells in
-    let first : grid ≡ (let g : GridView = record { size = other.size; rows = grid.rows } in g) =
-    ap (λ s. let g : GridView = record { size = s; rows = grid.rows } in g) size in
-    first ∙ ap (λ r. let g : GridView = record { size = other.size; rows = r } in g) rows
+-- Modules make at most one symbol.
+pub one_made : OneSymbolIsMade
+one_made rows columns modules symbol other a b =
+    let size = same_size rows columns symbol.size other.size a.size b.size in
+    let lines : symbol.rows ≡ other.rows = a.colours ∙ sym b.colours in
+    let first : symbol ≡ (let m : ModulesView = record { size = other.size; rows = symbol.rows } in m) =
+    ap (λ s. let m : ModulesView = record { size = s; rows = symbol.rows } in m) size in
+    first ∙ ap (λ r. let m : ModulesView = record { size = other.size; rows = r } in m) lines
+
+-- ---- colours that stand row by row
+
+-- The modules of rows whose colours are listed row by row are the numbers of these colours.
+pub numbers_of_colours : (symbol : ModulesView) (colours : List Bool) → IsModules symbol
+    → length colours ≡ area symbol.size → symbol.rows ≡ rows_of symbol.size.rows symbol.size.columns colours
+    → map module_of colours ≡ modules_of symbol
+numbers_of_colours symbol colours well count e =
+    let rows = symbol.size.rows in
+    let columns = symbol.size.columns in
+    let many : length (modules_of symbol) ≡ rows * columns =
+    count_of_rows symbol.rows columns well.width ∙ ap (λ n. n * columns) well.height in
+    let long : length (map module_of colours) ≡ length (modules_of symbol) =
+    length-map colours module_of ∙ count ∙ sym many in
+    ext_get_or 0 (map module_of colours) (modules_of symbol) long (λ i hi.
+    let parts = div-add-mod i columns in
+    let r : ℕ = i / columns in
+    let c : ℕ = i % columns in
+    let there : r * columns + c ≡ i = omega (arith, parts) in
+    let inside : i < rows * columns = omega (arith, hi, long, many) in
+    let some : 0 < columns = some_columns rows columns i inside in
+    let lc : c < columns = omega (arith, some) in
+    let below : r * columns < rows * columns = omega (arith, there, inside) in
+    let lr : r < rows = lt_of_mul-lt-mul_right columns below in
+    get_or-map module_of colours i false 0 (omega (arith, inside, count))
+    ∙ ap (λ j. module_of (get_or colours j false)) (sym there)
+    ∙ ap module_of (sym (module_by rows columns (λ p q. get_or colours (p * columns + q) false) r c lr lc))
+    ∙ ap (λ lines. module_of (get_or (get_or lines r []) c false)) (sym e)
+    ∙ sym (module_at symbol.rows columns r c well.width (omega (arith, lr, well.height)) lc)
+    ∙ ap (λ j. get_or (modules_of symbol) j 0) there)
+  where
+    some_columns : (n k i : ℕ) → i < n * k → 0 < k
+    some_columns n zero i l = let none : n * 0 ≡ 0 = omega arith in absurd (omega (arith, none, l))
+    some_columns n (suc k) i l = omega arith

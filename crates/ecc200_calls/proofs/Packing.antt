@@ -19,7 +19,7 @@ use Rattle.std.proofs.lemmas.Nat.Bits.{bit_at_cat_low, bit_at_cat_high}
 use Rattle.std.proofs.lemmas.Simd.{bit_mask_l, mask_l-lt, length-chunk, get_or-chunk}
 use Rattle.dm_symbol.specs.Grid.{is_dark_in, square_of, square_of_rows}
 use Rattle.dm_layout.proofs.Exported.{same_squares, square_of_prefix}
-use Rattle.ecc200_calls.specs.Modules.{is_dark}
+use Rattle.dm_modules.specs.Modules.{is_dark_number as is_dark}
 
 -- The next power of 2 is twice the last one.
 pow_next : (i : ℕ) → 2 ^ (i + 1) ≡ 2 ^ i * 2

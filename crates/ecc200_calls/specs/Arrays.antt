@@ -1,11 +1,6 @@
--- Arrays of a fixed length, of which only the first numbers mean something.
-use Rattle.std.specs.Prelude.{ℕ, ◌-◌, ◌*◌, List, ◌++◌, length, replicate}
-use Rattle.dm_symbol.specs.Sizes.{largest_side}
+-- Arrays of a fixed length, of which only the first elements mean something.
+use Rattle.std.specs.Prelude.{List, ◌++◌, drop, length}
 
--- An array of modules has room for those of the largest size.
-abbrev pub most_modules : ℕ
-most_modules = largest_side * largest_side
-
--- The numbers are followed by zeros, so that there are `most` numbers in all.
-abbrev pub filled : ℕ → List ℕ → List ℕ
-filled most numbers = numbers ++ replicate (most - length numbers) 0
+-- These elements stand over the first ones of those that were there before; the others stay.
+abbrev pub over : {X : Type 0} → List X → List X → List X
+over elements before = elements ++ drop (length elements) before

@@ -16,13 +16,13 @@ fault code value place = record { code = code; value = value; place = place }
 abbrev pub no_fault : Fault
 no_fault = fault 0 0 0
 
--- There are not as many modules as the square of the side.
+-- There are not as many modules as the rows times the columns.
 abbrev pub shape : Fault
 shape = fault 3 0 0
 
--- No size has this side.
-abbrev pub no_such_side : ℕ → Fault
-no_such_side side = fault 4 side 0
+-- No size has these rows and columns.
+abbrev pub no_such_size : ℕ → ℕ → Fault
+no_such_size rows columns = fault 4 rows columns
 
 -- The data codewords spell no message. Places count them from 1.
 abbrev pub word_fault : WordFault → Fault
@@ -34,18 +34,18 @@ word_fault (word.Value place) = fault 11 0 place
 word_fault (word.Length place) = fault 12 0 place
 word_fault (word.Unfinished place) = fault 13 0 place
 
--- A grid is not read: because of its borders, with the number of their wrong modules; because of a block, with its
+-- A symbol is not read: because of its borders, with the number of their wrong modules; because of a block, with its
 -- number, from 0; or because of its data codewords.
 abbrev pub read_fault : ReadFault → Fault
 read_fault (read.Border count) = fault 5 count 0
 read_fault (read.Block block) = fault 6 0 block
 read_fault (read.Words why) = word_fault why
 
--- A message fits no size.
+-- A message fits no size that may be taken.
 abbrev pub too_long : Fault
 too_long = fault 14 0 0
 
--- A grid has no normal grid.
+-- A symbol has no normal symbol.
 abbrev pub normal_fault : NormalFault → Fault
 normal_fault (normal.Read why) = read_fault why
 normal_fault normal.TooLong = too_long
@@ -61,3 +61,11 @@ no_such_profile number = fault 16 number 0
 -- This number stands for no extent.
 abbrev pub no_such_extent : ℕ → Fault
 no_such_extent number = fault 17 number 0
+
+-- This number stands for no choice of sizes.
+abbrev pub no_such_choice : ℕ → Fault
+no_such_choice number = fault 18 number 0
+
+-- Doubtful modules are given, but not as many as the symbol has modules.
+abbrev pub wrong_doubt : Fault
+wrong_doubt = fault 19 0 0

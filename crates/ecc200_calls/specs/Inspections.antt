@@ -1,50 +1,86 @@
--- What the library gives for a grid that is to be inspected.
-use Rattle.std.specs.Prelude.{◌≡◌, ℕ, List, map, length, replicate, Option, Some, None}
-use Rattle.dm_symbol.specs.declared.Inspection.{Inspection}
-use Rattle.dm_symbol.specs.Sizes.{most_codewords, most_blocks}
-use Rattle.dm_symbol.specs.Grid.{GridView}
-use Rattle.dm_symbol.specs.Inspection.{IsInspection}
+-- What the library gives for a symbol that is to be inspected.
+use Rattle.std.specs.Prelude.{◌≡◌, ◌≢◌, ℕ, ◌*◌, List, map, length, Option, Some, None}
+use Rattle.dm_symbol.specs.declared.BlockReading.{BlockReading}
+use Rattle.dm_symbol.specs.declared.SymbolInspection.{SymbolInspection}
+use Rattle.dm_modules.specs.Modules.{ModulesView}
+use Rattle.dm_symbol.specs.SymbolInspection.{IsSymbolInspection}
 use Rattle.ecc200_calls.specs.declared.fault.Fault.{Fault}
 use Rattle.ecc200_calls.specs.declared.inspection.InspectionOut.{InspectionOut}
-use Rattle.ecc200_calls.specs.Arrays.{filled}
-use Rattle.ecc200_calls.specs.Faults.{no_fault}
-use Rattle.ecc200_calls.specs.Modules.{IsGridOf, IsModulesFault}
+use Rattle.ecc200_calls.specs.Arrays.{over}
+use Rattle.ecc200_calls.specs.Faults.{no_fault, wrong_doubt}
+use Rattle.ecc200_calls.specs.Modules.{AreGiven, AreModulesOf, IsGivenFault}
 
--- What is given for a fault has that fault, and all else is 0.
-abbrev pub no_inspection : Fault → InspectionOut
-no_inspection why =
+-- After a fault there is that fault, the arrays are as they were before, and all else is 0.
+abbrev pub no_inspection : Fault → InspectionOut → InspectionOut
+no_inspection why before =
     record {
       fault = why;
-      side = 0;
+      rows = 0;
+      columns = 0;
       border_faults = 0;
       block_count = 0;
       codeword_count = 0;
-      held = replicate most_codewords 0;
-      mended = replicate most_codewords 0;
-      corrected = replicate most_blocks 0;
+      corrected = before.corrected;
+      erased = before.erased;
+      left = before.left;
+      held = before.held;
+      mended = before.mended;
     }
 
--- A block shows the number of its codewords that are corrected, or 255 where it has more errors than can be corrected.
-abbrev pub count_shown : Option ℕ → ℕ
-count_shown (Some count) = count
-count_shown None = 255
+-- A block shows the number of its codewords that are corrected, or 255 where it is beyond correction.
+abbrev pub corrected_shown : Option BlockReading → ℕ
+corrected_shown (Some block) = block.corrected
+corrected_shown None = 255
 
--- An inspection of a grid of this side is given in this way.
-abbrev pub inspection_shown : ℕ → Inspection → InspectionOut
-inspection_shown side inspection =
+-- It shows the number of its erased codewords, or 0 where it is beyond correction.
+abbrev pub erased_shown : Option BlockReading → ℕ
+erased_shown (Some block) = block.erased
+erased_shown None = 0
+
+-- It shows the number of its check codewords that are left, or 0 where it is beyond correction.
+abbrev pub left_shown : Option BlockReading → ℕ
+left_shown (Some block) = block.left
+left_shown None = 0
+
+-- An inspection of a symbol with these rows and columns is given in this way.
+abbrev pub inspection_shown : ℕ → ℕ → SymbolInspection → InspectionOut → InspectionOut
+inspection_shown rows columns inspection before =
     record {
       fault = no_fault;
-      side = side;
+      rows = rows;
+      columns = columns;
       border_faults = inspection.border_faults;
-      block_count = length inspection.corrected.items;
+      block_count = length inspection.blocks.items;
       codeword_count = length inspection.held.list;
-      held = filled most_codewords inspection.held.list;
-      mended = filled most_codewords inspection.mended.list;
-      corrected = filled most_blocks (map count_shown inspection.corrected.items);
+      corrected = over (map corrected_shown inspection.blocks.items) before.corrected;
+      erased = over (map erased_shown inspection.blocks.items) before.erased;
+      left = over (map left_shown inspection.blocks.items) before.left;
+      held = over inspection.held.list before.held;
+      mended = over inspection.mended.list before.mended;
     }
 
--- Inspecting these modules gives the reason why they make no grid, or the inspection of their grid.
-pub data IsInspectResult (side : ℕ) (modules : List ℕ) (out : InspectionOut) : Type 0 where
-  no_grid : (why : Fault) → IsModulesFault side modules why → out ≡ no_inspection why → IsInspectResult side modules out
-  inspected : (grid : GridView) (inspection : Inspection) → IsGridOf side modules grid → IsInspection grid inspection
-      → out ≡ inspection_shown side inspection → IsInspectResult side modules out
+-- The inspection of a symbol, with these of its modules doubtful, is given.
+pub record IsInspectionGiven (rows columns : ℕ) (symbol : ModulesView) (doubtful : Option ModulesView)
+    (before after : InspectionOut) : Type 0 where
+  pub inspection : SymbolInspection
+  pub inspection_is : IsSymbolInspection symbol doubtful inspection
+  pub shown : after ≡ inspection_shown rows columns inspection before
+
+-- Where these numbers say which modules of a symbol are doubtful, the fault that they aren't as many as its modules is
+-- given, or the inspection of the symbol.
+pub data IsDoubtfulGiven (rows columns : ℕ) (symbol : ModulesView) (doubt : List ℕ) (before after : InspectionOut)
+    : Type 0 where
+  other_count : length doubt ≢ rows * columns → after ≡ no_inspection wrong_doubt before
+      → IsDoubtfulGiven rows columns symbol doubt before after
+  inspected : (doubtful : ModulesView) → AreModulesOf rows columns doubt doubtful
+      → IsInspectionGiven rows columns symbol (Some doubtful) before after
+      → IsDoubtfulGiven rows columns symbol doubt before after
+
+-- Inspecting these modules gives the reason why they make no symbol, or the inspection of their symbol.
+pub data IsInspectResult (rows columns : ℕ) (modules doubt : List ℕ) (before after : InspectionOut) : Type 0 where
+  not_given : (why : Fault) → IsGivenFault rows columns modules doubt why → after ≡ no_inspection why before
+      → IsInspectResult rows columns modules doubt before after
+  of_symbol : (symbol : ModulesView) (doubtful : Option ModulesView)
+      → AreGiven rows columns modules doubt symbol doubtful
+      → IsInspectionGiven rows columns symbol doubtful before after
+      → IsInspectResult rows columns modules doubt before after

@@ -1,16 +1,18 @@
 -- What holds of the modules of all symbols.
 use Rattle.std.specs.Prelude.{◌≡◌, ℕ, ◌*◌, List, take}
-use Rattle.dm_symbol.specs.Grid.{GridView, IsGrid}
-use Rattle.ecc200_calls.specs.Modules.{IsGridOf}
+use Rattle.dm_modules.specs.Modules.{ModulesView, IsModules}
+use Rattle.ecc200_calls.specs.declared.symbol.SymbolOut.{SymbolOut}
+use Rattle.ecc200_calls.specs.Modules.{AreModulesOf}
 use Rattle.ecc200_calls.specs.Symbols.{symbol_shown}
 
--- The modules of a symbol as it is given, as many as its side times itself, make the grid of that symbol.
-abbrev pub ModulesMakeTheGrid : Type 0
-ModulesMakeTheGrid =
-    (grid : GridView) → IsGrid grid → IsGridOf grid.size.side
-    (take (grid.size.side * grid.size.side) (symbol_shown grid).modules) grid
+-- The modules of a symbol as it is given, as many as its rows times its columns, make that symbol.
+abbrev pub ModulesMakeTheSymbol : Type 0
+ModulesMakeTheSymbol =
+    (symbol : ModulesView) (before : SymbolOut) → IsModules symbol → AreModulesOf symbol.size.rows symbol.size.columns
+    (take (symbol.size.rows * symbol.size.columns) (symbol_shown symbol before).modules) symbol
 
--- Modules make at most one grid.
-abbrev pub OneGridIsMade : Type 0
-OneGridIsMade = (side : ℕ) (modules : List ℕ) (grid other : GridView) → IsGridOf side modules grid →
-    IsGridOf side modules other → grid ≡ other
+-- Modules make at most one symbol.
+abbrev pub OneSymbolIsMade : Type 0
+OneSymbolIsMade =
+    (rows columns : ℕ) (modules : List ℕ) (symbol other : ModulesView) → AreModulesOf rows columns modules symbol
+    → AreModulesOf rows columns modules other → symbol ≡ other

@@ -1,31 +1,46 @@
--- Grids as lists of numbers, one for each module, row by row from the top.
-use Rattle.std.specs.Prelude.{◌≡◌, ◌≢◌, ℕ, ◌*◌, Bool, not, nat_eq, if◌then◌else◌, List, map, flat_map, length, Some}
+-- Modules as lists of numbers, one for each module, row by row from the top.
+use Rattle.std.specs.Prelude.{◌≡◌, ◌≢◌, ℕ, ◌*◌, Bool, if◌then◌else◌, List, [], map, flat_map, length, Option, Some, None}
 use Rattle.std.specs.Prelude.{IsNone}
-use Rattle.dm_symbol.specs.Sizes.{row_with_side}
-use Rattle.dm_symbol.specs.Grid.{GridView, square_of}
+use Rattle.dm_modules.specs.Sizes.{entry_with}
+use Rattle.dm_modules.specs.Modules.{ModulesView, is_dark_number, rows_of}
 use Rattle.ecc200_calls.specs.declared.fault.Fault.{Fault}
-use Rattle.ecc200_calls.specs.Faults.{shape, no_such_side}
-
--- Any number but 0 is a dark module.
-abbrev pub is_dark : ℕ → Bool
-is_dark number = not (nat_eq number 0)
+use Rattle.ecc200_calls.specs.Faults.{shape, no_such_size, wrong_doubt}
 
 -- The number of a module is 1 where it is dark, and else 0.
 abbrev pub module_of : Bool → ℕ
 module_of dark = if dark then 1 else 0
 
--- The modules of a grid are those of its rows, one row after the other.
-abbrev pub modules_of : GridView → List ℕ
-modules_of grid = flat_map (map module_of) grid.rows
+-- The modules of a symbol are those of its rows, one row after the other.
+abbrev pub modules_of : ModulesView → List ℕ
+modules_of symbol = flat_map (map module_of) symbol.rows
 
--- These are the modules of the grid, whose size has this side.
-pub record IsGridOf (side : ℕ) (modules : List ℕ) (grid : GridView) : Type 0 where
-  pub count : length modules ≡ side * side
-  pub size : row_with_side side ≡ Some grid.size
-  pub cells : grid.rows ≡ square_of side (map is_dark modules)
+-- These are the modules of the symbol, whose size has these rows and columns; any number but 0 is a dark module.
+pub record AreModulesOf (rows columns : ℕ) (modules : List ℕ) (symbol : ModulesView) : Type 0 where
+  pub count : length modules ≡ rows * columns
+  pub size : entry_with rows columns ≡ Some symbol.size
+  pub colours : symbol.rows ≡ rows_of rows columns (map is_dark_number modules)
 
--- Modules make no grid because there are not as many as the square of the side, or because no size has this side.
-pub data IsModulesFault (side : ℕ) (modules : List ℕ) (why : Fault) : Type 0 where
-  not_square : length modules ≢ side * side → why ≡ shape → IsModulesFault side modules why
-  no_size : length modules ≡ side * side → IsNone (row_with_side side) → why ≡ no_such_side side →
-      IsModulesFault side modules why
+-- Modules make no symbol because there are not as many as the rows times the columns, or because no size has these.
+pub data IsModulesFault (rows columns : ℕ) (modules : List ℕ) (why : Fault) : Type 0 where
+  wrong_count : length modules ≢ rows * columns → why ≡ shape → IsModulesFault rows columns modules why
+  no_size : length modules ≡ rows * columns → IsNone (entry_with rows columns) → why ≡ no_such_size rows columns →
+      IsModulesFault rows columns modules why
+
+-- No module is doubtful where no numbers are given; where some are, those modules are whose number isn't 0.
+pub data AreDoubtful (rows columns : ℕ) (numbers : List ℕ) (doubtful : Option ModulesView) : Type 0 where
+  none : numbers ≡ [] → doubtful ≡ None → AreDoubtful rows columns numbers doubtful
+  some : (modules : ModulesView) → numbers ≢ [] → AreModulesOf rows columns numbers modules → doubtful ≡ Some modules
+      → AreDoubtful rows columns numbers doubtful
+
+-- These are the modules of the symbol, and these of them are doubtful.
+pub record AreGiven (rows columns : ℕ) (modules doubt : List ℕ) (symbol : ModulesView) (doubtful : Option ModulesView)
+    : Type 0 where
+  pub modules_are : AreModulesOf rows columns modules symbol
+  pub doubtful_are : AreDoubtful rows columns doubt doubtful
+
+-- Modules, and which of them are doubtful, make no symbol because the modules make none, or because doubtful ones are
+-- given that aren't as many.
+pub data IsGivenFault (rows columns : ℕ) (modules doubt : List ℕ) (why : Fault) : Type 0 where
+  of_modules : IsModulesFault rows columns modules why → IsGivenFault rows columns modules doubt why
+  of_doubt : (symbol : ModulesView) → AreModulesOf rows columns modules symbol → doubt ≢ []
+      → length doubt ≢ rows * columns → why ≡ wrong_doubt → IsGivenFault rows columns modules doubt why

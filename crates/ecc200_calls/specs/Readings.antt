@@ -1,67 +1,103 @@
--- What the library gives for a grid that is to be read.
-use Rattle.std.specs.Prelude.{◌≡◌, ℕ, List, length, replicate, Some, None, Result, Ok, Err}
+-- What the library gives for a symbol that is to be read.
+use Rattle.std.specs.Prelude.{◌≡◌, ◌≢◌, ℕ, ◌+◌, ◌*◌, ◌/◌, List, length, map, Option, Some, None, Result, Ok, Err}
 use Rattle.dm_symbol.specs.declared.Extent.{Extent}
-use Rattle.dm_symbol.specs.declared.Extent.TheVariants.{Wide}
-use Rattle.dm_symbol.specs.declared.Reading.{Reading}
+use Rattle.dm_symbol.specs.declared.BlockReading.{BlockReading}
+use Rattle.dm_symbol.specs.declared.SymbolReading.{SymbolReading}
 use Rattle.dm_symbol.specs.declared.ReadFault.{ReadFault}
-use Rattle.dm_symbol.specs.Sizes.{most_blocks, most_data}
-use Rattle.dm_symbol.specs.Grid.{GridView}
-use Rattle.dm_symbol.specs.Messages.{most_spelled}
-use Rattle.dm_symbol.specs.Reading.{ReadResult}
+use Rattle.dm_modules.specs.Modules.{ModulesView}
+use Rattle.dm_symbol.specs.SymbolReading.{SymbolReadResult}
 use Rattle.ecc200_calls.specs.declared.fault.Fault.{Fault}
 use Rattle.ecc200_calls.specs.declared.reading.ReadingOut.{ReadingOut}
-use Rattle.ecc200_calls.specs.Arrays.{filled}
+use Rattle.ecc200_calls.specs.Arrays.{over}
 use Rattle.ecc200_calls.specs.Extents.{extent_of}
-use Rattle.ecc200_calls.specs.Faults.{no_fault, no_such_extent, read_fault}
+use Rattle.ecc200_calls.specs.Faults.{no_fault, no_such_extent, read_fault, wrong_doubt}
 use Rattle.ecc200_calls.specs.Items.{numbers_of}
-use Rattle.ecc200_calls.specs.Modules.{IsGridOf, IsModulesFault}
+use Rattle.ecc200_calls.specs.Modules.{AreGiven, AreModulesOf, IsGivenFault}
 
--- No symbol says more items than this, in whatever extent it is read.
-abbrev pub most_read : ℕ
-most_read = most_spelled Wide most_data
+-- The usual border limit of a symbol is an eighth of its rows and columns together, rounded down, by a rule of this
+-- project: a quarter of the side of a square.
+abbrev pub usual_limit : ℕ → ℕ → ℕ
+usual_limit rows columns = (rows + columns) / 8
 
--- What is given for a fault has that fault, and all else is 0.
-abbrev pub no_reading : Fault → ReadingOut
-no_reading why =
+-- These are the numbers of a block's wrong codewords, of its erased ones, and of the check codewords that neither use.
+abbrev pub corrected_in : BlockReading → ℕ
+corrected_in block = block.corrected
+
+abbrev pub erased_in : BlockReading → ℕ
+erased_in block = block.erased
+
+abbrev pub left_in : BlockReading → ℕ
+left_in block = block.left
+
+-- After a fault there is that fault, the arrays are as they were before, and all else is 0.
+abbrev pub no_reading : Fault → ReadingOut → ReadingOut
+no_reading why before =
     record {
       fault = why;
-      side = 0;
+      rows = 0;
+      columns = 0;
       border_faults = 0;
       block_count = 0;
       item_count = 0;
-      items = replicate most_read 0;
-      corrected = replicate most_blocks 0;
+      corrected = before.corrected;
+      erased = before.erased;
+      left = before.left;
+      items = before.items;
     }
 
--- A reading of a grid of this side is given in this way.
-abbrev pub reading_shown : ℕ → Reading → ReadingOut
-reading_shown side reading =
+-- A reading of a symbol with these rows and columns is given in this way.
+abbrev pub reading_shown : ℕ → ℕ → SymbolReading → ReadingOut → ReadingOut
+reading_shown rows columns reading before =
     record {
       fault = no_fault;
-      side = side;
+      rows = rows;
+      columns = columns;
       border_faults = reading.border_faults;
-      block_count = length reading.corrected.items;
+      block_count = length reading.blocks.items;
       item_count = length reading.message;
-      items = filled most_read (numbers_of reading.message);
-      corrected = filled most_blocks reading.corrected.items;
+      corrected = over (map corrected_in reading.blocks.items) before.corrected;
+      erased = over (map erased_in reading.blocks.items) before.erased;
+      left = over (map left_in reading.blocks.items) before.left;
+      items = over (numbers_of reading.message) before.items;
     }
 
 -- A result is given as its reading, or as its fault.
-abbrev pub result_shown : ℕ → Result Reading ReadFault → ReadingOut
-result_shown side (Ok reading) = reading_shown side reading
-result_shown side (Err why) = no_reading (read_fault why)
+abbrev pub result_shown : ℕ → ℕ → Result SymbolReading ReadFault → ReadingOut → ReadingOut
+result_shown rows columns (Ok reading) before = reading_shown rows columns reading before
+result_shown rows columns (Err why) before = no_reading (read_fault why) before
 
--- Reading these modules in an extent gives the reason why they make no grid, or the result of reading for their grid.
-pub data ExtentResult (extent : Extent) (side : ℕ) (modules : List ℕ) (limit : ℕ) (out : ReadingOut) : Type 0 where
-  no_grid : (why : Fault) → IsModulesFault side modules why → out ≡ no_reading why →
-      ExtentResult extent side modules limit out
-  of_grid : (grid : GridView) (result : Result Reading ReadFault) → IsGridOf side modules grid →
-      ReadResult extent grid limit result
-      → out ≡ result_shown side result → ExtentResult extent side modules limit out
+-- The result of reading a symbol in an extent, with these of its modules doubtful, is given.
+pub record IsReadingGiven (extent : Extent) (rows columns : ℕ) (symbol : ModulesView) (doubtful : Option ModulesView)
+    (limit : ℕ) (before after : ReadingOut) : Type 0 where
+  pub result : Result SymbolReading ReadFault
+  pub result_is : SymbolReadResult extent symbol doubtful limit result
+  pub shown : after ≡ result_shown rows columns result before
+
+-- Where these numbers say which modules of a symbol are doubtful, the fault that they aren't as many as its modules is
+-- given, or the result of reading the symbol.
+pub data IsDoubtfulGiven (extent : Extent) (rows columns : ℕ) (symbol : ModulesView) (doubt : List ℕ) (limit : ℕ)
+    (before after : ReadingOut) : Type 0 where
+  other_count : length doubt ≢ rows * columns → after ≡ no_reading wrong_doubt before
+      → IsDoubtfulGiven extent rows columns symbol doubt limit before after
+  read : (doubtful : ModulesView) → AreModulesOf rows columns doubt doubtful
+      → IsReadingGiven extent rows columns symbol (Some doubtful) limit before after
+      → IsDoubtfulGiven extent rows columns symbol doubt limit before after
+
+-- Reading these modules in an extent gives the reason why they make no symbol, or the result of reading their symbol.
+pub data ExtentResult (extent : Extent) (rows columns : ℕ) (modules doubt : List ℕ) (limit : ℕ)
+    (before after : ReadingOut) : Type 0 where
+  not_given : (why : Fault) → IsGivenFault rows columns modules doubt why → after ≡ no_reading why before
+      → ExtentResult extent rows columns modules doubt limit before after
+  of_symbol : (symbol : ModulesView) (doubtful : Option ModulesView)
+      → AreGiven rows columns modules doubt symbol doubtful
+      → IsReadingGiven extent rows columns symbol doubtful limit before after
+      → ExtentResult extent rows columns modules doubt limit before after
 
 -- Reading these modules gives that there is no such extent, or the result in that extent.
-pub data IsReadResult (side : ℕ) (modules : List ℕ) (limit extent : ℕ) (out : ReadingOut) : Type 0 where
-  no_extent : extent_of extent ≡ None → out ≡ no_reading (no_such_extent extent) →
-      IsReadResult side modules limit extent out
-  in_extent : (chosen : Extent) → extent_of extent ≡ Some chosen → ExtentResult chosen side modules limit out →
-      IsReadResult side modules limit extent out
+pub data IsReadResult (rows columns : ℕ) (modules doubt : List ℕ) (limit extent : ℕ) (before after : ReadingOut)
+    : Type 0 where
+  no_extent : extent_of extent ≡ None → after ≡ no_reading (no_such_extent extent) before
+      → IsReadResult rows columns modules doubt limit extent before after
+  in_extent : (chosen : Extent) → extent_of extent ≡ Some chosen
+      → ExtentResult chosen rows columns modules doubt limit before after
+      → IsReadResult rows columns modules doubt limit extent before after

@@ -1,83 +1,129 @@
--- What the library gives for a message that is to be written, and for a grid that is to be normalised.
-use Rattle.std.specs.Prelude.{◌≡◌, ℕ, List, nat_eq, if◌then◌else◌, Option, Some, None, get_or, min, replicate, Result}
-use Rattle.std.specs.Prelude.{Ok, Err}
+-- What the library gives for a message that is to be written, and for a symbol that is to be normalised.
+use Rattle.std.specs.Prelude.{◌≡◌, ◌≢◌, ℕ, ◌*◌, List, length, nat_eq, if◌then◌else◌, Option, Some, None, get_or, min, Result, Ok, Err}
 use Rattle.dm_symbol.specs.declared.Extent.{Extent}
 use Rattle.dm_symbol.specs.declared.Item.{Item}
 use Rattle.dm_symbol.specs.declared.Profile.{Profile}
 use Rattle.dm_symbol.specs.declared.Profile.TheVariants.{Ascii, Shorter}
+use Rattle.dm_symbol.specs.declared.SizeChoice.{SizeChoice}
 use Rattle.dm_symbol.specs.declared.NormalFault.{NormalFault}
-use Rattle.dm_symbol.specs.Grid.{GridView}
+use Rattle.dm_modules.specs.Modules.{ModulesView}
 use Rattle.dm_symbol.specs.Messages.{IsMessage}
-use Rattle.dm_symbol.specs.NormalGrid.{IsNormalGrid, FitsSomeSize}
-use Rattle.dm_symbol.specs.Normal.{NormalResult}
+use Rattle.dm_symbol.specs.NormalSymbol.{IsWrittenIn, FitsChoice}
+use Rattle.dm_symbol.specs.SymbolNormal.{NormalSymbolResult}
+use Rattle.ecc200_calls.specs.declared.choice.How.{How}
 use Rattle.ecc200_calls.specs.declared.fault.Fault.{Fault}
 use Rattle.ecc200_calls.specs.declared.symbol.SymbolOut.{SymbolOut}
-use Rattle.ecc200_calls.specs.Arrays.{most_modules, filled}
+use Rattle.ecc200_calls.specs.Arrays.{over}
+use Rattle.ecc200_calls.specs.Choices.{choice_of}
 use Rattle.ecc200_calls.specs.Extents.{extent_of}
 use Rattle.ecc200_calls.specs.Faults.{no_fault, normal_fault, too_long, foreign, no_such_profile, no_such_extent}
+use Rattle.ecc200_calls.specs.Faults.{no_such_choice, wrong_doubt}
 use Rattle.ecc200_calls.specs.Items.{IsFirstForeign, numbers_of}
-use Rattle.ecc200_calls.specs.Modules.{IsGridOf, IsModulesFault, modules_of}
+use Rattle.ecc200_calls.specs.Modules.{AreGiven, AreModulesOf, IsGivenFault, modules_of}
 
--- What is given for a fault has that fault, and all else is 0.
-abbrev pub no_symbol : Fault → SymbolOut
-no_symbol why = record { fault = why; side = 0; modules = replicate most_modules 0 }
+-- After a fault there is that fault, the modules are as they were before, and all else is 0.
+abbrev pub no_symbol : Fault → SymbolOut → SymbolOut
+no_symbol why before = record { fault = why; rows = 0; columns = 0; modules = before.modules }
 
--- The symbol of a grid has its side and its modules.
-abbrev pub symbol_shown : GridView → SymbolOut
-symbol_shown grid = record { fault = no_fault; side = grid.size.side; modules = filled most_modules (modules_of grid) }
+-- A symbol has its rows, its columns and its modules.
+abbrev pub symbol_shown : ModulesView → SymbolOut → SymbolOut
+symbol_shown symbol before =
+    record {
+      fault = no_fault;
+      rows = symbol.size.rows;
+      columns = symbol.size.columns;
+      modules = over (modules_of symbol) before.modules;
+    }
 
--- A result is given as the symbol of its grid, or as its fault.
-abbrev pub result_shown : Result GridView Fault → SymbolOut
-result_shown (Ok grid) = symbol_shown grid
-result_shown (Err why) = no_symbol why
+-- A result is given as its symbol, or as its fault.
+abbrev pub result_shown : Result ModulesView Fault → SymbolOut → SymbolOut
+result_shown (Ok symbol) before = symbol_shown symbol before
+result_shown (Err why) before = no_symbol why before
 
 -- The number 0 stands for the profile `Ascii`, 1 for `Shorter`, and no other number for any.
 abbrev pub profile_of : ℕ → Option Profile
 profile_of number = if nat_eq number 0 then Some Ascii else (if nat_eq number 1 then Some Shorter else None)
 
--- The result for the numbers of a message under a profile is the first number that stands for no item, with its index,
--- counted from 0, or with 65535 if the index is more; or that the message fits no size; or its normal grid.
-pub data WrittenResult (profile : Profile) (numbers : List ℕ) (result : Result GridView Fault) : Type 0 where
-  no_message : (place : ℕ) → IsFirstForeign numbers place →
-      result ≡ Err (foreign (get_or numbers place 0) (min place 65535)) → WrittenResult profile numbers result
-  no_grid : (message : List Item) → IsMessage message → numbers_of message ≡ numbers →
-      (FitsSomeSize profile message → ⊥) → result ≡ Err too_long → WrittenResult profile numbers result
-  normal : (message : List Item) (grid : GridView) → IsMessage message → numbers_of message ≡ numbers →
-      IsNormalGrid profile message grid → result ≡ Ok grid → WrittenResult profile numbers result
+-- The result for the numbers of a message in a choice of sizes and under a profile is the first number that stands for
+-- no item, with its index, counted from 0, or with 65535 if the index is more; or that the message fits no size of the
+-- choice; or the symbol in which it is written.
+pub data WrittenResult (choice : SizeChoice) (profile : Profile) (numbers : List ℕ)
+    (result : Result ModulesView Fault) : Type 0 where
+  no_message : (place : ℕ) → IsFirstForeign numbers place
+      → result ≡ Err (foreign (get_or numbers place 0) (min place 65535)) → WrittenResult choice profile numbers result
+  no_size : (message : List Item) → IsMessage message → numbers_of message ≡ numbers
+      → (FitsChoice choice profile message → ⊥) → result ≡ Err too_long → WrittenResult choice profile numbers result
+  written : (message : List Item) (symbol : ModulesView) → IsMessage message → numbers_of message ≡ numbers
+      → IsWrittenIn choice profile message symbol → result ≡ Ok symbol → WrittenResult choice profile numbers result
 
--- The result for modules in an extent and under a profile is why they make no grid; or why their grid has no normal
--- grid; or its normal grid.
-pub data NormalisedResult (extent : Extent) (profile : Profile) (side : ℕ) (modules : List ℕ) (limit : ℕ)
-    (result : Result GridView Fault) : Type 0 where
-  no_grid : (why : Fault) → IsModulesFault side modules why → result ≡ Err why →
-      NormalisedResult extent profile side modules limit result
-  refused : (grid : GridView) (why : NormalFault) → IsGridOf side modules grid →
-      NormalResult extent profile grid limit (Err why)
-      → result ≡ Err (normal_fault why) → NormalisedResult extent profile side modules limit result
-  normal : (grid normal_grid : GridView) → IsGridOf side modules grid →
-      NormalResult extent profile grid limit (Ok normal_grid)
-      → result ≡ Ok normal_grid → NormalisedResult extent profile side modules limit result
+-- The result for the numbers of a message is given.
+pub record IsWritingGiven (choice : SizeChoice) (profile : Profile) (numbers : List ℕ) (before after : SymbolOut)
+    : Type 0 where
+  pub result : Result ModulesView Fault
+  pub result_is : WrittenResult choice profile numbers result
+  pub shown : after ≡ result_shown result before
 
--- Writing these numbers gives that there is no such profile, or the result under that profile.
-pub data IsWriteResult (numbers : List ℕ) (profile : ℕ) (out : SymbolOut) : Type 0 where
-  no_profile : profile_of profile ≡ None → out ≡ no_symbol (no_such_profile profile) → IsWriteResult numbers profile out
-  under_profile : (chosen : Profile) (result : Result GridView Fault) → profile_of profile ≡ Some chosen →
-      WrittenResult chosen numbers result
-      → out ≡ result_shown result → IsWriteResult numbers profile out
+-- The symbol in which a message is written is given, or that it fits no size of the choice.
+pub data IsMessageGiven (choice : SizeChoice) (profile : Profile) (message : List Item) (before after : SymbolOut)
+    : Type 0 where
+  no_size : (FitsChoice choice profile message → ⊥) → after ≡ no_symbol too_long before
+      → IsMessageGiven choice profile message before after
+  written : (symbol : ModulesView) → IsWrittenIn choice profile message symbol → after ≡ symbol_shown symbol before
+      → IsMessageGiven choice profile message before after
 
--- Normalising the grid of these modules in an extent gives that there is no such profile, or the result under that
--- profile.
-pub data ProfileResult (extent : Extent) (side : ℕ) (modules : List ℕ) (limit profile : ℕ) (out : SymbolOut) : Type 0
-  where
-    no_profile : profile_of profile ≡ None → out ≡ no_symbol (no_such_profile profile) →
-        ProfileResult extent side modules limit profile out
-    under_profile : (chosen : Profile) (result : Result GridView Fault) → profile_of profile ≡ Some chosen →
-        NormalisedResult extent chosen side modules limit result
-        → out ≡ result_shown result → ProfileResult extent side modules limit profile out
+-- Writing these numbers gives that there is no such profile, or no such choice of sizes, or the result under that
+-- profile in that choice.
+pub data IsWriteResult (numbers : List ℕ) (how : How) (before after : SymbolOut) : Type 0 where
+  no_profile : profile_of how.form ≡ None → after ≡ no_symbol (no_such_profile how.form) before
+      → IsWriteResult numbers how before after
+  no_choice : (profile : Profile) → profile_of how.form ≡ Some profile → choice_of how ≡ None
+      → after ≡ no_symbol (no_such_choice how.shape) before → IsWriteResult numbers how before after
+  of_choice : (profile : Profile) (choice : SizeChoice) → profile_of how.form ≡ Some profile
+      → choice_of how ≡ Some choice → IsWritingGiven choice profile numbers before after
+      → IsWriteResult numbers how before after
 
--- Normalising the grid of these modules gives that there is no such extent, or the result in that extent.
-pub data IsNormalResult (side : ℕ) (modules : List ℕ) (limit extent profile : ℕ) (out : SymbolOut) : Type 0 where
-  no_extent : extent_of extent ≡ None → out ≡ no_symbol (no_such_extent extent) →
-      IsNormalResult side modules limit extent profile out
-  in_extent : (chosen : Extent) → extent_of extent ≡ Some chosen → ProfileResult chosen side modules limit profile out
-      → IsNormalResult side modules limit extent profile out
+-- A result of normalising is given as its symbol, or as its fault.
+abbrev pub normal_shown : Result ModulesView NormalFault → SymbolOut → SymbolOut
+normal_shown (Ok normal) before = symbol_shown normal before
+normal_shown (Err why) before = no_symbol (normal_fault why) before
+
+-- The result of normalising a symbol, with these of its modules doubtful, is given.
+pub record IsNormalGiven (extent : Extent) (profile : Profile) (symbol : ModulesView) (doubtful : Option ModulesView)
+    (limit : ℕ) (before after : SymbolOut) : Type 0 where
+  pub result : Result ModulesView NormalFault
+  pub result_is : NormalSymbolResult extent profile symbol doubtful limit result
+  pub shown : after ≡ normal_shown result before
+
+-- Where these numbers say which modules of a symbol are doubtful, the fault that they aren't as many as its modules is
+-- given, or the result of normalising the symbol.
+pub data IsDoubtfulGiven (extent : Extent) (profile : Profile) (rows columns : ℕ) (symbol : ModulesView)
+    (doubt : List ℕ) (limit : ℕ) (before after : SymbolOut) : Type 0 where
+  other_count : length doubt ≢ rows * columns → after ≡ no_symbol wrong_doubt before
+      → IsDoubtfulGiven extent profile rows columns symbol doubt limit before after
+  normal : (doubtful : ModulesView) → AreModulesOf rows columns doubt doubtful
+      → IsNormalGiven extent profile symbol (Some doubtful) limit before after
+      → IsDoubtfulGiven extent profile rows columns symbol doubt limit before after
+
+-- The result for modules in an extent and under a profile is why they make no symbol, or the result of normalising
+-- their symbol.
+pub data NormalisedResult (extent : Extent) (profile : Profile) (rows columns : ℕ) (modules doubt : List ℕ) (limit : ℕ)
+    (before after : SymbolOut) : Type 0 where
+  not_given : (why : Fault) → IsGivenFault rows columns modules doubt why → after ≡ no_symbol why before
+      → NormalisedResult extent profile rows columns modules doubt limit before after
+  of_symbol : (symbol : ModulesView) (doubtful : Option ModulesView)
+      → AreGiven rows columns modules doubt symbol doubtful
+      → IsNormalGiven extent profile symbol doubtful limit before after
+      → NormalisedResult extent profile rows columns modules doubt limit before after
+
+-- Normalising these modules gives that there is no such extent, or no such profile, or the result in that extent and
+-- under that profile.
+pub data IsNormalResult (rows columns : ℕ) (modules doubt : List ℕ) (limit extent profile : ℕ)
+    (before after : SymbolOut) : Type 0 where
+  no_extent : extent_of extent ≡ None → after ≡ no_symbol (no_such_extent extent) before
+      → IsNormalResult rows columns modules doubt limit extent profile before after
+  no_profile : (chosen : Extent) → extent_of extent ≡ Some chosen → profile_of profile ≡ None
+      → after ≡ no_symbol (no_such_profile profile) before
+      → IsNormalResult rows columns modules doubt limit extent profile before after
+  of_both : (chosen : Extent) (form : Profile) → extent_of extent ≡ Some chosen → profile_of profile ≡ Some form
+      → NormalisedResult chosen form rows columns modules doubt limit before after
+      → IsNormalResult rows columns modules doubt limit extent profile before after

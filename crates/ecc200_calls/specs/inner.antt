@@ -1,2 +1,3 @@
 pub mod PlaceSteps
 pub mod UnpackedCells
+pub mod SquareReadings

@@ -1,8 +1,9 @@
 //! Faults as numbers.
 
 ghost use Rattle.std.specs.Prelude.{◌≡◌};
-ghost use Rattle.ecc200_calls.specs.Faults.{fault, foreign, no_fault, no_such_extent, no_such_profile, no_such_side};
-ghost use Rattle.ecc200_calls.specs.Faults.{normal_fault, read_fault, shape, too_long, word_fault};
+ghost use Rattle.ecc200_calls.specs.Faults.{fault, foreign, no_fault, no_such_choice, no_such_extent};
+ghost use Rattle.ecc200_calls.specs.Faults.{no_such_profile, no_such_size, normal_fault, read_fault, shape, too_long};
+ghost use Rattle.ecc200_calls.specs.Faults.{word_fault, wrong_doubt};
 
 use dm_symbol::{NormalFault, ReadFault, WordFault};
 
@@ -31,21 +32,21 @@ impl Fault {
         Fault::of(0, 0, 0)
     }
 
-    /// Says that there are not as many modules as the square of the side.
+    /// Says that there are not as many modules as the rows times the columns.
     pub(crate) fn shape() -> Fault
         ensures { result ≡ shape }
     {
         Fault::of(3, 0, 0)
     }
 
-    /// Says that no size has this side.
-    pub(crate) fn no_such_side(side: u16) -> Fault
-        ensures { result ≡ no_such_side side }
+    /// Says that no size has these rows and columns.
+    pub(crate) fn no_such_size(rows: u16, columns: u16) -> Fault
+        ensures { result ≡ no_such_size rows columns }
     {
-        Fault::of(4, side, 0)
+        Fault::of(4, rows, columns)
     }
 
-    /// Says that a message fits no size.
+    /// Says that a message fits no size that may be taken.
     pub(crate) fn too_long() -> Fault
         ensures { result ≡ too_long }
     {
@@ -72,9 +73,23 @@ impl Fault {
     {
         Fault::of(17, number, 0)
     }
+
+    /// Says that this number stands for no choice of sizes.
+    pub(crate) fn no_such_choice(number: u16) -> Fault
+        ensures { result ≡ no_such_choice number }
+    {
+        Fault::of(18, number, 0)
+    }
+
+    /// Says that doubtful modules are given, but not as many as there are modules.
+    pub(crate) fn wrong_doubt() -> Fault
+        ensures { result ≡ wrong_doubt }
+    {
+        Fault::of(19, 0, 0)
+    }
 }
 
-/// Gives the fault of a grid that is not read.
+/// Gives the fault of a symbol that is not read.
 pub(crate) fn read_fault(why: ReadFault) -> Fault
     ensures { result ≡ read_fault why }
 {
@@ -100,7 +115,7 @@ fn word_fault(why: WordFault) -> Fault
     }
 }
 
-/// Gives the fault of a grid that has no normal grid.
+/// Gives the fault of a symbol that has no normal symbol.
 pub(crate) fn normal_fault(why: NormalFault) -> Fault
     ensures { result ≡ normal_fault why }
 {

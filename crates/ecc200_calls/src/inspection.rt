@@ -1,81 +1,179 @@
 //! Inspecting.
 
-ghost use Rattle.std.specs.Prelude.{◌≡◌, ◌≤◌, ◌++◌, drop, length, map, Option, ℕ};
-ghost use Rattle.ecc200_calls.specs.Inspections.{IsInspectResult, count_shown, inspection_shown, no_inspection};
+ghost use Rattle.std.specs.Prelude.{◌≡◌, ◌≤◌, IfSome, Some, length, map, option_map};
+ghost use Rattle.dm_modules.specs.Sizes.{entry_with};
+ghost use Rattle.ecc200_calls.specs.Arrays.{over};
+ghost use Rattle.ecc200_calls.specs.Inspections.{IsDoubtfulGiven, IsInspectResult, IsInspectionGiven, corrected_shown};
+ghost use Rattle.ecc200_calls.specs.Inspections.{erased_shown, inspection_shown, left_shown, no_inspection};
 
 use crate::arrays::put_bytes;
 use crate::fault::Fault;
-use crate::modules::make_grid;
-use dm_layout::MOST_CODEWORDS;
-use dm_symbol::{Inspection, MOST_BLOCKS, light_grid};
+use crate::modules::{light_modules, make_doubtful, make_modules};
+use dm_modules::{MOST_BLOCKS, MOST_CODEWORDS, Modules};
+use dm_symbol::{BlockReading, SymbolInspection, inspect_symbol_to};
 
-/// This is shown instead of the number of corrected codewords where a block has more errors than can be corrected.
+/// This is shown instead of the number of corrected codewords where a block is beyond correction.
 const BEYOND: u8 = 255;
 
-/// The codewords of a grid before and after correction. If there is a fault, all else is 0.
+/// The codewords of a symbol before and after correction. After a fault all but the fault and the arrays is 0.
 #[repr(C)]
 #[derive(Drop)]
 pub struct InspectionOut {
     pub fault: Fault,
-    pub side: u16,
+    pub rows: u16,
+    pub columns: u16,
     pub border_faults: u16,
     pub block_count: u16,
     pub codeword_count: u16,
+    pub corrected: [u8; MOST_BLOCKS],
+    pub erased: [u8; MOST_BLOCKS],
+    pub left: [u8; MOST_BLOCKS],
     pub held: [u8; MOST_CODEWORDS],
     pub mended: [u8; MOST_CODEWORDS],
-    pub corrected: [u8; MOST_BLOCKS],
 }
 
-/// Inspects the grid of these modules.
-pub fn inspect(modules: &[u8], side: u16, out: &mut InspectionOut) -> u16
-    ensures out { IsInspectResult side modules.now out.new }
+/// Inspects the symbol of these modules, of which these are doubtful.
+pub fn inspect(
+    modules: &[u8],
+    doubtful: &[u8],
+    rows: u16,
+    columns: u16,
+    out: &mut InspectionOut,
+) -> u16
+    ensures out { IsInspectResult rows columns modules.now doubtful.now out.old out.new }
     ensures code { result ≡ out.new.fault.code }
 {
-    let mut grid = light_grid();
-    match make_grid(modules, side, &mut grid) {
-        Ok(()) => show_inspection(out, side, &dm_symbol::inspect(&grid)),
+    inspect_given(modules, doubtful, rows, columns, out);
+    out.fault.code
+}
+
+/// Shows the inspection of the symbol of these modules, or why they make none.
+fn inspect_given(
+    modules: &[u8],
+    doubtful: &[u8],
+    rows: u16,
+    columns: u16,
+    out: &mut InspectionOut,
+)
+    ensures { IsInspectResult rows columns modules.now doubtful.now out.old out.new }
+{
+    let mut symbol = light_modules();
+    match make_modules(modules, rows, columns, &mut symbol) {
+        Ok(()) => {
+            if doubtful.is_empty() {
+                inspect_modules(&symbol, None, rows, columns, out);
+            } else {
+                inspect_doubtful(&symbol, doubtful, rows, columns, out);
+            }
+        }
         Err(why) => show_fault(out, why),
     }
-    out.fault.code
+}
+
+/// Does so where these of the modules are doubtful, whose numbers aren't 0.
+fn inspect_doubtful(
+    symbol: &Modules,
+    numbers: &[u8],
+    rows: u16,
+    columns: u16,
+    out: &mut InspectionOut,
+)
+    requires { entry_with rows columns ≡ Some symbol.now.size }
+    ensures { IsDoubtfulGiven rows columns symbol.now numbers.now out.old out.new }
+{
+    let mut doubtful = Modules::light(symbol.size());
+    match make_doubtful(numbers, rows, columns, &mut doubtful) {
+        Ok(()) => inspect_modules(symbol, Some(&doubtful), rows, columns, out),
+        Err(why) => show_fault(out, why),
+    }
+}
+
+/// Shows the inspection of a symbol of whose modules these are doubtful.
+fn inspect_modules(
+    symbol: &Modules,
+    doubtful: Option<&Modules>,
+    rows: u16,
+    columns: u16,
+    out: &mut InspectionOut,
+)
+    requires { IfSome doubtful (λ doubtful. doubtful.now.size ≡ symbol.now.size) }
+    ensures { IsInspectionGiven rows columns symbol.now (option_map (λ d. d.now) doubtful.entry)
+        out.old out.new }
+{
+    let mut inspection = SymbolInspection::new();
+    inspect_symbol_to(symbol, doubtful, &mut inspection);
+    show_inspection(out, rows, columns, &inspection);
 }
 
 /// Shows a fault in place of an inspection.
 fn show_fault(out: &mut InspectionOut, why: Fault)
-    ensures { out.new ≡ no_inspection why }
+    ensures { out.new ≡ no_inspection why out.old }
 {
     out.fault = why;
-    out.side = 0;
+    out.rows = 0;
+    out.columns = 0;
     out.border_faults = 0;
     out.block_count = 0;
     out.codeword_count = 0;
-    out.held = [0; MOST_CODEWORDS];
-    out.mended = [0; MOST_CODEWORDS];
-    out.corrected = [0; MOST_BLOCKS];
 }
 
-/// Shows an inspection of a grid of this side.
-fn show_inspection(out: &mut InspectionOut, side: u16, inspection: &Inspection)
-    ensures { out.new ≡ inspection_shown side inspection.now }
+/// Shows an inspection of a symbol with these rows and columns.
+fn show_inspection(
+    out: &mut InspectionOut,
+    rows: u16,
+    columns: u16,
+    inspection: &SymbolInspection,
+)
+    ensures { out.new ≡ inspection_shown rows columns inspection.now out.old }
 {
     out.fault = Fault::none();
-    out.side = side;
+    out.rows = rows;
+    out.columns = columns;
     out.border_faults = inspection.border_faults;
-    out.block_count = inspection.corrected.len() as u16;
+    out.block_count = inspection.blocks.len() as u16;
     out.codeword_count = inspection.held.list().len() as u16;
-    out.held = [0; MOST_CODEWORDS];
+    put_corrected(&mut out.corrected, inspection.blocks.as_slice());
+    put_erased(&mut out.erased, inspection.blocks.as_slice());
+    put_left(&mut out.left, inspection.blocks.as_slice());
     put_bytes(&mut out.held, inspection.held.list());
-    out.mended = [0; MOST_CODEWORDS];
     put_bytes(&mut out.mended, inspection.mended.list());
-    out.corrected = [0; MOST_BLOCKS];
-    put_counts(&mut out.corrected, inspection.corrected.as_slice());
 }
 
-/// Writes these counts over the first ones.
-fn put_counts(all: &mut [u8], counts: &[Option<u8>])
-    requires { length counts.now ≤ length all.old }
-    ensures { all.new ≡ map count_shown counts.now ++ drop (length counts.now) all.old }
+/// Writes the numbers of wrong codewords of these blocks over the first ones.
+fn put_corrected(all: &mut [u8], blocks: &[Option<BlockReading>])
+    requires { length blocks.now ≤ length all.old }
+    ensures { all.new ≡ over (map corrected_shown blocks.now) all.old }
 {
-    for (b, count) in counts.iter().enumerate() {
-        all[b] = count.unwrap_or(BEYOND);
+    for (b, block) in blocks.iter().enumerate() {
+        all[b] = match block {
+            Some(block) => block.corrected,
+            None => BEYOND,
+        };
+    }
+}
+
+/// Writes the numbers of erased codewords of these blocks over the first ones.
+fn put_erased(all: &mut [u8], blocks: &[Option<BlockReading>])
+    requires { length blocks.now ≤ length all.old }
+    ensures { all.new ≡ over (map erased_shown blocks.now) all.old }
+{
+    for (b, block) in blocks.iter().enumerate() {
+        all[b] = match block {
+            Some(block) => block.erased,
+            None => 0,
+        };
+    }
+}
+
+/// Writes over the first ones how many check codewords are left of these blocks.
+fn put_left(all: &mut [u8], blocks: &[Option<BlockReading>])
+    requires { length blocks.now ≤ length all.old }
+    ensures { all.new ≡ over (map left_shown blocks.now) all.old }
+{
+    for (b, block) in blocks.iter().enumerate() {
+        all[b] = match block {
+            Some(block) => block.left,
+            None => 0,
+        };
     }
 }

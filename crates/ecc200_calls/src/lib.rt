@@ -1,21 +1,24 @@
-//! What the library for C does: Data Matrix ECC 200 (ISO/IEC 16022, square sizes) over numbers, slices, and structs
-//! that are laid out as C has them.
+//! What the library for C does: Data Matrix ECC 200, the symbols of all sizes (ISO/IEC 16022 and ISO/IEC 21471), over
+//! numbers, slices, and structs that are laid out as C has them.
 //!
-//! [`read()`] writes a [`ReadingOut`]; [`write()`], [`write_bytes()`] and [`normal()`] a [`SymbolOut`]; [`inspect()`]
-//! an [`InspectionOut`]; [`places()`] a [`PlacesOut`], a [`PlaceOut`] for each module; and each of these has a
-//! [`Fault`]. [`sizes()`] writes a [`SizesOut`], a [`SizeOut`] for each size. [`usual_limit()`], which is that of
-//! `dm_symbol`, and [`abi()`] return a number.
+//! [`read()`] writes a [`ReadingOut`]; [`write()`] and [`write_bytes()`], which take a [`How`], and [`normal()`] a
+//! [`SymbolOut`]; [`inspect()`] an [`InspectionOut`]; [`places()`] a [`PlacesOut`], a [`PlaceOut`] for each module; and
+//! each of these has a [`Fault`]. [`sizes()`] writes a [`SizesOut`], a [`SizeOut`] for each size. [`usual_limit()`] and
+//! [`abi()`] return a number.
 //!
 //! C calls none of these by these names: the crate `ecc200` above this one, a static library, exports each with the
 //! prefix `ecc200_` and hands on to it. They are two crates since a static library is proved anew whenever it is built,
 //! for each kind of machine. This crate is proved once, and what is proved of it is kept.
 //!
-//! Each function is total, takes no memory but its stack, keeps nothing between calls, and writes all of `out` and
-//! nothing else. What they give is defined in `specs/`, on the definitions of `dm_symbol`: `Readings`, `Symbols`,
-//! `Inspections`, `Places`, `Sizes`; `Laws` has the laws of these definitions, which the functions of [`laws`] prove.
+//! Each function is total, takes no memory but its stack, and keeps nothing between calls. It writes nothing but `out`,
+//! and of the arrays in it only the elements that count. What they give is defined in `specs/`, on the definitions of
+//! `dm_symbol` for symbols of every size: `Readings`, `Symbols`, `Inspections`, `Places`, `Sizes`; `Laws` has the laws
+//! of these definitions, which the functions of [`laws`] prove. Squares of sides 10 to 104 without doubtful modules are
+//! read and written as grids, which is faster; a law of `dm_symbol` says that the results are the same.
 #![tactic(auto)]
 
 mod arrays;
+mod choice;
 mod extent;
 mod fault;
 mod inspection;
@@ -28,16 +31,17 @@ mod place_table;
 mod profile;
 mod reading;
 mod size_table;
+mod squares;
 mod symbol;
 mod writing;
 
-pub use dm_symbol::usual_limit;
+pub use choice::How;
 pub use fault::Fault;
 pub use inspection::{InspectionOut, inspect};
 pub use interface::abi;
 pub use normalising::normal;
 pub use place_table::{PlaceOut, PlacesOut, places};
-pub use reading::{ReadingOut, read};
+pub use reading::{ReadingOut, read, usual_limit};
 pub use size_table::{SizeOut, SizesOut, sizes};
 pub use symbol::SymbolOut;
 pub use writing::{write, write_bytes};

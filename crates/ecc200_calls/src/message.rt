@@ -1,7 +1,8 @@
 //! Messages as numbers: a byte is itself, FNC1 is 256.
 
-ghost use Rattle.std.specs.Prelude.{◌≡◌, ◌≤◌, ◌++◌, drop, length, map, All, IfSome, IfNone};
+ghost use Rattle.std.specs.Prelude.{◌≡◌, ◌≤◌, length, All, IfSome, IfNone};
 ghost use Rattle.dm_symbol.specs.Messages.{IsMessage};
+ghost use Rattle.ecc200_calls.specs.Arrays.{over};
 ghost use Rattle.ecc200_calls.specs.Items.{IsFirstForeign, number_of, numbers_of};
 
 use dm_symbol::{Item, MOST_ITEMS, Message};
@@ -73,7 +74,7 @@ fn number_of(item: Item) -> u16
 /// Writes the numbers of a message over the first ones.
 pub(crate) fn put_message(all: &mut [u16], message: &Message)
     requires { length message.now ≤ length all.old }
-    ensures { all.new ≡ numbers_of message.now ++ drop (length message.now) all.old }
+    ensures { all.new ≡ over (numbers_of message.now) all.old }
 {
     let items = message.items();
     for (i, item) in items.iter().enumerate() {

@@ -1,79 +1,192 @@
 //! Normalising.
 
-ghost use Rattle.std.specs.Prelude.{◌≡◌};
-ghost use Rattle.dm_symbol.specs.Outcomes.{outcome};
-ghost use Rattle.ecc200_calls.specs.Symbols.{IsNormalResult, NormalisedResult, ProfileResult};
+ghost use Rattle.std.specs.Prelude.{◌≡◌, [], IfSome, IsSome, Some, option_map};
+ghost use Rattle.dm_symbol.specs.Sizes.{row_with_side};
+ghost use Rattle.dm_modules.specs.Sizes.{entry_with};
+ghost use Rattle.ecc200_calls.specs.Symbols.{IsDoubtfulGiven, IsNormalGiven, IsNormalResult, NormalisedResult};
 
 use crate::extent::extent_of;
-use crate::fault::{Fault, normal_fault};
-use crate::modules::make_grid;
+use crate::fault::{Fault, read_fault};
+use crate::modules::{light_modules, make_doubtful, make_modules};
 use crate::profile::profile_of;
-use crate::symbol::{SymbolOut, show_fault, show_grid};
-use dm_symbol::{Extent, Grid, Profile, Reading, light_grid, normal_read_as_to};
+use crate::squares::{is_plain_square, make_grid};
+use crate::symbol::{SymbolOut, show_fault};
+use crate::writing::write_square;
+use dm_modules::Modules;
+use dm_symbol::{Extent, Profile, ReadOptions, Reading, SymbolReading, light_grid};
+use dm_symbol::{read_as_to, read_symbol_to};
 
-/// Writes the normal grid of what the grid of these modules says in an extent.
+/// Writes the normal symbol of what the symbol of these modules, of which these are doubtful, says in an extent.
 pub fn normal(
     modules: &[u8],
-    side: u16,
+    doubtful: &[u8],
+    rows: u16,
+    columns: u16,
     border_limit: u16,
     extent: u16,
     profile: u16,
     out: &mut SymbolOut,
 ) -> u16
-    ensures out { IsNormalResult side modules.now border_limit extent profile out.new }
+    ensures out { IsNormalResult rows columns modules.now doubtful.now border_limit extent profile
+        out.old out.new }
     ensures code { result ≡ out.new.fault.code }
 {
     match extent_of(extent) {
-        Some(extent) => normal_modules(extent, modules, side, border_limit, profile, out),
+        Some(extent) => match profile_of(profile) {
+            Some(profile) => normal_given(
+                extent,
+                profile,
+                modules,
+                doubtful,
+                rows,
+                columns,
+                border_limit,
+                out,
+            ),
+            None => show_fault(out, Fault::no_such_profile(profile)),
+        },
         None => show_fault(out, Fault::no_such_extent(extent)),
     }
     out.fault.code
 }
 
-/// Shows the normal grid of what the grid of these modules says in an extent, or why there is none.
-fn normal_modules(
+/// Shows the normal symbol of what the symbol of these modules says, or why there is none.
+fn normal_given(
     extent: Extent,
+    profile: Profile,
     modules: &[u8],
-    side: u16,
+    doubtful: &[u8],
+    rows: u16,
+    columns: u16,
     border_limit: u16,
-    profile: u16,
     out: &mut SymbolOut,
 )
-    ensures { ProfileResult extent side modules.now border_limit profile out.new }
+    ensures { NormalisedResult extent profile rows columns modules.now doubtful.now border_limit
+        out.old out.new }
 {
-    match profile_of(profile) {
-        Some(profile) => {
-            let mut grid = light_grid();
-            match normalise(extent, modules, side, border_limit, profile, &mut grid) {
-                Ok(()) => show_grid(out, &grid),
-                Err(why) => show_fault(out, why),
-            }
-        }
-        None => show_fault(out, Fault::no_such_profile(profile)),
+    if is_plain_square(rows, columns, doubtful) {
+        normal_square(extent, profile, modules, rows, border_limit, out);
+    } else {
+        normal_symbol(
+            extent,
+            profile,
+            modules,
+            doubtful,
+            rows,
+            columns,
+            border_limit,
+            out,
+        );
     }
 }
 
-/// Writes the normal grid of what the grid of these modules says in an extent into `normal`, or says why there is none.
-fn normalise(
+/// Does so for a square that can be read as a grid, of whose modules none is doubtful.
+fn normal_square(
     extent: Extent,
+    profile: Profile,
     modules: &[u8],
     side: u16,
     border_limit: u16,
-    profile: Profile,
-    normal: &mut Grid,
-) -> Result<(), Fault>
-    ensures { NormalisedResult extent profile side modules.now border_limit
-        (outcome result normal.new) }
+    out: &mut SymbolOut,
+)
+    requires { IsSome (row_with_side side) }
+    ensures { NormalisedResult extent profile side side modules.now [] border_limit out.old
+        out.new }
 {
     let mut grid = light_grid();
     match make_grid(modules, side, &mut grid) {
         Ok(()) => {
+            // For the proof alone: what `size` ensures says that it is a grid.
+            let _size = grid.size();
             let mut reading = Reading::new();
-            match normal_read_as_to(extent, profile, &grid, border_limit, &mut reading, normal) {
-                Ok(()) => Ok(()),
-                Err(why) => Err(normal_fault(why)),
+            match read_as_to(extent, &grid, border_limit, &mut reading) {
+                Ok(()) => write_square(&reading.message, profile, out),
+                Err(why) => show_fault(out, read_fault(why)),
             }
         }
-        Err(why) => Err(why),
+        Err(why) => show_fault(out, why),
+    }
+}
+
+/// Does so for a symbol of any size.
+fn normal_symbol(
+    extent: Extent,
+    profile: Profile,
+    modules: &[u8],
+    doubtful: &[u8],
+    rows: u16,
+    columns: u16,
+    border_limit: u16,
+    out: &mut SymbolOut,
+)
+    ensures { NormalisedResult extent profile rows columns modules.now doubtful.now border_limit
+        out.old out.new }
+{
+    let mut symbol = light_modules();
+    match make_modules(modules, rows, columns, &mut symbol) {
+        Ok(()) => {
+            if doubtful.is_empty() {
+                normal_modules(extent, profile, &symbol, None, border_limit, out);
+            } else {
+                normal_doubtful(
+                    extent,
+                    profile,
+                    &symbol,
+                    doubtful,
+                    rows,
+                    columns,
+                    border_limit,
+                    out,
+                );
+            }
+        }
+        Err(why) => show_fault(out, why),
+    }
+}
+
+/// Does so where these of the modules are doubtful, whose numbers aren't 0.
+fn normal_doubtful(
+    extent: Extent,
+    profile: Profile,
+    symbol: &Modules,
+    numbers: &[u8],
+    rows: u16,
+    columns: u16,
+    border_limit: u16,
+    out: &mut SymbolOut,
+)
+    requires { entry_with rows columns ≡ Some symbol.now.size }
+    ensures { IsDoubtfulGiven extent profile rows columns symbol.now numbers.now border_limit
+        out.old out.new }
+{
+    let mut doubtful = Modules::light(symbol.size());
+    match make_doubtful(numbers, rows, columns, &mut doubtful) {
+        Ok(()) => normal_modules(extent, profile, symbol, Some(&doubtful), border_limit, out),
+        Err(why) => show_fault(out, why),
+    }
+}
+
+/// Shows the normal symbol of what a symbol says, of whose modules these are doubtful, or why there is none.
+fn normal_modules(
+    extent: Extent,
+    profile: Profile,
+    symbol: &Modules,
+    doubtful: Option<&Modules>,
+    border_limit: u16,
+    out: &mut SymbolOut,
+)
+    requires { IfSome doubtful (λ doubtful. doubtful.now.size ≡ symbol.now.size) }
+    ensures { IsNormalGiven extent profile symbol.now (option_map (λ d. d.now) doubtful.entry)
+        border_limit out.old out.new }
+{
+    let mut reading = SymbolReading::new();
+    let how = ReadOptions {
+        extent,
+        border_limit,
+        doubtful,
+    };
+    match read_symbol_to(symbol, how, &mut reading) {
+        Ok(()) => write_square(&reading.message, profile, out),
+        Err(why) => show_fault(out, read_fault(why)),
     }
 }

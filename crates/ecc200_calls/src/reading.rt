@@ -1,50 +1,125 @@
 //! Reading.
 
-ghost use Rattle.std.specs.Prelude.{◌≡◌};
-ghost use Rattle.ecc200_calls.specs.Readings.{ExtentResult, IsReadResult, no_reading, reading_shown};
+ghost use Rattle.std.specs.Prelude.{◌≡◌, ◌≤◌, ◌/◌, [], IfSome, IsSome, Some, length, map, option_map};
+ghost use Rattle.dm_symbol.specs.Sizes.{row_with_side};
+ghost use Rattle.dm_symbol.specs.SymbolLaws.{none_erased};
+ghost use Rattle.dm_modules.specs.Sizes.{entry_with};
+ghost use Rattle.ecc200_calls.specs.Arrays.{over};
+ghost use Rattle.ecc200_calls.specs.Readings.{ExtentResult, IsDoubtfulGiven, IsReadResult, IsReadingGiven};
+ghost use Rattle.ecc200_calls.specs.Readings.{corrected_in, erased_in};
+ghost use Rattle.ecc200_calls.specs.Readings.{left_in, no_reading, reading_shown, usual_limit};
+ghost use Rattle.ecc200_calls.specs.inner.SquareReadings.{square_reading_shown};
 
 use crate::arrays::put_bytes;
 use crate::extent::extent_of;
 use crate::fault::{Fault, read_fault};
 use crate::message::put_message;
-use crate::modules::make_grid;
-use dm_symbol::{Extent, MESSAGE_ROOM, MOST_BLOCKS, Reading, light_grid, read_as_to};
+use crate::modules::{light_modules, make_doubtful, make_modules};
+use crate::squares::{is_plain_square, make_grid};
+use dm_modules::{MOST_BLOCKS, Modules};
+use dm_symbol::{BlockReading, Extent, ReadOptions, Reading, SymbolReading, light_grid};
+use dm_symbol::{read_as_to, read_symbol_to};
+const LARGEST_ROOM: usize = 3123;
 
-/// What a grid says, and how much of it was wrong. If there is a fault, all else is 0.
+/// What a symbol says, and how much of it was wrong. After a fault all but the fault and the arrays is 0.
 #[repr(C)]
 #[derive(Drop)]
 pub struct ReadingOut {
     pub fault: Fault,
-    pub side: u16,
+    pub rows: u16,
+    pub columns: u16,
     pub border_faults: u16,
     pub block_count: u16,
     pub item_count: u16,
-    pub items: [u16; MESSAGE_ROOM],
     pub corrected: [u8; MOST_BLOCKS],
+    pub erased: [u8; MOST_BLOCKS],
+    pub left: [u8; MOST_BLOCKS],
+    pub items: [u16; LARGEST_ROOM],
 }
 
-/// Reads the grid of these modules in an extent.
-pub fn read(modules: &[u8], side: u16, border_limit: u16, extent: u16, out: &mut ReadingOut) -> u16
-    ensures out { IsReadResult side modules.now border_limit extent out.new }
+/// Reads the symbol of these modules, of which these are doubtful, in an extent.
+pub fn read(
+    modules: &[u8],
+    doubtful: &[u8],
+    rows: u16,
+    columns: u16,
+    border_limit: u16,
+    extent: u16,
+    out: &mut ReadingOut,
+) -> u16
+    ensures out { IsReadResult rows columns modules.now doubtful.now border_limit extent out.old
+        out.new }
     ensures code { result ≡ out.new.fault.code }
 {
     match extent_of(extent) {
-        Some(extent) => read_modules(extent, modules, side, border_limit, out),
+        Some(extent) => read_given(
+            extent,
+            modules,
+            doubtful,
+            rows,
+            columns,
+            border_limit,
+            out,
+        ),
         None => show_fault(out, Fault::no_such_extent(extent)),
     }
     out.fault.code
 }
 
-/// Shows what the grid of these modules says in an extent, or why it says nothing.
-fn read_modules(extent: Extent, modules: &[u8], side: u16, border_limit: u16, out: &mut ReadingOut)
-    ensures { ExtentResult extent side modules.now border_limit out.new }
+/// Gives the number of wrong border modules that are usually accepted in a symbol with these rows and columns.
+pub fn usual_limit(rows: u16, columns: u16) -> u16
+    ensures value { result ≡ usual_limit rows columns }
+    ensures square { rows ≡ columns → result ≡ rows / 4 }
+{
+    ((u32::from(rows) + u32::from(columns)) / 8) as u16
+}
+
+/// Shows what the symbol of these modules says in an extent, or why it says nothing.
+fn read_given(
+    extent: Extent,
+    modules: &[u8],
+    doubtful: &[u8],
+    rows: u16,
+    columns: u16,
+    border_limit: u16,
+    out: &mut ReadingOut,
+)
+    ensures { ExtentResult extent rows columns modules.now doubtful.now border_limit out.old
+        out.new }
+{
+    if is_plain_square(rows, columns, doubtful) {
+        read_square(extent, modules, rows, border_limit, out);
+    } else {
+        read_symbol(
+            extent,
+            modules,
+            doubtful,
+            rows,
+            columns,
+            border_limit,
+            out,
+        );
+    }
+}
+
+/// Does so for a square that can be read as a grid, of whose modules none is doubtful.
+fn read_square(
+    extent: Extent,
+    modules: &[u8],
+    side: u16,
+    border_limit: u16,
+    out: &mut ReadingOut,
+)
+    requires { IsSome (row_with_side side) }
+    ensures { ExtentResult extent side side modules.now [] border_limit out.old out.new }
 {
     let mut grid = light_grid();
     match make_grid(modules, side, &mut grid) {
         Ok(()) => {
+            let checks = grid.size().block_check() as u8;
             let mut reading = Reading::new();
             match read_as_to(extent, &grid, border_limit, &mut reading) {
-                Ok(()) => show_reading(out, side, &reading),
+                Ok(()) => show_square_reading(out, side, checks, &reading),
                 Err(why) => show_fault(out, read_fault(why)),
             }
         }
@@ -52,30 +127,177 @@ fn read_modules(extent: Extent, modules: &[u8], side: u16, border_limit: u16, ou
     }
 }
 
+/// Does so for a symbol of any size.
+fn read_symbol(
+    extent: Extent,
+    modules: &[u8],
+    doubtful: &[u8],
+    rows: u16,
+    columns: u16,
+    border_limit: u16,
+    out: &mut ReadingOut,
+)
+    ensures { ExtentResult extent rows columns modules.now doubtful.now border_limit out.old
+        out.new }
+{
+    let mut symbol = light_modules();
+    match make_modules(modules, rows, columns, &mut symbol) {
+        Ok(()) => {
+            if doubtful.is_empty() {
+                read_modules(extent, &symbol, None, rows, columns, border_limit, out);
+            } else {
+                read_doubtful(extent, &symbol, doubtful, rows, columns, border_limit, out);
+            }
+        }
+        Err(why) => show_fault(out, why),
+    }
+}
+
+/// Does so where these of the modules are doubtful, whose numbers aren't 0.
+fn read_doubtful(
+    extent: Extent,
+    symbol: &Modules,
+    numbers: &[u8],
+    rows: u16,
+    columns: u16,
+    border_limit: u16,
+    out: &mut ReadingOut,
+)
+    requires { entry_with rows columns ≡ Some symbol.now.size }
+    ensures { IsDoubtfulGiven extent rows columns symbol.now numbers.now border_limit out.old
+        out.new }
+{
+    let mut doubtful = Modules::light(symbol.size());
+    match make_doubtful(numbers, rows, columns, &mut doubtful) {
+        Ok(()) => read_modules(
+            extent,
+            symbol,
+            Some(&doubtful),
+            rows,
+            columns,
+            border_limit,
+            out,
+        ),
+        Err(why) => show_fault(out, why),
+    }
+}
+
+/// Shows what a symbol says in an extent, of whose modules these are doubtful, or why it says nothing.
+fn read_modules(
+    extent: Extent,
+    symbol: &Modules,
+    doubtful: Option<&Modules>,
+    rows: u16,
+    columns: u16,
+    border_limit: u16,
+    out: &mut ReadingOut,
+)
+    requires { IfSome doubtful (λ doubtful. doubtful.now.size ≡ symbol.now.size) }
+    ensures { IsReadingGiven extent rows columns symbol.now
+        (option_map (λ d. d.now) doubtful.entry) border_limit out.old out.new }
+{
+    let mut reading = SymbolReading::new();
+    let how = ReadOptions {
+        extent,
+        border_limit,
+        doubtful,
+    };
+    match read_symbol_to(symbol, how, &mut reading) {
+        Ok(()) => show_reading(out, rows, columns, &reading),
+        Err(why) => show_fault(out, read_fault(why)),
+    }
+}
+
 /// Shows a fault in place of a reading.
 fn show_fault(out: &mut ReadingOut, why: Fault)
-    ensures { out.new ≡ no_reading why }
+    ensures { out.new ≡ no_reading why out.old }
 {
     out.fault = why;
-    out.side = 0;
+    out.rows = 0;
+    out.columns = 0;
     out.border_faults = 0;
     out.block_count = 0;
     out.item_count = 0;
-    out.items = [0; MESSAGE_ROOM];
-    out.corrected = [0; MOST_BLOCKS];
 }
 
-/// Shows a reading of a grid of this side.
-fn show_reading(out: &mut ReadingOut, side: u16, reading: &Reading)
-    ensures { out.new ≡ reading_shown side reading.now }
+/// Shows a reading of a grid of this side, whose blocks have so many check codewords each.
+fn show_square_reading(out: &mut ReadingOut, side: u16, checks: u8, reading: &Reading)
+    ensures { out.new ≡ square_reading_shown side checks reading.now out.old }
 {
     out.fault = Fault::none();
-    out.side = side;
+    out.rows = side;
+    out.columns = side;
     out.border_faults = reading.border_faults;
     out.block_count = reading.corrected.len() as u16;
-    out.item_count = reading.message.items().len() as u16;
-    out.items = [0; MESSAGE_ROOM];
-    put_message(&mut out.items, &reading.message);
-    out.corrected = [0; MOST_BLOCKS];
     put_bytes(&mut out.corrected, reading.corrected.as_slice());
+    put_none_erased(&mut out.erased, reading.corrected.as_slice(), checks);
+    put_left_by_errors(&mut out.left, reading.corrected.as_slice(), checks);
+    out.item_count = reading.message.items().len() as u16;
+    put_message(&mut out.items, &reading.message);
+}
+
+/// Shows a reading of a symbol with these rows and columns.
+fn show_reading(out: &mut ReadingOut, rows: u16, columns: u16, reading: &SymbolReading)
+    ensures { out.new ≡ reading_shown rows columns reading.now out.old }
+{
+    out.fault = Fault::none();
+    out.rows = rows;
+    out.columns = columns;
+    out.border_faults = reading.border_faults;
+    out.block_count = reading.blocks.len() as u16;
+    put_corrected(&mut out.corrected, reading.blocks.as_slice());
+    put_erased(&mut out.erased, reading.blocks.as_slice());
+    put_left(&mut out.left, reading.blocks.as_slice());
+    out.item_count = reading.message.items().len() as u16;
+    put_message(&mut out.items, &reading.message);
+}
+
+/// Writes 0 over the first ones for each of these counts: no codeword is erased where no module is doubtful.
+fn put_none_erased(all: &mut [u8], counts: &[u8], checks: u8)
+    requires { length counts.now ≤ length all.old }
+    ensures { all.new ≡ over (map erased_in (map (none_erased checks) counts.now)) all.old }
+{
+    for (b, _count) in counts.iter().enumerate() {
+        all[b] = 0;
+    }
+}
+
+/// Writes over the first ones how many of so many check codewords these counts of wrong codewords leave.
+fn put_left_by_errors(all: &mut [u8], counts: &[u8], checks: u8)
+    requires { length counts.now ≤ length all.old }
+    ensures { all.new ≡ over (map left_in (map (none_erased checks) counts.now)) all.old }
+{
+    for (b, count) in counts.iter().enumerate() {
+        all[b] = u16::from(checks).saturating_sub(2 * u16::from(*count)) as u8;
+    }
+}
+
+/// Writes the numbers of wrong codewords of these blocks over the first ones.
+fn put_corrected(all: &mut [u8], blocks: &[BlockReading])
+    requires { length blocks.now ≤ length all.old }
+    ensures { all.new ≡ over (map corrected_in blocks.now) all.old }
+{
+    for (b, block) in blocks.iter().enumerate() {
+        all[b] = block.corrected;
+    }
+}
+
+/// Writes the numbers of erased codewords of these blocks over the first ones.
+fn put_erased(all: &mut [u8], blocks: &[BlockReading])
+    requires { length blocks.now ≤ length all.old }
+    ensures { all.new ≡ over (map erased_in blocks.now) all.old }
+{
+    for (b, block) in blocks.iter().enumerate() {
+        all[b] = block.erased;
+    }
+}
+
+/// Writes over the first ones how many check codewords are left of these blocks.
+fn put_left(all: &mut [u8], blocks: &[BlockReading])
+    requires { length blocks.now ≤ length all.old }
+    ensures { all.new ≡ over (map left_in blocks.now) all.old }
+{
+    for (b, block) in blocks.iter().enumerate() {
+        all[b] = block.left;
+    }
 }

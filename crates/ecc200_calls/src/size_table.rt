@@ -1,26 +1,31 @@
 //! The table of sizes.
 
 ghost use Rattle.std.specs.Prelude.{◌≡◌, length, map};
-ghost use Rattle.dm_symbol.specs.Sizes.{size_table};
+ghost use Rattle.dm_modules.specs.Sizes.{size_table};
 ghost use Rattle.ecc200_calls.specs.Sizes.{size_shown};
 
-use dm_symbol::{SIZE_COUNT, Size, table};
+use dm_modules::{SIZE_COUNT, SymbolSize, table};
 
-/// A row of the table of sizes.
+/// An entry of the table of sizes.
 #[repr(C)]
 #[derive(Clone, Copy)]
 pub struct SizeOut {
-    pub side: u16,
-    pub regions: u16,
-    pub region_side: u16,
-    pub mapping: u16,
+    pub rows: u16,
+    pub columns: u16,
+    pub region_rows: u16,
+    pub region_columns: u16,
+    pub regions_down: u16,
+    pub regions_across: u16,
+    pub mapping_rows: u16,
+    pub mapping_columns: u16,
     pub data_codewords: u16,
     pub check_codewords: u16,
     pub blocks: u16,
     pub limit: u16,
+    pub extension: u16,
 }
 
-/// The table of sizes, by rising side.
+/// The table of sizes, by rising area and, where areas are equal, by rising columns.
 #[repr(C)]
 #[derive(Drop)]
 pub struct SizesOut {
@@ -34,28 +39,33 @@ pub fn sizes(out: &mut SizesOut)
     put_sizes(&mut out.sizes, &table());
 }
 
-/// Writes these sizes over as many rows.
-fn put_sizes(rows: &mut [SizeOut], sizes: &[Size])
-    requires { length rows.old ≡ length sizes.now }
-    ensures { rows.new ≡ map size_shown sizes.now }
+/// Writes these sizes over as many entries.
+fn put_sizes(entries: &mut [SizeOut], sizes: &[SymbolSize])
+    requires { length entries.old ≡ length sizes.now }
+    ensures { entries.new ≡ map size_shown sizes.now }
 {
     for (i, size) in sizes.iter().enumerate() {
-        rows[i] = size_shown(*size);
+        entries[i] = size_shown(*size);
     }
 }
 
-/// Gives a row of the table as the header shows it.
-fn size_shown(size: Size) -> SizeOut
+/// Gives an entry of the table as the header shows it.
+fn size_shown(size: SymbolSize) -> SizeOut
     ensures { result ≡ size_shown size }
 {
     SizeOut {
-        side: size.side(),
-        regions: size.regions(),
-        region_side: size.region_side(),
-        mapping: size.mapping(),
+        rows: size.rows(),
+        columns: size.columns(),
+        region_rows: size.region_rows(),
+        region_columns: size.region_columns(),
+        regions_down: size.regions_down(),
+        regions_across: size.regions_across(),
+        mapping_rows: size.mapping_rows(),
+        mapping_columns: size.mapping_columns(),
         data_codewords: size.data_count(),
         check_codewords: size.check_count(),
         blocks: size.blocks(),
         limit: size.limit(),
+        extension: u16::from(size.is_extended()),
     }
 }

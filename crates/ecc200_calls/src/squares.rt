@@ -1,14 +1,19 @@
-//! Grids as bytes, one for each module, row by row from the top. They are packed and unpacked sixteen at once.
+//! Squares that are read and written as grids: their modules as bytes, row by row from the top. They are packed and
+//! unpacked sixteen at once.
 
-ghost use Rattle.std.specs.Prelude.{◌≡◌, ◌+◌, ◌*◌, ◌^◌, ◌≤◌, ◌<◌, ◌++◌, ℕ, [], drop, get_or, length, map, take, IfErr};
-ghost use Rattle.std.specs.Prelude.{OnOk};
-ghost use Rattle.dm_symbol.specs.Grid.{is_dark_in};
+ghost use Rattle.std.specs.Prelude.{◌≡◌, ◌+◌, ◌*◌, ◌^◌, ◌≤◌, ◌<◌, ◌≢◌, ◌++◌, ℕ, [], drop, get_or, length, map, take, IfErr};
+ghost use Rattle.std.specs.Prelude.{IsSome, IsTrue, OnOk};
+ghost use Rattle.dm_symbol.specs.Sizes.{row_with_side};
+ghost use Rattle.dm_symbol.specs.Grid.{is_dark_in, symbol_modules};
+ghost use Rattle.dm_modules.specs.Modules.{is_dark_number};
+ghost use Rattle.ecc200_calls.specs.Arrays.{over};
+ghost use Rattle.ecc200_calls.specs.Faults.{shape};
 ghost use Rattle.std.specs.Simd.Lanes.{mask_l};
 ghost use Rattle.ecc200_calls.specs.inner.UnpackedCells.{unpacked_cells};
-ghost use Rattle.ecc200_calls.specs.Modules.{IsGridOf, IsModulesFault, is_dark, module_of, modules_of};
+ghost use Rattle.ecc200_calls.specs.Modules.{AreModulesOf, module_of, modules_of};
 
 use crate::fault::Fault;
-use dm_symbol::{Grid, LARGEST_SIDE};
+use dm_symbol::{Grid, LARGEST_SIDE, Size};
 use std::simd::prelude::*;
 
 /// This many modules are packed together, and as many are unpacked.
@@ -20,20 +25,23 @@ const LINE: usize = LARGEST_SIDE / TOGETHER * TOGETHER + TOGETHER;
 /// The weight of each module in its byte.
 const WEIGHTS: [u8; TOGETHER] = [1, 2, 4, 8, 16, 32, 64, 128, 1, 2, 4, 8, 16, 32, 64, 128];
 
-/// The most modules of a symbol.
-pub(crate) const MOST_MODULES: usize = LARGEST_SIDE * LARGEST_SIDE;
+/// Whether a symbol with these rows and columns can be read as a grid, and none of its modules is doubtful.
+pub(crate) fn is_plain_square(rows: u16, columns: u16, doubtful: &[u8]) -> bool
+    ensures { IsTrue result → (rows ≡ columns) × (doubtful.now ≡ []) × IsSome (row_with_side rows) }
+{
+    rows == columns && doubtful.is_empty() && Size::of_side(rows).is_some()
+}
 
-/// Turns `grid` into that of these modules, or says why they make none.
+/// Turns `grid` into that of these modules, where some size of a grid has this side; or says that they aren't as many
+/// as its rows times its columns.
 pub(crate) fn make_grid(modules: &[u8], side: u16, grid: &mut Grid) -> Result<(), Fault>
-    ensures grid { OnOk result (IsGridOf side modules.now grid.new) }
-    ensures fault { IfErr result (λ why. IsModulesFault side modules.now why) }
+    requires { IsSome (row_with_side side) }
+    ensures grid { OnOk result (AreModulesOf side side modules.now (symbol_modules grid.new)) }
+    ensures fault { IfErr result (λ why. (length modules.now ≢ side * side) × (why ≡ shape)) }
 {
     let across = usize::from(side);
     if modules.len() != across * across {
         return Err(Fault::shape());
-    }
-    if across > LARGEST_SIDE {
-        return Err(Fault::no_such_side(side));
     }
     let mut rows = [0; LARGEST_SIDE];
     for row in 0..across {
@@ -41,7 +49,7 @@ pub(crate) fn make_grid(modules: &[u8], side: u16, grid: &mut Grid) -> Result<()
     }
     match grid.set_rows(side, &rows[..across]) {
         Ok(()) => Ok(()),
-        Err(_) => Err(Fault::no_such_side(side)),
+        Err(_) => unreachable!(),
     }
 }
 
@@ -51,7 +59,7 @@ fn pack(modules: &[u8], across: usize) -> u128
     requires few { across ≤ LARGEST_SIDE }
     requires there { across ≤ length modules.now }
     ensures { (column : ℕ) → column < across
-        → is_dark_in result column ≡ is_dark (get_or modules.now column 0) }
+        → is_dark_in result column ≡ is_dark_number (get_or modules.now column 0) }
 {
     let mut row = 0;
     let mut column = 0;
@@ -66,7 +74,7 @@ fn pack(modules: &[u8], across: usize) -> u128
 /// be fewer; else modules of the row below are among them.
 fn pack_together(modules: &[u8]) -> u128
     ensures modules { (column : ℕ) → column < TOGETHER → column < length modules.now
-        → is_dark_in result column ≡ is_dark (get_or modules.now column 0) }
+        → is_dark_in result column ≡ is_dark_number (get_or modules.now column 0) }
     ensures small { result < 2 ^ TOGETHER }
 {
     if modules.len() < TOGETHER {
@@ -78,7 +86,7 @@ fn pack_together(modules: &[u8]) -> u128
 /// Gives the dark ones of these modules as bits, the first as the lowest. A module is dark if its number isn't 0.
 #[inline]
 fn dark_bits(modules: u8x16) -> u64
-    ensures { result ≡ mask_l (map is_dark modules) }
+    ensures { result ≡ mask_l (map is_dark_number modules) }
 {
     modules.simd_ne(u8x16::splat(0)).to_bitmask()
 }
@@ -87,7 +95,7 @@ fn dark_bits(modules: u8x16) -> u64
 fn pack_singly(modules: &[u8]) -> u128
     requires { length modules.now < TOGETHER }
     ensures modules { (column : ℕ) → column < length modules.now
-        → is_dark_in result column ≡ is_dark (get_or modules.now column 0) }
+        → is_dark_in result column ≡ is_dark_number (get_or modules.now column 0) }
     ensures small { result < 2 ^ length modules.now }
 {
     let across = modules.len();
@@ -98,10 +106,10 @@ fn pack_singly(modules: &[u8]) -> u128
     row
 }
 
-/// Writes the modules of a grid over the first numbers.
-pub(crate) fn put_modules(all: &mut [u8], grid: &Grid)
+/// Writes the cells of a grid over the first numbers.
+pub(crate) fn put_cells(all: &mut [u8], grid: &Grid)
     requires { grid.now.size.side * grid.now.size.side ≤ length all.old }
-    ensures { all.new ≡ modules_of grid.now ++ drop (length (modules_of grid.now)) all.old }
+    ensures { all.new ≡ over (modules_of (symbol_modules grid.now)) all.old }
 {
     for row in 0..grid.size().side() {
         put_row(all, grid, row);

@@ -1,85 +1,117 @@
 //! Writing.
 
 ghost use Rattle.std.specs.Prelude.{◌≡◌, ◌≤◌, All};
-ghost use Rattle.dm_symbol.specs.Outcomes.{outcome};
-ghost use Rattle.ecc200_calls.specs.Symbols.{IsWriteResult, WrittenResult};
+ghost use Rattle.dm_symbol.specs.declared.SizeChoice.TheVariants.{Square};
+ghost use Rattle.ecc200_calls.specs.Symbols.{IsMessageGiven, IsWriteResult, IsWritingGiven};
 
+use crate::choice::{How, choice_of};
 use crate::fault::Fault;
 use crate::message::{first_foreign, message_of_bytes, message_of_numbers};
+use crate::modules::light_modules;
 use crate::profile::profile_of;
-use crate::symbol::{SymbolOut, show_fault, show_grid};
-use dm_symbol::{Grid, MOST_ITEMS, Profile, TooLong, light_grid, write_to};
+use crate::symbol::{SymbolOut, show_fault, show_grid, show_modules};
+use dm_symbol::{Message, Profile, SizeChoice, TooLong, WriteOptions};
+use dm_symbol::{light_grid, write_symbol_to, write_to};
 
-/// Writes the normal grid of the message of these numbers.
-pub fn write(items: &[u16], profile: u16, out: &mut SymbolOut) -> u16
-    ensures out { IsWriteResult items.now profile out.new }
+/// Writes the symbol of the message of these numbers.
+pub fn write(items: &[u16], how: &How, out: &mut SymbolOut) -> u16
+    ensures out { IsWriteResult items.now how.now out.old out.new }
     ensures code { result ≡ out.new.fault.code }
 {
-    match profile_of(profile) {
-        Some(profile) => {
-            let mut grid = light_grid();
-            match write_items_to(items, profile, &mut grid) {
-                Ok(()) => show_grid(out, &grid),
-                Err(why) => show_fault(out, why),
-            }
-        }
-        None => show_fault(out, Fault::no_such_profile(profile)),
+    match profile_of(how.form) {
+        Some(profile) => match choice_of(*how) {
+            Some(size) => write_items(items, WriteOptions { profile, size }, out),
+            None => show_fault(out, Fault::no_such_choice(how.shape)),
+        },
+        None => show_fault(out, Fault::no_such_profile(how.form)),
     }
     out.fault.code
 }
 
-/// Writes the normal grid of the message of these bytes, each of which is an item: what [`write()`] does for the same
+/// Writes the symbol of the message of these bytes, each of which is an item: what [`write()`] does for the same
 /// numbers.
-pub fn write_bytes(bytes: &[u8], profile: u16, out: &mut SymbolOut) -> u16
-    ensures out { IsWriteResult bytes.now profile out.new }
+pub fn write_bytes(bytes: &[u8], how: &How, out: &mut SymbolOut) -> u16
+    ensures out { IsWriteResult bytes.now how.now out.old out.new }
     ensures code { result ≡ out.new.fault.code }
 {
-    match profile_of(profile) {
-        Some(profile) => {
-            let mut grid = light_grid();
-            match write_bytes_to(bytes, profile, &mut grid) {
-                Ok(()) => show_grid(out, &grid),
-                Err(why) => show_fault(out, why),
-            }
-        }
-        None => show_fault(out, Fault::no_such_profile(profile)),
+    match profile_of(how.form) {
+        Some(profile) => match choice_of(*how) {
+            Some(size) => write_these_bytes(bytes, WriteOptions { profile, size }, out),
+            None => show_fault(out, Fault::no_such_choice(how.shape)),
+        },
+        None => show_fault(out, Fault::no_such_profile(how.form)),
     }
     out.fault.code
 }
 
-/// Writes the normal grid of the message of these numbers into `grid`, or says why there is none.
-fn write_items_to(items: &[u16], profile: Profile, grid: &mut Grid) -> Result<(), Fault>
-    ensures { WrittenResult profile items.now (outcome result grid.new) }
+/// Shows the symbol of the message of these numbers, or why there is none.
+fn write_items(items: &[u16], how: WriteOptions, out: &mut SymbolOut)
+    ensures { IsWritingGiven how.size how.profile items.now out.old out.new }
 {
     match first_foreign(items) {
-        Some(place) => Err(Fault::foreign(items[place], place.min(usize::from(u16::MAX)) as u16)),
-        None => write_message_to(items, profile, grid),
+        Some(place) => show_fault(
+            out,
+            Fault::foreign(items[place], place.min(usize::from(u16::MAX)) as u16),
+        ),
+        None => write_numbers(items, how, out),
     }
 }
 
-/// Does the same where each number stands for an item.
-fn write_message_to(items: &[u16], profile: Profile, grid: &mut Grid) -> Result<(), Fault>
+/// Does so where each number stands for an item.
+fn write_numbers(items: &[u16], how: WriteOptions, out: &mut SymbolOut)
     requires { All (λ item. item ≤ 256) items.now }
-    ensures { WrittenResult profile items.now (outcome result grid.new) }
+    ensures { IsWritingGiven how.size how.profile items.now out.old out.new }
 {
-    if items.len() > MOST_ITEMS {
-        return Err(Fault::too_long());
+    if items.len() > LARGEST_ITEMS {
+        show_fault(out, Fault::too_long());
+        return;
     }
-    match write_to(profile, &message_of_numbers(items), grid) {
-        Ok(()) => Ok(()),
-        Err(TooLong) => Err(Fault::too_long()),
+    write_message(&message_of_numbers(items), how, out);
+}
+
+/// Shows the symbol of the message of these bytes, or why there is none.
+fn write_these_bytes(bytes: &[u8], how: WriteOptions, out: &mut SymbolOut)
+    ensures { IsWritingGiven how.size how.profile bytes.now out.old out.new }
+{
+    if bytes.len() > LARGEST_ITEMS {
+        show_fault(out, Fault::too_long());
+        return;
+    }
+    write_message(&message_of_bytes(bytes), how, out);
+}
+
+/// Shows the symbol in which a message is written, or that it fits no size of the choice. A small square is written as
+/// a grid, which is faster.
+fn write_message(message: &Message, how: WriteOptions, out: &mut SymbolOut)
+    ensures { IsMessageGiven how.size how.profile message.now out.old out.new }
+{
+    match how.size {
+        SizeChoice::Square => write_square(message, how.profile, out),
+        _ => write_symbol(message, how, out),
     }
 }
 
-/// Writes the normal grid of the message of these bytes into `grid`, or says why there is none.
-fn write_bytes_to(bytes: &[u8], profile: Profile, grid: &mut Grid) -> Result<(), Fault>
-    ensures { WrittenResult profile bytes.now (outcome result grid.new) }
+/// Shows the normal symbol of a message, or that it fits no square.
+pub(crate) fn write_square(message: &Message, profile: Profile, out: &mut SymbolOut)
+    ensures { IsMessageGiven Square profile message.now out.old out.new }
 {
-    if bytes.len() > MOST_ITEMS {
-        return Err(Fault::too_long());
+    let mut grid = light_grid();
+    match write_to(profile, message, &mut grid) {
+        Ok(()) => show_grid(out, &grid),
+        Err(TooLong) => {
+            let size = SizeChoice::Square;
+            write_symbol(message, WriteOptions { profile, size }, out);
+        }
     }
-    match write_to(profile, &message_of_bytes(bytes), grid) {
-        Ok(()) => Ok(()),
-        Err(TooLong) => Err(Fault::too_long()),
+}
+
+/// Shows the symbol in which a message is written, of whatever size, or that it fits no size of the choice.
+fn write_symbol(message: &Message, how: WriteOptions, out: &mut SymbolOut)
+    ensures { IsMessageGiven how.size how.profile message.now out.old out.new }
+{
+    let mut symbol = light_modules();
+    match write_symbol_to(message, how, &mut symbol) {
+        Ok(()) => show_modules(out, &symbol),
+        Err(TooLong) => show_fault(out, Fault::too_long()),
     }
 }

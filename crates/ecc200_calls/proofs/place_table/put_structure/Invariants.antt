@@ -5,8 +5,8 @@ use Rattle.ecc200_calls.proofs.place_table.put_structure.Given as goal
 
 abbrev pub invariant-loop-row : goal.invariant-loop-row
 invariant-loop-row l = record {
-  put : (r c : ℕ) → r < l.row → c < l.size.side → place_at l.size l.places r c ≡ structure_place l.size r c;
-  behind : (i : ℕ) → l.row * l.size.side ≤ i → get_or l.places i nothing ≡ get_or l.initial.places i nothing;
+  put : (r c : ℕ) → r < l.row → c < l.size.columns → place_at l.size l.places r c ≡ structure_place l.size r c;
+  behind : (i : ℕ) → l.row * l.size.columns ≤ i → get_or l.places i nothing ≡ get_or l.initial.places i nothing;
   room : length l.places ≡ length l.initial.places;
-  side : l.row-end ≡ l.size.side;
+  rows : l.row-end ≡ l.size.rows;
 }

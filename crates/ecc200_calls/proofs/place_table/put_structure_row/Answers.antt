@@ -12,9 +12,10 @@ loop-column-preserved c =
     let row = c.args.row in
     let column = c.loop-column.column in
     let start = c.from.result * c.from-2.result in
-    let start_is : start ≡ row * s.side =
-    ap (λ x. x * c.from-2.result) c.from.ensures ∙ ap (λ x. row * x) (c.from-2.ensures ∙ c.side.ensures.value) in
-    let above : (row + 1) * s.side ≤ s.side * s.side = mul-le-mul_right s.side (omega (arith, c.requires.row)) in
+    let start_is : start ≡ row * s.columns =
+    ap (λ x. x * c.from-2.result) c.from.ensures ∙ ap (λ x. row * x) (c.from-2.ensures ∙ c.columns.ensures.value) in
+    let above : (row + 1) * s.columns ≤ s.rows * s.columns =
+    mul-le-mul_right s.columns (omega (arith, c.requires.row)) in
     let inside : start + column < length c.loop-column.places =
     omega (
       arith,
@@ -23,7 +24,7 @@ loop-column-preserved c =
       c.requires.room,
       i.room,
       c.loop-column-test.true,
-      c.side-column-end.ensures.value,
+      c.columns-column-end.ensures.value,
     ) in
     rw (c.from-in-loop-column.ensures, c.structure_place.ensures)
     (record {

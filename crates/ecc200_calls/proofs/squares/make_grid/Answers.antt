@@ -6,10 +6,10 @@ use Rattle.dm_symbol.specs.declared.GridFault.{GridFault}
 use Rattle.dm_symbol.specs.declared.GridFault.TheVariants.{NotSquare, NoSuchSize}
 use Rattle.dm_symbol.specs.Sizes.{row_with_side}
 use Rattle.dm_symbol.specs.Grid.{square_of_rows, is_dark_in}
-use Rattle.ecc200_calls.specs.Modules.{no_size, is_dark}
+use Rattle.dm_modules.specs.Modules.{is_dark_number as is_dark}
 use Rattle.ecc200_calls.proofs.Packing.{square_packed}
 use Rattle.ecc200_calls.proofs.Sides.{none_above}
-use Rattle.ecc200_calls.proofs.modules.make_grid.Goals as goal
+use Rattle.ecc200_calls.proofs.squares.make_grid.Goals as goal
 
 pub returns-then-across-gt-LARGEST_SIDE-clause-fault : goal.returns-then-across-gt-LARGEST_SIDE-clause-fault
 returns-then-across-gt-LARGEST_SIDE-clause-fault c =

@@ -1,8 +1,8 @@
 use Rattle.std.proofs.Common.{◌≡◌, ◌+◌, ◌*◌, ◌<◌, ℕ, get_or, length}
 use Rattle.dm_symbol.specs.Sizes.{largest_side}
 use Rattle.dm_symbol.specs.Grid.{is_dark_in}
-use Rattle.ecc200_calls.specs.Modules.{is_dark}
-use Rattle.ecc200_calls.proofs.modules.make_grid.Given as goal
+use Rattle.dm_modules.specs.Modules.{is_dark_number as is_dark}
+use Rattle.ecc200_calls.proofs.squares.make_grid.Given as goal
 
 -- The rows above this one are packed.
 abbrev pub invariant-loop-row : goal.invariant-loop-row

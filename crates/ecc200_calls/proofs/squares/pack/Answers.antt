@@ -1,8 +1,8 @@
 use Rattle.std.proofs.Common.{◌≡◌, ◌<◌, ◌≤◌, ◌+◌, ◌*◌, ◌%◌, ◌^◌, ◌∙◌, ℕ, arith, get_or, subst, sym, ap, bit_or}
 use Rattle.dm_symbol.specs.Grid.{is_dark_in}
-use Rattle.ecc200_calls.specs.Modules.{is_dark}
+use Rattle.dm_modules.specs.Modules.{is_dark_number as is_dark}
 use Rattle.ecc200_calls.proofs.Packing.{together_is, together_more, together_small, rest_at}
-use Rattle.ecc200_calls.proofs.modules.pack.Goals as goal
+use Rattle.ecc200_calls.proofs.squares.pack.Goals as goal
 
 pub loop-column-preserved : goal.loop-column-preserved
 loop-column-preserved c =

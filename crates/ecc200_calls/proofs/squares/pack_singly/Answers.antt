@@ -2,9 +2,9 @@ use Rattle.std.proofs.Common.{◌≡◌, ◌+◌, ◌-◌, ◌*◌, ◌<◌, ◌
 use Rattle.std.specs.Int.{w128}
 use mir.Val.{bool_byte as from_bool}
 use Rattle.dm_symbol.specs.Grid.{is_dark_in}
-use Rattle.ecc200_calls.specs.Modules.{is_dark}
+use Rattle.dm_modules.specs.Modules.{is_dark_number as is_dark}
 use Rattle.ecc200_calls.proofs.Packing.{packed_fits, packed_more, packed_small}
-use Rattle.ecc200_calls.proofs.modules.pack_singly.Goals as goal
+use Rattle.ecc200_calls.proofs.squares.pack_singly.Goals as goal
 
 pub overflow_mul-row : goal.overflow_mul-row
 overflow_mul-row c =

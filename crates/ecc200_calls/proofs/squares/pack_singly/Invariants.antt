@@ -1,7 +1,7 @@
 use Rattle.std.proofs.Common.{◌≡◌, ◌-◌, ◌+◌, ◌<◌, ◌^◌, ℕ, get_or}
 use Rattle.dm_symbol.specs.Grid.{is_dark_in}
-use Rattle.ecc200_calls.specs.Modules.{is_dark}
-use Rattle.ecc200_calls.proofs.modules.pack_singly.Given as goal
+use Rattle.dm_modules.specs.Modules.{is_dark_number as is_dark}
+use Rattle.ecc200_calls.proofs.squares.pack_singly.Given as goal
 
 -- The last modules are packed, the first of them as the lowest bit.
 abbrev pub invariant-loop-i : goal.invariant-loop-i

@@ -1,6 +1,6 @@
 use Rattle.std.proofs.Common.{◌∙◌}
 use Rattle.ecc200_calls.proofs.Packing.{short_small, mask_small, mask_dark}
-use Rattle.ecc200_calls.proofs.modules.pack_together.Goals as goal
+use Rattle.ecc200_calls.proofs.squares.pack_together.Goals as goal
 
 pub returns-then-modules-lt-TOGETHER-clause-small : goal.returns-then-modules-lt-TOGETHER-clause-small
 returns-then-modules-lt-TOGETHER-clause-small c =

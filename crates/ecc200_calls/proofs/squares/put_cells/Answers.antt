@@ -2,7 +2,7 @@ use Rattle.std.proofs.Common.{◌≡◌, ◌<◌, ◌∙◌, ◌*◌, ◌+◌, �
 use Rattle.std.proofs.lemmas.List.Elements.{All-get_or}
 use Rattle.std.proofs.Math.Nat.{mul-le-mul_right}
 use Rattle.ecc200_calls.proofs.Rows.{rows_more}
-use Rattle.ecc200_calls.proofs.modules.put_modules.Goals as goal
+use Rattle.ecc200_calls.proofs.squares.put_cells.Goals as goal
 
 pub loop-row-preserved : goal.loop-row-preserved
 loop-row-preserved c =

@@ -1,7 +1,7 @@
 use Rattle.std.proofs.Common.{◌≡◌, ◌*◌, drop, length, map, take}
 use Rattle.std.specs.List.{flat_map}
 use Rattle.ecc200_calls.specs.Modules.{module_of}
-use Rattle.ecc200_calls.proofs.modules.put_modules.Given as goal
+use Rattle.ecc200_calls.proofs.squares.put_cells.Given as goal
 
 abbrev pub invariant-loop-row : goal.invariant-loop-row
 invariant-loop-row l = record {

@@ -5,7 +5,7 @@ use Rattle.std.proofs.lemmas.List.Elements.{All-get_or}
 use Rattle.std.proofs.lemmas.Slice.{put_mid-paste}
 use Rattle.ecc200_calls.specs.Modules.{module_of}
 use Rattle.ecc200_calls.proofs.Unpacking.{line_is_row}
-use Rattle.ecc200_calls.proofs.modules.put_row.Goals as goal
+use Rattle.ecc200_calls.proofs.squares.put_row.Goals as goal
 
 pub returns : goal.returns
 returns c =

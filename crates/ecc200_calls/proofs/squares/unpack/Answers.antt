@@ -3,9 +3,9 @@ use Rattle.std.proofs.lemmas.Simd.{length-put_chunk}
 use Rattle.std.specs.Simd.Lanes.{put_chunk}
 use Rattle.dm_symbol.specs.Grid.{is_dark_in}
 use Rattle.ecc200_calls.specs.Modules.{module_of}
-use Rattle.ecc200_calls.specs.declared.modules.TheConstants.{LINE}
+use Rattle.ecc200_calls.specs.declared.squares.TheConstants.{LINE}
 use Rattle.ecc200_calls.proofs.Unpacking.{sixteen, stored_in_rest, unpacked_more}
-use Rattle.ecc200_calls.proofs.modules.unpack.Goals as goal
+use Rattle.ecc200_calls.proofs.squares.unpack.Goals as goal
 
 pub loop-column-preserved : goal.loop-column-preserved
 loop-column-preserved c =

@@ -1,8 +1,8 @@
 use Rattle.std.proofs.Common.{◌≡◌, ◌-◌, ◌+◌, ◌%◌, ◌<◌, ℕ, get_or, length}
 use Rattle.dm_symbol.specs.Grid.{is_dark_in}
 use Rattle.ecc200_calls.specs.Modules.{module_of}
-use Rattle.ecc200_calls.specs.declared.modules.TheConstants.{LINE}
-use Rattle.ecc200_calls.proofs.modules.unpack.Given as goal
+use Rattle.ecc200_calls.specs.declared.squares.TheConstants.{LINE}
+use Rattle.ecc200_calls.proofs.squares.unpack.Given as goal
 
 -- The cells before this column, a multiple of sixteen, are unpacked.
 abbrev pub invariant-loop-column : goal.invariant-loop-column

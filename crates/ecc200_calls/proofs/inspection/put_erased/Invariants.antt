@@ -1,0 +1,10 @@
+use Rattle.std.proofs.Common.{◌≡◌, drop, length, map, take}
+use Rattle.ecc200_calls.specs.Inspections.{erased_shown}
+use Rattle.ecc200_calls.proofs.inspection.put_erased.Given as goal
+
+abbrev pub invariant-loop-b : goal.invariant-loop-b
+invariant-loop-b l = record {
+  prefix : take l.b l.all ≡ map erased_shown (take l.b l.blocks);
+  behind : drop l.b l.all ≡ drop l.b l.initial.all;
+  room : length l.all ≡ length l.initial.all;
+}

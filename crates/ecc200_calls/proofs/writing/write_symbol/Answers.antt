@@ -1,0 +1,13 @@
+use Rattle.std.proofs.Common.{◌∙◌, ap}
+use Rattle.std.proofs.lemmas.Bool.{false≢true}
+use Rattle.ecc200_calls.specs.Symbols.{IsMessageGiven, no_symbol}
+use Rattle.ecc200_calls.proofs.writing.write_symbol.Goals as goal
+
+pub returns-in-Ok : goal.returns-in-Ok
+returns-in-Ok c =
+    IsMessageGiven.written c.write_symbol_to.new.modules c.in-Ok.ensures.written.written c.show_modules.ensures
+
+pub returns-in-Err : goal.returns-in-Err
+returns-in-Err c =
+    IsMessageGiven.no_size (λ fits. false≢true (c.in-Err.ensures.written.fits.1 fits))
+    (c.show_fault.ensures ∙ ap (λ why. no_symbol why c.args.out.now) c.too_long.ensures)

@@ -1,0 +1,70 @@
+//! Symbols of every size, with their modules as bytes, one for each, row by row from the top.
+
+ghost use Rattle.std.specs.Prelude.{◌≡◌, ◌≢◌, ◌*◌, ◌≤◌, IfErr, IsSome, OnOk, length, map};
+ghost use Rattle.dm_modules.specs.Sizes.{area, entry_with};
+ghost use Rattle.ecc200_calls.specs.Arrays.{over};
+ghost use Rattle.ecc200_calls.specs.Faults.{wrong_doubt};
+ghost use Rattle.ecc200_calls.specs.Modules.{AreModulesOf, IsModulesFault, module_of, modules_of};
+
+use crate::fault::Fault;
+use dm_modules::{Modules, ModulesFault, table};
+
+/// Gives modules into which those of any symbol can be put.
+pub(crate) fn light_modules() -> Modules {
+    Modules::light(table()[0])
+}
+
+/// Turns `symbol` into that of these modules, or says why they make none.
+pub(crate) fn make_modules(
+    modules: &[u8],
+    rows: u16,
+    columns: u16,
+    symbol: &mut Modules,
+) -> Result<(), Fault>
+    ensures symbol { OnOk result (AreModulesOf rows columns modules.now symbol.new) }
+    ensures fault { IfErr result (λ why. IsModulesFault rows columns modules.now why) }
+{
+    match symbol.set_numbers(rows, columns, modules) {
+        Ok(()) => Ok(()),
+        Err(ModulesFault::WrongCount) => Err(Fault::shape()),
+        Err(ModulesFault::NoSuchSize) => Err(Fault::no_such_size(rows, columns)),
+    }
+}
+
+/// Turns `doubtful` into these modules, where some size has these rows and columns; or says that they aren't as many.
+pub(crate) fn make_doubtful(
+    numbers: &[u8],
+    rows: u16,
+    columns: u16,
+    doubtful: &mut Modules,
+) -> Result<(), Fault>
+    requires { IsSome (entry_with rows columns) }
+    ensures doubtful { OnOk result (AreModulesOf rows columns numbers.now doubtful.new) }
+    ensures fault { IfErr result (λ why. (length numbers.now ≢ rows * columns)
+        × (why ≡ wrong_doubt)) }
+{
+    match doubtful.set_numbers(rows, columns, numbers) {
+        Ok(()) => Ok(()),
+        Err(_) => Err(Fault::wrong_doubt()),
+    }
+}
+
+/// Writes the modules of a symbol over the first numbers.
+pub(crate) fn put_modules(all: &mut [u8], symbol: &Modules)
+    requires { area symbol.now.size ≤ length all.old }
+    ensures { all.new ≡ over (modules_of symbol.now) all.old }
+{
+    // For the proof alone: what `size` ensures says that the rows are of one length.
+    let _size = symbol.size();
+    put_colours(all, symbol.list());
+}
+
+/// Writes the numbers of these colours over the first ones.
+fn put_colours(all: &mut [u8], colours: &[bool])
+    requires { length colours.now ≤ length all.old }
+    ensures { all.new ≡ over (map module_of colours.now) all.old }
+{
+    for (i, dark) in colours.iter().enumerate() {
+        all[i] = u8::from(*dark);
+    }
+}
