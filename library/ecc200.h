@@ -4,7 +4,7 @@
  *     ecc200_read           what a symbol says, and how much of it was wrong
  *     ecc200_write          the symbol of a message, in a size of the caller's choice
  *     ecc200_write_bytes    the same for a message of bytes alone
- *     ecc200_normal         the normal symbol of what a symbol says
+ *     ecc200_normal         the normal grid of what a symbol says
  *     ecc200_inspect        the codewords that a symbol holds, and what they are corrected to
  *     ecc200_places         what each module of a symbol is: the bit of a codeword, border, or fixed square
  *     ecc200_sizes          the table of sizes and limits
@@ -50,12 +50,12 @@
  * GS1 message has ECC200_FNC1 first and another, or more rarely the byte 0x1D, between its fields. ecc200_text and
  * ecc200_items, below, turn items into bytes and back.
  *
- * A PROFILE chooses the normal form of a message, and so its normal symbol, the one by which it is compared: under
+ * A PROFILE chooses the normal form of a message, and so its normal grid, the one by which it is compared: under
  * ECC200_ASCII its codewords are those of ASCII encodation; under ECC200_SHORTER they are those of one Base 256 segment
  * where the message has no FNC1 and the segment is shorter, which serves binary messages. Either way they stand in the
- * smallest square that holds them, followed by pads; a message that no square holds in this form has no normal symbol.
- * Symbols that have normal symbols under one profile say the same exactly if these are equal, byte by byte; and a
- * normal symbol is its own normal symbol.
+ * smallest square that holds them, followed by pads; a message that no square holds in this form has no normal grid.
+ * Symbols that have normal grids under one profile say the same exactly if these are equal, byte by byte; and a
+ * normal grid is its own normal grid.
  *
  * EACH CALL returns, whatever it is given, and touches only what it was given. It allocates nothing and uses less than
  * ECC200_STACK bytes of stack, keeps nothing, waits for nothing, and calls nothing but memcpy, memmove and memset: any
@@ -261,7 +261,7 @@ typedef struct ecc200_symbol {
 } ecc200_symbol;
 
 /* Writes a message: in the codewords of its form, followed by pads, in the smallest size that may be taken and holds
- * them. ecc200_read reads it as that message, with nothing corrected. In ECC200_SQUARE it is the normal symbol of the
+ * them. ecc200_read reads it as that message, with nothing corrected. In ECC200_SQUARE it is the normal grid of the
  * message under the profile that `form` is.
  * Returns the first fault that applies: PROFILE, CHOICE, ITEM, TOO_LONG. Where no size has the rows and columns of
  * ECC200_ONE, the fault is TOO_LONG too. */
@@ -273,7 +273,7 @@ uint16_t ecc200_write(const uint16_t *ECC200_RESTRICT items, size_t count, const
 uint16_t ecc200_write_bytes(const uint8_t *ECC200_RESTRICT bytes, size_t count, const ecc200_how *ECC200_RESTRICT how,
                             ecc200_symbol *ECC200_RESTRICT out);
 
-/* Writes the normal symbol of what a symbol says in an extent, whatever its size and encodation, and whatever damage
+/* Writes the normal grid of what a symbol says in an extent, whatever its size and encodation, and whatever damage
  * was corrected.
  * Returns the first fault that applies: EXTENT, PROFILE, those of ecc200_read, TOO_LONG. */
 uint16_t ecc200_normal(const uint8_t *ECC200_RESTRICT modules, size_t count, const uint8_t *ECC200_RESTRICT doubtful,

@@ -1,5 +1,5 @@
-//! Data Matrix ECC 200 (ISO/IEC 16022, square sizes) for C and for whatever calls C: `library/ecc200.h` declares these
-//! functions and is their manual.
+//! Data Matrix ECC 200, the symbols of all sizes (ISO/IEC 16022 and ISO/IEC 21471), for C and for whatever calls C:
+//! `library/ecc200.h` declares these functions and is their manual.
 //!
 //! Each hands on to the function of `ecc200_calls` that has its name without the prefix, and promises what that one
 //! does; the structs are those of that crate too. Here is no more than what C links, since a static library is proved
@@ -7,82 +7,102 @@
 #![tactic(auto)]
 
 ghost use Rattle.std.specs.Prelude.{◌≡◌, map};
-ghost use Rattle.dm_symbol.specs.Reading.{usual_limit};
-ghost use Rattle.dm_symbol.specs.Sizes.{size_table};
+ghost use Rattle.dm_modules.specs.Sizes.{size_table};
 ghost use Rattle.ecc200_calls.specs.Inspections.{IsInspectResult};
 ghost use Rattle.ecc200_calls.specs.Places.{IsPlacesResult};
-ghost use Rattle.ecc200_calls.specs.Readings.{IsReadResult};
+ghost use Rattle.ecc200_calls.specs.Readings.{IsReadResult, usual_limit};
 ghost use Rattle.ecc200_calls.specs.Sizes.{size_shown};
 ghost use Rattle.ecc200_calls.specs.Symbols.{IsNormalResult, IsWriteResult};
 
-use ecc200_calls::{InspectionOut, PlacesOut, ReadingOut, SizesOut, SymbolOut};
+use ecc200_calls::{How, InspectionOut, PlacesOut, ReadingOut, SizesOut, SymbolOut};
 
-/// Reads the grid of these modules in an extent.
+/// Reads the symbol of these modules, of which these are doubtful, in an extent.
 #[unsafe(no_mangle)]
 pub extern "C" fn ecc200_read(
     modules: &[u8],
-    side: u16,
+    doubtful: &[u8],
+    rows: u16,
+    columns: u16,
     border_limit: u16,
     extent: u16,
     out: &mut ReadingOut,
 ) -> u16
-    ensures out { IsReadResult side modules.now border_limit extent out.new }
+    ensures out { IsReadResult rows columns modules.now doubtful.now border_limit extent out.old
+        out.new }
     ensures code { result ≡ out.new.fault.code }
 {
-    ecc200_calls::read(modules, side, border_limit, extent, out)
+    ecc200_calls::read(modules, doubtful, rows, columns, border_limit, extent, out)
 }
 
-/// Writes the normal grid of the message of these numbers.
+/// Writes the symbol of the message of these numbers.
 #[unsafe(no_mangle)]
-pub extern "C" fn ecc200_write(items: &[u16], profile: u16, out: &mut SymbolOut) -> u16
-    ensures out { IsWriteResult items.now profile out.new }
+pub extern "C" fn ecc200_write(items: &[u16], how: &How, out: &mut SymbolOut) -> u16
+    ensures out { IsWriteResult items.now how.now out.old out.new }
     ensures code { result ≡ out.new.fault.code }
 {
-    ecc200_calls::write(items, profile, out)
+    ecc200_calls::write(items, how, out)
 }
 
-/// Writes the normal grid of the message of these bytes, each of which is an item: what [`ecc200_write`] does for the
-/// same numbers.
+/// Writes the symbol of the message of these bytes, each of which is an item: what [`ecc200_write`] does for the same
+/// numbers.
 #[unsafe(no_mangle)]
-pub extern "C" fn ecc200_write_bytes(bytes: &[u8], profile: u16, out: &mut SymbolOut) -> u16
-    ensures out { IsWriteResult bytes.now profile out.new }
+pub extern "C" fn ecc200_write_bytes(bytes: &[u8], how: &How, out: &mut SymbolOut) -> u16
+    ensures out { IsWriteResult bytes.now how.now out.old out.new }
     ensures code { result ≡ out.new.fault.code }
 {
-    ecc200_calls::write_bytes(bytes, profile, out)
+    ecc200_calls::write_bytes(bytes, how, out)
 }
 
-/// Writes the normal grid of what the grid of these modules says in an extent.
+/// Writes the normal symbol of what the symbol of these modules, of which these are doubtful, says in an extent.
 #[unsafe(no_mangle)]
 pub extern "C" fn ecc200_normal(
     modules: &[u8],
-    side: u16,
+    doubtful: &[u8],
+    rows: u16,
+    columns: u16,
     border_limit: u16,
     extent: u16,
     profile: u16,
     out: &mut SymbolOut,
 ) -> u16
-    ensures out { IsNormalResult side modules.now border_limit extent profile out.new }
+    ensures out { IsNormalResult rows columns modules.now doubtful.now border_limit extent profile
+        out.old out.new }
     ensures code { result ≡ out.new.fault.code }
 {
-    ecc200_calls::normal(modules, side, border_limit, extent, profile, out)
+    ecc200_calls::normal(
+        modules,
+        doubtful,
+        rows,
+        columns,
+        border_limit,
+        extent,
+        profile,
+        out,
+    )
 }
 
-/// Inspects the grid of these modules.
+/// Inspects the symbol of these modules, of which these are doubtful.
 #[unsafe(no_mangle)]
-pub extern "C" fn ecc200_inspect(modules: &[u8], side: u16, out: &mut InspectionOut) -> u16
-    ensures out { IsInspectResult side modules.now out.new }
+pub extern "C" fn ecc200_inspect(
+    modules: &[u8],
+    doubtful: &[u8],
+    rows: u16,
+    columns: u16,
+    out: &mut InspectionOut,
+) -> u16
+    ensures out { IsInspectResult rows columns modules.now doubtful.now out.old out.new }
     ensures code { result ≡ out.new.fault.code }
 {
-    ecc200_calls::inspect(modules, side, out)
+    ecc200_calls::inspect(modules, doubtful, rows, columns, out)
 }
 
-/// Writes what each module of a symbol of this side is.
+/// Writes what each module of a symbol with these rows and columns is.
 #[unsafe(no_mangle)]
-pub extern "C" fn ecc200_places(side: u16, out: &mut PlacesOut) -> u16
-    ensures out { IsPlacesResult side out.new }
+pub extern "C" fn ecc200_places(rows: u16, columns: u16, out: &mut PlacesOut) -> u16
+    ensures out { IsPlacesResult rows columns out.old out.new }
     ensures code { result ≡ out.new.fault.code }
 {
-    ecc200_calls::places(side, out)
+    ecc200_calls::places(rows, columns, out)
 }
 
 /// Writes the table of sizes.
@@ -93,18 +113,18 @@ pub extern "C" fn ecc200_sizes(out: &mut SizesOut)
     ecc200_calls::sizes(out);
 }
 
-/// Gives the number of wrong border modules that are usually accepted in a symbol of this side.
+/// Gives the number of wrong border modules that are usually accepted in a symbol with these rows and columns.
 #[unsafe(no_mangle)]
-pub extern "C" fn ecc200_usual_limit(side: u16) -> u16
-    ensures { result ≡ usual_limit side }
+pub extern "C" fn ecc200_usual_limit(rows: u16, columns: u16) -> u16
+    ensures { result ≡ usual_limit rows columns }
 {
-    ecc200_calls::usual_limit(side)
+    ecc200_calls::usual_limit(rows, columns)
 }
 
 /// Gives the version of the interface: `ECC200_ABI` of the header that declares it.
 #[unsafe(no_mangle)]
 pub extern "C" fn ecc200_abi() -> u16
-    ensures { result ≡ 2 }
+    ensures { result ≡ 3 }
 {
     ecc200_calls::abi()
 }

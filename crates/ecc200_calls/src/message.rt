@@ -5,7 +5,7 @@ ghost use Rattle.dm_symbol.specs.Messages.{IsMessage};
 ghost use Rattle.ecc200_calls.specs.Arrays.{over};
 ghost use Rattle.ecc200_calls.specs.Items.{IsFirstForeign, number_of, numbers_of};
 
-use dm_symbol::{Item, MOST_ITEMS, Message};
+use dm_symbol::{Item, MessageIn};
 
 /// The number of FNC1.
 const FNC1: u16 = 256;
@@ -19,13 +19,13 @@ pub(crate) fn first_foreign(numbers: &[u16]) -> Option<usize>
 }
 
 /// Gives the message of these numbers.
-pub(crate) fn message_of_numbers(numbers: &[u16]) -> Message
+pub(crate) fn message_of_numbers<const ROOM: usize>(numbers: &[u16]) -> MessageIn<ROOM>
     requires items { All (λ number. number ≤ 256) numbers.now }
-    requires room { length numbers.now ≤ MOST_ITEMS }
+    requires room { length numbers.now ≤ ROOM }
     ensures numbers { numbers_of result ≡ numbers.now }
     ensures message { IsMessage result }
 {
-    let mut message = Message::new();
+    let mut message = MessageIn::new();
     for number in numbers {
         let _room = message.push(item_of(*number));
     }
@@ -35,12 +35,12 @@ pub(crate) fn message_of_numbers(numbers: &[u16]) -> Message
 }
 
 /// Gives the message of these bytes.
-pub(crate) fn message_of_bytes(bytes: &[u8]) -> Message
-    requires { length bytes.now ≤ MOST_ITEMS }
+pub(crate) fn message_of_bytes<const ROOM: usize>(bytes: &[u8]) -> MessageIn<ROOM>
+    requires { length bytes.now ≤ ROOM }
     ensures numbers { numbers_of result ≡ bytes.now }
     ensures message { IsMessage result }
 {
-    let mut message = Message::new();
+    let mut message = MessageIn::new();
     for byte in bytes {
         let _room = message.push(Item::Byte(*byte));
     }
@@ -72,7 +72,7 @@ fn number_of(item: Item) -> u16
 }
 
 /// Writes the numbers of a message over the first ones.
-pub(crate) fn put_message(all: &mut [u16], message: &Message)
+pub(crate) fn put_message<const ROOM: usize>(all: &mut [u16], message: &MessageIn<ROOM>)
     requires { length message.now ≤ length all.old }
     ensures { all.new ≡ over (numbers_of message.now) all.old }
 {

@@ -11,10 +11,12 @@ use crate::modules::{light_modules, make_doubtful, make_modules};
 use crate::profile::profile_of;
 use crate::squares::{is_plain_square, make_grid};
 use crate::symbol::{SymbolOut, show_fault};
-use crate::writing::write_square;
+use crate::writing::{write_square, write_symbol};
 use dm_modules::Modules;
-use dm_symbol::{Extent, Profile, ReadOptions, Reading, SymbolReading, light_grid};
-use dm_symbol::{read_as_to, read_symbol_to};
+use dm_symbol::{
+    Extent, Profile, ReadOptions, Reading, SizeChoice, SymbolReading, WriteOptions, light_grid,
+    read_as_to, read_symbol_to,
+};
 
 /// Writes the normal symbol of what the symbol of these modules, of which these are doubtful, says in an extent.
 pub fn normal(
@@ -186,7 +188,10 @@ fn normal_modules(
         doubtful,
     };
     match read_symbol_to(symbol, how, &mut reading) {
-        Ok(()) => write_square(&reading.message, profile, out),
+        Ok(()) => {
+            let size = SizeChoice::Square;
+            write_symbol(&reading.message, WriteOptions { profile, size }, out);
+        }
         Err(why) => show_fault(out, read_fault(why)),
     }
 }

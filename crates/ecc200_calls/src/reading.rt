@@ -19,7 +19,7 @@ use crate::squares::{is_plain_square, make_grid};
 use dm_modules::{MOST_BLOCKS, Modules};
 use dm_symbol::{BlockReading, Extent, ReadOptions, Reading, SymbolReading, light_grid};
 use dm_symbol::{read_as_to, read_symbol_to};
-const LARGEST_ROOM: usize = 3123;
+use dm_words::LARGEST_ROOM;
 
 /// What a symbol says, and how much of it was wrong. After a fault all but the fault and the arrays is 0.
 #[repr(C)]

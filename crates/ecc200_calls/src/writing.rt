@@ -10,8 +10,14 @@ use crate::message::{first_foreign, message_of_bytes, message_of_numbers};
 use crate::modules::light_modules;
 use crate::profile::profile_of;
 use crate::symbol::{SymbolOut, show_fault, show_grid, show_modules};
-use dm_symbol::{Message, Profile, SizeChoice, TooLong, WriteOptions};
-use dm_symbol::{light_grid, write_symbol_to, write_to};
+use dm_modules::MOST_DATA;
+use dm_symbol::{
+    LARGEST_ROOM, MESSAGE_ROOM, MOST_ITEMS, Message, MessageIn, Profile, SizeChoice, TooLong,
+    WriteOptions, light_grid, write_symbol_to, write_to,
+};
+
+/// The most items that any symbol holds in a normal form: two for each data codeword.
+const LARGEST_ITEMS: usize = 2 * MOST_DATA;
 
 /// Writes the symbol of the message of these numbers.
 pub fn write(items: &[u16], how: &How, out: &mut SymbolOut) -> u16
@@ -64,9 +70,11 @@ fn write_numbers(items: &[u16], how: WriteOptions, out: &mut SymbolOut)
 {
     if items.len() > LARGEST_ITEMS {
         show_fault(out, Fault::too_long());
-        return;
+    } else if items.len() > MOST_ITEMS {
+        write_symbol(&message_of_numbers::<LARGEST_ROOM>(items), how, out);
+    } else {
+        write_message(&message_of_numbers::<MESSAGE_ROOM>(items), how, out);
     }
-    write_message(&message_of_numbers(items), how, out);
 }
 
 /// Shows the symbol of the message of these bytes, or why there is none.
@@ -75,13 +83,15 @@ fn write_these_bytes(bytes: &[u8], how: WriteOptions, out: &mut SymbolOut)
 {
     if bytes.len() > LARGEST_ITEMS {
         show_fault(out, Fault::too_long());
-        return;
+    } else if bytes.len() > MOST_ITEMS {
+        write_symbol(&message_of_bytes::<LARGEST_ROOM>(bytes), how, out);
+    } else {
+        write_message(&message_of_bytes::<MESSAGE_ROOM>(bytes), how, out);
     }
-    write_message(&message_of_bytes(bytes), how, out);
 }
 
-/// Shows the symbol in which a message is written, or that it fits no size of the choice. A small square is written as
-/// a grid, which is faster.
+/// Shows the symbol in which a message is written, or that it fits no size of the choice. A square is written as a grid
+/// if it fits one, which is faster.
 fn write_message(message: &Message, how: WriteOptions, out: &mut SymbolOut)
     ensures { IsMessageGiven how.size how.profile message.now out.old out.new }
 {
@@ -106,7 +116,12 @@ pub(crate) fn write_square(message: &Message, profile: Profile, out: &mut Symbol
 }
 
 /// Shows the symbol in which a message is written, of whatever size, or that it fits no size of the choice.
-fn write_symbol(message: &Message, how: WriteOptions, out: &mut SymbolOut)
+pub(crate) fn write_symbol<const ROOM: usize>(
+    message: &MessageIn<ROOM>,
+    how: WriteOptions,
+    out: &mut SymbolOut,
+)
+    requires { ROOM ≤ LARGEST_ROOM }
     ensures { IsMessageGiven how.size how.profile message.now out.old out.new }
 {
     let mut symbol = light_modules();

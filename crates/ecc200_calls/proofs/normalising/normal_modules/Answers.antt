@@ -9,8 +9,8 @@ pub returns-in-Ok : goal.returns-in-Ok
 returns-in-Ok c =
     let message = c.read_symbol_to.new.reading.message in
     normal_of_message c.args.extent c.args.profile c.args.symbol.now (option_map (λ d. d.now) c.args.doubtful)
-    c.args.border_limit message c.args.out.now c.write_square.new.out ((c.in-Ok.ensures.read.message message).0 refl)
-    c.write_square.ensures
+    c.args.border_limit message c.args.out.now c.write_symbol.new.out ((c.in-Ok.ensures.read.message message).0 refl)
+    c.write_symbol.ensures
 
 pub returns-in-Err : goal.returns-in-Err
 returns-in-Err c = record {

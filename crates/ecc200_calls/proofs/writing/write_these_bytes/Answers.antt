@@ -18,7 +18,12 @@ returns-then-bytes-gt-LARGEST_ITEMS c =
       shown = c.show_fault.ensures ∙ ap (λ why. no_symbol why c.args.out.now) c.too_long.ensures;
     }
 
-pub returns-else-bytes-gt-LARGEST_ITEMS : goal.returns-else-bytes-gt-LARGEST_ITEMS
-returns-else-bytes-gt-LARGEST_ITEMS c =
+pub returns-then-bytes-gt-MOST_ITEMS : goal.returns-then-bytes-gt-MOST_ITEMS
+returns-then-bytes-gt-MOST_ITEMS c =
+    writing_given c.args.how.size c.args.how.profile c.args.bytes.now c.message_of_bytes.result c.args.out.now
+    c.write_symbol.new.out c.message_of_bytes.ensures.message c.message_of_bytes.ensures.numbers c.write_symbol.ensures
+
+pub returns-else-bytes-gt-MOST_ITEMS : goal.returns-else-bytes-gt-MOST_ITEMS
+returns-else-bytes-gt-MOST_ITEMS c =
     writing_given c.args.how.size c.args.how.profile c.args.bytes.now c.message_of_bytes.result c.args.out.now
     c.write_message.new.out c.message_of_bytes.ensures.message c.message_of_bytes.ensures.numbers c.write_message.ensures
