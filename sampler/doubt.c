@@ -142,19 +142,19 @@ static struct area gather(struct looks *looks, const struct layout *layout, cons
 
 /* ---- Doubt */
 
-/* Marks the modules of a symbol that the area has, and those beside it, which its edge may cut. */
-static void mark_area(const struct looks *looks, const struct layout *layout, uint8_t *doubtful) {
+/* Marks the modules of a symbol that the area has, and those so near to it. */
+static void mark_area(const struct looks *looks, const struct layout *layout, int beside, uint8_t *doubtful) {
     for (int y = 0; y < layout->extent.high; y++)
         for (int x = 0; x < layout->extent.wide; x++) {
             const uint8_t *at = looks->is_in_area + (y + RING) * looks->extent.wide + x + RING;
-            for (int down = -1; down <= 1; down++)
-                for (int right = -1; right <= 1; right++)
+            for (int down = -beside; down <= beside; down++)
+                for (int right = -beside; right <= beside; right++)
                     doubtful[y * layout->extent.wide + x] |= at[down * looks->extent.wide + right];
         }
 }
 
 /* Marks the flat areas that are torn off, under a blot or in a glare. */
-static void mark_flat(struct looks *looks, const struct layout *layout, const struct levels *levels,
+static void mark_flat(struct looks *looks, const struct layout *layout, const struct levels *levels, int beside,
                       uint8_t *doubtful) {
     find_flat(looks, FLAT * contrast_of(levels));
     for (int k = 0; k < count_of(looks); k++) {
@@ -162,19 +162,19 @@ static void mark_flat(struct looks *looks, const struct layout *layout, const st
             continue;
         struct area area = gather(looks, layout, levels, k);
         if (area.wrong >= LEAST_WRONG || area.is_wide || (area.is_saturated && !levels->is_saturated))
-            mark_area(looks, layout, doubtful);
+            mark_area(looks, layout, beside, doubtful);
     }
 }
 
-int find_doubt(const struct plane *picture, const struct layout *layout, const struct warp *warp, struct looks *room,
-               uint8_t *doubtful) {
+int find_doubt(const struct plane *picture, const struct layout *layout, const struct warp *warp, int beside,
+               struct looks *room, uint8_t *doubtful) {
     struct levels levels;
     int wide = layout->extent.wide, count = 0;
     look(picture, layout, warp, room);
     for (int k = 0; k < wide * layout->extent.high; k++)
         doubtful[k] = room->is_outside[(k / wide + RING) * room->extent.wide + k % wide + RING];
     if (find_levels(room, layout, &levels))
-        mark_flat(room, layout, &levels, doubtful);
+        mark_flat(room, layout, &levels, beside, doubtful);
     for (int k = 0; k < wide * layout->extent.high; k++)
         count += doubtful[k];
     return count;

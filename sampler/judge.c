@@ -185,17 +185,13 @@ static bool try_doubtful(struct trials *trials, bool is_mirrored) {
     return true;
 }
 
-/* Tries a lie once more, without the modules that the picture tells nothing of. */
-static void try_doubt(struct trials *trials, const struct warp *warp, const struct brightnesses *brightnesses) {
+/* Tries a lie once more, with doubtful modules, by all rules for these. False if they don't agree. */
+static bool try_doubt(struct trials *trials, const struct brightnesses *brightnesses) {
     struct judge *judge = trials->judge;
     const struct layout *layout = trials->layout;
     uint8_t colour[MOST_MODULES];
-    int wide = layout->extent.wide, count = wide * layout->extent.high;
     bool is_one = true;
-    if (trials->best_cost >= 0 || clock_reached(judge->end) ||
-        find_doubt(judge->picture, layout, warp, &judge->looks, judge->doubtful) == 0)
-        return;
-    for (int k = 0; k < count; k++)
+    for (int k = 0; k < layout->extent.wide * layout->extent.high; k++)
         colour[k] = judge->doubtful[k] ? UNKNOWN : layout->colour[k];
     for (int k = 0; k < DOUBT_RULE_COUNT && is_one; k++) {
         if (!tell_apart(brightnesses, colour, DOUBT_RULES[k], judge->seen))
@@ -204,9 +200,7 @@ static void try_doubt(struct trials *trials, const struct warp *warp, const stru
         if (is_one && is_square(layout->extent))
             is_one = try_doubtful(trials, true);
     }
-    if (!is_one)
-        trials->best_cost = -1;
-    memset(judge->trial->doubtful, 0, sizeof judge->trial->doubtful);
+    return is_one;
 }
 
 /* ---- The samplings of a placement */
@@ -254,12 +248,21 @@ static void try_bent(struct trials *trials, struct lie *lie, struct brightnesses
     }
 }
 
-/* Tries the placement as it is once more, and bent, without what is known to be damaged. */
+/* Tries the placement as it is once more, without what the picture shows to be damaged: first with what its edges cut,
+ * and then without that, too. */
 static void try_known_damage(struct trials *trials, struct lie *lie, struct brightnesses *brightnesses) {
+    struct judge *judge = trials->judge;
     const struct layout *layout = trials->layout;
     *lie = (struct lie){.region = layout->extent, .warps = {*trials->warp}};
-    sample_modules(trials->judge->picture, layout, lie, 0, 0, brightnesses);
-    try_doubt(trials, trials->warp, brightnesses);
+    for (int beside = 0; beside <= 1 && trials->best_cost < 0 && !clock_reached(judge->end); beside++) {
+        if (find_doubt(judge->picture, layout, trials->warp, beside, &judge->looks, judge->doubtful) == 0)
+            return;
+        if (beside == 0)
+            sample_modules(judge->picture, layout, lie, 0, 0, brightnesses);
+        if (!try_doubt(trials, brightnesses))
+            trials->best_cost = -1;
+    }
+    memset(judge->trial->doubtful, 0, sizeof judge->trial->doubtful);
 }
 
 /* Whether this placement, but for a quarter of a module, was sampled before. If not, it is from now on. */

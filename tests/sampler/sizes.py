@@ -105,13 +105,13 @@ def corners(sampler):
             ("as it is", plain, [(left, top), (right, top), (right, below), (left, below)]),
             ("mirrored", [row[::-1] for row in plain], [(right, top), (left, top), (left, below), (right, below)])):
         said = told(sampler, picture)
-        check(f"corners of {rows} by {columns}, {way}",
-              [[round(place) for place in corner] for corner in said.get("corners", [])], [list(at) for at in places_of])
+        got = [tuple(round(place) for place in corner) for corner in said.get("corners", [])]
+        check(f"corners of {rows} by {columns}, {way}", got, places_of)
 
 
 def marks(sampler):
     """Marks of another encoder in all these sizes, drawn."""
-    with open(places.path("tests", "marks", "every_size.txt"), encoding="ascii") as file:
+    with open(places.path("tests", "marks", "every-size.txt"), encoding="ascii") as file:
         records = [record_of.split("\n") for record_of in file.read().split("\n\n")[1:] if record_of.strip()]
     count = 0
     for at, lines in enumerate(records):

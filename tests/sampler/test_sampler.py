@@ -1,9 +1,9 @@
-"""The sampler, built once as it is and once with the sanitisers: pictures of every size and format, its options, errors
-and statuses, hostile files, and the shared library from C and C++. Nothing is proved here but what the library ecc200
-under it is."""
+"""The sampler, built once as it is and once with the sanitisers: pictures of every size and format, known damage, its
+options, errors and statuses, hostile files, and the shared library from C and C++. Nothing is proved here but what the
+library ecc200 under it is."""
 import os
 
-from tests.sampler import hard, limits, options, reading, sizes, timing
+from tests.sampler import damage, hard, limits, options, reading, sizes, timing
 from tests.sampler.pictures import CAREFUL, left_out, results
 from tests.support import commands, needs, places
 from tests.support.case import Case
@@ -73,6 +73,24 @@ class Sampler(Case):
 
     def test_no_records(self):
         self.told(sizes.no_records, self.sampler)
+
+    def test_outside(self):
+        self.told(damage.outside, self.sampler)
+
+    def test_known_torn(self):
+        self.told(damage.torn, self.sampler)
+
+    def test_known_glare(self):
+        self.told(damage.glare, self.sampler)
+
+    def test_weak(self):
+        self.told(damage.weak, self.sampler)
+
+    def test_margin_with_doubt(self):
+        self.told(damage.margin, self.sampler)
+
+    def test_doubt_is_no_record(self):
+        self.told(damage.no_record, self.sampler)
 
     def test_hard_shadow(self):
         self.told(reading.hard_shadow, self.sampler)
