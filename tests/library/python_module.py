@@ -226,6 +226,22 @@ def grids():
             yield f"{call.__name__} of {name}", said_by(lambda: call(given)), refusal
 
 
+def doubts():
+    """Doubtful modules in rows, which have to be as many and as long as the symbol's."""
+    oblong = Symbol(symbol_of(b"0123456789", 0, ONE, (8, 32))[1], (8, 32))
+    bad, marks = rows(hurt(oblong, 0, 11)), [bytes([1]) * 32] * 8
+    wanted = said_by(lambda: ecc200.read(bad, doubtful=marks))
+    yield "all are doubtful", wanted, refused("BLOCK", 0, 0)
+    for call in (ecc200.read, ecc200.normal, ecc200.inspect):
+        for name, given in (("rows of another number", [bytes(16)] * 16), ("columns and rows", [bytes(8)] * 32),
+                            ("a row less", [bytes(32)] * 7), ("no rows", []), ("no bytes", b""),
+                            ("too few bytes", bytes(255)), ("too many bytes", bytes(257))):
+            got = said_by(lambda: call(rows(oblong), doubtful=given))
+            yield f"{call.__name__} with {name} doubtful", got, refused("DOUBT")
+        for name, given in (("rows", [bytes(32)] * 8), ("bytes", bytes(256)), ("text", ["0" * 32] * 8), ("none", None)):
+            yield f"{call.__name__} with {name}", call(rows(oblong), doubtful=given), call(rows(oblong))
+
+
 # What is written or asked for with numbers that the library can't be given, or with what isn't a number; of a refusal
 # its code, value and place, or its code and place where the number may be told as it is or as the largest.
 NUMBERS = [
@@ -412,8 +428,8 @@ def loading_from(folder):
 
 def tried():
     """Each test's name, and what is wrong or None."""
-    for part in (names, layout, requests, exceptions, texts, defaults, limits, grids, numbers, results, pictures,
-                 loading):
+    for part in (names, layout, requests, exceptions, texts, defaults, limits, grids, doubts, numbers, results,
+                 pictures, loading):
         try:
             for name, got, wanted in part():
                 wrong = None if got == wanted else f"{str(got)[:300]}, and not {str(wanted)[:300]}"
