@@ -115,7 +115,8 @@ pub record Leaves (most : ℕ) (words : List ℕ) (start at n : ℕ) (first new 
   pub so_far : letter_on new (at + n + 1) (drop (at + n) words) ≡ total
 
 -- After a turn of the loop that takes a part, what is read in all is still the same.
-pub goes_on : (most : ℕ) (words : List ℕ) (start at n : ℕ) (first old new : LetterView) (total : Result LetterView LetterFault)
+pub goes_on : (most : ℕ) (words : List ℕ) (start at n : ℕ) (first old new : LetterView)
+    (total : Result LetterView LetterFault)
     → IsBytes words → at ≤ length words
     → IsContentAt most words at old → length old.items + 2 * start ≤ length first.items + 2 * at
     → IsLetterPartTaken (Ok (Some n)) old new (first_letter_part (at + 1) (drop at words))

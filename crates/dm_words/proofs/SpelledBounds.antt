@@ -138,7 +138,8 @@ room_of_two room Wide zero le = omega arith
 room_of_two room Wide (suc count) le = omega (arith, le)
 
 -- Where seven items more than two for each codeword have room, all that is spelled has.
-pub room_for_spelled : (room : ℕ) (extent : Extent) (count : ℕ) → 2 * count + 7 ≤ room → most_spelled extent count ≤ room
+pub room_for_spelled : (room : ℕ) (extent : Extent) (count : ℕ) → 2 * count + 7 ≤ room
+    → most_spelled extent count ≤ room
 room_for_spelled room Usual count le = omega (arith, le)
 room_for_spelled room Wide zero le = omega arith
 room_for_spelled room Wide (suc count) le = le

@@ -19,10 +19,10 @@
 //! and [`letter_words_to()`] give the codewords of a letter. [`head_of()`], [`head_words()`], [`designator_of()`] and
 //! [`designator_words()`] read and write a head or a designator alone.
 //!
-//! Limits: up to [`LARGEST_DATA`] codewords are read and written, those of a square, which are up to [`MOST_DATA`], with
-//! a [`Message`] or a [`Letter`]: it has room for [`MESSAGE_ROOM`] items, of which the usual extent takes
-//! [`MOST_ITEMS`], and [`MOST_MARKS`] marks. A [`MessageIn`] and a [`LetterIn`] have any room: [`LARGEST_ROOM`] and
-//! [`LARGEST_MARKS`] are enough for every symbol.
+//! Limits: up to [`LARGEST_DATA`] codewords are read and written. A square has up to [`MOST_DATA`], for which a
+//! [`Message`] or a [`Letter`] serves: it has room for [`MESSAGE_ROOM`] items, of which the usual extent takes
+//! [`MOST_ITEMS`], and for [`MOST_MARKS`] marks. A [`MessageIn`] and a [`LetterIn`] have any room; for every symbol
+//! [`LARGEST_ROOM`] and [`LARGEST_MARKS`] are enough.
 //!
 //! A *target* is memory that the caller hands in. What the contracts say is defined in `specs/`; [`laws`] has what
 //! holds of the definitions. No call allocates memory.

@@ -27,10 +27,10 @@ pub struct WriteOptions {
 }
 
 /// Writes a message of any room up to [`LARGEST_ROOM`] (ISO/IEC 16022, symbol construction): after `Ok`, `modules`,
-/// whatever they were before, are the symbol of the codewords that the profile chooses, pads and check codewords, in the
-/// smallest size of the choice that holds them: the one of the smallest area, and of those of equal area the one with
-/// the fewest columns. The fault is `TooLong` exactly where no size of the choice holds them; then `modules` are as they
-/// were. The work is that of the codewords, and a look at each module.
+/// whatever they were before, are the symbol of the codewords that the profile chooses, pads and check codewords, in
+/// the smallest size of the choice that holds them: the one of the smallest area, and of those of equal area the one
+/// with the fewest columns. The fault is `TooLong` exactly where no size of the choice holds them; then `modules` are
+/// as they were. The work is that of the codewords, and a look at each module.
 pub fn write_symbol_to<const ROOM: usize>(
     message: &MessageIn<ROOM>,
     how: WriteOptions,

@@ -8,8 +8,9 @@ use Rattle.dm_words.proofs.letters.reading.add_letter_parts.Goals as goal
 pub overflow_add-at : goal.overflow_add-at
 overflow_add-at g c =
     let v = c.loop-count.invariant in
-    let r = goes_on g.row.ROOM c.args.words.now c.args.start c.loop-count.at c.in-Some.count (content_view c.args.content.now)
-    (content_view c.loop-count.content) (content_view c.next_letter_part.new.content)
+    let r = goes_on g.row.ROOM c.args.words.now c.args.start c.loop-count.at c.in-Some.count
+    (content_view c.args.content.now) (content_view c.loop-count.content)
+    (content_view c.next_letter_part.new.content)
     (letter_on (content_view c.args.content.now) (c.args.start + 1) (drop c.args.start c.args.words.now))
     (λ i. omega (arith, c.type_inv.words i)) v.in_range v.content v.count (rw c.in-Some.is at c.in_ok-count.ensures)
     v.so_far in
@@ -18,8 +19,9 @@ overflow_add-at g c =
 pub loop-count-preserved : goal.loop-count-preserved
 loop-count-preserved g c =
     let v = c.loop-count.invariant in
-    let r = goes_on g.row.ROOM c.args.words.now c.args.start c.loop-count.at c.in-Some.count (content_view c.args.content.now)
-    (content_view c.loop-count.content) (content_view c.next_letter_part.new.content)
+    let r = goes_on g.row.ROOM c.args.words.now c.args.start c.loop-count.at c.in-Some.count
+    (content_view c.args.content.now) (content_view c.loop-count.content)
+    (content_view c.next_letter_part.new.content)
     (letter_on (content_view c.args.content.now) (c.args.start + 1) (drop c.args.start c.args.words.now))
     (λ i. omega (arith, c.type_inv.words i)) v.in_range v.content v.count (rw c.in-Some.is at c.in_ok-count.ensures)
     v.so_far in
@@ -28,8 +30,9 @@ loop-count-preserved g c =
 pub loop-count-smaller : goal.loop-count-smaller
 loop-count-smaller g c =
     let v = c.loop-count.invariant in
-    let r = goes_on g.row.ROOM c.args.words.now c.args.start c.loop-count.at c.in-Some.count (content_view c.args.content.now)
-    (content_view c.loop-count.content) (content_view c.next_letter_part.new.content)
+    let r = goes_on g.row.ROOM c.args.words.now c.args.start c.loop-count.at c.in-Some.count
+    (content_view c.args.content.now) (content_view c.loop-count.content)
+    (content_view c.next_letter_part.new.content)
     (letter_on (content_view c.args.content.now) (c.args.start + 1) (drop c.args.start c.args.words.now))
     (λ i. omega (arith, c.type_inv.words i)) v.in_range v.content v.count (rw c.in-Some.is at c.in_ok-count.ensures)
     v.so_far in

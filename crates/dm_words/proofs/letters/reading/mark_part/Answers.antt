@@ -7,7 +7,8 @@ use Rattle.dm_words.proofs.letters.reading.mark_part.Goals as goal
 
 pub returns-in-Some : goal.returns-in-Some
 returns-in-Some g c =
-    mark_found (c.args.at + 1) _ c.in-Some.designator (content_view c.args.content.now) (content_view c.add_mark.new.self)
+    mark_found (c.args.at + 1) _ c.in-Some.designator (content_view c.args.content.now)
+    (content_view c.add_mark.new.self)
     (ap first_designator (sym (take_rest c.args.words.now (c.args.at + 1))) ∙ sym c.first_designator.ensures
     ∙ c.in-Some.is) refl
     c.add_mark.ensures.message c.add_mark.ensures.marks

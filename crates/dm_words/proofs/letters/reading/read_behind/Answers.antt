@@ -6,13 +6,14 @@ use Rattle.dm_words.proofs.letters.reading.read_behind.Goals as goal
 
 pub add_opening-requires : goal.add_opening-requires
 add_opening-requires g c =
-    let r = (opening_room c.args.words.now c.args.found c.requires.found).room g.row.ROOM c.requires.room in
-    (search rules, rw c.requires.no_item (omega (arith, r, (opening_room c.args.words.now c.args.found c.requires.found).in_range)))
+    let o = opening_room c.args.words.now c.args.found c.requires.found in
+    (search rules, rw c.requires.no_item (omega (arith, o.room g.row.ROOM c.requires.room, o.in_range)))
 
 pub add_letter_parts-requires : goal.add_letter_parts-requires
 add_letter_parts-requires g c =
     let b = begins_at g.row.ROOM c.args.words.now c.args.found c.args.content.now.message c.add_opening.new.message
-    c.args.content.now.marks.items c.args.content.now.marks.items c.requires.found c.requires.room c.requires.no_item c.requires.no_mark c.add_opening.ensures refl in (
+    c.args.content.now.marks.items c.args.content.now.marks.items c.requires.found c.requires.room
+    c.requires.no_item c.requires.no_mark c.add_opening.ensures refl in (
       search rules,
       (
         (opening_room c.args.words.now c.args.found c.requires.found).in_range,

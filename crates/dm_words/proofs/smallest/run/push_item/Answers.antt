@@ -20,4 +20,5 @@ push_values-requires g c =
     )
 
 pub returns : goal.returns
-returns g c = (c.values_of-values.result.items, c.values_of-values.ensures, rw c.deref.ensures.0 at c.push_values.ensures)
+returns g c =
+    (c.values_of-values.result.items, c.values_of-values.ensures, rw c.deref.ensures.0 at c.push_values.ensures)

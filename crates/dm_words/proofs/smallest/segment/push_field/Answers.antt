@@ -15,9 +15,11 @@ returns-else-count-gt-MOST_SHORT g c =
           (let other : length c.args.words.now.items + 1 + c.args.count ≢ c.args.total =
           omega (arith, w.len.ensures.value, w.if-len-count.false) in
           field_of_count c.args.total c.args.count c.args.words.now.items c.push_length.new.words.items
-          c.requires.some (omega (arith, c.requires.total, c.requires.most)) (inr other) c.requires.room c.push_length.ensures)
+          c.requires.some (omega (arith, c.requires.total, c.requires.most)) (inr other) c.requires.room
+          c.push_length.ensures)
       | else-count-gt-MOST_SHORT-via-else-count-gt-MOST_SHORT w ↦
           field_of_count c.args.total c.args.count c.args.words.now.items c.push_length.new.words.items
-          c.requires.some (omega (arith, c.requires.total, c.requires.most)) (inl w.if-count-gt-MOST_SHORT.false) c.requires.room
+          c.requires.some (omega (arith, c.requires.total, c.requires.most))
+          (inl w.if-count-gt-MOST_SHORT.false) c.requires.room
           c.push_length.ensures
     ]
