@@ -3,23 +3,12 @@
 //! grid says, or a [`NormalFault`]; and [`inspect()`] the codewords of a grid before and after correction, an
 //! [`Inspection`].
 //!
-//! What is read depends on an [`Extent`], and which normal grid a message has on a [`Profile`]. A name with `_as` takes
-//! the one of these that the name without it has as [`Extent::Usual`] or [`Profile::Ascii`], and a name with `_to`
-//! leaves in a target, memory that the caller hands in, what the name without it returns by value, so that one
-//! [`Reading::new()`] and one [`light_grid()`] serve any number of symbols:
-//!
-//! | | by value | in a target |
-//! |---|---|---|
-//! | read, usual extent | [`read()`] | [`read_to()`] |
-//! | read, any extent | [`read_as()`] | [`read_as_to()`] |
-//! | write, ASCII profile | [`write()`] | |
-//! | write, any profile | [`write_as()`] | [`write_to()`] |
-//! | normalise, usual extent and ASCII profile | [`normal()`] | |
-//! | normalise, usual extent, any profile | [`normal_as()`] | [`normal_to()`] |
-//! | normalise, any extent, any profile | [`normal_read_as()`] | [`normal_read_as_to()`] |
-//!
-//! There are no calls that write into a target under the ASCII profile alone, so `write_to` and `normal_to` take the
-//! profile. [`usual_limit()`] is the number of wrong border modules that is usually accepted.
+//! What is read depends on an [`Extent`], and which normal grid a message has on a [`Profile`]. [`read_to()`],
+//! [`write_to()`] and [`normal_to()`] take these, and leave their result in a target, memory that the caller hands in,
+//! so that one [`Reading::new()`] and one [`light_grid()`] serve any number of symbols. The others return it by value:
+//! [`read()`], [`normal()`] and [`normal_as()`] for [`Extent::Usual`], [`write()`] and [`normal()`] for
+//! [`Profile::Ascii`], [`write_as()`] and [`normal_as()`] for any profile. [`usual_limit()`] is the number of wrong
+//! border modules that is usually accepted.
 //!
 //! These calls are for squares of 10 to 104 rows. Symbols of every size, squares and rectangles, are [`Modules`] of a
 //! [`SymbolSize`]. [`read_symbol_to()`] leaves what they say in a [`SymbolReading`], with a [`BlockReading`] for each
@@ -58,10 +47,8 @@ pub use dm_words::{
 };
 pub use inspection::{Inspection, inspect};
 pub use limit::usual_limit;
-pub use normalising::{
-    NormalFault, normal, normal_as, normal_read_as, normal_read_as_to, normal_to,
-};
-pub use reading::{ReadFault, Reading, read, read_as, read_as_to, read_to};
+pub use normalising::{NormalFault, normal, normal_as, normal_to};
+pub use reading::{ReadFault, Reading, read, read_to};
 pub use symbol::inspection::{SymbolInspection, inspect_symbol_to};
 pub use symbol::normalising::normal_symbol_to;
 pub use symbol::reading::{BlockReading, ReadOptions, SymbolReading, read_symbol_to};

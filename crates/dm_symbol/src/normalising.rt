@@ -2,7 +2,7 @@
 
 ghost use Rattle.dm_symbol.specs.Normal.{IsNormalised, IsNormalisedTo};
 
-use crate::reading::{ReadFault, Reading, read_as_to};
+use crate::reading::{ReadFault, Reading, read_to};
 use crate::writing::{light_grid, write_to};
 use dm_layout::Grid;
 use dm_words::{Extent, Profile, TooLong};
@@ -24,45 +24,15 @@ pub fn normal(grid: &Grid, border_limit: u16) -> Result<Grid, NormalFault>
     normal_as(Profile::Ascii, grid, border_limit)
 }
 
-/// Gives the normal grid, under a profile, of the message that the grid says in the usual extent: what
-/// [`normal_read_as`] gives for [`Extent::Usual`].
+/// Gives the normal grid, under a profile, of the message that the grid says in the usual extent: what [`normal_to`]
+/// leaves for [`Extent::Usual`].
 pub fn normal_as(profile: Profile, grid: &Grid, border_limit: u16) -> Result<Grid, NormalFault>
     ensures { IsNormalised Extent.Usual profile grid.now border_limit result }
 {
-    normal_read_as(Extent::Usual, profile, grid, border_limit)
-}
-
-/// Does the same as [`normal_as`] in a target: what [`normal_read_as_to`] does for [`Extent::Usual`].
-pub fn normal_to(
-    profile: Profile,
-    grid: &Grid,
-    border_limit: u16,
-    reading: &mut Reading,
-    normal: &mut Grid,
-) -> Result<(), NormalFault>
-    ensures { IsNormalisedTo Extent.Usual profile grid.now border_limit result
-        reading.new normal.old normal.new }
-{
-    normal_read_as_to(Extent::Usual, profile, grid, border_limit, reading, normal)
-}
-
-/// Gives the normal grid, under a profile, of the message that the grid says in an extent, whatever its size,
-/// encodation and damage. Two grids that are read, in whatever extents, have equal normal grids under one profile
-/// exactly where they say the same, and a normal grid is its own. The fault is `Read` where
-/// [`read_as`](crate::read_as()) refuses the grid in this extent, with its fault, and `TooLong` where
-/// [`write_as`](crate::write_as()) refuses the message under this profile.
-pub fn normal_read_as(
-    extent: Extent,
-    profile: Profile,
-    grid: &Grid,
-    border_limit: u16,
-) -> Result<Grid, NormalFault>
-    ensures { IsNormalised extent profile grid.now border_limit result }
-{
     let mut reading = Reading::new();
     let mut normal = light_grid();
-    match normal_read_as_to(
-        extent,
+    match normal_to(
+        Extent::Usual,
         profile,
         grid,
         border_limit,
@@ -74,10 +44,15 @@ pub fn normal_read_as(
     }
 }
 
-/// Does the same as [`normal_read_as`] in a target: after `Ok`, `normal` holds the normal grid and `reading` what the
-/// grid says, whatever they held before. After a fault `normal` is as it was; `reading` holds what the grid says after
-/// `TooLong` too, and some reading after `Read`.
-pub fn normal_read_as_to(
+/// Turns `normal` into the normal grid, under a profile, of the message that the grid says in an extent, whatever its
+/// size, encodation and damage. Two grids that are read, in whatever extents, have equal normal grids under one profile
+/// exactly where they say the same, and a normal grid is its own. The fault is `Read` where
+/// [`read_to`](crate::read_to()) refuses the grid in this extent, with its fault, and `TooLong` where
+/// [`write_to`](crate::write_to()) refuses the message under this profile.
+///
+/// After `Ok`, `normal` holds the normal grid and `reading` what the grid says, whatever they held before. After a
+/// fault `normal` is as it was; `reading` holds what the grid says after `TooLong` too, and some reading after `Read`.
+pub fn normal_to(
     extent: Extent,
     profile: Profile,
     grid: &Grid,
@@ -88,7 +63,7 @@ pub fn normal_read_as_to(
     ensures { IsNormalisedTo extent profile grid.now border_limit result
         reading.new normal.old normal.new }
 {
-    match read_as_to(extent, grid, border_limit, reading) {
+    match read_to(extent, grid, border_limit, reading) {
         Ok(()) => {}
         Err(fault) => return Err(NormalFault::Read(fault)),
     }

@@ -35,7 +35,7 @@ pub enum ReadFault {
 }
 
 impl Reading {
-    /// Gives the reading of an empty message, with nothing corrected, into which [`read_as_to`] can read.
+    /// Gives the reading of an empty message, with nothing corrected, into which [`read_to`] can read.
     pub fn new() -> Reading
         ensures { result ≡ reading_of [] [] 0 }
     {
@@ -47,20 +47,15 @@ impl Reading {
     }
 }
 
-/// Reads a grid in the usual extent: what [`read_as`] gives for [`Extent::Usual`].
+/// Gives what a grid says in the usual extent: what [`read_to`] leaves for [`Extent::Usual`].
 pub fn read(grid: &Grid, border_limit: u16) -> Result<Reading, ReadFault>
     ensures read { IsRead Extent.Usual grid.now border_limit result }
 {
-    read_as(Extent::Usual, grid, border_limit)
-}
-
-/// Does the same as [`read`] in a target: what [`read_as_to`] does for [`Extent::Usual`].
-pub fn read_to(grid: &Grid, border_limit: u16, reading: &mut Reading) -> Result<(), ReadFault>
-    ensures read { IsRead Extent.Usual grid.now border_limit (outcome result reading.new) }
-    ensures same { (count : ℕ) → result ≡ Err (ReadFault.Border count)
-        → reading.new ≡ reading.old }
-{
-    read_as_to(Extent::Usual, grid, border_limit, reading)
+    let mut reading = Reading::new();
+    match read_to(Extent::Usual, grid, border_limit, &mut reading) {
+        Ok(()) => Ok(reading),
+        Err(fault) => Err(fault),
+    }
 }
 
 /// Reads a grid in an extent (ISO/IEC 16022, decode algorithm): refuses it if more than `border_limit` modules of its
@@ -69,21 +64,11 @@ pub fn read_to(grid: &Grid, border_limit: u16, reading: &mut Reading) -> Result<
 /// fault. The fixed square isn't looked at, nor is what follows the first pad. The grid is taken to be upright. A grid
 /// with more damage may be near the codewords of another message, and is then read as that message. What is read at
 /// [`Extent::Usual`] is read at [`Extent::Wide`] as the same.
-pub fn read_as(extent: Extent, grid: &Grid, border_limit: u16) -> Result<Reading, ReadFault>
-    ensures read { IsRead extent grid.now border_limit result }
-{
-    let mut reading = Reading::new();
-    match read_as_to(extent, grid, border_limit, &mut reading) {
-        Ok(()) => Ok(reading),
-        Err(fault) => Err(fault),
-    }
-}
-
-/// Does the same as [`read_as`] in a target: after `Ok`, `reading` holds what the grid says, whatever it held before.
-/// After `Border` it is as it was, and after another fault it holds some reading. One `Reading` serves any number of
-/// grids, and isn't cleared for the largest symbol; the codewords are, [`MOST_CODEWORDS`](dm_layout::MOST_CODEWORDS)
-/// bytes a call.
-pub fn read_as_to(
+///
+/// After `Ok`, `reading` holds what the grid says, whatever it held before. After `Border` it is as it was, and after
+/// another fault it holds some reading. One `Reading` serves any number of grids, and isn't cleared for the largest
+/// symbol; the codewords are, [`MOST_CODEWORDS`](dm_layout::MOST_CODEWORDS) bytes a call.
+pub fn read_to(
     extent: Extent,
     grid: &Grid,
     border_limit: u16,

@@ -143,7 +143,11 @@ pub(crate) fn normal_as(profile: Profile, grid: &Grid, limit: u16) -> Result<Gri
 }
 
 pub(crate) fn read_as(extent: Extent, grid: &Grid, limit: u16) -> Result<Reading, ReadFault> {
-    dm_symbol::read_as(extent, grid, limit)
+    let mut reading = Reading::new();
+    match dm_symbol::read_to(extent, grid, limit, &mut reading) {
+        Ok(()) => Ok(reading),
+        Err(fault) => Err(fault),
+    }
 }
 
 pub(crate) fn normal_read_as(
@@ -152,5 +156,10 @@ pub(crate) fn normal_read_as(
     grid: &Grid,
     limit: u16,
 ) -> Result<Grid, NormalFault> {
-    dm_symbol::normal_read_as(extent, profile, grid, limit)
+    let mut reading = Reading::new();
+    let mut normal = light_grid();
+    match dm_symbol::normal_to(extent, profile, grid, limit, &mut reading, &mut normal) {
+        Ok(()) => Ok(normal),
+        Err(fault) => Err(fault),
+    }
 }

@@ -2,7 +2,7 @@
 //! run.
 
 use super::*;
-use dm_symbol::{Extent, MESSAGE_ROOM, light_grid, normal_read_as_to, read_as_to};
+use dm_symbol::{Extent, MESSAGE_ROOM, light_grid, normal_to, read_to};
 
 /// Sides, data codewords, the fault with which the usual extent refuses them, and the bytes that the wide extent reads.
 static ROWS: [(u16, &[u8], WordFault, &[u8]); 6] = [
@@ -42,7 +42,7 @@ static ROWS: [(u16, &[u8], WordFault, &[u8]); 6] = [
 /// Whether reading in this extent leaves the same reading in a place.
 fn leaves(extent: Extent, grid: &Grid, reading: &Reading) -> bool {
     let mut place = Reading::new();
-    read_as_to(extent, grid, 0, &mut place).is_ok() && place == *reading
+    read_to(extent, grid, 0, &mut place).is_ok() && place == *reading
 }
 
 /// Whether the grid says these bytes in an extent.
@@ -56,7 +56,7 @@ fn says_in(extent: Extent, grid: &Grid, text: &[u8]) -> bool {
 /// Whether this is left as the normal grid of the grid in an extent.
 fn leaves_normal(extent: Extent, grid: &Grid, expected: &Grid) -> bool {
     let (mut reading, mut place) = (Reading::new(), light_grid());
-    let done = normal_read_as_to(extent, Profile::Ascii, grid, 0, &mut reading, &mut place);
+    let done = normal_to(extent, Profile::Ascii, grid, 0, &mut reading, &mut place);
     done.is_ok() && same(&place, expected)
 }
 

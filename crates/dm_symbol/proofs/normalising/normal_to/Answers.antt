@@ -2,7 +2,7 @@ use Rattle.std.proofs.Common.{refl}
 use Rattle.std.proofs.lemmas.Bool.{false≢true}
 use Rattle.dm_symbol.specs.Normal.{NormalResult}
 use Rattle.dm_symbol.proofs.NormalReadings.{is_normalised}
-use Rattle.dm_symbol.proofs.normalising.normal_read_as_to.Goals as goal
+use Rattle.dm_symbol.proofs.normalising.normal_to.Goals as goal
 
 pub returns-in-Err : goal.returns-in-Err
 returns-in-Err c = record {
@@ -19,9 +19,9 @@ returns-in-Ok-write_to c = record {
       is_normalised c.args.extent c.args.profile c.args.grid.now c.args.border_limit _
       (NormalResult.normal c.write_to.new.grid
       (record {
-        message = c.read_as_to.new.reading.message;
+        message = c.read_to.new.reading.message;
         read =
-            (c.in-Ok.ensures.read.message c.read_as_to.new.reading.message).0 refl;
+            (c.in-Ok.ensures.read.message c.read_to.new.reading.message).0 refl;
         normal_grid =
             c.in-Ok-write_to.ensures.written.normal;
       }) refl);
@@ -36,9 +36,9 @@ returns-in-Err-write_to c = record {
       is_normalised c.args.extent c.args.profile c.args.grid.now c.args.border_limit _
       (NormalResult.too_long
       (record {
-        message = c.read_as_to.new.reading.message;
+        message = c.read_to.new.reading.message;
         read =
-            (c.in-Ok.ensures.read.message c.read_as_to.new.reading.message).0 refl;
+            (c.in-Ok.ensures.read.message c.read_to.new.reading.message).0 refl;
         too_long =
             λ fits. false≢true (c.in-Err-write_to.ensures.written.fits.1 fits);
       }) refl);

@@ -7,7 +7,7 @@ use Rattle.dm_words.specs.Refused.{Refused}
 use Rattle.dm_words.proofs.Exported.{room_for_spelled}
 use Rattle.dm_symbol.proofs.SizeFacts.{size_facts}
 use Rattle.dm_symbol.proofs.ReadSteps.{block_result, words_result, message_result, is_read}
-use Rattle.dm_symbol.proofs.reading.read_as_to.Goals as goal
+use Rattle.dm_symbol.proofs.reading.read_to.Goals as goal
 
 pub message_to_as-requires : goal.message_to_as-requires
 message_to_as-requires c =
