@@ -4,7 +4,8 @@ use Rattle.std.specs.Prelude.{◌≡◌, ℕ, ◌+◌, ◌-◌, ◌*◌, ◌/◌
 use Rattle.std.specs.Prelude.{nat_le, Option, Some, find, All, Any}
 use Rattle.dm_place.specs.Sides.{SidesRow, sides_of, sides_table, row_with_sides}
 use Rattle.dm_modules.specs.declared.size.SizeChoice.{SizeChoice}
-use Rattle.dm_modules.specs.declared.size.SizeChoice.TheVariants.{Square, Rectangle, AnyRectangle, Any as AnySize, Exact}
+use Rattle.dm_modules.specs.declared.size.SizeChoice.TheVariants.{Square, Rectangle, AnyRectangle, Any as AnySize}
+use Rattle.dm_modules.specs.declared.size.SizeChoice.TheVariants.{Exact}
 
 -- A size is an entry of the table.
 pub record SizeEntry : Type 0 where

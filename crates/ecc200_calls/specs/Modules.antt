@@ -1,5 +1,6 @@
 -- Modules as lists of numbers, one for each module, row by row from the top.
-use Rattle.std.specs.Prelude.{◌≡◌, ◌≢◌, ℕ, ◌*◌, Bool, if◌then◌else◌, List, [], map, flat_map, length, Option, Some, None}
+use Rattle.std.specs.Prelude.{◌≡◌, ◌≢◌, ℕ, ◌*◌, Bool, if◌then◌else◌, List, [], map, flat_map, length, Option, Some}
+use Rattle.std.specs.Prelude.{None}
 use Rattle.std.specs.Prelude.{IsNone}
 use Rattle.dm_modules.specs.Sizes.{entry_with}
 use Rattle.dm_modules.specs.Modules.{ModulesView, is_dark_number, rows_of}

@@ -1,5 +1,6 @@
 -- What the library gives for a message that is to be written, and for a symbol that is to be normalised.
-use Rattle.std.specs.Prelude.{◌≡◌, ◌≢◌, ℕ, ◌*◌, List, length, nat_eq, if◌then◌else◌, Option, Some, None, get_or, min, Result, Ok, Err}
+use Rattle.std.specs.Prelude.{◌≡◌, ◌≢◌, ℕ, ◌*◌, List, length, nat_eq, if◌then◌else◌, Option, Some, None, get_or, min}
+use Rattle.std.specs.Prelude.{Result, Ok, Err}
 use Rattle.dm_symbol.specs.declared.Extent.{Extent}
 use Rattle.dm_symbol.specs.declared.Item.{Item}
 use Rattle.dm_symbol.specs.declared.Profile.{Profile}

@@ -15,7 +15,7 @@ use crate::writing::{write_square, write_symbol};
 use dm_modules::Modules;
 use dm_symbol::{
     Extent, Profile, ReadOptions, Reading, SizeChoice, SymbolReading, WriteOptions, light_grid,
-    read_as_to, read_symbol_to,
+    read_to, read_symbol_to,
 };
 
 /// Writes the normal symbol of what the symbol of these modules, of which these are doubtful, says in an extent.
@@ -101,7 +101,7 @@ fn normal_square(
             // For the proof alone: what `size` ensures says that it is a grid.
             let _size = grid.size();
             let mut reading = Reading::new();
-            match read_as_to(extent, &grid, border_limit, &mut reading) {
+            match read_to(extent, &grid, border_limit, &mut reading) {
                 Ok(()) => write_square(&reading.message, profile, out),
                 Err(why) => show_fault(out, read_fault(why)),
             }

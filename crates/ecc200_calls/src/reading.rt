@@ -18,7 +18,7 @@ use crate::modules::{light_modules, make_doubtful, make_modules};
 use crate::squares::{is_plain_square, make_grid};
 use dm_modules::{MOST_BLOCKS, Modules};
 use dm_symbol::{BlockReading, Extent, ReadOptions, Reading, SymbolReading, light_grid};
-use dm_symbol::{read_as_to, read_symbol_to};
+use dm_symbol::{read_to, read_symbol_to};
 use dm_words::LARGEST_ROOM;
 
 /// What a symbol says, and how much of it was wrong. After a fault all but the fault and the arrays is 0.
@@ -118,7 +118,7 @@ fn read_square(
         Ok(()) => {
             let checks = grid.size().block_check() as u8;
             let mut reading = Reading::new();
-            match read_as_to(extent, &grid, border_limit, &mut reading) {
+            match read_to(extent, &grid, border_limit, &mut reading) {
                 Ok(()) => show_square_reading(out, side, checks, &reading),
                 Err(why) => show_fault(out, read_fault(why)),
             }

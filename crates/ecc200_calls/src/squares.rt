@@ -1,7 +1,8 @@
 //! Squares that are read and written as grids: their modules as bytes, row by row from the top. They are packed and
 //! unpacked sixteen at once.
 
-ghost use Rattle.std.specs.Prelude.{◌≡◌, ◌+◌, ◌*◌, ◌^◌, ◌≤◌, ◌<◌, ◌≢◌, ◌++◌, ℕ, [], drop, get_or, length, map, take, IfErr};
+ghost use Rattle.std.specs.Prelude.{◌≡◌, ◌+◌, ◌*◌, ◌^◌, ◌≤◌, ◌<◌, ◌≢◌, ◌++◌, ℕ, [], drop, get_or, length, map, take};
+ghost use Rattle.std.specs.Prelude.{IfErr};
 ghost use Rattle.std.specs.Prelude.{IsSome, IsTrue, OnOk};
 ghost use Rattle.dm_symbol.specs.Sizes.{row_with_side};
 ghost use Rattle.dm_symbol.specs.Grid.{is_dark_in, symbol_modules};

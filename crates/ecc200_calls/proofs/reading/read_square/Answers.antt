@@ -10,10 +10,10 @@ use Rattle.ecc200_calls.proofs.Given.{none_given}
 use Rattle.ecc200_calls.proofs.SquareReadings.{given_as_symbol}
 use Rattle.ecc200_calls.proofs.reading.read_square.Goals as goal
 
-pub returns-in-Ok-read_as_to : goal.returns-in-Ok-read_as_to
-returns-in-Ok-read_as_to c =
+pub returns-in-Ok-read_to : goal.returns-in-Ok-read_to
+returns-in-Ok-read_to c =
     let grid = c.make_grid.new.grid in
-    let reading = c.read_as_to.new.reading in
+    let reading = c.read_to.new.reading in
     let checks : c.block_check.result ≡ block_check grid.size =
     c.block_check.ensures.value ∙ ap block_check c.size.ensures.value in
     ExtentResult.of_symbol (symbol_modules grid) None
@@ -21,21 +21,21 @@ returns-in-Ok-read_as_to c =
     (record {
       result = symbol_result (block_check grid.size) (Ok reading);
       result_is = result_of_symbol c.args.extent grid c.args.border_limit (Ok reading) c.size.ensures.grid
-          c.in-Ok-read_as_to.ensures.read.result_is;
+          c.in-Ok-read_to.ensures.read.result_is;
       shown = c.show_square_reading.ensures
           ∙ ap (λ k. square_reading_shown c.args.side k reading c.args.out.now) checks
           ∙ given_as_symbol c.args.side (block_check grid.size) reading c.args.out.now;
     })
 
-pub returns-in-Err-read_as_to : goal.returns-in-Err-read_as_to
-returns-in-Err-read_as_to c =
+pub returns-in-Err-read_to : goal.returns-in-Err-read_to
+returns-in-Err-read_to c =
     let grid = c.make_grid.new.grid in
     ExtentResult.of_symbol (symbol_modules grid) None
     (none_given c.args.side c.args.side c.args.modules.now [] (symbol_modules grid) c.in-Ok.ensures.grid refl)
     (record {
-      result = Err c.in-Err-read_as_to.why;
-      result_is = result_of_symbol c.args.extent grid c.args.border_limit (Err c.in-Err-read_as_to.why)
-          c.size.ensures.grid c.in-Err-read_as_to.ensures.read.result_is;
+      result = Err c.in-Err-read_to.why;
+      result_is = result_of_symbol c.args.extent grid c.args.border_limit (Err c.in-Err-read_to.why)
+          c.size.ensures.grid c.in-Err-read_to.ensures.read.result_is;
       shown = c.show_fault.ensures ∙ ap (λ why. no_reading why c.args.out.now) c.read_fault.ensures;
     })
 
