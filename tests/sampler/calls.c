@@ -28,6 +28,7 @@ int main(int count, char **words) {
         return 2;
     uint8_t text[ECC200_MOST_ITEMS];
     size_t length = ecc200_text(&symbols[0].reading, text, sizeof text, NULL);
-    printf("%d %d %.*s %.1f", symbols[0].rows, symbols[0].columns, (int)length, (const char *)text, symbols[0].corners[0].x);
+    printf("%d %d %.*s %.1f", symbols[0].rows, symbols[0].columns, (int)length, (const char *)text,
+           symbols[0].corners[0].x);
     return 0;
 }

@@ -154,7 +154,8 @@ column_in : (size : SizeEntry) (k j : ℕ) → j < size.region_columns + 2 →
 column_in size k j l = mod-mul-add k (size.region_columns + 2) j l
 
 -- The left module of a region is dark in each row.
-pub left_colour : (size : SizeEntry) (row k : ℕ) → border_colour size row (k * (size.region_columns + 2) + 0) ≡ Some true
+pub left_colour : (size : SizeEntry) (row k : ℕ)
+    → border_colour size row (k * (size.region_columns + 2) + 0) ≡ Some true
 left_colour size row k =
     let both =
     left_edge size.region_rows size.region_columns (row % (size.region_rows + 2))

@@ -1,5 +1,5 @@
-//! Modules of a symbol drawn from the cells of its mapping matrix, and these cells read back, row by row: ISO/IEC 16022,
-//! symbol structure.
+//! Modules of a symbol drawn from the cells of its mapping matrix, and these cells read back, row by row: ISO/IEC
+//! 16022, symbol structure.
 
 ghost use Rattle.std.specs.Prelude.{◌≡◌, ℕ, false, ◌+◌, ◌-◌, ◌*◌, ◌/◌, ◌%◌, ◌<◌, ◌≤◌, get_or, length, nat_eq};
 ghost use Rattle.dm_place.specs.Border.{HasFixedSquare};

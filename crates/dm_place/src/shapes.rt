@@ -31,7 +31,8 @@ pub(crate) struct Steps {
     /// The sum of row and column of the anchors that come next.
     sum: u16,
     part: Part,
-    /// The column in which the next anchor of an even row may lie, an even one, or the row of the next one of an odd row.
+    /// The column in which the next anchor of an even row may lie, an even one, or the row of the next one of an odd
+    /// row.
     index: u16,
 }
 

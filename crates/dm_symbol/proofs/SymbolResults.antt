@@ -140,7 +140,8 @@ module _ (grid : GridView) (g : IsGrid grid) where
       (held_by grid.size grid.rows size grid.rows are words held) (first_lost words b first)
       (ap (symbol_result (block_check grid.size)) e)
   of_symbol extent limit result (ReadResult.words words codewords why few h refused e) =
-      SymbolReadResult.words words codewords why (subst (λ n. n ≤ limit) faults few) (restored words codewords h) refused
+      SymbolReadResult.words words codewords why (subst (λ n. n ≤ limit) faults few)
+      (restored words codewords h) refused
       (ap (symbol_result (block_check grid.size)) e)
   of_symbol extent limit result (ReadResult.message words codewords m few h spelled e) =
       SymbolReadResult.message words codewords m (subst (λ n. n ≤ limit) faults few) (restored words codewords h)

@@ -30,8 +30,8 @@ abbrev pub edge_colour : Bool → ℕ → Bool
 edge_colour solid column = solid || nat_eq (column % 2) 0
 
 -- In a row between the top and the bottom of its regions, which have so many columns, module k of a region with its
--- border is dark at the left, has the colour of the border at the right, and lies in between at a cell of the row of the
--- mapping matrix.
+-- border is dark at the left, has the colour of the border at the right, and lies in between at a cell of the row of
+-- the mapping matrix.
 abbrev pub region_colour : List Bool → ℕ → ℕ → Bool → ℕ → Bool
 region_colour cells region width end k =
     if nat_eq k 0 then true else (if nat_eq k (width + 1) then end else get_or cells (region * width + (k - 1)) false)

@@ -30,7 +30,8 @@ lay-requires-clause-row c =
 
 pub returns : goal.returns
 returns c =
-    laid_by c.args.words.now c.draw.new.modules c.size-size.result c.mapping_rows-rows.result c.mapping_columns-columns.result
+    laid_by c.args.words.now c.draw.new.modules c.size-size.result c.mapping_rows-rows.result
+    c.mapping_columns-columns.result
     c.list.result.now c.lay.new.cells c.size-size.ensures.words c.size-size.ensures.value
     c.draw.ensures.size c.draw.ensures.modules c.mapping_rows-rows.ensures.value c.mapping_columns-columns.ensures.value
     c.list.ensures.value c.lay.ensures.holds c.draw.ensures.colours

@@ -12,7 +12,8 @@ loop-row-preserved c =
     let e = c.put_structure_row.ensures in
     record {
       put =
-          row_put c.loop-row.places c.put_structure_row.new.places row s.columns (structure_place s) e.put e.before i.put;
+          row_put c.loop-row.places c.put_structure_row.new.places
+          row s.columns (structure_place s) e.put e.before i.put;
       behind = λ j l. let room : row * s.columns ≤ (row + 1) * s.columns = mul-le-mul_right s.columns (omega arith) in
           e.behind j l ∙ i.behind j (omega (arith, room, l));
       room = c.put_structure_row.auto.places ∙ i.room;

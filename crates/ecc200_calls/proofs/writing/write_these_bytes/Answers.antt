@@ -26,4 +26,5 @@ returns-then-bytes-gt-MOST_ITEMS c =
 pub returns-else-bytes-gt-MOST_ITEMS : goal.returns-else-bytes-gt-MOST_ITEMS
 returns-else-bytes-gt-MOST_ITEMS c =
     writing_given c.args.how.size c.args.how.profile c.args.bytes.now c.message_of_bytes.result c.args.out.now
-    c.write_message.new.out c.message_of_bytes.ensures.message c.message_of_bytes.ensures.numbers c.write_message.ensures
+    c.write_message.new.out c.message_of_bytes.ensures.message c.message_of_bytes.ensures.numbers
+    c.write_message.ensures
