@@ -1,62 +1,94 @@
 -- Modules after the bits of codewords are written.
-use Rattle.std.proofs.Common.{◌≡◌, ◌≢◌, ◌⊎◌, inl, inr, ℕ, zero, suc, ◌+◌, ◌-◌, ◌*◌, ◌/◌, ◌%◌, ◌<◌, ◌≤◌, true, false}
-use Rattle.std.proofs.Common.{cond, nat_eq, List, [], ◌∷◌, set, length, get_or, replicate, refl, sym, ◌∙◌, ap, arith}
+use Rattle.std.proofs.Common.{◌≡◌, ◌≢◌, ◌⊎◌, inl, inr, ℕ, zero, suc, ◌+◌, ◌-◌, ◌*◌, ◌/◌, ◌%◌, ◌<◌, ◌≤◌, Bool, true, false}
+use Rattle.std.proofs.Common.{not, ◌&&◌, ◌||◌, cond, nat_eq, List, [], ◌∷◌, set, length, get_or, refl, sym, ◌∙◌, ap, arith}
 use Rattle.std.proofs.Common.{subst, get_or-set_other, get_or-set_same}
 use Rattle.std.specs.Prelude.{Some, None}
-use Rattle.std.proofs.lemmas.Bool.{true≢false}
+use Rattle.std.specs.List.{list_all}
+use Rattle.std.proofs.lemmas.Bool.{and_parts, eqb-true, true≢false}
 use Rattle.std.proofs.lemmas.Bool.Decides.{eqb_tells}
 use Rattle.std.proofs.lemmas.List.{length-set}
+use Rattle.std.proofs.lemmas.List.Elements.{recursion_from_All}
+use Rattle.std.proofs.lemmas.List.Sums.{AllPass-from_list_all}
 use Rattle.std.proofs.lemmas.Nat.{div-mul-add, mod-mul-add}
 use Rattle.std.proofs.Math.Nat.{mul-le-mul_right}
 use Rattle.dm_place.specs.declared.cells.Place.{Place}
 use Rattle.dm_place.specs.declared.shape.Cell.{Cell}
-use Rattle.dm_layout.specs.Sizes.{SizeRow, IsRow}
-use Rattle.dm_layout.specs.Border.{is_border, border_is_dark, is_fixed, fixed_is_dark, symbol_line}
-use Rattle.dm_layout.specs.Placement.{At, IsPlace, places_in_order}
+use Rattle.dm_place.specs.Border.{has_fixed_square, is_fixed, fixed_is_dark, symbol_line}
+use Rattle.dm_place.specs.Placement.{At, EachCellOnce, IsPlace, places_in_order}
 use Rattle.dm_place.proofs.Exported.{ArePlaces, all_are_places, one_bit, none_fixed, place_at, length-places_in_order}
-use Rattle.dm_layout.proofs.Exported.{once_at_row, symbol_line-one, lies_inside, no_border, row_facts}
+use Rattle.dm_place.proofs.Exported.{once_at_sides}
+use Rattle.dm_modules.specs.Sizes.{SizeEntry, IsSize, area, mapping_rows, mapping_columns, size_table}
+use Rattle.dm_modules.specs.Border.{is_border, border_is_dark}
+use Rattle.dm_modules.proofs.Exported.{at_found, off_edge, placed_size, region_below, row_inside, size_facts}
+use Rattle.dm_modules.proofs.Exported.{symbol_line-form, symbol_line-one}
 use Rattle.ecc200_calls.specs.declared.place_table.PlaceOut.{PlaceOut}
-use Rattle.ecc200_calls.specs.Arrays.{most_modules}
-use Rattle.ecc200_calls.specs.Places.{AreModulesOf, nothing, bit_place, border_place, fixed_place}
+use Rattle.ecc200_calls.specs.Places.{ArePlacesOf, nothing, bit_place, border_place, fixed_place}
 use Rattle.ecc200_calls.specs.Places as places
 use Rattle.ecc200_calls.specs.inner.PlaceSteps.{structure_by, structure_place, with_bits}
 
--- A cell of the mapping square has this place among the modules.
-abbrev pub module_of_cell : SizeRow → ℕ → ℕ → ℕ
-module_of_cell size r c = symbol_line size.region_side r * size.side + symbol_line size.region_side c
+-- These are the places of all bits of a symbol of this size.
+abbrev all_bits : SizeEntry → List Place
+all_bits size = places_in_order (mapping_rows size) (mapping_columns size)
+
+-- Each item of the list is a place of the mapping matrix of this size.
+abbrev pub ArePlacesIn : SizeEntry → List Place → Type 0
+ArePlacesIn size ps = ArePlaces (mapping_rows size) (mapping_columns size) ps
+
+-- Each cell of the mapping matrix holds one bit, or is one of the fixed square.
+pub once : (size : SizeEntry) → IsSize size → EachCellOnce (mapping_rows size) (mapping_columns size)
+once size entry = once_at_sides (mapping_rows size) (mapping_columns size) _ (placed_size size entry)
+
+-- A column of the mapping matrix lies in the symbol.
+pub column_inside : (size : SizeEntry) (c : ℕ) → IsSize size → c < mapping_columns size →
+    symbol_line size.region_columns c < size.columns
+column_inside size c entry l =
+    let facts = size_facts size entry in
+    let d : ℕ = size.region_columns in
+    let below = region_below d c size.regions_across facts.least_columns l in
+    let form = symbol_line-form d c facts.least_columns in
+    let room : (c / d + 1) * (d + 2) ≤ size.regions_across * (d + 2) = mul-le-mul_right (d + 2) (omega (arith, below)) in
+    let some : 0 < d = omega (arith, facts.least_columns) in
+    let rest : c % d < d = omega (arith, some) in
+    let next : (c / d + 1) * (d + 2) ≡ c / d * (d + 2) + (d + 2) = omega arith in
+    omega (arith, form, room, rest, next, facts.columns)
+
+-- A cell of the mapping matrix has this place among the modules.
+abbrev pub module_of_cell : SizeEntry → ℕ → ℕ → ℕ
+module_of_cell size r c = symbol_line size.region_rows r * size.columns + symbol_line size.region_columns c
 
 -- Modules with different rows or columns stand at different places.
-pub one_module : (side r c u v : ℕ) → c < side → v < side → r * side + c ≡ u * side + v → (r ≡ u) × (c ≡ v)
-one_module side r c u v lc lv e = (
-  sym (div-mul-add r side c lc) ∙ ap (λ x. x / side) e ∙ div-mul-add u side v lv,
-  sym (mod-mul-add r side c lc) ∙ ap (λ x. x % side) e ∙ mod-mul-add u side v lv,
+pub one_module : (columns r c u v : ℕ) → c < columns → v < columns → r * columns + c ≡ u * columns + v →
+    (r ≡ u) × (c ≡ v)
+one_module columns r c u v lc lv e = (
+  sym (div-mul-add r columns c lc) ∙ ap (λ x. x / columns) e ∙ div-mul-add u columns v lv,
+  sym (mod-mul-add r columns c lc) ∙ ap (λ x. x % columns) e ∙ mod-mul-add u columns v lv,
 )
 
--- Different cells of the mapping square stand at different places.
-pub one_cell : (size : SizeRow) (r c u v : ℕ) → IsRow size → c < size.mapping → v < size.mapping →
+-- Different cells of the mapping matrix stand at different places.
+pub one_cell : (size : SizeEntry) (r c u v : ℕ) → IsSize size → c < mapping_columns size → v < mapping_columns size →
     module_of_cell size r c ≡ module_of_cell size u v → (r ≡ u) × (c ≡ v)
-one_cell size r c u v row lc lv e =
-    let d : ℕ = size.region_side in
-    let least = (row_facts size row).least in
+one_cell size r c u v entry lc lv e =
+    let d : ℕ = size.region_rows in
+    let k : ℕ = size.region_columns in
+    let facts = size_facts size entry in
     let both =
-    one_module size.side (symbol_line d r) (symbol_line d c) (symbol_line d u) (symbol_line d v)
-    (lies_inside size c row lc) (lies_inside size v row lv) e in
-    (symbol_line-one d r u least both.0, symbol_line-one d c v least both.1)
+    one_module size.columns (symbol_line d r) (symbol_line k c) (symbol_line d u) (symbol_line k v)
+    (column_inside size c entry lc) (column_inside size v entry lv) e in
+    (symbol_line-one d r u facts.least_rows both.0, symbol_line-one k c v facts.least_columns both.1)
 
--- Each cell of the mapping square has its place among the modules of the symbol.
-pub cell_inside : (size : SizeRow) (r c : ℕ) → IsRow size → r < size.mapping → c < size.mapping →
-    module_of_cell size r c < size.side * size.side
-cell_inside size r c row lr lc =
-    let d : ℕ = size.region_side in
-    let down = lies_inside size r row lr in
-    let across = lies_inside size c row lc in
-    let room : (symbol_line d r + 1) * size.side ≤ size.side * size.side =
-    mul-le-mul_right size.side (omega (arith, down)) in
+-- Each cell of the mapping matrix has its place among the modules of the symbol.
+pub cell_inside : (size : SizeEntry) (r c : ℕ) → IsSize size → r < mapping_rows size → c < mapping_columns size →
+    module_of_cell size r c < area size
+cell_inside size r c entry lr lc =
+    let down = row_inside size r entry lr in
+    let across = column_inside size c entry lc in
+    let room : (symbol_line size.region_rows r + 1) * size.columns ≤ size.rows * size.columns =
+    mul-le-mul_right size.columns (omega (arith, down)) in
     omega (arith, room, across)
 
 -- A module at which no bit lies stays as it was.
-bits_kept : (size : SizeRow) (ps : List Place) (xs : List PlaceOut) (i : ℕ) → ArePlaces size.mapping size.mapping ps
-    → ((w b r c : ℕ) → IsPlace size.mapping w b (At r c) → i ≢ module_of_cell size r c) →
+bits_kept : (size : SizeEntry) (ps : List Place) (xs : List PlaceOut) (i : ℕ) → ArePlacesIn size ps
+    → ((w b r c : ℕ) → IsPlace (mapping_rows size) (mapping_columns size) w b (At r c) → i ≢ module_of_cell size r c) →
     get_or (with_bits size ps xs) i nothing ≡ get_or xs i nothing
 bits_kept size [] xs i are h = refl
 bits_kept size (p ∷ rest) xs i are h =
@@ -65,13 +97,14 @@ bits_kept size (p ∷ rest) xs i are h =
     (h p.word p.bit p.row p.column are.0)
 
 -- The module of a bit has it once it is right, since a cell holds one bit.
-bits_stay : (size : SizeRow) (ps : List Place) (xs : List PlaceOut) (w b r c : ℕ) → IsRow size →
-    ArePlaces size.mapping size.mapping ps → IsPlace size.mapping w b (At r c)
-    → size.side * size.side ≤ length xs → get_or xs (module_of_cell size r c) nothing ≡ bit_place w b →
+bits_stay : (size : SizeEntry) (ps : List Place) (xs : List PlaceOut) (w b r c : ℕ) → IsSize size →
+    ArePlacesIn size ps → IsPlace (mapping_rows size) (mapping_columns size) w b (At r c)
+    → area size ≤ length xs → get_or xs (module_of_cell size r c) nothing ≡ bit_place w b →
     get_or (with_bits size ps xs) (module_of_cell size r c) nothing ≡ bit_place w b
-bits_stay size [] xs w b r c row are place room e = e
-bits_stay size (p ∷ rest) xs w b r c row are place room e =
-    bits_stay size rest next w b r c row are.1 place (omega (arith, room, length-set xs at (bit_place p.word p.bit)))
+bits_stay size [] xs w b r c entry are place room e = e
+bits_stay size (p ∷ rest) xs w b r c entry are place room e =
+    bits_stay size rest next w b r c entry are.1 place
+    (omega (arith, room, length-set xs at (bit_place p.word p.bit)))
     (by_module (eqb_tells here at))
   where
     at : ℕ
@@ -87,79 +120,85 @@ bits_stay size (p ∷ rest) xs w b r c row are place room e =
         get_or next here nothing ≡ bit_place w b
     by_module (inr y) = get_or-set_other xs at here (bit_place p.word p.bit) nothing y.1 ∙ e
     by_module (inl x) =
-        let law = once_at_row size row in
+        let law = once size entry in
         let mine = law.inside w b (At r c) place in
         let its = law.inside p.word p.bit (At p.row p.column) are.0 in
-        let same = one_cell size r c p.row p.column row mine.1 its.1 x.1 in
-        let there : IsPlace size.mapping w b (At p.row p.column) =
-        subst (λ j. IsPlace size.mapping w b (At p.row j)) same.1
-        (subst (λ i. IsPlace size.mapping w b (At i c)) same.0 place) in
-        let one = one_bit size.mapping size.mapping p.row p.column w b p.word p.bit law there are.0 in
+        let same = one_cell size r c p.row p.column entry mine.1 its.1 x.1 in
+        let there : IsPlace (mapping_rows size) (mapping_columns size) w b (At p.row p.column) =
+        subst (λ j. IsPlace (mapping_rows size) (mapping_columns size) w b (At p.row j)) same.1
+        (subst (λ i. IsPlace (mapping_rows size) (mapping_columns size) w b (At i c)) same.0 place) in
+        let one =
+        one_bit (mapping_rows size) (mapping_columns size) p.row p.column w b p.word p.bit law there are.0 in
         ap (λ i. get_or next i nothing) x.1 ∙ get_or-set_same xs at (bit_place p.word p.bit) nothing
-        (omega (arith, cell_inside size p.row p.column row its.0 its.1, room))
+        (omega (arith, cell_inside size p.row p.column entry its.0 its.1, room))
         ∙ ap (λ i. bit_place i p.bit) one.0 ∙ ap (bit_place w) one.1
 
 -- The module of a bit becomes right when its place is written.
-bits_come : (size : SizeRow) (ps : List Place) (xs : List PlaceOut) (i : ℕ) (d : Place) → IsRow size →
-    ArePlaces size.mapping size.mapping ps → size.side * size.side ≤ length xs → i < length ps
+bits_come : (size : SizeEntry) (ps : List Place) (xs : List PlaceOut) (i : ℕ) (d : Place) → IsSize size →
+    ArePlacesIn size ps → area size ≤ length xs → i < length ps
     → get_or (with_bits size ps xs) (module_of_cell size (get_or ps i d).row (get_or ps i d).column) nothing ≡
     bit_place (get_or ps i d).word (get_or ps i d).bit
-bits_come size [] xs i d row are room l = absurd (omega arith)
-bits_come size (p ∷ rest) xs zero d row are room l =
-    let inside = (once_at_row size row).inside p.word p.bit (At p.row p.column) are.0 in
+bits_come size [] xs i d entry are room l = absurd (omega arith)
+bits_come size (p ∷ rest) xs zero d entry are room l =
+    let inside = (once size entry).inside p.word p.bit (At p.row p.column) are.0 in
     bits_stay size rest (set xs (module_of_cell size p.row p.column) (bit_place p.word p.bit)) p.word p.bit p.row
-    p.column row are.1 are.0
+    p.column entry are.1 are.0
     (omega (arith, room, length-set xs (module_of_cell size p.row p.column) (bit_place p.word p.bit)))
     (get_or-set_same xs (module_of_cell size p.row p.column) (bit_place p.word p.bit) nothing
-    (omega (arith, cell_inside size p.row p.column row inside.0 inside.1, room)))
-bits_come size (p ∷ rest) xs (suc i) d row are room l =
-    bits_come size rest (set xs (module_of_cell size p.row p.column) (bit_place p.word p.bit)) i d row are.1
+    (omega (arith, cell_inside size p.row p.column entry inside.0 inside.1, room)))
+bits_come size (p ∷ rest) xs (suc i) d entry are room l =
+    bits_come size rest (set xs (module_of_cell size p.row p.column) (bit_place p.word p.bit)) i d entry are.1
     (omega (arith, room, length-set xs (module_of_cell size p.row p.column) (bit_place p.word p.bit))) (omega arith)
 
 -- Each bit of each codeword is where it lies.
-bits_are_there : (size : SizeRow) (xs : List PlaceOut) (word bit : ℕ) (cell : Cell) → IsRow size →
-    size.side * size.side ≤ length xs → IsPlace size.mapping word bit cell
-    → get_or (with_bits size (places_in_order size.mapping) xs) (module_of_cell size cell.row cell.column) nothing ≡
+bits_are_there : (size : SizeEntry) (xs : List PlaceOut) (word bit : ℕ) (cell : Cell) → IsSize size →
+    area size ≤ length xs → IsPlace (mapping_rows size) (mapping_columns size) word bit cell
+    → get_or (with_bits size (all_bits size) xs) (module_of_cell size cell.row cell.column) nothing ≡
     bit_place word bit
-bits_are_there size xs word bit cell row room p =
-    let n : ℕ = size.mapping in
+bits_are_there size xs word bit cell entry room p =
+    let n : ℕ = mapping_rows size in
+    let m : ℕ = mapping_columns size in
     let d : Place = record { word = 0; bit = 0; row = 0; column = 0 } in
     let i : ℕ = 8 * word + (bit - 1) in
-    let found : get_or (places_in_order n) i d ≡ record {
+    let found : get_or (places_in_order n m) i d ≡ record {
       word = word;
       bit = bit;
       row = cell.row;
       column =
           cell.column;
     } =
-    place_at n n word bit d p.word_in p.from_one p.to_eight
+    place_at n m word bit d p.word_in p.from_one p.to_eight
     ∙ ap (λ (x : Cell). record { word = word; bit = bit; row = x.row; column = x.column }) p.there in
-    let inside : i < length (places_in_order n) =
-    omega (arith, length-places_in_order n n, p.word_in, p.from_one, p.to_eight) in
-    subst (λ (q : Place). get_or (with_bits size (places_in_order n) xs) (module_of_cell size q.row q.column) nothing ≡
-    bit_place q.word q.bit) found
-    (bits_come size (places_in_order n) xs i d row (all_are_places n n) room inside)
+    let inside : i < length (places_in_order n m) =
+    omega (arith, length-places_in_order n m, p.word_in, p.from_one, p.to_eight) in
+    subst (λ (q : Place). get_or (with_bits size (places_in_order n m) xs) (module_of_cell size q.row q.column) nothing
+    ≡ bit_place q.word q.bit) found
+    (bits_come size (places_in_order n m) xs i d entry (all_are_places n m) room inside)
 
 -- The module of a border is right before the bits are written, and stays so.
-border_is_there : (size : SizeRow) (xs : List PlaceOut) (r c : ℕ) → IsRow size → r < size.side → c < size.side →
+border_is_there : (size : SizeEntry) (xs : List PlaceOut) (r c : ℕ) → IsSize size → r < size.rows → c < size.columns →
     is_border size r c ≡ true
     → places.place_at size xs r c ≡ structure_place size r c →
-    places.place_at size (with_bits size (places_in_order size.mapping) xs) r c ≡
+    places.place_at size (with_bits size (all_bits size) xs) r c ≡
     border_place (border_is_dark size r c)
-border_is_there size xs r c row lr lc h e =
-    bits_kept size (places_in_order size.mapping) xs (r * size.side + c) (all_are_places size.mapping size.mapping)
+border_is_there size xs r c entry lr lc h e =
+    bits_kept size (all_bits size) xs (r * size.columns + c)
+    (all_are_places (mapping_rows size) (mapping_columns size))
     (λ w b u v p same.
-    let inside = (once_at_row size row).inside w b (At u v) p in
-    let d : ℕ = size.region_side in
-    let one = one_module size.side r c (symbol_line d u) (symbol_line d v) lc (lies_inside size v row inside.1) same in
+    let inside = (once size entry).inside w b (At u v) p in
+    let facts = size_facts size entry in
+    let d : ℕ = size.region_rows in
+    let k : ℕ = size.region_columns in
+    let one =
+    one_module size.columns r c (symbol_line d u) (symbol_line k v) lc (column_inside size v entry inside.1) same in
     let off : is_border size r c ≡ false =
     ap (λ x. is_border size x c) one.0 ∙ ap (is_border size (symbol_line d u)) one.1
-    ∙ no_border size u v (row_facts size row).least in
+    ∙ off_edge size u v facts.least_rows facts.least_columns in
     true≢false (sym h ∙ off))
     ∙ e ∙ ap (λ x. structure_by (cond x (Some (border_is_dark size r c)) None) r c) h
 
--- Two lines of the mapping square are the same exactly where they are the same in the symbol.
-same_lines : (d r c : ℕ) → 8 ≤ d → nat_eq (symbol_line d r) (symbol_line d c) ≡ nat_eq r c
+-- Two lines of the mapping matrix are the same exactly where they are the same in the symbol.
+same_lines : (d r c : ℕ) → 6 ≤ d → nat_eq (symbol_line d r) (symbol_line d c) ≡ nat_eq r c
 same_lines d r c least = by_test (eqb_tells r c) (eqb_tells (symbol_line d r) (symbol_line d c))
   where
     by_test : ((nat_eq r c ≡ true) × (r ≡ c)) ⊎ ((nat_eq r c ≡ false) × (r ≢ c))
@@ -171,47 +210,72 @@ same_lines d r c least = by_test (eqb_tells r c) (eqb_tells (symbol_line d r) (s
     by_test (inr x) (inl y) = absurd (x.1 (symbol_line-one d r c least y.1))
     by_test (inr x) (inr y) = y.0 ∙ sym x.0
 
--- The module of the fixed square is right before the bits are written, and stays so.
-fixed_is_there : (size : SizeRow) (xs : List PlaceOut) (r c : ℕ) → IsRow size → r < size.mapping → c < size.mapping →
-    is_fixed size.mapping r c ≡ true
-    → places.mapped_place size xs r c ≡ structure_place size (symbol_line size.region_side r)
-    (symbol_line size.region_side c)
-    → places.mapped_place size (with_bits size (places_in_order size.mapping) xs) r c ≡ fixed_place (fixed_is_dark r c)
-fixed_is_there size xs r c row lr lc h e =
-    let d : ℕ = size.region_side in
-    let least = (row_facts size row).least in
-    let law = once_at_row size row in
-    bits_kept size (places_in_order size.mapping) xs (module_of_cell size r c)
-    (all_are_places size.mapping size.mapping) (λ w b u v p same.
-    let inside = law.inside w b (At u v) p in
-    let one = one_cell size r c u v row lc inside.1 same in
-    none_fixed size.mapping size.mapping r c w b law h
-    (subst (λ j. IsPlace size.mapping w b (At r j)) (sym one.1)
-    (subst (λ i. IsPlace size.mapping w b (At i v)) (sym one.0) p)))
-    ∙ e ∙ ap (λ x. structure_by (cond x (Some (border_is_dark size (symbol_line d r) (symbol_line d c))) None)
-    (symbol_line d r) (symbol_line d c)) (no_border size r c least)
-    ∙ ap fixed_place (same_lines d r c least)
+-- A size whose mapping matrix has a fixed square has regions with as many rows as columns.
+abbrev is_square_if_fixed : SizeEntry → Bool
+is_square_if_fixed size =
+    not (has_fixed_square (mapping_rows size) (mapping_columns size)) || nat_eq size.region_rows size.region_columns
 
--- Writing the structure over nothing, and the bits over that, gives the modules of a symbol.
-pub modules_are : (size : SizeRow) (xs ys zs : List PlaceOut) → IsRow size → size.side * size.side ≤ length ys →
-    xs ≡ replicate most_modules nothing
-    → ((r c : ℕ) → r < size.side → c < size.side → places.place_at size ys r c ≡ structure_place size r c)
-    → ((i : ℕ) → size.side * size.side ≤ i → get_or ys i nothing ≡ get_or xs i nothing) →
-    zs ≡ with_bits size (places_in_order size.mapping) ys → AreModulesOf size zs
-modules_are size xs ys zs row room blank put behind bits = subst (AreModulesOf size) (sym bits) (record {
-  bits = λ w b cell p. bits_are_there size ys w b cell row room p;
-  border = λ r c lr lc h. border_is_there size ys r c row lr lc h (put r c lr lc);
+-- Each size is such: this is computed.
+all_square_if_fixed : list_all is_square_if_fixed size_table ≡ true
+unfolding size_table
+all_square_if_fixed = refl
+
+square_if_fixed : (size : SizeEntry) → IsSize size
+    → has_fixed_square (mapping_rows size) (mapping_columns size) ≡ true → size.region_rows ≡ size.region_columns
+square_if_fixed size entry h =
+    let told =
+    at_found (λ s. is_square_if_fixed s ≡ true) (λ s. nat_eq s.rows size.rows && nat_eq s.columns size.columns)
+    size_table size
+    (recursion_from_All (λ s. is_square_if_fixed s ≡ true) size_table
+    (AllPass-from_list_all is_square_if_fixed size_table all_square_if_fixed)) entry in
+    eqb-true _ _ (sym (ap (λ b. not b || nat_eq size.region_rows size.region_columns) h) ∙ told)
+
+-- The module of the fixed square is right before the bits are written, and stays so.
+fixed_is_there : (size : SizeEntry) (xs : List PlaceOut) (r c : ℕ) → IsSize size → r < mapping_rows size
+    → c < mapping_columns size → is_fixed (mapping_rows size) (mapping_columns size) r c ≡ true
+    → places.mapped_place size xs r c ≡ structure_place size (symbol_line size.region_rows r)
+    (symbol_line size.region_columns c)
+    → places.mapped_place size (with_bits size (all_bits size) xs) r c ≡ fixed_place (fixed_is_dark r c)
+fixed_is_there size xs r c entry lr lc h e =
+    let n : ℕ = mapping_rows size in
+    let m : ℕ = mapping_columns size in
+    let d : ℕ = size.region_rows in
+    let k : ℕ = size.region_columns in
+    let facts = size_facts size entry in
+    let law = once size entry in
+    let has = and_parts (has_fixed_square n m) _ (and_parts _ _ h).0 in
+    let alike = square_if_fixed size entry has.0 in
+    bits_kept size (all_bits size) xs (module_of_cell size r c)
+    (all_are_places n m) (λ w b u v p same.
+    let inside = law.inside w b (At u v) p in
+    let one = one_cell size r c u v entry lc inside.1 same in
+    none_fixed n m r c w b law h
+    (subst (λ j. IsPlace n m w b (At r j)) (sym one.1)
+    (subst (λ i. IsPlace n m w b (At i v)) (sym one.0) p)))
+    ∙ e ∙ ap (λ x. structure_by (cond x (Some (border_is_dark size (symbol_line d r) (symbol_line k c))) None)
+    (symbol_line d r) (symbol_line k c)) (off_edge size r c facts.least_rows facts.least_columns)
+    ∙ ap (λ x. fixed_place (nat_eq (symbol_line d r) (symbol_line x c))) (sym alike)
+    ∙ ap fixed_place (same_lines d r c facts.least_rows)
+
+-- Writing the structure, and the bits over that, gives the modules of a symbol.
+pub places_are : (size : SizeEntry) (ys zs : List PlaceOut) → IsSize size → area size ≤ length ys
+    → ((r c : ℕ) → r < size.rows → c < size.columns → places.place_at size ys r c ≡ structure_place size r c)
+    → zs ≡ with_bits size (places_in_order (mapping_rows size) (mapping_columns size)) ys → ArePlacesOf size zs
+places_are size ys zs entry room put bits = subst (ArePlacesOf size) (sym bits) (record {
+  bits = λ w b cell p. bits_are_there size ys w b cell entry room p;
+  border = λ r c lr lc h. border_is_there size ys r c entry lr lc h (put r c lr lc);
   fixed =
-      λ r c lr lc h. fixed_is_there size ys r c row lr lc h
-      (put _ _ (lies_inside size r row lr) (lies_inside size c row lc));
-  behind = λ i l.
-      bits_kept size (places_in_order size.mapping) ys i (all_are_places size.mapping size.mapping) (λ w b u v p same.
-      let inside = (once_at_row size row).inside w b (At u v) p in
-      omega (arith, cell_inside size u v row inside.0 inside.1, same, l))
-      ∙ behind i l ∙ ap (λ k. get_or k i nothing) blank ∙ of_nothing most_modules i;
+      λ r c lr lc h. fixed_is_there size ys r c entry lr lc h
+      (put _ _ (row_inside size r entry lr) (column_inside size c entry lc));
 })
-  where
-    of_nothing : (n i : ℕ) → get_or (replicate n nothing) i nothing ≡ nothing
-    of_nothing zero i = refl
-    of_nothing (suc n) zero = refl
-    of_nothing (suc n) (suc i) = of_nothing n i
+
+-- What stands behind the modules stays.
+pub behind_stays : (size : SizeEntry) (ys zs : List PlaceOut) (i : ℕ) → IsSize size → area size ≤ i
+    → zs ≡ with_bits size (places_in_order (mapping_rows size) (mapping_columns size)) ys
+    → get_or zs i nothing ≡ get_or ys i nothing
+behind_stays size ys zs i entry l bits =
+    ap (λ xs. get_or xs i nothing) bits
+    ∙ bits_kept size (all_bits size) ys i (all_are_places (mapping_rows size) (mapping_columns size))
+    (λ w b u v p same.
+    let inside = (once size entry).inside w b (At u v) p in
+    omega (arith, cell_inside size u v entry inside.0 inside.1, same, l))

@@ -1,8 +1,5 @@
 -- What is given to a call: modules, doubtful ones, and what the results are that its parts give.
-use Rattle.std.proofs.Common.{◌≡◌, ◌≢◌, ℕ, suc, ◌*◌, Bool, true, false, List, [], ◌∷◌, length, Option, Some, None}
-use Rattle.std.proofs.Common.{refl, sym, ◌∙◌}
-use Rattle.std.specs.Bool.{◌==◌}
-use Rattle.std.proofs.lemmas.Bool.{false≢true}
+use Rattle.std.proofs.Common.{◌≡◌, ◌≢◌, ℕ, List, [], Option, Some, None, refl}
 use Rattle.dm_symbol.specs.declared.Extent.{Extent}
 use Rattle.dm_symbol.specs.declared.Profile.{Profile}
 use Rattle.dm_modules.specs.Modules.{ModulesView}
@@ -17,15 +14,6 @@ use Rattle.ecc200_calls.specs.Symbols.{IsNormalGiven, NormalisedResult}
 use Rattle.ecc200_calls.specs.Symbols as symbols
 use Rattle.ecc200_calls.specs.Inspections.{IsInspectResult, IsInspectionGiven}
 use Rattle.ecc200_calls.specs.Inspections as inspections
-
--- A list is empty exactly if it is found to be.
-pub empty_there : (xs : List ℕ) (b : Bool) → b ≡ (length xs == 0) → b ≡ true → xs ≡ []
-empty_there [] b e t = refl
-empty_there (x ∷ xs) b e t = absurd (false≢true (sym e ∙ t))
-
-pub some_there : (xs : List ℕ) (b : Bool) → b ≡ (length xs == 0) → b ≡ false → xs ≢ []
-some_there [] b e f = λ g. false≢true (sym f ∙ e)
-some_there (x ∷ xs) b e f = λ g. cc
 
 -- With no numbers for doubtful modules, none is doubtful.
 pub none_given : (rows columns : ℕ) (modules doubt : List ℕ) (symbol : ModulesView)

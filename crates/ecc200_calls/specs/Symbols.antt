@@ -72,16 +72,19 @@ pub data IsMessageGiven (choice : SizeChoice) (profile : Profile) (message : Lis
   written : (symbol : ModulesView) → IsWrittenIn choice profile message symbol → after ≡ symbol_shown symbol before
       → IsMessageGiven choice profile message before after
 
--- Writing these numbers gives that there is no such profile, or no such choice of sizes, or the result under that
--- profile in that choice.
+-- Writing these numbers under a profile gives that there is no such choice of sizes, or the result in that choice.
+pub data ChoiceResult (profile : Profile) (numbers : List ℕ) (how : How) (before after : SymbolOut) : Type 0 where
+  no_choice : choice_of how ≡ None → after ≡ no_symbol (no_such_choice how.shape) before
+      → ChoiceResult profile numbers how before after
+  in_choice : (choice : SizeChoice) → choice_of how ≡ Some choice
+      → IsWritingGiven choice profile numbers before after → ChoiceResult profile numbers how before after
+
+-- Writing these numbers gives that there is no such profile, or the result under that profile.
 pub data IsWriteResult (numbers : List ℕ) (how : How) (before after : SymbolOut) : Type 0 where
   no_profile : profile_of how.form ≡ None → after ≡ no_symbol (no_such_profile how.form) before
       → IsWriteResult numbers how before after
-  no_choice : (profile : Profile) → profile_of how.form ≡ Some profile → choice_of how ≡ None
-      → after ≡ no_symbol (no_such_choice how.shape) before → IsWriteResult numbers how before after
-  of_choice : (profile : Profile) (choice : SizeChoice) → profile_of how.form ≡ Some profile
-      → choice_of how ≡ Some choice → IsWritingGiven choice profile numbers before after
-      → IsWriteResult numbers how before after
+  under_profile : (profile : Profile) → profile_of how.form ≡ Some profile
+      → ChoiceResult profile numbers how before after → IsWriteResult numbers how before after
 
 -- A result of normalising is given as its symbol, or as its fault.
 abbrev pub normal_shown : Result ModulesView NormalFault → SymbolOut → SymbolOut
@@ -116,15 +119,20 @@ pub data NormalisedResult (extent : Extent) (profile : Profile) (rows columns : 
       → IsNormalGiven extent profile symbol doubtful limit before after
       → NormalisedResult extent profile rows columns modules doubt limit before after
 
--- Normalising these modules gives that there is no such extent, or no such profile, or the result in that extent and
--- under that profile.
+-- Normalising these modules in an extent gives that there is no such profile, or the result under that profile.
+pub data ProfileResult (extent : Extent) (rows columns : ℕ) (modules doubt : List ℕ) (limit profile : ℕ)
+    (before after : SymbolOut) : Type 0 where
+  no_profile : profile_of profile ≡ None → after ≡ no_symbol (no_such_profile profile) before
+      → ProfileResult extent rows columns modules doubt limit profile before after
+  under_profile : (chosen : Profile) → profile_of profile ≡ Some chosen
+      → NormalisedResult extent chosen rows columns modules doubt limit before after
+      → ProfileResult extent rows columns modules doubt limit profile before after
+
+-- Normalising these modules gives that there is no such extent, or the result in that extent.
 pub data IsNormalResult (rows columns : ℕ) (modules doubt : List ℕ) (limit extent profile : ℕ)
     (before after : SymbolOut) : Type 0 where
   no_extent : extent_of extent ≡ None → after ≡ no_symbol (no_such_extent extent) before
       → IsNormalResult rows columns modules doubt limit extent profile before after
-  no_profile : (chosen : Extent) → extent_of extent ≡ Some chosen → profile_of profile ≡ None
-      → after ≡ no_symbol (no_such_profile profile) before
-      → IsNormalResult rows columns modules doubt limit extent profile before after
-  of_both : (chosen : Extent) (form : Profile) → extent_of extent ≡ Some chosen → profile_of profile ≡ Some form
-      → NormalisedResult chosen form rows columns modules doubt limit before after
+  in_extent : (chosen : Extent) → extent_of extent ≡ Some chosen
+      → ProfileResult chosen rows columns modules doubt limit profile before after
       → IsNormalResult rows columns modules doubt limit extent profile before after

@@ -8,7 +8,7 @@ ghost use Rattle.ecc200_calls.specs.Inspections.{erased_shown, inspection_shown,
 
 use crate::arrays::put_bytes;
 use crate::fault::Fault;
-use crate::modules::{light_modules, make_doubtful, make_modules};
+use crate::modules::{light_modules, make_doubtful, make_modules, none_doubtful};
 use dm_modules::{MOST_BLOCKS, MOST_CODEWORDS, Modules};
 use dm_symbol::{BlockReading, SymbolInspection, inspect_symbol_to};
 
@@ -48,19 +48,13 @@ pub fn inspect(
 }
 
 /// Shows the inspection of the symbol of these modules, or why they make none.
-fn inspect_given(
-    modules: &[u8],
-    doubtful: &[u8],
-    rows: u16,
-    columns: u16,
-    out: &mut InspectionOut,
-)
+fn inspect_given(modules: &[u8], doubtful: &[u8], rows: u16, columns: u16, out: &mut InspectionOut)
     ensures { IsInspectResult rows columns modules.now doubtful.now out.old out.new }
 {
     let mut symbol = light_modules();
     match make_modules(modules, rows, columns, &mut symbol) {
         Ok(()) => {
-            if doubtful.is_empty() {
+            if none_doubtful(doubtful) {
                 inspect_modules(&symbol, None, rows, columns, out);
             } else {
                 inspect_doubtful(&symbol, doubtful, rows, columns, out);
@@ -118,12 +112,7 @@ fn show_fault(out: &mut InspectionOut, why: Fault)
 }
 
 /// Shows an inspection of a symbol with these rows and columns.
-fn show_inspection(
-    out: &mut InspectionOut,
-    rows: u16,
-    columns: u16,
-    inspection: &SymbolInspection,
-)
+fn show_inspection(out: &mut InspectionOut, rows: u16, columns: u16, inspection: &SymbolInspection)
     ensures { out.new ≡ inspection_shown rows columns inspection.now out.old }
 {
     out.fault = Fault::none();

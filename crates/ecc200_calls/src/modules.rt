@@ -1,6 +1,7 @@
 //! Symbols of every size, with their modules as bytes, one for each, row by row from the top.
 
-ghost use Rattle.std.specs.Prelude.{◌≡◌, ◌≢◌, ◌*◌, ◌≤◌, IfErr, IsSome, OnOk, length, map};
+ghost use Rattle.std.specs.Prelude.{◌≡◌, ◌≢◌, ◌*◌, ◌≤◌, [], false, IfErr, IsSome, IsTrue, OnOk};
+ghost use Rattle.std.specs.Prelude.{length, map};
 ghost use Rattle.dm_modules.specs.Sizes.{area, entry_with};
 ghost use Rattle.ecc200_calls.specs.Arrays.{over};
 ghost use Rattle.ecc200_calls.specs.Faults.{wrong_doubt};
@@ -29,6 +30,14 @@ pub(crate) fn make_modules(
         Err(ModulesFault::WrongCount) => Err(Fault::shape()),
         Err(ModulesFault::NoSuchSize) => Err(Fault::no_such_size(rows, columns)),
     }
+}
+
+/// Whether no numbers for doubtful modules are given.
+pub(crate) fn none_doubtful(doubtful: &[u8]) -> bool
+    ensures none { IsTrue result → doubtful.now ≡ [] }
+    ensures some { result ≡ false → doubtful.now ≢ [] }
+{
+    doubtful.is_empty()
 }
 
 /// Turns `doubtful` into these modules, where some size has these rows and columns; or says that they aren't as many.

@@ -4,10 +4,11 @@ ghost use Rattle.std.specs.Prelude.{◌≡◌, [], IfSome, IsSome, Some, option_
 ghost use Rattle.dm_symbol.specs.Sizes.{row_with_side};
 ghost use Rattle.dm_modules.specs.Sizes.{entry_with};
 ghost use Rattle.ecc200_calls.specs.Symbols.{IsDoubtfulGiven, IsNormalGiven, IsNormalResult, NormalisedResult};
+ghost use Rattle.ecc200_calls.specs.Symbols.{ProfileResult};
 
 use crate::extent::extent_of;
 use crate::fault::{Fault, read_fault};
-use crate::modules::{light_modules, make_doubtful, make_modules};
+use crate::modules::{light_modules, make_doubtful, make_modules, none_doubtful};
 use crate::profile::profile_of;
 use crate::squares::{is_plain_square, make_grid};
 use crate::symbol::{SymbolOut, show_fault};
@@ -34,22 +35,48 @@ pub fn normal(
     ensures code { result ≡ out.new.fault.code }
 {
     match extent_of(extent) {
-        Some(extent) => match profile_of(profile) {
-            Some(profile) => normal_given(
-                extent,
-                profile,
-                modules,
-                doubtful,
-                rows,
-                columns,
-                border_limit,
-                out,
-            ),
-            None => show_fault(out, Fault::no_such_profile(profile)),
-        },
+        Some(extent) => normal_in_extent(
+            extent,
+            modules,
+            doubtful,
+            rows,
+            columns,
+            border_limit,
+            profile,
+            out,
+        ),
         None => show_fault(out, Fault::no_such_extent(extent)),
     }
     out.fault.code
+}
+
+/// Shows the normal symbol of what the symbol of these modules says in an extent, or why there is none.
+fn normal_in_extent(
+    extent: Extent,
+    modules: &[u8],
+    doubtful: &[u8],
+    rows: u16,
+    columns: u16,
+    border_limit: u16,
+    profile: u16,
+    out: &mut SymbolOut,
+)
+    ensures { ProfileResult extent rows columns modules.now doubtful.now border_limit profile
+        out.old out.new }
+{
+    match profile_of(profile) {
+        Some(profile) => normal_given(
+            extent,
+            profile,
+            modules,
+            doubtful,
+            rows,
+            columns,
+            border_limit,
+            out,
+        ),
+        None => show_fault(out, Fault::no_such_profile(profile)),
+    }
 }
 
 /// Shows the normal symbol of what the symbol of these modules says, or why there is none.
@@ -127,7 +154,7 @@ fn normal_symbol(
     let mut symbol = light_modules();
     match make_modules(modules, rows, columns, &mut symbol) {
         Ok(()) => {
-            if doubtful.is_empty() {
+            if none_doubtful(doubtful) {
                 normal_modules(extent, profile, &symbol, None, border_limit, out);
             } else {
                 normal_doubtful(

@@ -14,11 +14,13 @@ use crate::arrays::put_bytes;
 use crate::extent::extent_of;
 use crate::fault::{Fault, read_fault};
 use crate::message::put_message;
-use crate::modules::{light_modules, make_doubtful, make_modules};
+use crate::modules::{light_modules, make_doubtful, make_modules, none_doubtful};
 use crate::squares::{is_plain_square, make_grid};
 use dm_modules::{MOST_BLOCKS, Modules};
-use dm_symbol::{BlockReading, Extent, ReadOptions, Reading, SymbolReading, light_grid};
-use dm_symbol::{read_to, read_symbol_to};
+use dm_symbol::{
+    BlockReading, Extent, ReadOptions, Reading, SymbolReading, light_grid, read_to,
+    read_symbol_to,
+};
 use dm_words::LARGEST_ROOM;
 
 /// What a symbol says, and how much of it was wrong. After a fault all but the fault and the arrays is 0.
@@ -52,15 +54,7 @@ pub fn read(
     ensures code { result ≡ out.new.fault.code }
 {
     match extent_of(extent) {
-        Some(extent) => read_given(
-            extent,
-            modules,
-            doubtful,
-            rows,
-            columns,
-            border_limit,
-            out,
-        ),
+        Some(extent) => read_given(extent, modules, doubtful, rows, columns, border_limit, out),
         None => show_fault(out, Fault::no_such_extent(extent)),
     }
     out.fault.code
@@ -90,26 +84,12 @@ fn read_given(
     if is_plain_square(rows, columns, doubtful) {
         read_square(extent, modules, rows, border_limit, out);
     } else {
-        read_symbol(
-            extent,
-            modules,
-            doubtful,
-            rows,
-            columns,
-            border_limit,
-            out,
-        );
+        read_symbol(extent, modules, doubtful, rows, columns, border_limit, out);
     }
 }
 
 /// Does so for a square that can be read as a grid, of whose modules none is doubtful.
-fn read_square(
-    extent: Extent,
-    modules: &[u8],
-    side: u16,
-    border_limit: u16,
-    out: &mut ReadingOut,
-)
+fn read_square(extent: Extent, modules: &[u8], side: u16, border_limit: u16, out: &mut ReadingOut)
     requires { IsSome (row_with_side side) }
     ensures { ExtentResult extent side side modules.now [] border_limit out.old out.new }
 {
@@ -143,7 +123,7 @@ fn read_symbol(
     let mut symbol = light_modules();
     match make_modules(modules, rows, columns, &mut symbol) {
         Ok(()) => {
-            if doubtful.is_empty() {
+            if none_doubtful(doubtful) {
                 read_modules(extent, &symbol, None, rows, columns, border_limit, out);
             } else {
                 read_doubtful(extent, &symbol, doubtful, rows, columns, border_limit, out);

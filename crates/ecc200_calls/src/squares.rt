@@ -14,6 +14,7 @@ ghost use Rattle.ecc200_calls.specs.inner.UnpackedCells.{unpacked_cells};
 ghost use Rattle.ecc200_calls.specs.Modules.{AreModulesOf, module_of, modules_of};
 
 use crate::fault::Fault;
+use crate::modules::none_doubtful;
 use dm_symbol::{Grid, LARGEST_SIDE, Size};
 use std::simd::prelude::*;
 
@@ -30,7 +31,7 @@ const WEIGHTS: [u8; TOGETHER] = [1, 2, 4, 8, 16, 32, 64, 128, 1, 2, 4, 8, 16, 32
 pub(crate) fn is_plain_square(rows: u16, columns: u16, doubtful: &[u8]) -> bool
     ensures { IsTrue result → (rows ≡ columns) × (doubtful.now ≡ []) × IsSome (row_with_side rows) }
 {
-    rows == columns && doubtful.is_empty() && Size::of_side(rows).is_some()
+    rows == columns && none_doubtful(doubtful) && Size::of_side(rows).is_some()
 }
 
 /// Turns `grid` into that of these modules, where some size of a grid has this side; or says that they aren't as many
@@ -43,6 +44,9 @@ pub(crate) fn make_grid(modules: &[u8], side: u16, grid: &mut Grid) -> Result<()
     let across = usize::from(side);
     if modules.len() != across * across {
         return Err(Fault::shape());
+    }
+    if across > LARGEST_SIDE {
+        unreachable!();
     }
     let mut rows = [0; LARGEST_SIDE];
     for row in 0..across {

@@ -2,7 +2,7 @@
 
 ghost use Rattle.std.specs.Prelude.{◌≡◌, ◌≤◌, All};
 ghost use Rattle.dm_symbol.specs.declared.SizeChoice.TheVariants.{Square};
-ghost use Rattle.ecc200_calls.specs.Symbols.{IsMessageGiven, IsWriteResult, IsWritingGiven};
+ghost use Rattle.ecc200_calls.specs.Symbols.{ChoiceResult, IsMessageGiven, IsWriteResult, IsWritingGiven};
 
 use crate::choice::{How, choice_of};
 use crate::fault::Fault;
@@ -25,10 +25,7 @@ pub fn write(items: &[u16], how: &How, out: &mut SymbolOut) -> u16
     ensures code { result ≡ out.new.fault.code }
 {
     match profile_of(how.form) {
-        Some(profile) => match choice_of(*how) {
-            Some(size) => write_items(items, WriteOptions { profile, size }, out),
-            None => show_fault(out, Fault::no_such_choice(how.shape)),
-        },
+        Some(profile) => write_chosen(items, profile, *how, out),
         None => show_fault(out, Fault::no_such_profile(how.form)),
     }
     out.fault.code
@@ -41,13 +38,30 @@ pub fn write_bytes(bytes: &[u8], how: &How, out: &mut SymbolOut) -> u16
     ensures code { result ≡ out.new.fault.code }
 {
     match profile_of(how.form) {
-        Some(profile) => match choice_of(*how) {
-            Some(size) => write_these_bytes(bytes, WriteOptions { profile, size }, out),
-            None => show_fault(out, Fault::no_such_choice(how.shape)),
-        },
+        Some(profile) => write_bytes_chosen(bytes, profile, *how, out),
         None => show_fault(out, Fault::no_such_profile(how.form)),
     }
     out.fault.code
+}
+
+/// Shows the symbol of the message of these numbers under a profile, or why there is none.
+fn write_chosen(items: &[u16], profile: Profile, how: How, out: &mut SymbolOut)
+    ensures { ChoiceResult profile items.now how out.old out.new }
+{
+    match choice_of(how) {
+        Some(size) => write_items(items, WriteOptions { profile, size }, out),
+        None => show_fault(out, Fault::no_such_choice(how.shape)),
+    }
+}
+
+/// Shows the symbol of the message of these bytes under a profile, or why there is none.
+fn write_bytes_chosen(bytes: &[u8], profile: Profile, how: How, out: &mut SymbolOut)
+    ensures { ChoiceResult profile bytes.now how out.old out.new }
+{
+    match choice_of(how) {
+        Some(size) => write_these_bytes(bytes, WriteOptions { profile, size }, out),
+        None => show_fault(out, Fault::no_such_choice(how.shape)),
+    }
 }
 
 /// Shows the symbol of the message of these numbers, or why there is none.

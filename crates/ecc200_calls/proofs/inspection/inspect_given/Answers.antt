@@ -1,22 +1,22 @@
 use Rattle.std.proofs.Common.{None}
 use Rattle.ecc200_calls.specs.Modules.{IsGivenFault}
 use Rattle.ecc200_calls.specs.Inspections.{IsInspectResult}
-use Rattle.ecc200_calls.proofs.Given.{empty_there, inspection_given, none_given, some_there}
+use Rattle.ecc200_calls.proofs.Given.{inspection_given, none_given}
 use Rattle.ecc200_calls.proofs.inspection.inspect_given.Goals as goal
 
-pub returns-then-is_empty : goal.returns-then-is_empty
-returns-then-is_empty c =
+pub returns-then-none_doubtful : goal.returns-then-none_doubtful
+returns-then-none_doubtful c =
     IsInspectResult.of_symbol c.make_modules.new.symbol None
     (none_given c.args.rows c.args.columns c.args.modules.now c.args.doubtful.now c.make_modules.new.symbol
     c.in-Ok.ensures.symbol
-    (empty_there c.args.doubtful.now c.is_empty.result c.is_empty.ensures c.if-is_empty.true))
+    (c.none_doubtful.ensures.none c.if-none_doubtful.true))
     c.inspect_modules.ensures
 
-pub returns-else-is_empty : goal.returns-else-is_empty
-returns-else-is_empty c =
+pub returns-else-none_doubtful : goal.returns-else-none_doubtful
+returns-else-none_doubtful c =
     inspection_given c.args.rows c.args.columns c.args.modules.now c.args.doubtful.now c.args.out.now
     c.inspect_doubtful.new.out c.make_modules.new.symbol c.in-Ok.ensures.symbol
-    (some_there c.args.doubtful.now c.is_empty.result c.is_empty.ensures c.if-is_empty.false)
+    (c.none_doubtful.ensures.some c.if-none_doubtful.false)
     c.inspect_doubtful.ensures
 
 pub returns-in-Err : goal.returns-in-Err

@@ -17,7 +17,7 @@ returns-in-Ok-read_to c =
     (none_given c.args.side c.args.side c.args.modules.now [] (symbol_modules grid) c.in-Ok.ensures.grid refl)
     (normal_of_message c.args.extent c.args.profile (symbol_modules grid) None c.args.border_limit message
     c.args.out.now c.write_square.new.out
-    (reads_symbol c.args.extent grid c.args.border_limit message c.size.ensures.grid
+    (reads_symbol c.args.extent grid c.args.border_limit message c.size-size.ensures.grid
     ((c.in-Ok-read_to.ensures.read.message message).0 refl)) c.write_square.ensures)
 
 pub returns-in-Err-read_to : goal.returns-in-Err-read_to
@@ -28,7 +28,7 @@ returns-in-Err-read_to c =
     (record {
       result = Err (Read c.in-Err-read_to.why);
       result_is = NormalSymbolResult.fault c.in-Err-read_to.why
-          (result_of_symbol c.args.extent grid c.args.border_limit (Err c.in-Err-read_to.why) c.size.ensures.grid
+          (result_of_symbol c.args.extent grid c.args.border_limit (Err c.in-Err-read_to.why) c.size-size.ensures.grid
           c.in-Err-read_to.ensures.read.result_is) refl;
       shown = c.show_fault.ensures ∙ ap (λ why. no_symbol why c.args.out.now) c.read_fault.ensures;
     })

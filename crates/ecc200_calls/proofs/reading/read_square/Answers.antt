@@ -14,8 +14,8 @@ pub returns-in-Ok-read_to : goal.returns-in-Ok-read_to
 returns-in-Ok-read_to c =
     let grid = c.make_grid.new.grid in
     let reading = c.read_to.new.reading in
-    let checks : c.block_check.result ≡ block_check grid.size =
-    c.block_check.ensures.value ∙ ap block_check c.size.ensures.value in
+    let checks : c.block_check-checks.result ≡ block_check grid.size =
+    c.block_check-checks.ensures.value ∙ ap block_check c.size.ensures.value in
     ExtentResult.of_symbol (symbol_modules grid) None
     (none_given c.args.side c.args.side c.args.modules.now [] (symbol_modules grid) c.in-Ok.ensures.grid refl)
     (record {

@@ -1,22 +1,22 @@
 use Rattle.std.proofs.Common.{None}
 use Rattle.ecc200_calls.specs.Modules.{IsGivenFault}
 use Rattle.ecc200_calls.specs.Readings.{ExtentResult}
-use Rattle.ecc200_calls.proofs.Given.{empty_there, none_given, read_given, some_there}
+use Rattle.ecc200_calls.proofs.Given.{none_given, read_given}
 use Rattle.ecc200_calls.proofs.reading.read_symbol.Goals as goal
 
-pub returns-then-is_empty : goal.returns-then-is_empty
-returns-then-is_empty c =
+pub returns-then-none_doubtful : goal.returns-then-none_doubtful
+returns-then-none_doubtful c =
     ExtentResult.of_symbol c.make_modules.new.symbol None
     (none_given c.args.rows c.args.columns c.args.modules.now c.args.doubtful.now c.make_modules.new.symbol
     c.in-Ok.ensures.symbol
-    (empty_there c.args.doubtful.now c.is_empty.result c.is_empty.ensures c.if-is_empty.true))
+    (c.none_doubtful.ensures.none c.if-none_doubtful.true))
     c.read_modules.ensures
 
-pub returns-else-is_empty : goal.returns-else-is_empty
-returns-else-is_empty c =
+pub returns-else-none_doubtful : goal.returns-else-none_doubtful
+returns-else-none_doubtful c =
     read_given c.args.extent c.args.rows c.args.columns c.args.modules.now c.args.doubtful.now c.args.border_limit
     c.args.out.now c.read_doubtful.new.out c.make_modules.new.symbol c.in-Ok.ensures.symbol
-    (some_there c.args.doubtful.now c.is_empty.result c.is_empty.ensures c.if-is_empty.false) c.read_doubtful.ensures
+    (c.none_doubtful.ensures.some c.if-none_doubtful.false) c.read_doubtful.ensures
 
 pub returns-in-Err : goal.returns-in-Err
 returns-in-Err c =

@@ -8,17 +8,15 @@ use Rattle.dm_symbol.specs.Sizes.{row_with_side}
 use Rattle.dm_symbol.specs.Grid.{square_of_rows, is_dark_in}
 use Rattle.dm_modules.specs.Modules.{is_dark_number as is_dark}
 use Rattle.ecc200_calls.proofs.Packing.{square_packed}
-use Rattle.ecc200_calls.proofs.Sides.{none_above}
+use Rattle.ecc200_calls.proofs.Sides.{no_larger, not_missing, square_found}
 use Rattle.ecc200_calls.proofs.squares.make_grid.Goals as goal
 
-pub returns-then-across-gt-LARGEST_SIDE-clause-fault : goal.returns-then-across-gt-LARGEST_SIDE-clause-fault
-returns-then-across-gt-LARGEST_SIDE-clause-fault c =
-    no_size (rw (← c.from-across.ensures) c.if-modules-across.false)
-    (none_above c.args.side (omega (arith, c.from-across.ensures, c.if-across-gt-LARGEST_SIDE.true)))
-    c.no_such_side.ensures
+pub unreachable-requires : goal.unreachable-requires
+unreachable-requires c =
+    no_larger c.args.side c.requires (omega (arith, c.from-across.ensures, c.if-across-gt-LARGEST_SIDE.true))
 
-pub returns-in-Ok-clause-grid : goal.returns-in-Ok-clause-grid
-returns-in-Ok-clause-grid c =
+pub returns-clause-grid : goal.returns-clause-grid
+returns-clause-grid c =
     let modules = c.args.modules.now in
     let side = c.args.side in
     let across : c.from-across.result ≡ side = c.from-across.ensures in
@@ -30,8 +28,8 @@ returns-in-Ok-clause-grid c =
     c.loop-row.invariant.above in
     record {
       count = count;
-      size = c.in-Ok.ensures.size;
-      cells =
+      size = square_found side c.in-Ok.ensures.size;
+      colours =
           c.in-Ok.ensures.cells ∙ ap (λ k. square_of_rows side (take k c.loop-row.rows)) across
           ∙ square_packed side modules c.loop-row.rows count
           (λ r k lr lk. above r k (omega (arith, lr, c.loop-row-test.false, across)) lk);
@@ -45,13 +43,13 @@ no_size_there : {U : Type 0} (why : GridFault) (side count : ℕ) → count ≡ 
 no_size_there NotSquare side count e square size = absurd (square.0 refl e)
 no_size_there NoSuchSize side count e square size = (size.0 refl).1
 
-pub returns-in-Err-clause-fault : goal.returns-in-Err-clause-fault
-returns-in-Err-clause-fault c =
+pub unreachable-requires-in-Err : goal.unreachable-requires-in-Err
+unreachable-requires-in-Err c =
     let rows = c.loop-row.rows in
     let across = c.from-across.result in
     let count : length (take across rows) ≡ c.args.side =
     length-take-le across rows (omega (arith, c.loop-row.invariant.height, c.if-across-gt-LARGEST_SIDE.false))
     ∙ c.from-across.ensures in
-    no_size (rw (← c.from-across.ensures) c.if-modules-across.false)
+    not_missing c.args.side c.requires
     (no_size_there c.in-Err.field-0 c.args.side (length (take across rows)) count c.in-Err.ensures.not_square
-    c.in-Err.ensures.no_such_size) c.no_such_side-in-Err.ensures
+    c.in-Err.ensures.no_such_size)

@@ -19,11 +19,10 @@ returns-then-items-gt-LARGEST_ITEMS c =
 pub returns-then-items-gt-MOST_ITEMS : goal.returns-then-items-gt-MOST_ITEMS
 returns-then-items-gt-MOST_ITEMS c =
     writing_given c.args.how.size c.args.how.profile c.args.items.now c.message_of_numbers.result c.args.out.now
-    c.write_symbol.new.out c.message_of_numbers.ensures.message c.message_of_numbers.ensures.numbers
-    c.write_symbol.ensures
+    c.write_symbol.new.out c.message_of_numbers.ensures.message c.message_of_numbers.ensures.numbers c.write_symbol.ensures
 
 pub returns-else-items-gt-MOST_ITEMS : goal.returns-else-items-gt-MOST_ITEMS
 returns-else-items-gt-MOST_ITEMS c =
-    writing_given c.args.how.size c.args.how.profile c.args.items.now c.message_of_numbers.result c.args.out.now
-    c.write_message.new.out c.message_of_numbers.ensures.message c.message_of_numbers.ensures.numbers
-    c.write_message.ensures
+    let made = c.message_of_numbers-else-items-gt-MOST_ITEMS in
+    writing_given c.args.how.size c.args.how.profile c.args.items.now made.result c.args.out.now
+    c.write_message.new.out made.ensures.message made.ensures.numbers c.write_message.ensures

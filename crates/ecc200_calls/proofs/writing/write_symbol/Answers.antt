@@ -4,10 +4,10 @@ use Rattle.ecc200_calls.specs.Symbols.{IsMessageGiven, no_symbol}
 use Rattle.ecc200_calls.proofs.writing.write_symbol.Goals as goal
 
 pub returns-in-Ok : goal.returns-in-Ok
-returns-in-Ok c =
+returns-in-Ok g c =
     IsMessageGiven.written c.write_symbol_to.new.modules c.in-Ok.ensures.written.written c.show_modules.ensures
 
 pub returns-in-Err : goal.returns-in-Err
-returns-in-Err c =
+returns-in-Err g c =
     IsMessageGiven.no_size (λ fits. false≢true (c.in-Err.ensures.written.fits.1 fits))
     (c.show_fault.ensures ∙ ap (λ why. no_symbol why c.args.out.now) c.too_long.ensures)

@@ -25,6 +25,6 @@ returns-then-bytes-gt-MOST_ITEMS c =
 
 pub returns-else-bytes-gt-MOST_ITEMS : goal.returns-else-bytes-gt-MOST_ITEMS
 returns-else-bytes-gt-MOST_ITEMS c =
-    writing_given c.args.how.size c.args.how.profile c.args.bytes.now c.message_of_bytes.result c.args.out.now
-    c.write_message.new.out c.message_of_bytes.ensures.message c.message_of_bytes.ensures.numbers
-    c.write_message.ensures
+    let made = c.message_of_bytes-else-bytes-gt-MOST_ITEMS in
+    writing_given c.args.how.size c.args.how.profile c.args.bytes.now made.result c.args.out.now
+    c.write_message.new.out made.ensures.message made.ensures.numbers c.write_message.ensures
