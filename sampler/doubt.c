@@ -51,21 +51,28 @@ static double contrast_of(const struct levels *levels) {
     return levels->of[LIGHT] - levels->of[DARK];
 }
 
-/* False if the picture shows too few of them. */
+/* The median of numbers from 0 to 255, of which each comes so often; -1 if there is none. */
+static int median_of(const int often[256]) {
+    int count = 0, at = -1;
+    for (int k = 0; k < 256; k++)
+        count += often[k];
+    for (int passed = 0; 2 * passed < count;)
+        passed += often[++at];
+    return at;
+}
+
+/* False if the picture shows too few of them. What is damaged counts little: the levels are medians. */
 static bool find_levels(const struct looks *looks, const struct layout *layout, struct levels *out) {
-    double total[2] = {0};
-    int count[2] = {0}, saturated = 0;
+    int often[2][256] = {{0}}, light = 0, saturated = 0;
     for (int k = 0; k < count_of(looks); k++) {
         int colour = known_at(looks, layout, k);
         if (colour == UNKNOWN || looks->is_outside[k])
             continue;
-        total[colour] += looks->mean[k], count[colour]++;
-        saturated += colour == LIGHT && looks->least[k] >= SATURATED;
+        often[colour][(int)looks->mean[k]]++;
+        light += colour == LIGHT, saturated += colour == LIGHT && looks->least[k] >= SATURATED;
     }
-    if (count[LIGHT] == 0 || count[DARK] == 0)
-        return false;
-    *out = (struct levels){{total[LIGHT] / count[LIGHT], total[DARK] / count[DARK]}, 2 * saturated > count[LIGHT]};
-    return contrast_of(out) >= LEAST_CONTRAST;
+    *out = (struct levels){{median_of(often[LIGHT]), median_of(often[DARK])}, 2 * saturated > light};
+    return out->of[DARK] >= 0 && contrast_of(out) >= LEAST_CONTRAST;
 }
 
 /* ---- Flat areas: squares of three by three modules that look all alike, side by side */
