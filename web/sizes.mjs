@@ -29,7 +29,7 @@ export const sizeChosen = () => (field("shape").value === "one" ? field("size").
 /** @type {(name: string) => void} */
 export function chooseSize(name) {
   const isOne = sizes.has(name);
-  field("shape").value = isOne ? "one" : name in SHAPES && name !== "one" ? name : "square";
+  field("shape").value = isOne ? "one" : Object.keys(SHAPES).includes(name) && name !== "one" ? name : "square";
   if (isOne) field("size").value = name;
   showChoice();
 }

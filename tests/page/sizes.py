@@ -350,7 +350,7 @@ def rectangles_are_linked():
         settle()
         count.expect(f"a square that begins {first}", flat(run("return document.getElementById('grid').value")), odd)
     no_sizes = ("read&grid=8.19.AAAA", "read&grid=0.0.", "read&grid=8.18.A", "read&grid=145.145.AA")
-    for fragment in (*no_sizes, "make&size=9x9", "make&size=one"):
+    for fragment in (*no_sizes, "make&size=9x9", "make&size=one", "make&size=toString"):
         run("location.hash = arguments[0]", f"#{fragment}")
         linked()
         settle()
