@@ -1,6 +1,7 @@
 -- How near a word of one Reed-Solomon block of ISO/IEC 16022, ECC 200, is to a codeword, where some of its places are
 -- erased: what stands there isn't known.
-use Rattle.std.specs.Prelude.{◌≡◌, ◌↔◌, Bool, ℕ, suc, ◌+◌, ◌*◌, ◌≤◌, if◌then◌else◌, List, [], ◌∷◌, length, slice_set}
+use Rattle.std.specs.Prelude.{◌≡◌, ◌↔◌, ◌⊎◌, Bool, ℕ, suc, ◌+◌, ◌*◌, ◌<◌, ◌≤◌, if◌then◌else◌}
+use Rattle.std.specs.Prelude.{List, [], ◌∷◌, length, slice_set}
 use Rattle.dm_code.specs.Codeword.{IsCodeword, IsNear, distance}
 
 -- A list says of each place, from this one on, whether it is erased: these are the erased places, in ascending order.
@@ -35,6 +36,12 @@ pub record IsNearBut (k : ℕ) (word places other : List ℕ) : Type 0 where
 abbrev pub NearButIsOne : Type 0
 NearButIsOne = (k : ℕ) (word places first second : List ℕ) → length word ≤ 255 → IsNearBut k word places first →
     IsNearBut k word places second → first ≡ second
+
+-- Some codeword is near to a word of more than k and at most 255 numbers but for erased places, or none is.
+abbrev pub NearButIsThereOrNot : Type 0
+NearButIsThereOrNot =
+    (k : ℕ) (word places : List ℕ) → k < length word → length word ≤ 255 →
+    ((other : List ℕ) × IsNearBut k word places other) ⊎ ((other : List ℕ) → IsNearBut k word places other → ⊥)
 
 -- With no place erased, a codeword is near to a word but for its erased places exactly where it is near to the word.
 abbrev pub NearButNoneIsNear : Type 0

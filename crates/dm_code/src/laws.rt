@@ -3,7 +3,7 @@
 ghost use Rattle.dm_code.specs.CodewordLaws.{CodewordsLieApart, CloseCodewordsAreOne, NearCodewordIsOne};
 ghost use Rattle.dm_code.specs.CodewordLaws.{NearCodewordIsThereOrNot, FrontDeterminesChecks, ChecksAreThere};
 ghost use Rattle.dm_code.specs.CodewordLaws.{CodewordsAreBytes, CodewordsHaveNoSyndromes};
-ghost use Rattle.dm_code.specs.Erased.{NearButIsOne, NearButNoneIsNear};
+ghost use Rattle.dm_code.specs.Erased.{NearButIsOne, NearButIsThereOrNot, NearButNoneIsNear};
 ghost use Rattle.dm_code.specs.KeyEquationLaws.{PairsAreMultiples, LeastPairIsOne, ExactLeastPairIsOne};
 ghost use Rattle.dm_code.specs.KeyEquationLaws.{LeastPairIsThere};
 
@@ -63,6 +63,12 @@ pub fn exact_least_pair_is_one()
 /// Where there is a pair of the key equation, there is a least pair.
 pub fn least_pair_is_there()
     ensures { LeastPairIsThere }
+{}
+
+/// Some codeword is near to a word of more than k and at most 255 numbers but for erased places, or none is: so the
+/// word is restored, or is beyond the limit.
+pub fn near_but_is_there_or_not()
+    ensures { NearButIsThereOrNot }
 {}
 
 /// At most one codeword is near to a word of at most 255 bytes but for erased places, and with none erased it is the
