@@ -1,6 +1,8 @@
 -- Modules after the bits of codewords are written.
-use Rattle.std.proofs.Common.{◌≡◌, ◌≢◌, ◌⊎◌, inl, inr, ℕ, zero, suc, ◌+◌, ◌-◌, ◌*◌, ◌/◌, ◌%◌, ◌<◌, ◌≤◌, Bool, true, false}
-use Rattle.std.proofs.Common.{not, ◌&&◌, ◌||◌, cond, nat_eq, List, [], ◌∷◌, set, length, get_or, refl, sym, ◌∙◌, ap, arith}
+use Rattle.std.proofs.Common.{◌≡◌, ◌≢◌, ◌⊎◌, inl, inr, ℕ, zero, suc, ◌+◌, ◌-◌, ◌*◌, ◌/◌, ◌%◌, ◌<◌, ◌≤◌, Bool, true}
+use Rattle.std.proofs.Common.{false}
+use Rattle.std.proofs.Common.{not, ◌&&◌, ◌||◌, cond, nat_eq, List, [], ◌∷◌, set, length, get_or, refl, sym, ◌∙◌, ap}
+use Rattle.std.proofs.Common.{arith}
 use Rattle.std.proofs.Common.{subst, get_or-set_other, get_or-set_same}
 use Rattle.std.specs.Prelude.{Some, None}
 use Rattle.std.specs.List.{list_all}
@@ -46,7 +48,8 @@ column_inside size c entry l =
     let d : ℕ = size.region_columns in
     let below = region_below d c size.regions_across facts.least_columns l in
     let form = symbol_line-form d c facts.least_columns in
-    let room : (c / d + 1) * (d + 2) ≤ size.regions_across * (d + 2) = mul-le-mul_right (d + 2) (omega (arith, below)) in
+    let room : (c / d + 1) * (d + 2) ≤ size.regions_across * (d + 2) =
+    mul-le-mul_right (d + 2) (omega (arith, below)) in
     let some : 0 < d = omega (arith, facts.least_columns) in
     let rest : c % d < d = omega (arith, some) in
     let next : (c / d + 1) * (d + 2) ≡ c / d * (d + 2) + (d + 2) = omega arith in

@@ -7,4 +7,5 @@ pub returns : goal.returns
 returns c =
     c.put_colours.ensures
     ∙ ap (λ numbers. over numbers c.args.all.now)
-    (numbers_of_colours c.args.symbol.now c.list.result.now c.size-size.ensures.modules c.list.ensures.count c.list.ensures.rows)
+    (numbers_of_colours c.args.symbol.now c.list.result.now c.size-size.ensures.modules c.list.ensures.count
+    c.list.ensures.rows)

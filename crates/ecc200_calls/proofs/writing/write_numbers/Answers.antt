@@ -19,7 +19,8 @@ returns-then-items-gt-LARGEST_ITEMS c =
 pub returns-then-items-gt-MOST_ITEMS : goal.returns-then-items-gt-MOST_ITEMS
 returns-then-items-gt-MOST_ITEMS c =
     writing_given c.args.how.size c.args.how.profile c.args.items.now c.message_of_numbers.result c.args.out.now
-    c.write_symbol.new.out c.message_of_numbers.ensures.message c.message_of_numbers.ensures.numbers c.write_symbol.ensures
+    c.write_symbol.new.out c.message_of_numbers.ensures.message c.message_of_numbers.ensures.numbers
+    c.write_symbol.ensures
 
 pub returns-else-items-gt-MOST_ITEMS : goal.returns-else-items-gt-MOST_ITEMS
 returns-else-items-gt-MOST_ITEMS c =
