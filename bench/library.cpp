@@ -1,7 +1,7 @@
 // Times the calls of the library ecc200 in process, beside libdmtx, zint and zxing-cpp if they are compiled in
 // (WITH_DMTX, WITH_ZINT, WITH_ZXING), on the same symbols: microseconds of processor time a call, the best of some
-// rounds. Each answer is compared with what was written. Prints a line for each kind of work: side, work, library,
-// microseconds.
+// rounds. Each answer is compared with what was written. Prints a line for each kind of work: the size by its rows and
+// columns, work, library, microseconds.
 #include <ecc200.h>
 
 #include <algorithm>
@@ -28,7 +28,7 @@
 struct Mark {
     std::string text;
     std::vector<uint16_t> items;
-    uint16_t side;
+    uint16_t rows, columns;
     std::vector<uint8_t> clean, damaged;
 };
 
@@ -43,24 +43,36 @@ static int rounds = 30;
     std::exit(1);
 }
 
+// Writes the text of a mark in a symbol of its size, and reads one of its size.
+static uint16_t write(const Mark &mark) {
+    const ecc200_how how = {ECC200_ASCII, ECC200_ONE, mark.rows, mark.columns};
+    return ecc200_write(mark.items.data(), mark.items.size(), &how, &symbol);
+}
+
+static uint16_t read(const std::vector<uint8_t> &modules, const Mark &mark, uint16_t border_limit) {
+    return ecc200_read(modules.data(), modules.size(), nullptr, 0, mark.rows, mark.columns, border_limit, ECC200_USUAL,
+                       &reading);
+}
+
 // A mark of letters and digits. In its damaged copy as many codewords of each block are wrong as can be corrected, each
 // by one module.
 static Mark made(const ecc200_size &size, size_t length) {
     Mark mark;
+    mark.rows = size.rows;
+    mark.columns = size.columns;
     do {
         mark.text.clear();
         for (size_t i = 0; i < length; i++)
             mark.text += (char)(chance() % 3 ? 'A' + chance() % 26 : '0' + chance() % 10);
         mark.items.assign(mark.text.begin(), mark.text.end());
-    } while (ecc200_write(mark.items.data(), mark.items.size(), ECC200_ASCII, &symbol) || symbol.side != size.side);
-    mark.side = size.side;
-    mark.clean.assign(symbol.modules, symbol.modules + size.side * size.side);
+    } while (write(mark));
+    mark.clean.assign(symbol.modules, symbol.modules + size.rows * size.columns);
     mark.damaged = mark.clean;
     for (int done = 0; done < size.limit * size.blocks;) {
         size_t at = chance() % mark.damaged.size();
         mark.damaged[at] ^= 1;
         int corrected = 0;
-        if (!ecc200_read(mark.damaged.data(), mark.damaged.size(), size.side, 0, ECC200_USUAL, &reading))
+        if (!read(mark.damaged, mark, 0))
             for (int b = 0; b < size.blocks; b++) corrected += reading.corrected[b];
         if (corrected == done + 1) done++;
         else mark.damaged[at] ^= 1;
@@ -81,31 +93,32 @@ template <class Work> static void timed(const char *work, const char *who, const
         for (const Mark &mark : marks) one(mark);
         best = std::min(best, now() - from);
     }
-    std::printf("%d|%s|%s|%.2f\n", marks[0].side, work, who, 1e6 * best / marks.size());
+    std::printf("%dx%d|%s|%s|%.2f\n", marks[0].rows, marks[0].columns, work, who, 1e6 * best / marks.size());
 }
 
-static void read(const std::vector<uint8_t> &modules, const Mark &mark) {
-    if (ecc200_read(modules.data(), modules.size(), mark.side, ecc200_usual_limit(mark.side), ECC200_USUAL, &reading) ||
+static void read_right(const std::vector<uint8_t> &modules, const Mark &mark) {
+    if (read(modules, mark, ecc200_usual_limit(mark.rows, mark.columns)) ||
         reading.item_count != mark.items.size() || !std::equal(mark.items.begin(), mark.items.end(), reading.items))
         die("ecc200 reads something else");
 }
 
 static void time_ours(const std::vector<Mark> &marks) {
-    timed("read", "ecc200", marks, [](const Mark &mark) { read(mark.clean, mark); });
-    timed("read, damaged", "ecc200", marks, [](const Mark &mark) { read(mark.damaged, mark); });
+    timed("read", "ecc200", marks, [](const Mark &mark) { read_right(mark.clean, mark); });
+    timed("read, damaged", "ecc200", marks, [](const Mark &mark) { read_right(mark.damaged, mark); });
     timed("normal, damaged", "ecc200", marks, [](const Mark &mark) {
         const auto &damaged = mark.damaged;
-        if (ecc200_normal(damaged.data(), damaged.size(), mark.side, 0, ECC200_USUAL, ECC200_ASCII, &symbol) ||
-            std::memcmp(symbol.modules, mark.clean.data(), mark.clean.size()))
+        if (ecc200_normal(damaged.data(), damaged.size(), nullptr, 0, mark.rows, mark.columns, 0, ECC200_USUAL,
+                          ECC200_ASCII, &symbol) ||
+            (mark.rows == mark.columns && std::memcmp(symbol.modules, mark.clean.data(), mark.clean.size())))
             die("ecc200 normalises to something else");
     });
     timed("inspect, damaged", "ecc200", marks, [](const Mark &mark) {
-        if (ecc200_inspect(mark.damaged.data(), mark.damaged.size(), mark.side, &inspection))
+        const auto &damaged = mark.damaged;
+        if (ecc200_inspect(damaged.data(), damaged.size(), nullptr, 0, mark.rows, mark.columns, &inspection))
             die("ecc200 refuses to inspect");
     });
     timed("write", "ecc200", marks, [](const Mark &mark) {
-        if (ecc200_write(mark.items.data(), mark.items.size(), ECC200_ASCII, &symbol) ||
-            std::memcmp(symbol.modules, mark.clean.data(), mark.clean.size()))
+        if (write(mark) || std::memcmp(symbol.modules, mark.clean.data(), mark.clean.size()))
             die("ecc200 writes something else");
     });
 }
@@ -115,10 +128,10 @@ static void time_zxing(const std::vector<Mark> &marks) {
     std::vector<ZXing::BitMatrix> clean, damaged;
     for (const Mark &mark : marks)
         for (auto *list : {&clean, &damaged}) {
-            ZXing::BitMatrix bits(mark.side, mark.side);
+            ZXing::BitMatrix bits(mark.columns, mark.rows);
             const auto &modules = list == &clean ? mark.clean : mark.damaged;
-            for (int i = 0; i < mark.side * mark.side; i++)
-                if (modules[i]) bits.set(i % mark.side, i / mark.side);
+            for (int i = 0; i < mark.rows * mark.columns; i++)
+                if (modules[i]) bits.set(i % mark.columns, i / mark.columns);
             list->push_back(std::move(bits));
         }
     auto decode = [&](const std::vector<ZXing::BitMatrix> &list) {
@@ -151,14 +164,15 @@ static void time_dmtx_reading(const char *work, const std::vector<Mark> &marks, 
     std::vector<Mark> seen;
     const int scale = 5, quiet = 2;
     for (size_t i = 0; i < marks.size() && seen.size() < 100; i++) {
-        int side = marks[i].side, across = (side + 2 * quiet) * scale;
-        pictures[i].assign(across * across, 255);
-        for (int r = 0; r < side * scale; r++)
-            for (int c = 0; c < side * scale; c++)
-                if ((marks[i].*modules)[r / scale * side + c / scale])
+        int rows = marks[i].rows, columns = marks[i].columns;
+        int across = (columns + 2 * quiet) * scale, down = (rows + 2 * quiet) * scale;
+        pictures[i].assign(across * down, 255);
+        for (int r = 0; r < rows * scale; r++)
+            for (int c = 0; c < columns * scale; c++)
+                if ((marks[i].*modules)[r / scale * columns + c / scale])
                     pictures[i][(r + quiet * scale) * across + c + quiet * scale] = 0;
         Found f;
-        f.decode = dmtxDecodeCreate(dmtxImageCreate(pictures[i].data(), across, across, DmtxPack8bppK), 1);
+        f.decode = dmtxDecodeCreate(dmtxImageCreate(pictures[i].data(), across, down, DmtxPack8bppK), 1);
         DmtxTime end = dmtxTimeAdd(dmtxTimeNow(), 500);
         f.region = dmtxRegionFindNext(f.decode, &end);
         DmtxMessage *message = f.region ? dmtxDecodeMatrixRegion(f.decode, f.region, -1) : nullptr;
@@ -180,7 +194,8 @@ static void time_dmtx(const std::vector<Mark> &marks) {
     time_dmtx_reading("read, damaged", marks, &Mark::damaged);
     timed("write", "libdmtx, ASCII", marks, [](const Mark &mark) {
         DmtxEncode *encode = dmtxEncodeCreate();
-        dmtxEncodeSetProp(encode, DmtxPropSizeRequest, DmtxSymbolSquareAuto);
+        bool is_square = mark.rows == mark.columns;
+        dmtxEncodeSetProp(encode, DmtxPropSizeRequest, is_square ? DmtxSymbolSquareAuto : DmtxSymbolRectAuto);
         dmtxEncodeSetProp(encode, DmtxPropScheme, DmtxSchemeAscii);
         dmtxEncodeSetProp(encode, DmtxPropModuleSize, 1);
         dmtxEncodeSetProp(encode, DmtxPropMarginSize, 1);
@@ -196,7 +211,7 @@ static void time_zint(const std::vector<Mark> &marks) {
     timed("write", "zint, its encodation", marks, [](const Mark &mark) {
         zint_symbol *made = ZBarcode_Create();
         made->symbology = BARCODE_DATAMATRIX;
-        made->option_3 = DM_SQUARE;
+        if (mark.rows == mark.columns) made->option_3 = DM_SQUARE;
         if (ZBarcode_Encode(made, (unsigned char *)mark.text.data(), (int)mark.text.size()) >= ZINT_ERROR)
             die("zint writes nothing");
         ZBarcode_Delete(made);
@@ -208,10 +223,15 @@ int main(int argc, char **argv) {
     if (argc > 1) rounds = std::max(1, std::atoi(argv[1]));
     static ecc200_size_table table;
     ecc200_sizes(&table);
-    const struct { uint16_t side; size_t length, count; } sets[] = {{52, 180, 200}, {14, 8, 1000}};
+    const struct { uint16_t rows, columns; size_t length, count; } sets[] = {
+        {52, 52, 180, 200}, {14, 14, 8, 1000}, {8, 32, 9, 1000},   {16, 48, 45, 500},
+        {8, 144, 60, 500},  {26, 64, 110, 300}, {104, 104, 800, 50}, {120, 120, 1000, 50}, {132, 132, 1250, 50},
+        {144, 144, 1500, 50}};
     for (const auto &set : sets) {
         const ecc200_size *size = std::find_if(table.sizes, table.sizes + ECC200_SIZE_COUNT,
-                                               [&](const ecc200_size &s) { return s.side == set.side; });
+                                               [&](const ecc200_size &s) {
+                                                   return s.rows == set.rows && s.columns == set.columns;
+                                               });
         std::vector<Mark> marks;
         while (marks.size() < set.count) marks.push_back(made(*size, set.length));
         time_ours(marks);

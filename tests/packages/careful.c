@@ -6,10 +6,13 @@ const char *said(enum ecc200_code code);
 size_t text_of(const ecc200_reading *reading, uint8_t *bytes, size_t room);
 size_t items_of(const uint8_t *bytes, size_t count, uint16_t *items, size_t room);
 int is_bit(const ecc200_place *place);
-uint16_t in_extent(const uint8_t *modules, uint16_t side, enum ecc200_extent extent, ecc200_reading *out);
+uint16_t in_extent(const uint8_t *modules, uint16_t rows, uint16_t columns, enum ecc200_extent extent,
+                   ecc200_reading *out);
 
 uint16_t in_profile(const uint16_t *items, size_t count, enum ecc200_profile profile, ecc200_symbol *out) {
-    return ecc200_write(items, count, profile, out);
+    ecc200_how how = {ECC200_ASCII, ECC200_SQUARE, 0, 0};
+    how.form = profile;
+    return ecc200_write(items, count, &how, out);
 }
 
 const char *said(enum ecc200_code code) {
@@ -29,6 +32,8 @@ int is_bit(const ecc200_place *place) {
     return place->kind == ECC200_BIT;
 }
 
-uint16_t in_extent(const uint8_t *modules, uint16_t side, enum ecc200_extent extent, ecc200_reading *out) {
-    return ecc200_read(modules, ECC200_CAST(size_t, side) * side, side, ecc200_usual_limit(side), extent, out);
+uint16_t in_extent(const uint8_t *modules, uint16_t rows, uint16_t columns, enum ecc200_extent extent,
+                   ecc200_reading *out) {
+    return ecc200_read(modules, ECC200_CAST(size_t, rows) * columns, NULL, 0, rows, columns,
+                       ecc200_usual_limit(rows, columns), extent, out);
 }

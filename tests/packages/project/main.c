@@ -9,16 +9,16 @@ int main(void) {
     static ecc200_reading reading;
     const char *text = "Mitsubadoor";
     uint8_t bytes[ECC200_MOST_ITEMS];
-    enum ecc200_profile profile = ECC200_ASCII;
-    uint16_t code = ecc200_write_bytes((const uint8_t *)text, strlen(text), profile, &symbol);
+    const ecc200_how how = {ECC200_ASCII, ECC200_RECTANGLE, 0, 0};
+    uint16_t code = ecc200_write_bytes((const uint8_t *)text, strlen(text), &how, &symbol);
     if (code != ECC200_OK) {
         puts(ecc200_code_words(code));
         return 1;
     }
-    symbol.modules[symbol.side + 1] ^= 1;
-    size_t modules = (size_t)symbol.side * symbol.side;
-    if (ecc200_read(symbol.modules, modules, symbol.side, ecc200_usual_limit(symbol.side), ECC200_USUAL, &reading) !=
-        ECC200_OK)
+    symbol.modules[symbol.columns + 1] ^= 1;
+    size_t modules = (size_t)symbol.rows * symbol.columns;
+    if (ecc200_read(symbol.modules, modules, NULL, 0, symbol.rows, symbol.columns,
+                    ecc200_usual_limit(symbol.rows, symbol.columns), ECC200_USUAL, &reading) != ECC200_OK)
         return 2;
     size_t count = ecc200_text(&reading, bytes, sizeof bytes, NULL);
     printf("%s %.*s %d\n", ecc200_version(), (int)count, (const char *)bytes, reading.corrected[0]);
