@@ -1,5 +1,5 @@
 // Grids: as text, and turned.
-import { MOST_LINE, MOST_TEXT, plural } from "./common.mjs";
+import { MOST_COLUMNS, MOST_ROWS, MOST_TEXT, plural } from "./common.mjs";
 import { tooMuch } from "./messages.mjs";
 
 /** @typedef {import("./common.mjs").Grid} Grid */
@@ -41,8 +41,8 @@ export function gridFrom(text, lib) {
 function unfit(lines, isPictured, lib) {
   const odd = lines.findIndex((line) => (isPictured ? /[^#Xx. ]/ : /[^01]/).test(line));
   if (odd >= 0) return `Row ${odd + 1} has a character other than ${isPictured ? "#, X, . and space" : "0 and 1"}.`;
-  const isLarge = lines.length > MOST_LINE || lines.some((line) => line.length > MOST_LINE);
-  if (isLarge) return `More than ${MOST_LINE} rows or columns, and no symbol has as many.`;
+  const isLarge = lines.length > MOST_ROWS || lines.some((line) => line.length > MOST_COLUMNS);
+  if (isLarge) return `More than ${MOST_ROWS} rows or ${MOST_COLUMNS} columns, and no symbol has as many.`;
   const columns = lines[0].length, uneven = lines.findIndex((line) => line.length !== columns);
   const has = (row) => `row ${row + 1} has ${plural(lines[row].length, "module", "modules")}`;
   if (uneven >= 0) return `Not a rectangle: ${has(0)}, and ${has(uneven)}.`;

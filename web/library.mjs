@@ -1,7 +1,9 @@
 // The proved library, lowered from 64-bit memory to 32 bits, whose interface is that of library/ecc200.h. Addresses and
 // lengths stay 64 bits wide, so they are BigInts; pages of its memory are counted in ordinary numbers. For everything
 // about Data Matrix symbols (sizes, places, codewords, correction, messages, borders, normal forms) the page asks it.
-import { ABI, BIT, MOST_BLOCKS, MOST_CODEWORDS, MOST_ITEMS, MOST_LINE, SIZE_COUNT, WIDE } from "./common.mjs";
+import {
+  ABI, BIT, MOST_BLOCKS, MOST_CODEWORDS, MOST_COLUMNS, MOST_ITEMS, MOST_ROWS, SIZE_COUNT, WIDE,
+} from "./common.mjs";
 
 /** @typedef {import("./common.mjs").Shape} Shape */
 /** @typedef {import("./common.mjs").Grid} Grid */
@@ -20,7 +22,7 @@ import { ABI, BIT, MOST_BLOCKS, MOST_CODEWORDS, MOST_ITEMS, MOST_LINE, SIZE_COUN
 // In the memory that the caller adds: after the modules of a symbol come its doubtful ones, how a message is written,
 // items, one more than a message has, and then what a call writes, of which the largest has 10 bytes and 4 for each
 // module.
-const MOST_MODULES = MOST_LINE * MOST_LINE, DOUBTFUL = MOST_MODULES, HOW = 2 * MOST_MODULES, ITEMS = HOW + 8;
+const MOST_MODULES = MOST_ROWS * MOST_COLUMNS, DOUBTFUL = MOST_MODULES, HOW = 2 * MOST_MODULES, ITEMS = HOW + 8;
 const OUT = ITEMS + 2 * (MOST_ITEMS + 1), PAGE = 65536, PAGES = Math.ceil((OUT + 10 + 4 * MOST_MODULES) / PAGE);
 // Where the members of what a call writes stand: all begin with a fault, rows and columns.
 const SHAPE_AT = 6, COUNTS_AT = 10, MODULES_AT = 10, PLACES_AT = 10, BLOCKS_AT = 16;
