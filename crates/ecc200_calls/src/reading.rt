@@ -232,13 +232,24 @@ fn show_reading(out: &mut ReadingOut, rows: u16, columns: u16, reading: &SymbolR
     put_message(&mut out.items, &reading.message);
 }
 
+/// Gives what is said of a block of so many check codewords in which so many codewords were wrong, and none is erased.
+fn none_erased(count: u8, checks: u8) -> BlockReading
+    ensures { result ≡ none_erased checks count }
+{
+    BlockReading {
+        corrected: count,
+        erased: 0,
+        left: u16::from(checks).saturating_sub(2 * u16::from(count)) as u8,
+    }
+}
+
 /// Writes 0 over the first ones for each of these counts: no codeword is erased where no module is doubtful.
 fn put_none_erased(all: &mut [u8], counts: &[u8], checks: u8)
     requires { length counts.now ≤ length all.old }
     ensures { all.new ≡ over (map erased_in (map (none_erased checks) counts.now)) all.old }
 {
-    for (b, _count) in counts.iter().enumerate() {
-        all[b] = 0;
+    for (b, count) in counts.iter().enumerate() {
+        all[b] = none_erased(*count, checks).erased;
     }
 }
 
@@ -248,7 +259,7 @@ fn put_left_by_errors(all: &mut [u8], counts: &[u8], checks: u8)
     ensures { all.new ≡ over (map left_in (map (none_erased checks) counts.now)) all.old }
 {
     for (b, count) in counts.iter().enumerate() {
-        all[b] = u16::from(checks).saturating_sub(2 * u16::from(*count)) as u8;
+        all[b] = none_erased(*count, checks).left;
     }
 }
 
