@@ -23,7 +23,7 @@ pub(crate) fn choice_of(how: How) -> Option<SizeChoice>
     match how.shape {
         0 => Some(SizeChoice::Square),
         1 => Some(SizeChoice::Rectangle),
-        2 => Some(SizeChoice::Extended),
+        2 => Some(SizeChoice::AnyRectangle),
         3 => Some(SizeChoice::Any),
         4 => Some(SizeChoice::Exact(how.rows, how.columns)),
         _ => None,
