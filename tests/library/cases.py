@@ -208,7 +208,7 @@ def faults():
             for count in (1, 99, 101, 200):
                 yield call(good, extent=extent, doubt=[0] * count), no(19)
             yield call([0] * 144, extent=extent, named=TEN, doubt=[0] * 100), no(3)
-            yield call([0] * 50, extent=extent, named=(5, 10), doubt=[0] * 49), no(19)
+            yield call([0] * 50, extent=extent, named=(5, 10), doubt=[0] * 49), no(4, 5, 10)
             yield call([0] * 50, extent=extent, named=(5, 10), doubt=[0] * 50), no(4, 5, 10)
         for call in (read, lambda *given, **more: normal(*given, 1, **more)):
             yield call(light, limit=26, extent=extent), no(5, 27)
