@@ -8,7 +8,7 @@ from tests.support import commands, needs, places
 from tests.support.case import Case
 
 ROUNDS = 20_000
-STACK = 65_536
+STACK = 110_592
 
 
 @needs.library
@@ -36,8 +36,8 @@ class Threads(Case):
     def test_eight_threads_with_small_stacks_and_the_stack_of_each_call(self):
         program, problem = compiled(own("threads.c"), self.folder(), "-pthread")
         self.assertIsNone(problem)
-        status, said = commands.said([program, "64"])
-        self.row("eight threads with stacks of 64 KiB", (status, said if status else ""), (0, ""))
+        status, said = commands.said([program, "128"])
+        self.row("eight threads with stacks of 128 KiB", (status, said if status else ""), (0, ""))
         for line in said.splitlines() if status == 0 else []:
             name, taken = line.rsplit(" ", 1)
             self.sound(f"the stack of {name}", None if int(taken) < STACK else f"{taken} bytes")
