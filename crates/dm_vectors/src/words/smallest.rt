@@ -200,11 +200,11 @@ fn takes_the_smallest_size_of_a_choice(rt: HostRuntime) {
     holds(&rt, size_of_digits(10, SizeChoice::Rectangle) == (8, 18));
     holds(&rt, size_of_digits(10, SizeChoice::Any) == (12, 12));
     holds(&rt, size_of_digits(44, SizeChoice::Any) == (20, 20));
-    holds(&rt, size_of_digits(48, SizeChoice::Extended) == (8, 64));
+    holds(&rt, size_of_digits(48, SizeChoice::AnyRectangle) == (8, 64));
     holds(&rt, size_of_digits(48, SizeChoice::Rectangle) == (16, 36));
     holds(&rt, size_of_digits(98, SizeChoice::Rectangle) == (16, 48));
     holds(&rt, size_of_digits(99, SizeChoice::Rectangle) == (0, 0));
-    holds(&rt, size_of_digits(168, SizeChoice::Extended) == (26, 48));
+    holds(&rt, size_of_digits(168, SizeChoice::AnyRectangle) == (26, 48));
     holds(&rt, size_of_digits(168, SizeChoice::Square) == (36, 36));
     holds(
         &rt,
