@@ -29,6 +29,7 @@ struct Mark {
     std::string text;
     std::vector<uint16_t> items;
     uint16_t rows, columns;
+    bool is_extension; // a size of ISO/IEC 21471
     std::vector<uint8_t> clean, damaged;
 };
 
@@ -54,18 +55,26 @@ static uint16_t read(const std::vector<uint8_t> &modules, const Mark &mark, uint
                        &reading);
 }
 
-// A mark of letters and digits. In its damaged copy as many codewords of each block are wrong as can be corrected, each
+// Whether the smallest square that holds the text of a mark is its own size, so that its symbol is the normal grid.
+static bool is_normal(const Mark &mark) {
+    const ecc200_how how = {ECC200_ASCII, ECC200_SQUARE, 0, 0};
+    return !ecc200_write(mark.items.data(), mark.items.size(), &how, &symbol) && symbol.rows == mark.rows &&
+           symbol.columns == mark.columns;
+}
+
+// A mark of letters and digits, in a square the smallest one. In its damaged copy as many codewords of each block are wrong as can be corrected, each
 // by one module.
 static Mark made(const ecc200_size &size, size_t length) {
     Mark mark;
     mark.rows = size.rows;
     mark.columns = size.columns;
+    mark.is_extension = size.extension != 0;
     do {
         mark.text.clear();
         for (size_t i = 0; i < length; i++)
             mark.text += (char)(chance() % 3 ? 'A' + chance() % 26 : '0' + chance() % 10);
         mark.items.assign(mark.text.begin(), mark.text.end());
-    } while (write(mark));
+    } while ((size.rows == size.columns && !is_normal(mark)) || write(mark));
     mark.clean.assign(symbol.modules, symbol.modules + size.rows * size.columns);
     mark.damaged = mark.clean;
     for (int done = 0; done < size.limit * size.blocks;) {
@@ -211,7 +220,7 @@ static void time_zint(const std::vector<Mark> &marks) {
     timed("write", "zint, its encodation", marks, [](const Mark &mark) {
         zint_symbol *made = ZBarcode_Create();
         made->symbology = BARCODE_DATAMATRIX;
-        if (mark.rows == mark.columns) made->option_3 = DM_SQUARE;
+        made->option_3 = mark.is_extension ? DM_DMRE : mark.rows == mark.columns ? DM_SQUARE : 0;
         if (ZBarcode_Encode(made, (unsigned char *)mark.text.data(), (int)mark.text.size()) >= ZINT_ERROR)
             die("zint writes nothing");
         ZBarcode_Delete(made);
@@ -239,7 +248,7 @@ int main(int argc, char **argv) {
         time_zxing(marks);
 #endif
 #ifdef WITH_DMTX
-        time_dmtx(marks);
+        if (!size->extension) time_dmtx(marks); // which knows no others
 #endif
 #ifdef WITH_ZINT
         time_zint(marks);
