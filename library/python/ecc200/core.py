@@ -493,7 +493,7 @@ def _doubtful(grid: Optional[Grid], rows: int, columns: int) -> Tuple[Optional[b
         modules, wide = _joined(marks)
         size = len(marks), wide
     if size != (rows, columns):
-        raise Refused(Code.DOUBT)
+        return b"\0", 1  # (the library refuses one, after what it refuses before)
     if modules[:1] in (b"0", b"1") and not modules.strip(b"01"):  # characters
         modules = modules.translate(_DIGITS)
     return modules, len(modules)
