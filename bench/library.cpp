@@ -62,8 +62,8 @@ static bool is_normal(const Mark &mark) {
            symbol.columns == mark.columns;
 }
 
-// A mark of letters and digits, in a square the smallest one. In its damaged copy as many codewords of each block are wrong as can be corrected, each
-// by one module.
+// A mark of letters and digits, in a square the smallest one. In its damaged copy as many codewords of each block are
+// wrong as can be corrected, each by one module.
 static Mark made(const ecc200_size &size, size_t length) {
     Mark mark;
     mark.rows = size.rows;
