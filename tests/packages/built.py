@@ -74,7 +74,7 @@ def versions():
     yield same("the library's version", raw.ecc200_version().decode(), VERSION)
     yield same("the header's version",
                re.search(r'#define ECC200_VERSION "(.*)"', package.text("library", "ecc200.h"))[1], VERSION)
-    yield same("a code's words", raw.ecc200_code_words(4).decode(), "no size has this side")
+    yield same("a code's words", raw.ecc200_code_words(4).decode(), "no size has these rows and columns")
     yield same("no code's words", raw.ecc200_code_words(60000).decode(), "not a code of this library")
     yield "CHANGELOG.md", None if f"\n## {VERSION}\n" in package.text("CHANGELOG.md") else f"no section {VERSION}"
     yield "docs/LIBRARY.md", None if VERSION in package.text("docs", "LIBRARY.md") else f"doesn't name {VERSION}"
