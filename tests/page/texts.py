@@ -145,8 +145,8 @@ def pasted():
         ("111\n11", "Not a rectangle: row 1 has 3 modules, and row 2 has 2 modules."),
         ("1\n0\n1", "There are 3 rows of 1 module, and no size has these, upright or on its side."),
         ("11\n11", "There are 2 rows of 2 modules, and no size has these, upright or on its side."),
-        ("1" * 145, "More than 144 rows or columns, and no symbol has as many."),
-        ("1\n" * 145, "More than 144 rows or columns, and no symbol has as many."),
+        ("1" * 145, "More than 144 rows or 144 columns, and no symbol has as many."),
+        ("1\n" * 145, "More than 144 rows or 144 columns, and no symbol has as many."),
     ]:
         put("grid", text)
         count.expect(
