@@ -204,7 +204,10 @@ fn takes_the_smallest_size_of_a_choice(rt: HostRuntime) {
     holds(&rt, size_of_digits(48, SizeChoice::Rectangle) == (16, 36));
     holds(&rt, size_of_digits(98, SizeChoice::Rectangle) == (16, 48));
     holds(&rt, size_of_digits(99, SizeChoice::Rectangle) == (0, 0));
-    holds(&rt, size_of_digits(168, SizeChoice::AnyRectangle) == (26, 48));
+    holds(
+        &rt,
+        size_of_digits(168, SizeChoice::AnyRectangle) == (26, 48),
+    );
     holds(&rt, size_of_digits(168, SizeChoice::Square) == (36, 36));
     holds(
         &rt,
