@@ -217,7 +217,7 @@ pub region_read : (m : ModulesView) (row region w start k outer : ℕ) (line par
     ((c : ℕ) → c < region * m.size.region_columns → get_or line c false ≡ mapped_cell m row c) →
     ((j : ℕ) → j < w → get_or part j false ≡ module_at m outer (region * (w + 2) + 1 + j)) →
     (c : ℕ) → c < (region + 1) * m.size.region_columns
-        → get_or (put_mid start k line part) c false ≡ mapped_cell m row c
+    → get_or (put_mid start k line part) c false ≡ mapped_cell m row c
 region_read m row region w start k outer line part ew es eo long room before here c l =
     by_place (cases_lt c (region * n))
   where

@@ -16,7 +16,7 @@ use crate::writing::{write_square, write_symbol};
 use dm_modules::Modules;
 use dm_symbol::{
     Extent, Profile, ReadOptions, Reading, SizeChoice, SymbolReading, WriteOptions, light_grid,
-    read_to, read_symbol_to,
+    read_symbol_to, read_to,
 };
 
 /// Writes the normal symbol of what the symbol of these modules, of which these are doubtful, says in an extent.

@@ -18,8 +18,7 @@ use crate::modules::{light_modules, make_doubtful, make_modules, none_doubtful};
 use crate::squares::{is_plain_square, make_grid};
 use dm_modules::{MOST_BLOCKS, Modules};
 use dm_symbol::{
-    BlockReading, Extent, ReadOptions, Reading, SymbolReading, light_grid, read_to,
-    read_symbol_to,
+    BlockReading, Extent, ReadOptions, Reading, SymbolReading, light_grid, read_symbol_to, read_to,
 };
 use dm_words::LARGEST_ROOM;
 

@@ -45,8 +45,12 @@ returns-clause-out c =
           let entry = found_size c.args.rows c.args.columns size found in
           let ys : List PlaceOut = w.put_structure.new.places in
           let zs : List PlaceOut = c.match-of.out.places in
-          let room : area size ≤ length ys = omega (arith, (size_facts size entry).modules, long,
-          w.put_structure.auto.places) in
+          let room : area size ≤ length ys = omega (
+            arith,
+            (size_facts size entry).modules,
+            long,
+            w.put_structure.auto.places,
+          ) in
           let bits : zs ≡ with_bits size (places_in_order (mapping_rows size) (mapping_columns size)) ys =
           ap (λ o. o.places) w.out-is ∙ w.put_bits.ensures in
           modules size found (ap (λ o. o.fault) w.out-is ∙ w.none-out.ensures) (ap (λ o. o.rows) w.out-is)
