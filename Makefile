@@ -82,6 +82,6 @@ dist: build library page sampler
 
 # Times the program that `make build` left, and the library that `make library` left, beside others that are installed.
 bench:
-	bench/run
+	bench/peers
 	@if [ -f library/out/libecc200.a ]; then bench/library; \
 	else echo "left out: the library (not built: run \`make library\` first)"; fi
