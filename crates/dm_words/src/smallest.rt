@@ -27,9 +27,18 @@ use crate::macros::{HEADER_LENGTH, TRAILER_LENGTH, macro_of};
 use crate::message::MessageIn;
 use crate::pad::pad_to;
 use crate::smallest::parts::write_parts;
-use crate::smallest::plan::{PLAN_ROOM, Step, plan_to};
+use crate::smallest::plan::{Step, plan_to};
 use arrayvec::ArrayVec;
 use dm_modules::{SizeChoice, SymbolSize};
+
+/// How many steps the plan of a short message has: one for each item, and one behind the last.
+const SHORT_PLAN: usize = 64;
+
+/// How many steps the plan of a message of some length has.
+const MIDDLE_PLAN: usize = 512;
+
+/// How many steps the plan of any message has.
+const LONG_PLAN: usize = LARGEST_ROOM + 1;
 
 /// Chooses data codewords, with pads, that spell the message in an extent, in the smallest size of the choice that has
 /// any: no list of codewords of a smaller size spells it there. After `Ok`, which has that size, `words` holds them,
@@ -46,8 +55,32 @@ pub fn smallest_words_to<const ROOM: usize>(
     ensures smallest { IsSmallestResult extent choice message.now result words.new.items }
     ensures same { OnErr result (words.new.items ≡ words.old.items) }
 {
+    // To clear room for a long plan takes longer than to make a short one.
     let items = message.items();
-    let mut plan = [Step::NONE; PLAN_ROOM];
+    if items.len() < SHORT_PLAN {
+        smallest_by::<SHORT_PLAN>(extent, items, choice, words)
+    } else if items.len() < MIDDLE_PLAN {
+        smallest_by::<MIDDLE_PLAN>(extent, items, choice, words)
+    } else {
+        smallest_by::<LONG_PLAN>(extent, items, choice, words)
+    }
+}
+
+/// Does the same with these items, by a plan of `STEPS` steps, which are more than the items.
+fn smallest_by<const STEPS: usize>(
+    extent: Extent,
+    items: &[Item],
+    choice: SizeChoice,
+    words: &mut ArrayVec<u8, LARGEST_DATA>,
+) -> Result<SymbolSize, TooLong>
+    requires few { length items.now ≤ LARGEST_ROOM }
+    requires steps { length items.now < STEPS }
+    requires most { STEPS ≤ LONG_PLAN }
+    requires message { IsMessage items.now }
+    ensures smallest { IsSmallestResult extent choice items.now result words.new.items }
+    ensures same { OnErr result (words.new.items ≡ words.old.items) }
+{
+    let mut plan = [Step::NONE; STEPS];
     let way = least_way(extent, items, &mut plan);
     match SymbolSize::for_words(choice, way.cost) {
         None => Err(TooLong),
@@ -71,8 +104,9 @@ struct Way {
 
 /// Gives a way to write these items than which none takes fewer codewords, and leaves a plan for what is written that
 /// way: the text of the macro, or else the items.
-fn least_way(extent: Extent, items: &[Item], plan: &mut [Step; PLAN_ROOM]) -> Way
-    requires { length items.now ≤ LARGEST_ROOM }
+fn least_way(extent: Extent, items: &[Item], plan: &mut [Step]) -> Way
+    requires few { length items.now ≤ LARGEST_ROOM }
+    requires steps { length items.now < length plan.old }
     ensures way { IsWay extent items.now result.macro_word result.cost }
     ensures least { IsLeastCost extent items.now result.cost }
     ensures plan { IsRightPlan extent (text_of result.macro_word items.now) plan.new }
@@ -89,14 +123,9 @@ fn least_way(extent: Extent, items: &[Item], plan: &mut [Step; PLAN_ROOM]) -> Wa
 
 /// Gives the way of the macro that stands for the header and the trailer of the items, where it takes no more codewords
 /// than their parts, and else that of the parts, whose cost is known; and leaves its plan.
-fn with_macro(
-    extent: Extent,
-    items: &[Item],
-    word: u8,
-    cost: u16,
-    plan: &mut [Step; PLAN_ROOM],
-) -> Way
+fn with_macro(extent: Extent, items: &[Item], word: u8, cost: u16, plan: &mut [Step]) -> Way
     requires few { length items.now ≤ LARGEST_ROOM }
+    requires steps { length items.now < length plan.old }
     requires framed { IsMacroOf extent items.now word }
     requires cost { cost ≡ parts_cost extent items.now }
     ensures way { IsWay extent items.now result.macro_word result.cost }
@@ -131,13 +160,14 @@ fn write_plainest<const N: usize>(
     extent: Extent,
     items: &[Item],
     way: Way,
-    plan: &mut [Step; PLAN_ROOM],
+    plan: &mut [Step],
     words: &mut ArrayVec<u8, N>,
     count: u16,
 )
     requires few { length items.now ≤ LARGEST_ROOM }
     requires message { IsMessage items.now }
     requires way { IsWay extent items.now way.macro_word way.cost }
+    requires steps { length items.now < length plan.old }
     requires plan { IsRightPlan extent (text_of way.macro_word items.now) plan.old }
     requires room { way.cost ≤ count }
     requires count { count ≤ N }
@@ -161,11 +191,12 @@ fn write_plainest<const N: usize>(
 fn write_usual_if_fits<const N: usize>(
     extent: Extent,
     items: &[Item],
-    plan: &mut [Step; PLAN_ROOM],
+    plan: &mut [Step],
     words: &mut ArrayVec<u8, N>,
     count: u16,
 )
     requires few { length items.now ≤ LARGEST_ROOM }
+    requires steps { length items.now < length plan.old }
     requires message { IsMessage items.now }
     requires count { count ≤ N }
     requires most { N ≤ LARGEST_DATA }
@@ -191,13 +222,14 @@ fn write_way<const N: usize>(
     extent: Extent,
     items: &[Item],
     way: Way,
-    plan: &[Step; PLAN_ROOM],
+    plan: &[Step],
     words: &mut ArrayVec<u8, N>,
     count: u16,
 ) -> bool
     requires few { length items.now ≤ LARGEST_ROOM }
     requires message { IsMessage items.now }
     requires way { IsWay extent items.now way.macro_word way.cost }
+    requires steps { length items.now < length plan.now }
     requires plan { IsRightPlan extent (text_of way.macro_word items.now) plan.now }
     requires room { way.cost ≤ count }
     requires count { count ≤ N }
@@ -222,12 +254,13 @@ fn write_way<const N: usize>(
 fn write_plain<const N: usize>(
     extent: Extent,
     items: &[Item],
-    plan: &[Step; PLAN_ROOM],
+    plan: &[Step],
     words: &mut ArrayVec<u8, N>,
     count: u16,
 ) -> bool
     requires few { length items.now ≤ LARGEST_ROOM }
     requires message { IsMessage items.now }
+    requires steps { length items.now < length plan.now }
     requires plan { IsRightPlan extent items.now plan.now }
     requires room { parts_cost extent items.now ≤ count }
     requires count { count ≤ N }

@@ -8,7 +8,7 @@ ghost use Rattle.dm_words.specs.inner.Written.{IsEdifactEnded, IsPartWritten};
 use crate::extent::Extent;
 use crate::item::{Item, byte};
 use crate::limits::{LARGEST_DATA, LARGEST_ROOM};
-use crate::smallest::plan::{PLAN_ROOM, Step};
+use crate::smallest::plan::Step;
 use arrayvec::ArrayVec;
 
 /// The latch to EDIFACT.
@@ -83,12 +83,13 @@ pub(crate) fn write_edifact<const N: usize>(
     extent: Extent,
     items: &[Item],
     at: usize,
-    plan: &[Step; PLAN_ROOM],
+    plan: &[Step],
     words: &mut ArrayVec<u8, N>,
     total: usize,
 ) -> usize
     requires at { at < length items.now }
     requires few { length items.now ≤ LARGEST_ROOM }
+    requires steps { length items.now < length plan.now }
     requires plan { IsRightPlan extent items.now plan.now }
     requires budget { length words.old.items + 1
         + (going_from extent (drop at items.now)).edifact.none ≤ total }

@@ -11,7 +11,7 @@ use crate::extent::Extent;
 use crate::item::{Item, byte};
 use crate::limits::{LARGEST_DATA, LARGEST_ROOM};
 use crate::smallest::edifact::write_edifact;
-use crate::smallest::plan::{Begin, PLAN_ROOM, Step};
+use crate::smallest::plan::{Begin, Step};
 use crate::smallest::run::write_run;
 use crate::smallest::segment::{segment_end, write_segment};
 use arrayvec::ArrayVec;
@@ -30,13 +30,14 @@ fn write_part<const N: usize>(
     extent: Extent,
     items: &[Item],
     at: usize,
-    plan: &[Step; PLAN_ROOM],
+    plan: &[Step],
     words: &mut ArrayVec<u8, N>,
     total: usize,
 ) -> Written
     requires at { at < length items.now }
     requires few { length items.now ≤ LARGEST_ROOM }
     requires message { IsMessage items.now }
+    requires steps { length items.now < length plan.now }
     requires plan { IsRightPlan extent items.now plan.now }
     requires budget { length words.old.items + parts_cost extent (drop at items.now) ≤ total }
     requires total { total ≤ N }
@@ -96,12 +97,13 @@ fn write_part<const N: usize>(
 pub(crate) fn write_parts<const N: usize>(
     extent: Extent,
     items: &[Item],
-    plan: &[Step; PLAN_ROOM],
+    plan: &[Step],
     words: &mut ArrayVec<u8, N>,
     total: usize,
 ) -> bool
     requires few { length items.now ≤ LARGEST_ROOM }
     requires message { IsMessage items.now }
+    requires steps { length items.now < length plan.now }
     requires plan { IsRightPlan extent items.now plan.now }
     requires budget { length words.old.items + parts_cost extent items.now ≤ total }
     requires total { total ≤ N }

@@ -157,12 +157,10 @@ fn is_digit_item(item: Item) -> bool
     }
 }
 
-/// How many steps a plan has: one for each item, and one behind the last.
-pub const PLAN_ROOM: usize = LARGEST_ROOM + 1;
-
-/// Writes what to do at each item into the plan, and gives the least number of codewords.
-pub(crate) fn plan_to(extent: Extent, items: &[Item], plan: &mut [Step; PLAN_ROOM]) -> u16
-    requires { length items.now ≤ LARGEST_ROOM }
+/// Writes what to do at each item, and behind the last one, into the plan, and gives the least number of codewords.
+pub(crate) fn plan_to(extent: Extent, items: &[Item], plan: &mut [Step]) -> u16
+    requires few { length items.now ≤ LARGEST_ROOM }
+    requires steps { length items.now < length plan.old }
     ensures cost { result ≡ parts_cost extent items.now }
     ensures most { result ≤ 6400 }
     ensures plan { IsRightPlan extent items.now plan.new }

@@ -15,7 +15,7 @@ use crate::codeword::UNLATCH;
 use crate::extent::Extent;
 use crate::item::Item;
 use crate::limits::{LARGEST_DATA, LARGEST_ROOM};
-use crate::smallest::plan::{PLAN_ROOM, Step};
+use crate::smallest::plan::Step;
 use crate::smallest::values::values_of;
 use arrayvec::ArrayVec;
 
@@ -120,12 +120,13 @@ pub(crate) fn write_run<const N: usize>(
     items: &[Item],
     at: usize,
     set: CodeSet,
-    plan: &[Step; PLAN_ROOM],
+    plan: &[Step],
     words: &mut ArrayVec<u8, N>,
     total: usize,
 ) -> usize
     requires at { at < length items.now }
     requires few { length items.now ≤ LARGEST_ROOM }
+    requires steps { length items.now < length plan.now }
     requires plan { IsRightPlan extent items.now plan.now }
     requires budget { length words.old.items + 1
         + owed 0 (going_pairs set (going_from extent (drop at items.now))) ≤ total }

@@ -12,18 +12,14 @@ use crate::codeword::BASE256_LATCH;
 use crate::extent::Extent;
 use crate::item::Item;
 use crate::limits::{LARGEST_DATA, LARGEST_ROOM};
-use crate::smallest::plan::{PLAN_ROOM, Step};
+use crate::smallest::plan::Step;
 use arrayvec::ArrayVec;
 
 /// Gives the index behind a segment whose length is written out, from that of its first byte.
-pub(crate) fn segment_end(
-    extent: Extent,
-    items: &[Item],
-    at: usize,
-    plan: &[Step; PLAN_ROOM],
-) -> usize
+pub(crate) fn segment_end(extent: Extent, items: &[Item], at: usize, plan: &[Step]) -> usize
     requires at { at < length items.now }
     requires few { length items.now ≤ LARGEST_ROOM }
+    requires steps { length items.now < length plan.now }
     requires plan { IsRightPlan extent items.now plan.now }
     requires byte { (going_from extent (drop at items.now)).segment.bytes < never }
     ensures further { at < result }

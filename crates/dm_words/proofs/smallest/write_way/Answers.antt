@@ -1,4 +1,5 @@
-use Rattle.std.proofs.Common.{◌∙◌, ℕ, ◌-◌, List, [], ◌∷◌, ◌++◌, Option, ap, arith, subst, rules, drop, length}
+use Rattle.std.proofs.Common.{◌∙◌, ◌≤◌, ℕ, ◌-◌, List, [], ◌∷◌, ◌++◌, Option, ap, arith, subst, rules, drop, length}
+use Rattle.std.proofs.lemmas.List.{length-take, length-drop}
 use Rattle.std.proofs.lemmas.List.Elements.{All-drop, All-take}
 use Rattle.dm_words.specs.Messages.{IsItem}
 use Rattle.dm_words.specs.inner.Ways.{IsWay}
@@ -25,25 +26,35 @@ write_parts-usual-requires g c =
     let message =
     All-take IsItem (length c.args.items.now - 2 - 7) (drop 7 c.args.items.now)
     (All-drop IsItem 7 c.args.items.now c.requires.message) in
-    let plan = rw c.in-Some.is at c.requires.plan in (
+    let plan = rw c.in-Some.is at c.requires.plan in
+    let fewer : length c.inner.result.now ≤ length c.args.items.now =
+    omega (
+      arith,
+      ap length c.inner.ensures,
+      length-take (length c.args.items.now - 2 - 7) (drop 7 c.args.items.now),
+      length-drop 7 c.args.items.now,
+    ) in (
       search rules,
       (
-        search rules,
+        omega (arith, fewer, c.requires.few),
         (
           rw c.inner.ensures message,
           (
-            rw c.inner.ensures plan,
+            omega (arith, fewer, c.requires.steps),
             (
-              rw c.inner.ensures
-                  (omega (
-                    arith,
-                    way.1,
-                    c.push.ensures.len,
-                    ap length c.clear.ensures,
-                    c.requires.room,
-                    c.from.ensures,
-                  )),
-              (omega (arith, c.from.ensures, c.requires.count), c.requires.most),
+              rw c.inner.ensures plan,
+              (
+                rw c.inner.ensures
+                    (omega (
+                      arith,
+                      way.1,
+                      c.push.ensures.len,
+                      ap length c.clear.ensures,
+                      c.requires.room,
+                      c.from.ensures,
+                    )),
+                (omega (arith, c.from.ensures, c.requires.count), c.requires.most),
+              ),
             ),
           ),
         ),

@@ -133,16 +133,26 @@ write_run-requires g c =
     let budget =
     run_paid c.args.extent c.args.items.now c.args.at (Byte 0) _ c.requires.at
     (c.requires.plan c.args.at _ (omega (arith, c.requires.at))) (length c.args.words.now.items) c.args.total
-    c.requires.budget c.in-Run.set c.in-Run.is in
-    (search rules, (c.requires.at, (c.requires.few, (c.requires.plan, (budget, (c.requires.total, c.requires.most))))))
+    c.requires.budget c.in-Run.set c.in-Run.is in (
+      search rules,
+      (
+        c.requires.at,
+        (c.requires.few, (c.requires.steps, (c.requires.plan, (budget, (c.requires.total, c.requires.most))))),
+      ),
+    )
 
 pub write_edifact-requires : goal.write_edifact-requires
 write_edifact-requires g c =
     let budget =
     edifact_paid c.args.extent c.args.items.now c.args.at (Byte 0) _ c.requires.at
     (c.requires.plan c.args.at _ (omega (arith, c.requires.at))) (length c.args.words.now.items) c.args.total
-    c.requires.budget c.in-Edifact.is in
-    (search rules, (c.requires.at, (c.requires.few, (c.requires.plan, (budget, (c.requires.total, c.requires.most))))))
+    c.requires.budget c.in-Edifact.is in (
+      search rules,
+      (
+        c.requires.at,
+        (c.requires.few, (c.requires.steps, (c.requires.plan, (budget, (c.requires.total, c.requires.most))))),
+      ),
+    )
 
 pub segment_end-end-requires-clause-byte : goal.segment_end-end-requires-clause-byte
 segment_end-end-requires-clause-byte g c =

@@ -16,13 +16,13 @@ loop-at-init c =
 
 pub going_over-going-requires : goal.going_over-going-requires
 going_over-going-requires c =
-    within c.args.extent c.args.items.now c.loop-at.at c.loop-at.row (omega (arith, c.requires))
+    within c.args.extent c.args.items.now c.loop-at.at c.loop-at.row (omega (arith, c.requires.few))
     c.loop-at.invariant.row
     (omega (arith, length-drop c.loop-at.at c.args.items.now))
 
 pub choose-choice-requires-clause-within : goal.choose-choice-requires-clause-within
 choose-choice-requires-clause-within c =
-    within c.args.extent c.args.items.now c.loop-at.at c.loop-at.row (omega (arith, c.requires))
+    within c.args.extent c.args.items.now c.loop-at.at c.loop-at.row (omega (arith, c.requires.few))
     c.loop-at.invariant.row
     (omega (arith, length-drop c.loop-at.at c.args.items.now))
 
@@ -40,7 +40,7 @@ loop-at-preserved c =
       room = search rules;
       row = t.0;
       plan = plan_more c.args.extent c.args.items.now c.loop-at.at c.loop-at.plan c.step_of-in-loop-at.result
-          (omega (arith, c.loop-at-test.true)) v.in_range (omega (arith, v.room, c.requires)) t.1 v.plan;
+          (omega (arith, c.loop-at-test.true)) v.in_range (omega (arith, v.room, c.requires.steps)) t.1 v.plan;
     }
 
 pub returns-clause-most : goal.returns-clause-most
@@ -52,6 +52,6 @@ returns-clause-most c =
     omega (
       arith,
       ap (λ (r : Row). r.ascii) is,
-      (row_within c.args.extent c.args.items.now (omega (arith, c.requires))).ascii,
-      c.requires,
+      (row_within c.args.extent c.args.items.now (omega (arith, c.requires.few))).ascii,
+      c.requires.few,
     )

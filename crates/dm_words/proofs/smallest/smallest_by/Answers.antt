@@ -1,0 +1,35 @@
+use Rattle.std.proofs.Common.{◌≡◌, ◌∙◌, ℕ, List, length, ap, sym, subst, arith}
+use Rattle.dm_words.specs.Pads.{padded}
+use Rattle.dm_words.specs.Smallest.{IsPlainest, SpellsThenPads}
+use Rattle.dm_words.proofs.SmallestSymbols.{is_smallest, none_spells, padded_spells}
+use Rattle.dm_words.proofs.smallest.smallest_by.Goals as goal
+
+pub returns-in-None-clause-smallest : goal.returns-in-None-clause-smallest
+returns-in-None-clause-smallest g c = record {
+  smallest = tt;
+  plainest = tt;
+  padded = tt;
+  too_long = λ err. none_spells c.args.extent c.args.choice c.args.items.now c.least_way-way.result.cost
+      c.least_way-way.ensures.least c.in-None.ensures.none;
+}
+
+pub returns-in-Some-clause-smallest : goal.returns-in-Some-clause-smallest
+returns-in-Some-clause-smallest g c =
+    let extent = c.args.extent in
+    let m = c.args.items.now in
+    let written = c.write_plainest.new.words.items in
+    let count = c.data_count-count.result in
+    let size = c.in-Some.ensures in
+    let is : c.pad_to.new.words.items ≡ padded written count = c.pad_to.ensures.words
+    ∙ ap (λ (n : ℕ). padded written n) c.from.ensures in
+    let long : length c.pad_to.new.words.items ≡ c.in-Some.size.data_count =
+    omega (arith, c.pad_to.ensures.count, c.from.ensures, c.data_count-count.ensures.value) in
+    let spells = subst (λ (l : List ℕ). SpellsThenPads extent l m) (sym is) c.write_plainest.ensures.spells in
+    record {
+      smallest = is_smallest extent c.args.choice m c.least_way-way.result.cost c.in-Some.size
+          c.pad_to.new.words.items c.least_way-way.ensures.least (size.size, size.chosen) size.smallest size.narrowest
+          long (padded_spells extent c.pad_to.new.words.items m spells);
+      plainest = subst (λ (l : List ℕ). IsPlainest l m) (sym is) c.write_plainest.ensures.plainest;
+      padded = spells;
+      too_long = λ err size other taken sized says. absurd (cc);
+    }
