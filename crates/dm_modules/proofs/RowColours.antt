@@ -10,6 +10,7 @@ use Rattle.dm_place.specs.Border.{is_on_edge, edge_is_dark}
 use Rattle.dm_modules.specs.Sizes.{SizeEntry, IsSize}
 use Rattle.dm_modules.specs.Modules.{ModulesView, module_at}
 use Rattle.dm_modules.specs.Border.{is_border, border_is_dark, border_colour, is_fault}
+use Rattle.dm_modules.specs.SureFaults.{is_fault_but}
 use Rattle.dm_modules.specs.inner.Drawing.{edge_colour, IsBetween}
 use Rattle.dm_modules.proofs.FaultCounts.{one_if}
 use Rattle.dm_modules.proofs.TableEntries.{size_facts}
@@ -43,6 +44,19 @@ fault_counts m r c at n d h e v =
 -- A module that lies in no border is no fault.
 pub no_fault : (m : ModulesView) (r c : ℕ) → is_border m.size r c ≡ false → is_fault m r c ≡ false
 no_fault m r c h = ap (λ (b : Bool). b && not (beq (module_at m r c) (border_is_dark m.size r c))) h
+
+-- It is a sure fault if it isn't doubtful either, and counts then.
+pub sure_fault_counts : (m doubtful : ModulesView) (r c at n : ℕ) (d : Bool) → border_colour m.size r c ≡ Some d →
+    at ≡ c → n ≡ cond (not (beq (module_at m r at) d) && not (module_at doubtful r at)) 1 0 →
+    one_if (is_fault_but m doubtful r c) ≡ n
+sure_fault_counts m doubtful r c at n d h e v =
+    ap (λ (b : Bool). one_if (b && not (module_at doubtful r c))) (fault_by_colour m r c d h)
+    ∙ ap (λ (x : ℕ). one_if (not (beq (module_at m r x) d) && not (module_at doubtful r x))) (sym e) ∙ sym v
+
+-- A module that lies in no border is no sure fault.
+pub no_sure_fault : (m doubtful : ModulesView) (r c : ℕ) → is_border m.size r c ≡ false →
+    is_fault_but m doubtful r c ≡ false
+no_sure_fault m doubtful r c h = ap (λ (b : Bool). b && not (module_at doubtful r c)) (no_fault m r c h)
 
 -- Where a module lies on the edge of its region, the colour is prescribed.
 prescribed : (b x d : Bool) → b ≡ true → x ≡ d → (if b then Some x else None) ≡ Some d

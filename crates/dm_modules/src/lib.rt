@@ -14,9 +14,9 @@
 //! their size.
 //!
 //! [`block()`] reads one Reed-Solomon block of the codewords, and [`put_block()`] writes one; in 144 x 144 the blocks
-//! have two lengths. [`border_faults()`] counts the border modules that have the wrong colour. Module by module,
-//! [`border_colour()`] gives the colour that a border prescribes, and [`symbol_row()`] and [`symbol_column()`] lead
-//! from the mapping matrix to the symbol.
+//! have two lengths. [`border_faults()`] counts the border modules that have the wrong colour, and
+//! [`border_faults_but()`] those of them that aren't doubtful. Module by module, [`border_colour()`] gives the colour
+//! that a border prescribes, and [`symbol_row()`] and [`symbol_column()`] lead from the mapping matrix to the symbol.
 //!
 //! There are [`SIZE_COUNT`] sizes; limits: [`MOST_ROWS`], [`MOST_COLUMNS`], [`MOST_MODULES`], [`MOST_DATA`],
 //! [`MOST_CODEWORDS`], [`MOST_BLOCKS`] and [`LONGEST_BLOCK`]. What the contracts say is defined in `specs/`; [`laws`]
@@ -25,6 +25,7 @@
 
 mod blocks;
 mod border;
+mod doubt;
 mod drawing;
 pub mod laws;
 mod modules;
@@ -34,6 +35,7 @@ mod words;
 
 pub use blocks::{block, put_block};
 pub use border::{border_colour, border_faults, symbol_column, symbol_row};
+pub use doubt::border_faults_but;
 pub use modules::{Modules, ModulesFault};
 pub use placing::{lay, lay_to, lift, lift_to};
 pub use size::{

@@ -17,6 +17,7 @@ mod EachGrid
 mod SymbolBelow
 mod SymbolDoubt
 mod SymbolSteps
+mod LightDoubt
 mod SymbolReadings
 mod SymbolReadSteps
 mod SymbolWriteSteps

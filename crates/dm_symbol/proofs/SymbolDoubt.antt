@@ -13,11 +13,11 @@ use Rattle.dm_place.specs.Placement.{place, shapes}
 use Rattle.dm_place.proofs.Exported.{count_at_sides}
 use Rattle.dm_code.specs.Erased.{erased_from, erased_places}
 use Rattle.dm_code.proofs.Exported.{erased_within}
-use Rattle.dm_modules.specs.Sizes.{SizeEntry, IsSize, share, mapping_rows, mapping_columns, codeword_count}
+use Rattle.dm_modules.specs.Sizes.{SizeEntry, share, mapping_rows, mapping_columns, codeword_count}
 use Rattle.dm_modules.specs.Sizes.{block_length}
 use Rattle.dm_modules.specs.Modules.{ModulesView}
 use Rattle.dm_modules.specs.Words.{WordsView}
-use Rattle.dm_modules.specs.Blocks.{places_of_block, block_of}
+use Rattle.dm_modules.specs.Blocks.{places_of_block}
 use Rattle.dm_modules.specs.Holding.{Holds}
 use Rattle.dm_modules.proofs.Exported.{length-block_of}
 use Rattle.dm_modules.proofs.Exported.{placed_size}
@@ -48,7 +48,7 @@ erased_inside size doubtful b i hb hi =
 -- ---- none is doubtful
 
 -- Where no place is erased, the list of the erased places is empty.
-erased_nowhere : (n : ℕ) (f : ℕ → Bool) → ((j : ℕ) → f j ≡ false) → (xs : List ℕ) → erased_from n (map f xs) ≡ []
+pub erased_nowhere : (n : ℕ) (f : ℕ → Bool) → ((j : ℕ) → f j ≡ false) → (xs : List ℕ) → erased_from n (map f xs) ≡ []
 unfolding erased_from
 erased_nowhere n f none [] = refl
 erased_nowhere n f none (x ∷ xs) =
@@ -68,7 +68,7 @@ byte_has_bit x h = agree_below_at (λ n. list_any (λ bit. nat_eq (n / 2 ^ (8 - 
     is_mark 256 x refl h
 
 -- Two tests that agree on a range agree on whether some number of it passes.
-same_any : (p q : ℕ → Bool) (a n : ℕ) → ((j : ℕ) → a ≤ j → j < a + n → p j ≡ q j)
+pub same_any : (p q : ℕ → Bool) (a n : ℕ) → ((j : ℕ) → a ≤ j → j < a + n → p j ≡ q j)
     → list_any p (range_with_len a n) ≡ list_any q (range_with_len a n)
 same_any p q a zero same = refl
 same_any p q a (suc n) same =

@@ -1,5 +1,5 @@
 -- What holds of all messages and of the symbols of all sizes. The bytes of a message are numbers of 0 to 255.
-use Rattle.std.specs.Prelude.{◌≡◌, ℕ, ◌-◌, ◌*◌, List, Option, None, Result, Ok, Err, map, replicate, ◌↔◌}
+use Rattle.std.specs.Prelude.{◌≡◌, ℕ, ◌-◌, ◌*◌, false, List, Option, Some, None, Result, Ok, Err, map, replicate, ◌↔◌}
 use Rattle.dm_words.specs.declared.extent.Extent.{Extent}
 use Rattle.dm_words.specs.declared.extent.Extent.TheVariants.{Usual, Wide}
 use Rattle.dm_words.specs.declared.item.Item.{Item}
@@ -11,10 +11,11 @@ use Rattle.dm_code.specs.Codeword.{IsNear}
 use Rattle.dm_code.specs.Erased.{IsNearBut}
 use Rattle.dm_modules.specs.declared.size.SizeChoice.{SizeChoice}
 use Rattle.dm_modules.specs.Sizes.{SizeEntry, block_check}
-use Rattle.dm_modules.specs.Modules.{ModulesView, IsModules}
+use Rattle.dm_modules.specs.Modules.{ModulesView, IsModules, module_at}
 use Rattle.dm_modules.specs.Border.{border_fault_count}
 use Rattle.dm_symbol.specs.declared.symbol.reading.BlockReading.{BlockReading}
 use Rattle.dm_symbol.specs.declared.symbol.reading.SymbolReading.{SymbolReading}
+use Rattle.dm_symbol.specs.declared.symbol.inspection.SymbolInspection.{SymbolInspection}
 use Rattle.dm_symbol.specs.declared.reading.Reading.{Reading}
 use Rattle.dm_symbol.specs.declared.reading.ReadFault.{ReadFault}
 use Rattle.dm_symbol.specs.declared.normalising.NormalFault.{NormalFault}
@@ -24,6 +25,7 @@ use Rattle.dm_symbol.specs.Reading.{Reads, ReadResult}
 use Rattle.dm_symbol.specs.SymbolReading.{ReadsSymbol, SymbolReadResult, symbol_reading_of}
 use Rattle.dm_symbol.specs.NormalSymbol.{IsWrittenIn, FitsChoice, IsNormalSymbol}
 use Rattle.dm_symbol.specs.SymbolNormal.{HasNormalSymbol, NormalSymbolResult}
+use Rattle.dm_symbol.specs.SymbolInspection.{IsSymbolInspection}
 
 -- With no module doubtful, a word is near to a block but for its erased places exactly where it is near to it.
 abbrev pub NoDoubtIsNearness : Type 0
@@ -34,6 +36,31 @@ NoDoubtIsNearness =
 -- With no module doubtful, the sure border faults are all border faults.
 abbrev pub NoDoubtCountsAllFaults : Type 0
 NoDoubtCountsAllFaults = (modules : ModulesView) → sure_fault_count modules None ≡ border_fault_count modules
+
+-- Modules are all light if none of them is dark.
+abbrev pub AreLight : ModulesView → Type 0
+AreLight modules = (row column : ℕ) → module_at modules row column ≡ false
+
+-- Where the modules that are given as doubtful are all light, a symbol is read as it is with none given.
+abbrev pub LightDoubtIsNoDoubt : Type 0
+LightDoubtIsNoDoubt =
+    (extent : Extent) (modules doubtful : ModulesView) (limit : ℕ) (result : Result SymbolReading ReadFault)
+    → AreLight doubtful → SymbolReadResult extent modules None limit result
+    → SymbolReadResult extent modules (Some doubtful) limit result
+
+-- So it is normalised.
+abbrev pub LightDoubtNormalisesAlike : Type 0
+LightDoubtNormalisesAlike =
+    (extent : Extent) (profile : Profile) (modules doubtful : ModulesView) (limit : ℕ)
+    (result : Result ModulesView NormalFault) → AreLight doubtful
+    → NormalSymbolResult extent profile modules None limit result
+    → NormalSymbolResult extent profile modules (Some doubtful) limit result
+
+-- And so it is inspected.
+abbrev pub LightDoubtShowsAlike : Type 0
+LightDoubtShowsAlike =
+    (modules doubtful : ModulesView) (inspection : SymbolInspection) → AreLight doubtful
+    → IsSymbolInspection modules None inspection → IsSymbolInspection modules (Some doubtful) inspection
 
 -- With the same doubtful modules, a symbol is read as at most one message, whatever the extents and the limits.
 abbrev pub OneSymbolMessage : Type 0

@@ -8,7 +8,7 @@ ghost use Rattle.ecc200_calls.specs.Inspections.{erased_shown, inspection_shown,
 
 use crate::arrays::put_bytes;
 use crate::fault::Fault;
-use crate::modules::{light_modules, make_doubtful, make_modules, none_doubtful};
+use crate::modules::{light_modules, make_doubtful, make_modules, none_doubtful, told_doubt};
 use dm_modules::{MOST_BLOCKS, MOST_CODEWORDS, Modules};
 use dm_symbol::{BlockReading, SymbolInspection, inspect_symbol_to};
 
@@ -47,8 +47,17 @@ pub fn inspect(
     out.fault.code
 }
 
-/// Shows the inspection of the symbol of these modules, or why they make none.
+/// Shows the inspection of the symbol of these modules, or why they make none. Numbers for doubtful modules that are
+/// all 0 are passed over.
 fn inspect_given(modules: &[u8], doubtful: &[u8], rows: u16, columns: u16, out: &mut InspectionOut)
+    ensures { IsInspectResult rows columns modules.now doubtful.now out.old out.new }
+{
+    let told = told_doubt(doubtful, rows, columns);
+    inspect_told(modules, told, rows, columns, out);
+}
+
+/// Does so with no look at whether the numbers for doubtful modules are all 0.
+fn inspect_told(modules: &[u8], doubtful: &[u8], rows: u16, columns: u16, out: &mut InspectionOut)
     ensures { IsInspectResult rows columns modules.now doubtful.now out.old out.new }
 {
     let mut symbol = light_modules();

@@ -6,6 +6,7 @@ ghost use Rattle.dm_modules.specs.Sizes.{area, entry_with};
 ghost use Rattle.ecc200_calls.specs.Arrays.{over};
 ghost use Rattle.ecc200_calls.specs.Faults.{wrong_doubt};
 ghost use Rattle.ecc200_calls.specs.Modules.{AreModulesOf, IsModulesFault, module_of, modules_of};
+ghost use Rattle.ecc200_calls.specs.inner.ToldDoubt.{AreZero, IsTold};
 
 use crate::fault::Fault;
 use dm_modules::{Modules, ModulesFault, table};
@@ -38,6 +39,28 @@ pub(crate) fn none_doubtful(doubtful: &[u8]) -> bool
     ensures some { result ≡ false → doubtful.now ≢ [] }
 {
     doubtful.is_empty()
+}
+
+/// Gives the numbers for doubtful modules, or none of them if they are as many as the modules and all 0: no module is
+/// doubtful then.
+pub(crate) fn told_doubt(doubtful: &[u8], rows: u16, columns: u16) -> &[u8]
+    ensures { IsTold rows columns doubtful.now result.now }
+{
+    if doubtful.len() == usize::from(rows) * usize::from(columns) && are_zero(doubtful) {
+        return &doubtful[..0];
+    }
+    doubtful
+}
+
+/// Whether these numbers are all 0. All are looked at, without a jump, so that the compiler takes many at once.
+fn are_zero(numbers: &[u8]) -> bool
+    ensures { IsTrue result → AreZero numbers.now }
+{
+    let mut other = false;
+    for number in numbers {
+        other = other | (*number != 0);
+    }
+    !other
 }
 
 /// Turns `doubtful` into these modules, where some size has these rows and columns; or says that they aren't as many.

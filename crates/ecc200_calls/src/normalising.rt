@@ -8,7 +8,7 @@ ghost use Rattle.ecc200_calls.specs.Symbols.{ProfileResult};
 
 use crate::extent::extent_of;
 use crate::fault::{Fault, read_fault};
-use crate::modules::{light_modules, make_doubtful, make_modules, none_doubtful};
+use crate::modules::{light_modules, make_doubtful, make_modules, none_doubtful, told_doubt};
 use crate::profile::profile_of;
 use crate::squares::{is_plain_square, make_grid};
 use crate::symbol::{SymbolOut, show_fault};
@@ -79,8 +79,36 @@ fn normal_in_extent(
     }
 }
 
-/// Shows the normal symbol of what the symbol of these modules says, or why there is none.
+/// Shows the normal symbol of what the symbol of these modules says, or why there is none. Numbers for doubtful modules
+/// that are all 0 are passed over.
 fn normal_given(
+    extent: Extent,
+    profile: Profile,
+    modules: &[u8],
+    doubtful: &[u8],
+    rows: u16,
+    columns: u16,
+    border_limit: u16,
+    out: &mut SymbolOut,
+)
+    ensures { NormalisedResult extent profile rows columns modules.now doubtful.now border_limit
+        out.old out.new }
+{
+    let told = told_doubt(doubtful, rows, columns);
+    normal_told(
+        extent,
+        profile,
+        modules,
+        told,
+        rows,
+        columns,
+        border_limit,
+        out,
+    );
+}
+
+/// Does so with no look at whether the numbers for doubtful modules are all 0.
+fn normal_told(
     extent: Extent,
     profile: Profile,
     modules: &[u8],

@@ -14,7 +14,7 @@ use crate::arrays::put_bytes;
 use crate::extent::extent_of;
 use crate::fault::{Fault, read_fault};
 use crate::message::put_message;
-use crate::modules::{light_modules, make_doubtful, make_modules, none_doubtful};
+use crate::modules::{light_modules, make_doubtful, make_modules, none_doubtful, told_doubt};
 use crate::squares::{is_plain_square, make_grid};
 use dm_modules::{MOST_BLOCKS, Modules};
 use dm_symbol::{
@@ -67,8 +67,26 @@ pub fn usual_limit(rows: u16, columns: u16) -> u16
     ((u32::from(rows) + u32::from(columns)) / 8) as u16
 }
 
-/// Shows what the symbol of these modules says in an extent, or why it says nothing.
+/// Shows what the symbol of these modules says in an extent, or why it says nothing. Numbers for doubtful modules that
+/// are all 0 are passed over.
 fn read_given(
+    extent: Extent,
+    modules: &[u8],
+    doubtful: &[u8],
+    rows: u16,
+    columns: u16,
+    border_limit: u16,
+    out: &mut ReadingOut,
+)
+    ensures { ExtentResult extent rows columns modules.now doubtful.now border_limit out.old
+        out.new }
+{
+    let told = told_doubt(doubtful, rows, columns);
+    read_told(extent, modules, told, rows, columns, border_limit, out);
+}
+
+/// Does so with no look at whether the numbers for doubtful modules are all 0.
+fn read_told(
     extent: Extent,
     modules: &[u8],
     doubtful: &[u8],

@@ -1,6 +1,7 @@
 //! Laws of the definitions of symbols of all sizes. Each function has an empty body: its contract is the law.
 
 ghost use Rattle.dm_symbol.specs.SymbolLaws.{NoDoubtIsNearness, NoDoubtCountsAllFaults, OneSymbolMessage};
+ghost use Rattle.dm_symbol.specs.SymbolLaws.{LightDoubtIsNoDoubt, LightDoubtNormalisesAlike, LightDoubtShowsAlike};
 ghost use Rattle.dm_symbol.specs.SymbolLaws.{SymbolReadResultIsOne, NormalSymbolResultIsOne, WideReadsTheUsualSymbol};
 ghost use Rattle.dm_symbol.specs.SymbolLaws.{WrittenSymbolIsRead, WrittenSymbolsTellMessages, NormalSymbolTwiceIsOnce};
 ghost use Rattle.dm_symbol.specs.SymbolLaws.{EqualNormalSymbolsMeanEqualMessages, GridsAreReadAsSymbols};
@@ -12,6 +13,14 @@ ghost use Rattle.dm_symbol.specs.SymbolLaws.{NormalGridsAreNormalSymbols};
 pub fn no_doubt_changes_nothing()
     ensures near { NoDoubtIsNearness }
     ensures border { NoDoubtCountsAllFaults }
+{}
+
+/// Where the modules that are given as doubtful are all light, what reading, normalising and inspecting a symbol gives
+/// is what it gives with none given.
+pub fn light_doubt_changes_nothing()
+    ensures read { LightDoubtIsNoDoubt }
+    ensures normal { LightDoubtNormalisesAlike }
+    ensures shown { LightDoubtShowsAlike }
 {}
 
 /// With the same doubtful modules, a symbol is read as at most one message, whatever the extents and the limits. For

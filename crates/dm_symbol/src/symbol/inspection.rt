@@ -1,6 +1,6 @@
 //! Inspection of a symbol of any size: its codewords before and after they are restored, whether it can be read or not.
 
-ghost use Rattle.std.specs.Prelude.{◌≡◌, [], IfSome, length, option_map};
+ghost use Rattle.std.specs.Prelude.{◌≡◌, [], IfSome, Some, length, option_map};
 ghost use Rattle.dm_symbol.specs.Doubt.{erased_in};
 ghost use Rattle.dm_symbol.specs.SymbolBlocks.{AreOfSize};
 ghost use Rattle.dm_symbol.specs.SymbolReading.{AreBlocksMended};
@@ -8,7 +8,7 @@ ghost use Rattle.dm_symbol.specs.SymbolInspection.{IsSymbolInspection};
 ghost use Rattle.dm_symbol.specs.inner.Marks.{marked_in};
 
 use crate::symbol::correction::restore_block;
-use crate::symbol::doubt::sure_faults;
+use crate::symbol::doubt::{may_have_dark, sure_faults};
 use crate::symbol::reading::BlockReading;
 use arrayvec::ArrayVec;
 use dm_modules::{MOST_BLOCKS, Modules, SymbolWords, lift, lift_to, table};
@@ -80,7 +80,28 @@ fn mend_blocks(
 {
     match doubtful {
         None => mend_each(words, None, blocks),
-        Some(doubtful) => mend_each(words, Some(&lift(doubtful)), blocks),
+        Some(doubtful) => mend_doubtful(words, doubtful, blocks),
+    }
+}
+
+/// Does so where these modules are doubtful. If none of them is dark, none is, and there are no marks to be lifted.
+fn mend_doubtful(
+    words: &mut SymbolWords,
+    doubtful: &Modules,
+    blocks: &mut ArrayVec<Option<BlockReading>, MOST_BLOCKS>,
+)
+    requires { doubtful.now.size ≡ words.old.size }
+    ensures size { words.new.size ≡ words.old.size }
+    ensures words { AreOfSize words.old.size words.new.list }
+    ensures count { length blocks.new.items ≡ words.old.size.blocks }
+    ensures mended { AreBlocksMended words.old.size
+        (erased_in words.old.size (Some doubtful.now)) words.old.list words.new.list
+        blocks.new.items }
+{
+    if may_have_dark(doubtful) {
+        mend_each(words, Some(&lift(doubtful)), blocks);
+    } else {
+        mend_each(words, None, blocks);
     }
 }
 

@@ -1,6 +1,7 @@
 //! Reading a symbol of any size: the message that its modules say.
 
-ghost use Rattle.std.specs.Prelude.{◌≡◌, ◌≤◌, ◌<◌, ℕ, [], None, OnOk, IfErr, IfSome, option_map};
+ghost use Rattle.std.specs.Prelude.{◌≡◌, ◌≤◌, ◌<◌, ℕ, [], None, Some, OnOk, IfErr, IfSome};
+ghost use Rattle.std.specs.Prelude.{option_map};
 ghost use Rattle.dm_words.specs.Outcomes.{outcome};
 ghost use Rattle.dm_symbol.specs.Doubt.{erased_in};
 ghost use Rattle.dm_symbol.specs.inner.Marks.{marked_in};
@@ -9,7 +10,7 @@ ghost use Rattle.dm_symbol.specs.SymbolReading.{IsSymbolRead, IsFirstLost, block
 
 use crate::reading::ReadFault;
 use crate::symbol::correction::restore_block;
-use crate::symbol::doubt::sure_faults;
+use crate::symbol::doubt::{may_have_dark, sure_faults};
 use arrayvec::ArrayVec;
 use dm_modules::{MOST_BLOCKS, Modules, SymbolWords, lift};
 use dm_words::{Extent, LARGEST_ROOM, MessageIn, message_to_as};
@@ -125,7 +126,30 @@ fn restore_blocks(
 {
     match doubtful {
         None => restore_each(words, None, blocks),
-        Some(doubtful) => restore_each(words, Some(&lift(doubtful)), blocks),
+        Some(doubtful) => restore_doubtful(words, doubtful, blocks),
+    }
+}
+
+/// Does so where these modules are doubtful. If none of them is dark, none is, and there are no marks to be lifted.
+fn restore_doubtful(
+    words: &mut SymbolWords,
+    doubtful: &Modules,
+    blocks: &mut ArrayVec<BlockReading, MOST_BLOCKS>,
+) -> Result<(), u8>
+    requires { doubtful.now.size ≡ words.old.size }
+    ensures size { words.new.size ≡ words.old.size }
+    ensures words { AreOfSize words.old.size words.new.list }
+    ensures near { OnOk result (AreBlocksNear words.old.size
+        (erased_in words.old.size (Some doubtful.now)) words.old.list words.new.list) }
+    ensures readings { OnOk result (blocks.new.items ≡ block_readings words.old.size
+        (erased_in words.old.size (Some doubtful.now)) words.old.list words.new.list) }
+    ensures lost { IfErr result (λ b. IsFirstLost words.old.size
+        (erased_in words.old.size (Some doubtful.now)) words.old.list b) }
+{
+    if may_have_dark(doubtful) {
+        restore_each(words, Some(&lift(doubtful)), blocks)
+    } else {
+        restore_each(words, None, blocks)
     }
 }
 

@@ -1,11 +1,8 @@
-use Rattle.std.proofs.Common.{sym, subst}
-use Rattle.ecc200_calls.specs.Readings.{ExtentResult}
+use Rattle.ecc200_calls.proofs.ToldDoubt.{read_told}
 use Rattle.ecc200_calls.proofs.reading.read_given.Goals as goal
 
-pub returns-then-is_plain_square : goal.returns-then-is_plain_square
-returns-then-is_plain_square c =
-    let plain = c.is_plain_square.ensures c.if-is_plain_square.true in
-    subst (λ columns. ExtentResult c.args.extent c.args.rows columns c.args.modules.now c.args.doubtful.now
-    c.args.border_limit c.args.out.now c.read_square.new.out) plain.0
-    (subst (λ doubt. ExtentResult c.args.extent c.args.rows c.args.rows c.args.modules.now doubt c.args.border_limit
-    c.args.out.now c.read_square.new.out) (sym plain.1) c.read_square.ensures)
+pub returns : goal.returns
+returns c =
+    read_told c.args.extent c.args.rows c.args.columns c.args.modules.now c.args.doubtful.now
+    c.told_doubt-told.result.now c.args.border_limit c.args.out.now c.read_told.new.out c.told_doubt-told.ensures
+    c.read_told.ensures

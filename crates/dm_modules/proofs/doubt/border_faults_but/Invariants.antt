@@ -1,14 +1,14 @@
 use Rattle.std.proofs.Common.{◌≡◌, ◌≤◌, ◌*◌}
-use Rattle.std.specs.Prelude.{Some, count_by, sum_by}
+use Rattle.std.specs.Prelude.{count_by, sum_by}
 use Rattle.std.specs.List.{range_with_len}
 use Rattle.dm_modules.specs.Sizes.{most_columns}
-use Rattle.dm_symbol.specs.Doubt.{is_sure_fault}
-use Rattle.dm_symbol.proofs.symbol.doubt.faults_but.Given as goal
+use Rattle.dm_modules.specs.SureFaults.{is_fault_but}
+use Rattle.dm_modules.proofs.doubt.border_faults_but.Given as goal
 
 abbrev pub invariant-loop-row : goal.invariant-loop-row
 invariant-loop-row l = record {
-  so_far : l.faults ≡ sum_by
-      (λ r. count_by (is_sure_fault l.modules (Some l.doubtful) r) (range_with_len 0 l.modules.size.columns))
+  so_far : l.faults
+      ≡ sum_by (λ r. count_by (is_fault_but l.modules l.doubtful r) (range_with_len 0 l.modules.size.columns))
       (range_with_len 0 l.row);
   most : l.faults ≤ l.row * most_columns;
 }

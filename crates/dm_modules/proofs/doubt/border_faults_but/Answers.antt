@@ -1,16 +1,16 @@
-use Rattle.std.proofs.Common.{Some, arith}
+use Rattle.std.proofs.Common.{arith}
 use Rattle.std.specs.Prelude.{count_by}
 use Rattle.std.specs.List.{range_with_len}
-use Rattle.dm_modules.proofs.Exported.{sum_more}
-use Rattle.dm_modules.proofs.Exported.{size_facts}
-use Rattle.dm_symbol.specs.Doubt.{is_sure_fault}
-use Rattle.dm_symbol.proofs.symbol.doubt.faults_but.Goals as goal
+use Rattle.dm_modules.specs.SureFaults.{is_fault_but}
+use Rattle.dm_modules.proofs.FaultCounts.{sum_more}
+use Rattle.dm_modules.proofs.TableEntries.{size_facts}
+use Rattle.dm_modules.proofs.doubt.border_faults_but.Goals as goal
 
 pub loop-row-preserved : goal.loop-row-preserved
 loop-row-preserved c =
     let m = c.args.modules.now in
     let d = c.args.doubtful.now in
-    let more = sum_more (λ r. count_by (is_sure_fault m (Some d) r) (range_with_len 0 m.size.columns)) c.loop-row.row in
+    let more = sum_more (λ r. count_by (is_fault_but m d r) (range_with_len 0 m.size.columns)) c.loop-row.row in
     let facts = size_facts m.size c.size.ensures.modules.size in
     record {
       so_far = omega (arith, more, c.row_faults_but-faults.ensures.count, c.loop-row.invariant.so_far);
