@@ -17,3 +17,4 @@ mod HeldWords
 mod LiftedShapes
 pub mod Exported
 mod WrittenCells
+mod InnerShapes

@@ -11,16 +11,11 @@ use Rattle.dm_place.specs.declared.shape.Shape.TheVariants.{Standard, Corner1, C
 use Rattle.dm_place.specs.Placement.{place, cells_of, shapes, AnchorInside, CellsInside, ShapesInside}
 use Rattle.dm_place.specs.Sides.{sides_of, row_with_sides, SidesAreSafe}
 use Rattle.dm_place.specs.Holding.{HoldsBits, word_at}
+use Rattle.dm_place.specs.inner.Laying.{lifted}
 use Rattle.dm_place.proofs.HeldWords.{bit_in}
 use Rattle.dm_place.proofs.SweepTest.{anchor_inside}
 use Rattle.dm_place.proofs.TestedSweep.{inside_test, fits_test}
 use Rattle.dm_place.proofs.PlacementRows.{passes_at_row}
-
--- The codewords after those of these shapes are put, from number k on.
-abbrev pub lifted : (ℕ → ℕ → Bool) → ℕ → ℕ → List Shape → ℕ → List ℕ → List ℕ
-lifted look rows columns [] k words = words
-lifted look rows columns (s ∷ rest) k words =
-    lifted look rows columns rest (k + 1) (set words k (word_at look (cells_of rows columns s)))
 
 -- A codeword before those that are put stays.
 lifted-before : (look : ℕ → ℕ → Bool) (rows columns : ℕ) (ss : List Shape) (k : ℕ) (words : List ℕ) (j : ℕ) → j < k →

@@ -11,7 +11,7 @@ use Rattle.dm_place.specs.declared.shape.Shape.{Shape}
 use Rattle.dm_place.specs.Placement.{At, IsPlace, EachCellOnce, cells_of, shapes, bits_from, places_from}
 use Rattle.dm_place.specs.Placement.{places_in_order}
 use Rattle.dm_place.specs.Holding.{bit_of, look_at, HoldsBits, KeepsFixedSquare}
-use Rattle.dm_place.specs.inner.Laying.{with_word}
+use Rattle.dm_place.specs.inner.Laying.{with_word, laid}
 use Rattle.dm_place.proofs.PlaceOrder.{ArePlaces, all_are_places, lies_in, one_bit, none_fixed, place_at}
 use Rattle.dm_place.proofs.PlaceOrder.{length-places_in_order}
 
@@ -20,12 +20,6 @@ abbrev pub writes : ℕ → List ℕ → List Place → List Bool → List Bool
 writes columns ws [] cells = cells
 writes columns ws (p ∷ rest) cells =
     writes columns ws rest (set cells (p.row * columns + p.column) (bit_of ws p.word p.bit))
-
--- The cells after the codewords of these shapes are put, from number k on.
-abbrev pub laid : ℕ → ℕ → List ℕ → List Shape → ℕ → List Bool → List Bool
-laid rows columns ws [] k cells = cells
-laid rows columns ws (s ∷ rest) k cells =
-    laid rows columns ws rest (k + 1) (with_word columns (get_or ws k 0) 0 (cells_of rows columns s) cells)
 
 -- Bits are put at the places of two lists one list after the other.
 writes-append : (columns : ℕ) (ws : List ℕ) (ps qs : List Place) (cells : List Bool) →

@@ -17,6 +17,7 @@ mod border;
 mod cells;
 pub mod laws;
 mod placing;
+mod run;
 mod shape;
 mod shapes;
 

@@ -1,10 +1,10 @@
 use Rattle.std.proofs.Common.{◌≡◌, ◌+◌, ◌-◌, ℕ, ap, arith, flat_map}
 use Rattle.std.specs.List.{range_with_len}
 use Rattle.dm_place.specs.Placement.{shapes, shapes_of_sum}
-use Rattle.dm_place.proofs.shapes.Shapes.new.Goals as goal
+use Rattle.dm_place.proofs.shapes.Steps.new.Goals as goal
 
-pub returns : goal.returns
+pub returns-clause-left : goal.returns-clause-left
 unfolding shapes
-returns c =
+returns-clause-left c =
     let e : c.args.rows + c.args.columns - 1 - 0 ≡ c.args.rows + c.args.columns - 1 = omega arith in
     ap (λ (k : ℕ). flat_map (shapes_of_sum c.args.rows c.args.columns) (range_with_len 0 k)) e
