@@ -70,7 +70,7 @@ moved_at (suc m) f i zero h = absurd (omega arith)
 moved_at (suc m) f i (suc j) h = moved_at m f i j (omega arith)
 
 -- If a series is moved up by one more, so is its product with another.
-conv_moved : (m : ℕ) (f s : ℕ → ℕ) (n : ℕ) → convolution (moved (suc m) f) s (suc n) ≡ convolution (moved m f) s n
+pub conv_moved : (m : ℕ) (f s : ℕ → ℕ) (n : ℕ) → convolution (moved (suc m) f) s (suc n) ≡ convolution (moved m f) s n
 unfolding convolution moved
 conv_moved m f s n = ap (λ y. y ⊕ convolution (moved m f) s n) (product_zero_left (s (suc n)))
 
@@ -277,7 +277,7 @@ pub record IsCorrected (l e m : List ℕ) (x y gap : ℕ) : Type 0 where
   pub high : (i : ℕ) → coefficient m (gap + i) ≡ coefficient l (gap + i) ⊕ (x ⊗ y) ⊗ coefficient e i
 
 -- At each place m is the coefficient of l plus x times that of y times e, moved up by the gap.
-corrected_at : (l e m : List ℕ) (x y gap : ℕ) → IsCorrected l e m x y gap → (i : ℕ) →
+pub corrected_at : (l e m : List ℕ) (x y gap : ℕ) → IsCorrected l e m x y gap → (i : ℕ) →
     coefficient m i ≡ coefficient l i ⊕ x ⊗ moved gap (λ j. y ⊗ coefficient e j) i
 corrected_at l e m x y gap h i =
     let f = λ (j : ℕ). y ⊗ coefficient e j in

@@ -8,6 +8,7 @@ mod Degrees
 mod Connections
 mod LaneDots
 mod BerlekampMassey
+mod LocatorProducts
 mod Counts
 mod First
 mod Multiples

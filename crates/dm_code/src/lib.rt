@@ -34,6 +34,7 @@ mod key;
 pub mod laws;
 mod limits;
 mod polynomial;
+mod products;
 mod quick;
 mod syndrome;
 mod system;

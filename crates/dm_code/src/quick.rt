@@ -11,6 +11,7 @@ ghost use Rattle.dm_code.specs.inner.Ones.{IsOne};
 use crate::correction::copy_of;
 use crate::key::{Key, KeySolver};
 use crate::limits::{MOST_COEFFICIENTS, MOST_ERRORS};
+use crate::products::Products;
 use arrayvec::ArrayVec;
 use gf301::{Gf, MOST_CHECKS, Meter, lanes_mul};
 use std::simd::prelude::*;
@@ -67,7 +68,8 @@ impl Quick {
 
 impl KeySolver for Quick {
     /// Gives what [`Quick::solve_counted`] gives, without the counts: the lists of both are those of the least pair
-    /// with no number too many, and so the same ([`crate::laws::exact_least_pair_is_one`]).
+    /// with no number too many, and so the same ([`crate::laws::exact_least_pair_is_one`]). The [`Products`] of the
+    /// locators stand in place of the product that each discrepancy is there.
     fn solve(&self, s: &[u8], t: usize) -> Option<Key>
         requires few { length s.now ≤ MOST_CHECKS }
         requires half { 2 * t ≤ length s.now }
@@ -76,12 +78,33 @@ impl KeySolver for Quick {
         ensures none { IfNone result (NoPair s.now t) }
         ensures exact { IfSome result (λ key. IsExact key.locator.items key.evaluator.items) }
     {
-        self.solve_counted(s, t).0
+        let width = s.len().div_ceil(16) * 16;
+        let mut uncounted = Meter::default();
+        let mut state = Search::new();
+        let mut products = Products::new(s);
+        for n in 0..s.len() {
+            let discrepancy = Gf(products.product[n]);
+            if discrepancy.0 != 0 {
+                let degree = state.degree.max(n + 1 - state.degree);
+                if degree > t {
+                    return None;
+                }
+                let factor = discrepancy.mul(state.inverse);
+                products.adjust(factor, state.gap, width, state.degree < degree);
+                state.adjust(discrepancy, degree, &mut uncounted);
+            }
+            state.gap += 1;
+        }
+        let product = products.below(state.degree);
+        let evaluator = copy_of(product);
+        let coefficients = state.coefficients();
+        let locator = copy_of(coefficients);
+        Some(Key { locator, evaluator })
     }
 }
 
 /// Room for the coefficients of a locator in whole groups of sixteen.
-const COEFFICIENTS_ROOM: usize = (MOST_COEFFICIENTS + 15) / 16 * 16;
+pub(crate) const COEFFICIENTS_ROOM: usize = (MOST_COEFFICIENTS + 15) / 16 * 16;
 
 /// Room for as many coefficients that are moved up by up to [`COEFFICIENTS_ROOM`] places.
 const LOCATOR_ROOM: usize = 2 * COEFFICIENTS_ROOM;

@@ -1,0 +1,76 @@
+//! The products of the locators of a search with the syndromes.
+
+ghost use Rattle.std.specs.Prelude.{◌≡◌, ◌+◌, ◌%◌, ◌<◌, ◌≤◌, ℕ, IsTrue, length, not, take};
+ghost use Rattle.gf301.specs.Field.{◌⊕◌, ◌⊗◌};
+ghost use Rattle.gf301.specs.Polynomial.{coefficient};
+
+use crate::quick::COEFFICIENTS_ROOM;
+use gf301::{CHECKS_ROOM, Gf, MOST_CHECKS, add_scaled};
+
+/// Room for the coefficients of a product that is moved up by up to [`COEFFICIENTS_ROOM`] places.
+const PRODUCT_ROOM: usize = CHECKS_ROOM + COEFFICIENTS_ROOM;
+
+/// The products of a search's two locators with the syndromes, of which as many coefficients count as there are
+/// syndromes. Those of the locator are its discrepancies and, below its degree, its evaluator, so that none has to be
+/// computed by itself: where a multiple of the earlier locator is added to the locator, so it is to the product.
+#[derive(Drop)]
+pub(crate) struct Products {
+    /// The product of the locator.
+    pub(crate) product: [u8; PRODUCT_ROOM],
+    /// The product of the earlier locator.
+    pub(crate) earlier: [u8; CHECKS_ROOM],
+}
+
+impl Products {
+    /// Begins with the products of two locators that are 1.
+    pub(crate) fn new(s: &[u8]) -> Products
+        requires { length s.now ≤ MOST_CHECKS }
+        ensures product { (i : ℕ) → coefficient result.product i ≡ coefficient s.now i }
+        ensures earlier { (i : ℕ) → coefficient result.earlier i ≡ coefficient s.now i }
+    {
+        Products {
+            product: padded(s),
+            earlier: padded(s),
+        }
+    }
+
+    /// Gives the coefficients of the locator's product below a degree.
+    pub(crate) fn below(&self, degree: usize) -> &[u8]
+        requires { degree ≤ PRODUCT_ROOM }
+        ensures taken { result.now ≡ take degree self.now.product }
+        ensures count { length result.now ≡ degree }
+    {
+        &self.product[..degree]
+    }
+
+    /// Adds `factor` times the earlier product, moved up by the gap, to the product, for its first `width`
+    /// coefficients. Where the degree grows, what the product was before is the earlier one from now on.
+    pub(crate) fn adjust(&mut self, factor: Gf, gap: usize, width: usize, grows: bool)
+        requires near { gap ≤ COEFFICIENTS_ROOM }
+        requires lanes { width % 16 ≡ 0 }
+        requires narrow { width ≤ CHECKS_ROOM }
+        ensures low { (i : ℕ) → i < gap
+            → coefficient self.new.product i ≡ coefficient self.old.product i }
+        ensures high { (i : ℕ) → i < width → coefficient self.new.product (gap + i)
+            ≡ coefficient self.old.product (gap + i) ⊕ factor.0 ⊗ coefficient self.old.earlier i }
+        ensures grown { IsTrue grows → self.new.earlier ≡ take CHECKS_ROOM self.old.product }
+        ensures kept { IsTrue (not grows) → self.new.earlier ≡ self.old.earlier }
+    {
+        let mut before = [0; CHECKS_ROOM];
+        before.copy_from_slice(&self.product[..CHECKS_ROOM]);
+        add_scaled(&mut self.product[gap..gap + width], factor.0, &self.earlier);
+        if grows {
+            self.earlier = before;
+        }
+    }
+}
+
+/// Puts zeros behind the numbers of a list, up to `N`.
+fn padded<const N: usize>(list: &[u8]) -> [u8; N]
+    requires { length list.now ≤ N }
+    ensures { (i : ℕ) → coefficient result i ≡ coefficient list.now i }
+{
+    let mut room = [0; N];
+    room[..list.len()].copy_from_slice(list);
+    room
+}
