@@ -17,12 +17,13 @@ use Rattle.std.proofs.lemmas.List.FromFn.{fill_by_all}
 use Rattle.dm_symbol.specs.Sizes.{largest_side}
 use Rattle.dm_symbol.specs.Grid.{is_dark_in}
 use Rattle.dm_text.specs.declared.rows.Rows.{Rows}
-use Rattle.dm_text.specs.Texts.{lf, HasNoLf, last_line}
+use Rattle.dm_text.specs.Texts.{lf, HasNoLf, ended_lines, last_line}
 use Rattle.dm_text.specs.Records.{is_foreign, has_foreign, is_large, rows_of}
 use Rattle.dm_text.specs.RecordFacts.{Cells, contents_of, differ, first_length, last_length}
 use Rattle.dm_text.specs.inner.OpenRecords.{EndsLines, HoldsLines, cells_in, digit_of, is_dark, is_ended, line_count}
 use Rattle.dm_text.specs.inner.OpenRecords.{number_of, rows_in, rows_seen}
-use Rattle.dm_text.proofs.OpenRecordTexts.{ended_more, full_more}
+use Rattle.std.proofs.lemmas.Grind.{flat_map-append}
+use Rattle.dm_text.proofs.OpenRecordTexts.{ended_more, full_joined, full_more}
 use Rattle.dm_text.proofs.RecordSteps.{by_tests, same_cells, count_new, last_new, first_new, or_cases, or_false}
 use Rattle.dm_text.proofs.RecordSteps.{or_left, or_right, any_last, long, zero_lines}
 
@@ -443,6 +444,18 @@ ends_more t u lines bytes line e some no_lf held = record {
   bytes_are = ap (λ (k : List ℕ). k ++ (line ++ lf ∷ [])) e.bytes_are ∙ sym (ended_more e.more line);
   full = full_more e.more line e.full some no_lf;
   held = subst (λ (l : List (List ℕ)). HoldsLines u l []) (append_assoc lines e.more (line ∷ [])) held;
+}
+
+-- Whole lines and further whole lines are whole lines.
+pub ends_joined : (t u : Rows) (lines : List (List ℕ)) (bytes next : List ℕ) → (e : EndsLines t lines bytes) →
+    EndsLines u (lines ++ e.more) next → EndsLines u lines (bytes ++ next)
+ends_joined t u lines bytes next e f = record {
+  more = e.more ++ f.more;
+  bytes_are =
+      ap (λ (k : List ℕ). k ++ next) e.bytes_are ∙ ap (λ (k : List ℕ). ended_lines e.more ++ k) f.bytes_are
+      ∙ sym (flat_map-append (λ l. l ++ lf ∷ []) e.more f.more);
+  full = full_joined e.more f.more e.full f.full;
+  held = subst (λ (l : List (List ℕ)). HoldsLines u l []) (append_assoc lines e.more f.more) f.held;
 }
 
 -- Lines without a rest have ended with LF exactly if there are some.

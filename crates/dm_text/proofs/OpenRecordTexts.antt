@@ -73,6 +73,11 @@ pub full_more : (lines : List (List ℕ)) (line : List ℕ) → AreFullLines lin
 full_more [] line h n k = ((n, k), tt)
 full_more (l ∷ lines) line h n k = (h.0, full_more lines line h.1 n k)
 
+-- Full lines and further full lines are full lines.
+pub full_joined : (lines more : List (List ℕ)) → AreFullLines lines → AreFullLines more → AreFullLines (lines ++ more)
+full_joined [] more h k = k
+full_joined (l ∷ lines) more h k = (h.0, full_joined lines more h.1 k)
+
 -- An LF after a text whose facts are those of lines and a rest makes the rest a line.
 by_rest : (text : List ℕ) (f g : RecordFacts) (lines : List (List ℕ)) (x : ℕ) (r : List ℕ) (theirs : List (List ℕ))
     (rest : List ℕ)

@@ -71,6 +71,14 @@ foreign_stays : (lines : List (List ℕ)) (rest : List ℕ) (b : ℕ) → conten
 foreign_stays lines rest b e =
     step_contents lines rest b ∙ ap (λ C. character_step (is_ended lines rest || no_lines C) C b) e
 
+-- Foreign contents stay foreign with more characters.
+pub all_foreign : (lines : List (List ℕ)) (rest more : List ℕ) → contents_of lines rest ≡ Foreign →
+    contents_of lines (rest ++ more) ≡ Foreign
+all_foreign lines rest [] e = ap (contents_of lines) (append-nil rest) ∙ e
+all_foreign lines rest (b ∷ more) e =
+    ap (contents_of lines) (sym (append_assoc rest (b ∷ []) more))
+    ∙ all_foreign lines (rest ++ b ∷ []) more (foreign_stays lines rest b e)
+
 -- Contents that are too large stay so with one more cell.
 large_stays : (lines : List (List ℕ)) (rest : List ℕ) (b : ℕ) → is_foreign b ≡ false → contents_of lines rest ≡ Large →
     contents_of lines (rest ++ b ∷ []) ≡ Large

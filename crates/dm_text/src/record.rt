@@ -9,7 +9,7 @@ ghost use Rattle.dm_text.specs.Texts.{last_line, lf};
 ghost use Rattle.dm_text.specs.inner.OpenRecords.{AreCells, EndsAt};
 ghost use Rattle.dm_symbol.specs.Outcomes.{outcome};
 
-use crate::row_part::RowPart;
+use crate::row_part::{RowPart, characters_of_line};
 use crate::rows::Rows;
 use crate::text::LF;
 use dm_symbol::Grid;
@@ -102,7 +102,7 @@ impl OpenRecord {
         let mut at = 0;
         while at < bytes.len() {
             let line = at + self.take_lines(&bytes[at..]);
-            let end = line + self.take_cells(&bytes[line..]);
+            let end = line + self.take_characters(&bytes[line..]);
             if end == bytes.len() {
                 return None;
             }
@@ -132,16 +132,20 @@ impl OpenRecord {
         0
     }
 
-    /// Takes cells at the start of some bytes together, and says how many they are, which matters for speed alone.
-    /// Where a foreign character already stands in the record it takes none, so that text that is no grid isn't
-    /// searched for cells at each of its bytes.
-    fn take_cells(&mut self, bytes: &[u8]) -> usize
+    /// Takes characters at the start of some bytes together, and says how many they are, which matters for speed alone:
+    /// cells, but where a foreign character already stands in the record whatever comes before LF.
+    fn take_characters(&mut self, bytes: &[u8]) -> usize
         ensures within { result ≤ length bytes.now }
         ensures grown { (text : List ℕ) → AreRecordFacts text self.old
             → AreRecordFacts (text ++ take result bytes.now) self.new }
     {
         if let Contents::Foreign = self.contents {
-            return 0;
+            let count = characters_of_line(bytes);
+            if count == 0 {
+                return 0;
+            }
+            self.ended = false;
+            return count;
         }
         let Some(cells) = RowPart::of_text(bytes) else {
             return 0;

@@ -1,13 +1,13 @@
 -- How an open record is kept: as rows of cells, each a number.
 use Rattle.std.specs.Prelude.{◌≡◌, ◌==◌, ◌&&◌, ◌+◌, ◌*◌, ◌<◌, ◌≤◌, ℕ, Bool, true, false, not, if◌then◌else◌, List, []}
-use Rattle.std.specs.Prelude.{◌∷◌, ◌++◌, length, map, take, Option, Some, None}
+use Rattle.std.specs.Prelude.{◌∷◌, ◌++◌, get_or, length, map, replicate, take, Option, Some, None}
 use Rattle.std.specs.List.{list_any, range_with_len}
 use Rattle.dm_symbol.specs.Grid.{is_dark_in}
 use Rattle.dm_text.specs.declared.row_part.RowPart.{RowPart}
 use Rattle.dm_text.specs.declared.rows.Rows.{Rows}
 use Rattle.dm_text.specs.declared.record.Contents.{Contents}
 use Rattle.dm_text.specs.declared.record.Contents.TheVariants as kept
-use Rattle.dm_text.specs.Texts.{ended_lines, last_line}
+use Rattle.dm_text.specs.Texts.{ended_lines, last_line, lf}
 use Rattle.dm_text.specs.Records.{AreFullLines, IsClosedRecord, has_foreign, is_foreign, is_large}
 use Rattle.dm_text.specs.RecordFacts.{AreRecordFacts, RecordContents, RecordFacts, Foreign, Large, Cells, contents_of}
 use Rattle.dm_text.specs.RecordFacts.{facts_of_record, differ, first_length, last_length, is_nothing}
@@ -70,6 +70,16 @@ pub record AreCells (characters : List ℕ) (part : RowPart) : Type 0 where
 pub record AreFirstCells (text : List ℕ) (part : RowPart) : Type 0 where
   pub within : part.count ≤ length text
   pub cells : AreCells (take part.count text) part
+
+-- The cells are those of a line at the start of a text: LF comes after them.
+pub record IsFirstLine (text : List ℕ) (part : RowPart) : Type 0 where
+  pub within : part.count < length text
+  pub cells : AreCells (take part.count text) part
+  pub ended : get_or text part.count 0 ≡ lf
+
+-- The first 32 bytes of a text, with zeros behind them where it has fewer.
+abbrev pub padded_block : List ℕ → List ℕ
+padded_block text = take 32 (text ++ replicate 32 0)
 
 -- The last byte of lines, each ended by LF, and a rest is LF.
 abbrev pub is_ended : List (List ℕ) → List ℕ → Bool

@@ -10,8 +10,8 @@ loop-at-init c = record {
   grown = λ text known. rw (append-nil text) known;
 }
 
-pub slice_bounds-take_cells-count : goal.slice_bounds-take_cells-count
-slice_bounds-take_cells-count c = omega (arith, rest_length c.args.bytes.now c.loop-at.at)
+pub slice_bounds-take_characters-count : goal.slice_bounds-take_characters-count
+slice_bounds-take_characters-count c = omega (arith, rest_length c.args.bytes.now c.loop-at.at)
 
 pub overflow_add-line : goal.overflow_add-line
 overflow_add-line c = omega (arith, rest_length c.args.bytes.now c.loop-at.at)
@@ -52,15 +52,15 @@ returns-then-end-bytes-clause-open c text known =
     subst (λ (l : List ℕ). AreRecordFacts l c.take_lines.new.self)
     (go_on text bytes c.loop-at.at c.take_lines.result)
     (c.take_lines.ensures.grown (text ++ take c.loop-at.at bytes) (c.loop-at.invariant.grown text known)) in
-    subst (λ (l : List ℕ). AreRecordFacts l c.take_cells.new.self) (go_on text bytes line c.take_cells.result
-    ∙ all_taken text bytes (line + c.take_cells.result) (omega (arith, c.if-end-bytes.true)))
-    (c.take_cells.ensures.grown (text ++ take line bytes) lines)
+    subst (λ (l : List ℕ). AreRecordFacts l c.take_characters.new.self) (go_on text bytes line c.take_characters.result
+    ∙ all_taken text bytes (line + c.take_characters.result) (omega (arith, c.if-end-bytes.true)))
+    (c.take_characters.ensures.grown (text ++ take line bytes) lines)
 
 pub returns-then-push-clause-closes : goal.returns-then-push-clause-closes
 returns-then-push-clause-closes c text known =
     let bytes = c.args.bytes.now in
     let line = c.loop-at.at + c.take_lines.result in
-    let end = line + c.take_cells.result in
+    let end = line + c.take_characters.result in
     let within : end < length bytes =
     omega (
       arith,
@@ -68,7 +68,7 @@ returns-then-push-clause-closes c text known =
       c.if-end-bytes.false,
       c.take_lines.ensures.within,
       rest_length bytes c.loop-at.at,
-      c.take_cells.ensures.within,
+      c.take_characters.ensures.within,
       rest_length bytes line,
     ) in
     let lines =
@@ -76,8 +76,8 @@ returns-then-push-clause-closes c text known =
     (go_on text bytes c.loop-at.at c.take_lines.result)
     (c.take_lines.ensures.grown (text ++ take c.loop-at.at bytes) (c.loop-at.invariant.grown text known)) in
     let here =
-    subst (λ (l : List ℕ). AreRecordFacts l c.take_cells.new.self) (go_on text bytes line c.take_cells.result)
-    (c.take_cells.ensures.grown (text ++ take line bytes) lines) in
+    subst (λ (l : List ℕ). AreRecordFacts l c.take_characters.new.self) (go_on text bytes line c.take_characters.result)
+    (c.take_characters.ensures.grown (text ++ take line bytes) lines) in
     let same = rw c.if-push.true at c.push.ensures.same in
     let closes = rw c.if-push.true at c.push.ensures.closes in
     let last = closes (text ++ take end bytes) here in
@@ -92,7 +92,7 @@ pub loop-at-preserved : goal.loop-at-preserved
 loop-at-preserved c =
     let bytes = c.args.bytes.now in
     let line = c.loop-at.at + c.take_lines.result in
-    let end = line + c.take_cells.result in
+    let end = line + c.take_characters.result in
     let within : end < length bytes =
     omega (
       arith,
@@ -100,7 +100,7 @@ loop-at-preserved c =
       c.if-end-bytes.false,
       c.take_lines.ensures.within,
       rest_length bytes c.loop-at.at,
-      c.take_cells.ensures.within,
+      c.take_characters.ensures.within,
       rest_length bytes line,
     ) in
     let grows = rw c.if-push.false at c.push.ensures.«open» in
@@ -112,8 +112,9 @@ loop-at-preserved c =
           (go_on text bytes c.loop-at.at c.take_lines.result)
           (c.take_lines.ensures.grown (text ++ take c.loop-at.at bytes) (c.loop-at.invariant.grown text known)) in
           let here =
-          subst (λ (l : List ℕ). AreRecordFacts l c.take_cells.new.self) (go_on text bytes line c.take_cells.result)
-          (c.take_cells.ensures.grown (text ++ take line bytes) lines) in
+          subst (λ (l : List ℕ). AreRecordFacts l c.take_characters.new.self)
+          (go_on text bytes line c.take_characters.result)
+          (c.take_characters.ensures.grown (text ++ take line bytes) lines) in
           subst (λ (l : List ℕ). AreRecordFacts l c.push.new.self) (go_on_by_one text bytes end within)
           (grows (text ++ take end bytes) here);
     }
