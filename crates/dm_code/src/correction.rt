@@ -1,8 +1,9 @@
 //! Correction of a block.
 
 ghost use Rattle.std.specs.Prelude.{◌≡◌, ◌+◌, ◌*◌, ◌/◌, ◌<◌, ◌≤◌, List, ℕ, length, take, IsTrue, ◌↔◌, IfOk, IsOkAnd};
-ghost use Rattle.std.specs.Prelude.{MatchResult};
+ghost use Rattle.std.specs.Prelude.{MatchResult, ◌==◌, map};
 ghost use Rattle.std.specs.List.{All};
+ghost use Rattle.std.specs.Simd.Lanes.{mask_l};
 ghost use Rattle.gf301.specs.Polynomial.{Bytes};
 ghost use Rattle.dm_code.specs.Codeword.{IsCodeword, IsNear, distance};
 ghost use Rattle.dm_code.specs.Syndromes.{syndromes_of};
@@ -16,6 +17,7 @@ use crate::polynomial::{first_coefficients, sums, trim_zeros};
 use crate::syndrome::syndromes;
 use arrayvec::ArrayVec;
 use gf301::{CHECKS_ROOM, Gf, MOST_CHECKS};
+use std::simd::prelude::*;
 
 /// A corrected word.
 #[derive(Clone, Debug, PartialEq, Eq, Drop)]
@@ -64,8 +66,7 @@ pub fn correct<S: KeySolver>(solver: &S, word: &[u8], k: usize) -> Result<Fixed,
     };
     let mut fixed = copy_of(word);
     let mut left = with_room(&syndromes);
-    correct_errors(&mut fixed, &mut left, k, &key);
-    let changed = differences(word, &fixed);
+    let changed = correct_errors(&mut fixed, &mut left, k, &key);
     if are_zero(&left[..k]) && usize::from(changed) <= k / 2 {
         Ok(Fixed {
             word: fixed,
@@ -76,10 +77,10 @@ pub fn correct<S: KeySolver>(solver: &S, word: &[u8], k: usize) -> Result<Fixed,
     }
 }
 
-/// Corrects the word at each place whose locator's inverse is a root of the error locator. Where a codeword is near,
-/// the word then is this codeword. The first k of the syndromes stay those of the word, so that the corrected word is
-/// tested without new ones.
-fn correct_errors(word: &mut [u8], syndromes: &mut [u8], k: usize, key: &Key)
+/// Corrects the word at each place whose locator's inverse is a root of the error locator, and gives the number of
+/// places that it changed. Where a codeword is near, the word then is this codeword. The first k of the syndromes stay
+/// those of the word, so that the corrected word is tested without new ones.
+fn correct_errors(word: &mut [u8], syndromes: &mut [u8], k: usize, key: &Key) -> u8
     requires checks { 0 < k }
     requires most { k ≤ MOST_CHECKS }
     requires long { length word.old ≤ LONGEST_WORD }
@@ -88,19 +89,26 @@ fn correct_errors(word: &mut [u8], syndromes: &mut [u8], k: usize, key: &Key)
     requires key { IsLeastPair (syndromes_of word.old k) (k / 2) key.now.locator.items
         key.now.evaluator.items }
     ensures near { (c : List ℕ) → IsNear k word.old c → word.new ≡ c }
+    ensures changed { result ≡ distance word.old word.new }
     ensures long { length word.new ≡ length word.old }
     ensures bytes { Bytes word.new }
     ensures room { length syndromes.new ≡ CHECKS_ROOM }
     ensures kept { take k syndromes.new ≡ syndromes_of word.new k }
 {
     let locator = trim_zeros(&key.locator);
-    correct_roots(word, syndromes, k, locator, &key.evaluator);
+    correct_roots(word, syndromes, k, locator, &key.evaluator)
 }
 
 /// Does what [`correct_errors`] does, for a locator without zeros at its end. Sixteen places at once, from the last
-/// place on, are tested for roots, and what gives the errors' values is computed there. The lists are read with the
-/// highest power first: the locator then has the wrong places' locators as roots.
-fn correct_roots(word: &mut [u8], syndromes: &mut [u8], k: usize, locator: &[u8], evaluator: &[u8])
+/// place on, are tested for roots, and where there is one, what gives the errors' values is computed. The lists are
+/// read with the highest power first: the locator then has the wrong places' locators as roots.
+fn correct_roots(
+    word: &mut [u8],
+    syndromes: &mut [u8],
+    k: usize,
+    locator: &[u8],
+    evaluator: &[u8],
+) -> u8
     requires checks { 0 < k }
     requires most { k ≤ MOST_CHECKS }
     requires long { length word.old ≤ LONGEST_WORD }
@@ -110,6 +118,7 @@ fn correct_roots(word: &mut [u8], syndromes: &mut [u8], k: usize, locator: &[u8]
     requires tight { (n : ℕ) → IsBelow n locator.now → length locator.now ≤ n }
     requires key { IsLeastPair (syndromes_of word.old k) (k / 2) locator.now evaluator.now }
     ensures near { (c : List ℕ) → IsNear k word.old c → word.new ≡ c }
+    ensures changed { result ≡ distance word.old word.new }
     ensures long { length word.new ≡ length word.old }
     ensures bytes { Bytes word.new }
     ensures room { length syndromes.new ≡ CHECKS_ROOM }
@@ -117,9 +126,13 @@ fn correct_roots(word: &mut [u8], syndromes: &mut [u8], k: usize, locator: &[u8]
 {
     let upper = first_coefficients(evaluator, locator.len().saturating_sub(1));
     let groups = k.div_ceil(16);
+    let mut count = 0;
     for part in 0..word.len().div_ceil(16) {
         let first = 16 * part;
         let (values, divisors) = sums(locator, first);
+        if zero_lanes(values) == 0 {
+            continue;
+        }
         let (numerators, _) = sums(&upper, first);
         let values = values.to_array();
         let divisors = divisors.to_array();
@@ -131,9 +144,19 @@ fn correct_roots(word: &mut [u8], syndromes: &mut [u8], k: usize, locator: &[u8]
                 let value = error_value(Gf(numerators[lane]), Gf(divisors[lane]));
                 word[place] = Gf(word[place]).add(value).0;
                 add_error(syndromes, groups, value, at);
+                count += value.0.min(1);
             }
         }
     }
+    count
+}
+
+/// Gives the lanes in which 0 stands, as bits, the first as the lowest.
+#[inline]
+fn zero_lanes(lanes: Simd<u8, 16>) -> u64
+    ensures { result ≡ mask_l (map (λ a. a == 0) lanes) }
+{
+    lanes.simd_eq(u8x16::splat(0)).to_bitmask()
 }
 
 /// Copies the list.
@@ -161,19 +184,4 @@ fn are_zero(list: &[u8]) -> bool
     ensures { IsTrue result ↔ All (λ a. a ≡ 0) list.now }
 {
     list.iter().all(|a| *a == 0)
-}
-
-/// Counts the places at which two words of one length differ.
-fn differences(word: &[u8], other: &[u8]) -> u8
-    requires same { length other.now ≡ length word.now }
-    requires long { length word.now ≤ LONGEST_WORD }
-    ensures { result ≡ distance word.now other.now }
-{
-    let mut count = 0;
-    for (i, c) in word.iter().enumerate() {
-        if *c != other[i] {
-            count += 1;
-        }
-    }
-    count
 }

@@ -59,8 +59,8 @@ returns-in_default-clause-itself g c h =
     returns-in_default-clause-near g c c.args.word.now (near_self c.args.k c.args.word.now c.args.word.now refl h)
 
 -- ---- the errors are corrected
-pub correct_errors-requires-clause-syndromes : goal.correct_errors-requires-clause-syndromes
-correct_errors-requires-clause-syndromes g c =
+pub correct_errors-changed-requires-clause-syndromes : goal.correct_errors-changed-requires-clause-syndromes
+correct_errors-changed-requires-clause-syndromes g c =
     let w = c.args.word.now in
     let k = c.args.k in
     let s = c.deref-4.result.now in
@@ -70,8 +70,8 @@ correct_errors-requires-clause-syndromes g c =
     ap (λ n. take n c.with_room-left.result) (sym (ap length e ∙ syndromes_length w k)) ∙ c.with_room-left.ensures ∙ e
     ∙ ap (λ u. syndromes_of u k) (sym (c.deref_mut.ensures.value ∙ c.copy_of-fixed.ensures))
 
-pub correct_errors-requires-clause-key : goal.correct_errors-requires-clause-key
-correct_errors-requires-clause-key g c =
+pub correct_errors-changed-requires-clause-key : goal.correct_errors-changed-requires-clause-key
+correct_errors-changed-requires-clause-key g c =
     let k = c.args.k in
     let l = c.in-Some.key.locator.items in
     let v = c.in-Some.key.evaluator.items in
@@ -85,42 +85,52 @@ pub returns-then-from-k-clause-near : goal.returns-then-from-k-clause-near
 returns-then-from-k-clause-near g c =
     let w = c.args.word.now in
     let k = c.args.k in
-    let f = c.correct_errors.new.word in
+    let f = c.correct_errors-changed.new.word in
     let now : IsRewritten w c.copy_of-fixed.result.items f =
     rewritten w c.copy_of-fixed.result.items c.deref_mut.result.now f c.copy_of-fixed.ensures c.deref_mut.ensures.value
-    c.correct_errors.ensures.long in
+    c.correct_errors-changed.ensures.long in
+    let ch : c.correct_errors-changed.result ≡ distance w f =
+    c.correct_errors-changed.ensures.changed
+    ∙ ap (λ u. distance u f) (c.deref_mut.ensures.value ∙ c.copy_of-fixed.ensures) in
     let d : distance w f ≤ k / 2 =
     omega (
       arith,
-      c.differences-changed.ensures,
-      ap (distance w) (c.deref-5.ensures.0 ∙ now.word),
+      ch,
       c.from.ensures,
       c.if-from-k.true,
     ) in
     subst (IsNear k w) (sym now.word) (record {
       codeword =
-          codeword_from_syndromes k f (take k c.correct_errors.new.syndromes) c.requires.most
+          codeword_from_syndromes k f (take k c.correct_errors-changed.new.syndromes) c.requires.most
           (omega (arith, now.long, c.requires.data)) (omega (arith, now.long, c.requires.long))
-          c.correct_errors.ensures.bytes c.correct_errors.ensures.kept (c.are_zero-2.ensures.0 c.if-are_zero-2.true);
+          c.correct_errors-changed.ensures.bytes c.correct_errors-changed.ensures.kept (c.are_zero-2.ensures.0 c.if-are_zero-2.true);
       long = now.long;
       close = d;
     })
 
 pub returns-then-from-k-clause-changed : goal.returns-then-from-k-clause-changed
 returns-then-from-k-clause-changed g c =
-    c.differences-changed.ensures ∙ ap (distance c.args.word.now) c.deref-5.ensures.0
+    let w = c.args.word.now in
+    let f = c.correct_errors-changed.new.word in
+    let ch : c.correct_errors-changed.result ≡ distance w f =
+    c.correct_errors-changed.ensures.changed
+    ∙ ap (λ u. distance u f) (c.deref_mut.ensures.value ∙ c.copy_of-fixed.ensures) in
+    let now : IsRewritten w c.copy_of-fixed.result.items f =
+    rewritten w c.copy_of-fixed.result.items c.deref_mut.result.now f c.copy_of-fixed.ensures c.deref_mut.ensures.value
+    c.correct_errors-changed.ensures.long in
+    ch ∙ ap (distance w) (sym now.word)
 
 pub returns-then-from-k-clause-itself : goal.returns-then-from-k-clause-itself
 returns-then-from-k-clause-itself g c h =
     let w = c.args.word.now in
     let k = c.args.k in
     let a = c.copy_of-fixed.result.items in
-    let f = c.correct_errors.new.word in
+    let f = c.correct_errors-changed.new.word in
     let r : take (length a) (f ++ drop (length f) a) ≡ w =
     near_one k w (take (length a) (f ++ drop (length f) a)) w c.requires.long (returns-then-from-k-clause-near g c)
     (near_self k w w refl h) in (
       r,
-      c.differences-changed.ensures ∙ ap (distance w) c.deref-5.ensures.0
+      returns-then-from-k-clause-changed g c
           ∙ distance_self w (take (length a) (f ++ drop (length f) a)) r,
     )
 
@@ -128,27 +138,29 @@ pub returns-else-are_zero-2-clause-near : goal.returns-else-are_zero-2-clause-ne
 returns-else-are_zero-2-clause-near g c v h =
     let w = c.args.word.now in
     let k = c.args.k in
-    let f = c.correct_errors.new.word in
-    let s = take k c.correct_errors.new.syndromes in
+    let f = c.correct_errors-changed.new.word in
+    let s = take k c.correct_errors-changed.new.syndromes in
     let now : IsRewritten w c.copy_of-fixed.result.items f =
     rewritten w c.copy_of-fixed.result.items c.deref_mut.result.now f c.copy_of-fixed.ensures c.deref_mut.ensures.value
-    c.correct_errors.ensures.long in
+    c.correct_errors-changed.ensures.long in
+    let ch : c.correct_errors-changed.result ≡ distance w f =
+    c.correct_errors-changed.ensures.changed
+    ∙ ap (λ u. distance u f) (c.deref_mut.ensures.value ∙ c.copy_of-fixed.ensures) in
     let same : f ≡ v =
-    c.correct_errors.ensures.near v (subst (λ u. IsNear k u v)
+    c.correct_errors-changed.ensures.near v (subst (λ u. IsNear k u v)
     (sym (c.deref_mut.ensures.value ∙ c.copy_of-fixed.ensures)) h) in
     elim c.else-are_zero-2.branch [
       | else-are_zero-2-via-then-are_zero-2+else-from-k b ↦
           absurd (omega (
             arith,
-            c.differences-changed.ensures,
-            ap (distance w) (c.deref-5.ensures.0 ∙ now.word ∙ same),
+            ch ∙ ap (distance w) same,
             b.from.ensures,
             b.if-from-k.false,
             h.close,
           ))
       | else-are_zero-2-via-else-are_zero-2 b ↦
           let yes : IsTrue c.are_zero-2.result =
-          c.are_zero-2.ensures.1 (zero_syndromes k f s c.correct_errors.ensures.kept
+          c.are_zero-2.ensures.1 (zero_syndromes k f s c.correct_errors-changed.ensures.kept
           (subst (IsCodeword k) (sym same) h.codeword)) in
           let not : c.are_zero-2.result ≡ false = b.if-are_zero-2.false in
           absurd (cc (yes, not))
