@@ -2,7 +2,7 @@
 use Rattle.std.proofs.Common.{◌≡◌, ◌≢◌, ℕ, zero, suc, ◌+◌, ◌<◌, ◌≤◌, List, [], ◌∷◌, ◌++◌, length, get_or, refl, sym, ap}
 use Rattle.std.proofs.Common.{subst, ◌∙◌, arith, inl, inr, length-append, cond}
 use Rattle.std.proofs.lemmas.Bool.{cases_lt, cases_eq, eq-eqb, ne_eqb}
-use Rattle.std.proofs.lemmas.List.{get_or_append_left, append_cancel_left}
+use Rattle.std.proofs.lemmas.List.{get_or_append_left, append_cancel_left, ext_get_or}
 use lib.Bits.{xor_self}
 use Rattle.gf301.specs.Field.{◌⊕◌}
 use Rattle.gf301.proofs.Exported.{sum_zero, plus, nonzeros, same_from_values}
@@ -136,6 +136,27 @@ front_determines k f c d cc cd lc ld h =
     (codewords_one k (f ++ c) (f ++ d) cc cd (omega (arith, length-append f c, length-append f d))
     (omega (arith, length-append f c))
     (omega (arith, distance_after f c d)))
+
+-- ---- no distance
+
+-- Two numbers with distance 0 are equal.
+same_number : (a b : ℕ) → differs a b ≡ 0 → a ≡ b
+same_number a b none = elim (cases_eq a b) [ inl e ↦ e | inr n ↦ absurd (omega (arith, none, differs_apart a b n)) ]
+
+-- Words that differ at none of the first n places agree there.
+agrees : (v w : List ℕ) (n i : ℕ) → differing v w n ≡ 0 → i < n → get_or v i 0 ≡ get_or w i 0
+unfolding differing
+agrees v w zero i none h = absurd (omega arith)
+agrees v w (suc n) i none h =
+    elim (cases_eq i n) [
+      | inl e ↦ rw e (same_number (get_or v n 0) (get_or w n 0) (omega (arith, none)))
+      | inr o ↦ agrees v w n i (omega (arith, none)) (omega (arith, h, o))
+    ]
+
+-- Words of one length that differ nowhere are equal.
+pub differing_nowhere : (v w : List ℕ) → length w ≡ length v → distance v w ≡ 0 → w ≡ v
+differing_nowhere v w long none =
+    ext_get_or 0 w v long (λ i h. sym (agrees v w (length v) i none (omega (arith, h, long))))
 
 -- At most one codeword is near a word.
 pub near_one : (k : ℕ) (w c d : List ℕ) → length w ≤ 255 → IsNear k w c → IsNear k w d → c ≡ d

@@ -1,7 +1,7 @@
 //! Correction of a block.
 
-ghost use Rattle.std.specs.Prelude.{◌≡◌, ◌+◌, ◌*◌, ◌/◌, ◌<◌, ◌≤◌, List, ℕ, length, take, IsTrue, ◌↔◌, IfOk, IsOkAnd};
-ghost use Rattle.std.specs.Prelude.{MatchResult, ◌==◌, map};
+ghost use Rattle.std.specs.Prelude.{◌≡◌, ◌≢◌, ◌+◌, ◌*◌, ◌/◌, ◌<◌, ◌≤◌, List, ℕ, length, take, IsTrue, ◌↔◌, IfOk};
+ghost use Rattle.std.specs.Prelude.{IsOkAnd, MatchResult, ◌==◌, map};
 ghost use Rattle.std.specs.List.{All};
 ghost use Rattle.std.specs.Simd.Lanes.{mask_l};
 ghost use Rattle.gf301.specs.Polynomial.{Bytes};
@@ -53,25 +53,53 @@ pub fn correct<S: KeySolver>(solver: &S, word: &[u8], k: usize) -> Result<Fixed,
     ensures itself { IsCodeword k word.now
         → IsOkAnd result (λ fixed. (fixed.word.items ≡ word.now) × (fixed.changed ≡ 0)) }
 {
-    let rest = remainder(word, k);
-    if are_zero(&rest) {
+    let mut fixed = ArrayVec::new();
+    let changed = correct_to(solver, word, k, &mut fixed)?;
+    if changed == 0 {
         return Ok(Fixed {
             word: copy_of(word),
-            changed: 0,
+            changed,
         });
+    }
+    Ok(Fixed {
+        word: fixed,
+        changed,
+    })
+}
+
+/// Does what [`correct`] does, in a target: gives in how many places the codeword near the word differs from it. If
+/// that is 0, the word is this codeword, and nothing is copied. Else `fixed` holds the codeword, whatever it held
+/// before; after 0 and after [`BeyondLimit`] it holds anything.
+pub fn correct_to<S: KeySolver>(
+    solver: &S,
+    word: &[u8],
+    k: usize,
+    fixed: &mut ArrayVec<u8, LONGEST_WORD>,
+) -> Result<u8, BeyondLimit>
+    requires checks { 0 < k }
+    requires most { k ≤ MOST_CHECKS }
+    requires data { k < length word.now }
+    requires long { length word.now ≤ LONGEST_WORD }
+    ensures near { MatchResult result
+        (λ changed. changed ≢ 0 → IsNear k word.now fixed.new.items)
+        (λ _. (c : List ℕ) → IsNear k word.now c → ⊥) }
+    ensures changed { IfOk result
+        (λ changed. changed ≢ 0 → changed ≡ distance word.now fixed.new.items) }
+    ensures itself { (result ≡ Ok 0) ↔ IsCodeword k word.now }
+{
+    let rest = remainder(word, k);
+    if are_zero(&rest) {
+        return Ok(0);
     }
     let syndromes = syndromes(&rest, k);
     let Some(key) = solver.solve(&syndromes, k / 2) else {
         return Err(BeyondLimit);
     };
-    let mut fixed = copy_of(word);
+    copy_to(word, fixed);
     let mut left = with_room(&syndromes);
-    let changed = correct_errors(&mut fixed, &mut left, k, &key);
+    let changed = correct_errors(fixed, &mut left, k, &key);
     if are_zero(&left[..k]) && usize::from(changed) <= k / 2 {
-        Ok(Fixed {
-            word: fixed,
-            changed,
-        })
+        Ok(changed)
     } else {
         Err(BeyondLimit)
     }
@@ -167,6 +195,15 @@ pub(crate) fn copy_of<const N: usize>(list: &[u8]) -> ArrayVec<u8, N>
     let mut copy = ArrayVec::new();
     let _room = copy.try_extend_from_slice(list);
     copy
+}
+
+/// Copies the list into one that may hold anything before.
+fn copy_to(list: &[u8], copy: &mut ArrayVec<u8, LONGEST_WORD>)
+    requires { length list.now ≤ LONGEST_WORD }
+    ensures { copy.new.items ≡ list.now }
+{
+    copy.clear();
+    let _room = copy.try_extend_from_slice(list);
 }
 
 /// Puts zeros behind the syndromes.

@@ -12,6 +12,8 @@
 //! polynomials, the [`Key`]. There are two solvers: [`Quick`], whose work grows with the square of the number of
 //! syndromes at the most, and [`Elimination`], whose work grows with its fourth power at the most.
 //!
+//! [`correct_to`] leaves the codeword in memory of the caller's, and copies no word that is a codeword itself.
+//!
 //! Everything but [`Elimination`] works in lanes, on sixteen codewords, roots, places or coefficients at once: check
 //! codewords are what is left of a division in place, syndromes are sums over parts of a word, and wrong places are
 //! looked for sixteen at a time.
@@ -39,7 +41,7 @@ mod quick;
 mod syndrome;
 mod system;
 
-pub use correction::{BeyondLimit, Fixed, correct};
+pub use correction::{BeyondLimit, Fixed, correct, correct_to};
 pub use elimination::Elimination;
 pub use encoding::encode;
 pub use erasures::{Restored, correct_erased};

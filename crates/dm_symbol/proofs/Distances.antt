@@ -1,9 +1,11 @@
 -- At how many places words differ that agree at some places or at all.
-use Rattle.std.proofs.Common.{◌≡◌, ℕ, zero, suc, ◌-◌, ◌<◌, ◌≤◌, List, get_or, length, refl, sym, inl, inr, arith}
+use Rattle.std.proofs.Common.{◌≡◌, ◌≢◌, ℕ, zero, suc, ◌-◌, ◌*◌, ◌<◌, ◌≤◌, List, get_or, length, Result, Ok, Err, refl}
+use Rattle.std.proofs.Common.{sym, subst, ◌∙◌, inl, inr, arith}
+use Rattle.std.specs.Prelude.{IfOk, MatchResult}
 use Rattle.std.proofs.lemmas.Bool.{cases_eq, cases_lt}
-use Rattle.std.proofs.lemmas.List.{ext_get_or}
-use Rattle.dm_code.specs.Codeword.{IsCodeword, IsNear, differs, differing, distance}
-use Rattle.dm_code.proofs.Exported.{differs_same, differs_le, differs_apart}
+use Rattle.dm_code.specs.Codeword.{IsCodeword, IsNear, differing, distance}
+use Rattle.dm_code.proofs.Exported.{differs_same, differs_le}
+use Rattle.dm_symbol.specs.Reading.{HasNear}
 
 -- Words that agree at the first m places differ in at most as many of the first n places as come after those.
 pub differing_prefix : (w c : List ℕ) (m n : ℕ) → ((i : ℕ) → i < m → get_or w i 0 ≡ get_or c i 0)
@@ -16,25 +18,6 @@ differing_prefix w c m (suc n) e =
       | inr h ↦ omega (arith, differing_prefix w c m n e, differs_le (get_or w n 0) (get_or c n 0))
     ]
 
--- Two numbers with distance 0 are equal.
-same_number : (a b : ℕ) → differs a b ≡ 0 → a ≡ b
-same_number a b none = elim (cases_eq a b) [ inl e ↦ e | inr n ↦ absurd (omega (arith, none, differs_apart a b n)) ]
-
--- Words that differ at none of the first n places agree there.
-agrees : (w c : List ℕ) (n i : ℕ) → differing w c n ≡ 0 → i < n → get_or w i 0 ≡ get_or c i 0
-unfolding differing
-agrees w c zero i none h = absurd (omega arith)
-agrees w c (suc n) i none h =
-    elim (cases_eq i n) [
-      | inl e ↦ rw e (same_number (get_or w n 0) (get_or c n 0) (omega (arith, none)))
-      | inr o ↦ agrees w c n i (omega (arith, none)) (omega (arith, h, o))
-    ]
-
--- Words of one length that differ nowhere are equal.
-pub differing_nowhere : (w c : List ℕ) → length c ≡ length w → distance w c ≡ 0 → c ≡ w
-differing_nowhere w c long none =
-    ext_get_or 0 c w long (λ i h. sym (agrees w c (length w) i none (omega (arith, h, long))))
-
 -- A list of words doesn't differ from itself.
 pub distance_to_itself : (word : List ℕ) → distance word word ≡ 0
 distance_to_itself word =
@@ -45,3 +28,43 @@ distance_to_itself word =
 -- A codeword is near itself.
 pub near_itself : (k : ℕ) (word : List ℕ) → IsCodeword k word → IsNear k word word
 near_itself k word code = record { codeword = code; long = refl; close = omega (arith, distance_to_itself word) }
+
+-- ---- what is found near a word
+
+-- What is found near a word, or that nothing is near it, is also true of an equal word.
+pub found_moves : {E : Type 0} (r : Result ℕ E) (found : List ℕ) (k l : ℕ) (w v : List ℕ) → k ≡ l → w ≡ v
+    → MatchResult r (λ n. n ≢ 0 → IsNear k w found) (λ _. (c : List ℕ) → IsNear k w c → ⊥)
+    → MatchResult r (λ n. n ≢ 0 → IsNear l v found) (λ _. HasNear l v → ⊥)
+found_moves (Ok n) found k l w v ek ew h =
+    λ some. subst (λ x. IsNear x v found) ek (subst (λ x. IsNear k x found) ew (h some))
+found_moves (Err e) found k l w v ek ew h =
+    λ n. h n.0 (subst (λ x. IsNear x w n.0) (sym ek) (subst (λ x. IsNear l x n.0) (sym ew) n.1))
+
+-- A word is corrected at no more places than half as many as it has check codewords.
+pub few_found : {E : Type 0} (r : Result ℕ E) (found : List ℕ) (k : ℕ) (w : List ℕ)
+    → MatchResult r (λ n. n ≢ 0 → IsNear k w found) (λ _. HasNear k w → ⊥)
+    → IfOk r (λ n. n ≢ 0 → n ≡ distance w found) → IfOk r (λ n. 2 * n ≤ k)
+few_found (Ok n) found k w near counted =
+    elim (cases_eq n 0) [
+      | inl none ↦ omega (arith, none)
+      | inr some ↦ omega (arith, counted some, (near some).close)
+    ]
+few_found (Err e) found k w near counted = tt
+
+-- What a block becomes, and in how many places it differs from it, where what is found is put in its place if it
+-- differs.
+pub record IsPut (k changed : ℕ) (held after : List ℕ) : Type 0 where
+  pub near : IsNear k held after
+  pub counted : changed ≡ distance held after
+
+-- It is put if it differs.
+pub put_if : (k changed : ℕ) (held found after : List ℕ) → (changed ≢ 0 → IsNear k held found)
+    → (changed ≢ 0 → changed ≡ distance held found) → (changed ≡ 0 → IsCodeword k held)
+    → (changed ≢ 0 → after ≡ found) → (changed ≡ 0 → after ≡ held) → IsPut k changed held after
+put_if k changed held found after near counted itself put stays = elim (cases_eq changed 0) [
+  | inl none ↦ subst (IsPut k changed held) (sym (stays none)) (record {
+    near = near_itself k held (itself none);
+    counted = none ∙ sym (distance_to_itself held);
+  })
+  | inr some ↦ subst (IsPut k changed held) (sym (put some)) (record { near = near some; counted = counted some })
+]

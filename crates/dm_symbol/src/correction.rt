@@ -1,13 +1,14 @@
 //! Correction of a block where it stands.
 
-ghost use Rattle.std.specs.Prelude.{◌≡◌, ◌≢◌, ◌<◌, ◌≤◌, ◌↔◌, ℕ, IfOk, IsTrue, MatchResult, length};
+ghost use Rattle.std.specs.Prelude.{◌≡◌, ◌≢◌, ◌<◌, ℕ, IfOk, MatchResult};
 ghost use Rattle.dm_code.specs.Codeword.{IsCodeword, IsNear, distance};
 ghost use Rattle.dm_layout.specs.Sizes.{block_check};
 ghost use Rattle.dm_symbol.specs.Blocks.{AreWordsOf, block_at};
 ghost use Rattle.dm_symbol.specs.Inspection.{IsBlockCorrected};
 ghost use Rattle.dm_symbol.specs.Reading.{HasNear};
 
-use dm_code::{BeyondLimit, Fixed, LONGEST_WORD, MOST_CHECKS, Quick, correct, encode};
+use arrayvec::ArrayVec;
+use dm_code::{BeyondLimit, LONGEST_WORD, Quick, correct_to};
 use dm_layout::{Words, block, put_block};
 
 /// Corrects a block to the codeword near it, and gives in how many codewords it was wrong, or None where no codeword is
@@ -22,60 +23,39 @@ pub(crate) fn correct_block(words: &mut Words, b: usize) -> Option<u8>
     ensures others { (a : ℕ) → a < words.old.size.blocks → a ≢ b
         → block_at words.old.size words.new.list a ≡ block_at words.old.size words.old.list a }
 {
-    if is_only_codeword(words) {
-        return Some(0);
-    }
-    let Ok(fixed) = codeword_near(words, b) else {
+    let mut fixed = ArrayVec::new();
+    let Ok(changed) = codeword_near(words, b, &mut fixed) else {
         return None;
     };
-    if fixed.changed == 0 {
-        return Some(0);
+    if changed > 0 {
+        put_block(words, b, &fixed);
     }
-    put_block(words, b, &fixed.word);
-    Some(fixed.changed)
+    Some(changed)
 }
 
-/// Whether a symbol has one block, and this is a codeword. Then there is nothing to copy.
-fn is_only_codeword(words: &Words) -> bool
-    ensures value { IsTrue result
-        ↔ ((words.now.size.blocks ≡ 1) × IsCodeword (block_check words.now.size) words.now.list) }
-    ensures words { AreWordsOf words.now.size words.now.list }
-{
-    let size = words.size();
-    if size.blocks() != 1 {
-        return false;
-    }
-    is_codeword(words.list(), usize::from(size.block_check()))
-}
-
-/// Whether a word is a codeword with k check codewords: the last k are the check codewords of those before them.
-pub(crate) fn is_codeword(word: &[u8], k: usize) -> bool
-    requires some { 1 ≤ k }
-    requires most { k ≤ MOST_CHECKS }
-    requires whole { k ≤ length word.now }
-    requires long { length word.now ≤ LONGEST_WORD }
-    ensures { IsTrue result ↔ IsCodeword k word.now }
-{
-    let count = word.len() - k;
-    encode(&word[..count], k).as_slice() == &word[count..]
-}
-
-/// Gives the codeword near a block. The codewords of a symbol that has one block are that block, and aren't copied.
-fn codeword_near(words: &Words, b: usize) -> Result<Fixed, BeyondLimit>
+/// Gives in how many codewords a block is wrong, and leaves in `fixed` the codeword near it, if it isn't one itself.
+/// The codewords of a symbol that has one block are that block, and aren't copied.
+fn codeword_near(
+    words: &Words,
+    b: usize,
+    fixed: &mut ArrayVec<u8, LONGEST_WORD>,
+) -> Result<u8, BeyondLimit>
     requires { b < words.now.size.blocks }
     ensures near { MatchResult result
-        (λ fixed. IsNear (block_check words.now.size) (block_at words.now.size words.now.list b)
-        fixed.word.items)
+        (λ changed. changed ≢ 0 → IsNear (block_check words.now.size)
+        (block_at words.now.size words.now.list b) fixed.new.items)
         (λ _. HasNear (block_check words.now.size) (block_at words.now.size words.now.list b)
         → ⊥) }
+    ensures changed { IfOk result (λ changed. changed ≢ 0
+        → changed ≡ distance (block_at words.now.size words.now.list b) fixed.new.items) }
+    ensures itself { result ≡ Ok 0
+        → IsCodeword (block_check words.now.size) (block_at words.now.size words.now.list b) }
     ensures words { AreWordsOf words.now.size words.now.list }
-    ensures changed { IfOk result (λ fixed. fixed.changed
-        ≡ distance (block_at words.now.size words.now.list b) fixed.word.items) }
 {
     let size = words.size();
     let checks = usize::from(size.block_check());
     if size.blocks() == 1 {
-        return correct(&Quick, words.list(), checks);
+        return correct_to(&Quick, words.list(), checks, fixed);
     }
-    correct(&Quick, &block(words, b), checks)
+    correct_to(&Quick, &block(words, b), checks, fixed)
 }

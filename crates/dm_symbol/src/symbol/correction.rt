@@ -1,6 +1,6 @@
 //! Correction of a block of a symbol of any size, where it stands.
 
-ghost use Rattle.std.specs.Prelude.{◌≡◌, ◌≢◌, ◌<◌, ◌↔◌, ℕ, [], Some, IfOk, IfSome, IsTrue, MatchResult, option_map};
+ghost use Rattle.std.specs.Prelude.{◌≡◌, ◌≢◌, ◌*◌, ◌<◌, ◌≤◌, ℕ, [], Some, IfOk, IfSome, MatchResult, option_map};
 ghost use Rattle.dm_code.specs.Codeword.{IsCodeword, IsNear, distance};
 ghost use Rattle.dm_modules.specs.Sizes.{block_check};
 ghost use Rattle.dm_symbol.specs.Reading.{HasNear};
@@ -8,10 +8,10 @@ ghost use Rattle.dm_symbol.specs.SymbolBlocks.{AreOfSize, block_in};
 ghost use Rattle.dm_symbol.specs.SymbolReading.{IsBlockRestored};
 ghost use Rattle.dm_symbol.specs.inner.Marks.{marked_in};
 
-use crate::correction::is_codeword;
 use crate::symbol::doubt::marked_places;
 use crate::symbol::reading::BlockReading;
-use dm_code::{BeyondLimit, Fixed, Quick, correct, correct_erased};
+use arrayvec::ArrayVec;
+use dm_code::{BeyondLimit, LONGEST_WORD, Quick, correct_erased, correct_to};
 use dm_modules::{SymbolWords, block, put_block};
 
 /// Restores a block to the codeword that is near to it but for the places that have marks, and gives what became of it,
@@ -50,57 +50,46 @@ fn correct_block(words: &mut SymbolWords, b: usize) -> Option<BlockReading>
         → block_in words.old.size words.new.list a ≡ block_in words.old.size words.old.list a }
 {
     let checks = words.size().block_check() as u8;
-    if is_only_codeword(words) {
-        return Some(BlockReading {
-            corrected: 0,
-            erased: 0,
-            left: checks,
-        });
-    }
-    let Ok(fixed) = codeword_near(words, b) else {
+    let mut fixed = ArrayVec::new();
+    let Ok(changed) = codeword_near(words, b, &mut fixed) else {
         return None;
     };
-    if fixed.changed > 0 {
-        put_block(words, b, &fixed.word);
+    if changed > 0 {
+        put_block(words, b, &fixed);
     }
     Some(BlockReading {
-        corrected: fixed.changed,
+        corrected: changed,
         erased: 0,
-        left: checks - 2 * fixed.changed,
+        left: checks - 2 * changed,
     })
 }
 
-/// Whether a symbol has one block, and this is a codeword. Then there is nothing to copy.
-fn is_only_codeword(words: &SymbolWords) -> bool
-    ensures value { IsTrue result
-        ↔ ((words.now.size.blocks ≡ 1) × IsCodeword (block_check words.now.size) words.now.list) }
-    ensures words { AreOfSize words.now.size words.now.list }
-{
-    let size = words.size();
-    if size.blocks() != 1 {
-        return false;
-    }
-    is_codeword(words.list(), usize::from(size.block_check()))
-}
-
-/// Gives the codeword near a block. The codewords of a symbol that has one block are that block, and aren't copied.
-fn codeword_near(words: &SymbolWords, b: usize) -> Result<Fixed, BeyondLimit>
+/// Gives in how many codewords a block is wrong, and leaves in `fixed` the codeword near it, if it isn't one itself.
+/// The codewords of a symbol that has one block are that block, and aren't copied.
+fn codeword_near(
+    words: &SymbolWords,
+    b: usize,
+    fixed: &mut ArrayVec<u8, LONGEST_WORD>,
+) -> Result<u8, BeyondLimit>
     requires { b < words.now.size.blocks }
     ensures near { MatchResult result
-        (λ fixed. IsNear (block_check words.now.size) (block_in words.now.size words.now.list b)
-        fixed.word.items)
+        (λ changed. changed ≢ 0 → IsNear (block_check words.now.size)
+        (block_in words.now.size words.now.list b) fixed.new.items)
         (λ _. HasNear (block_check words.now.size) (block_in words.now.size words.now.list b)
         → ⊥) }
+    ensures changed { IfOk result (λ changed. changed ≢ 0
+        → changed ≡ distance (block_in words.now.size words.now.list b) fixed.new.items) }
+    ensures itself { result ≡ Ok 0
+        → IsCodeword (block_check words.now.size) (block_in words.now.size words.now.list b) }
+    ensures few { IfOk result (λ changed. 2 * changed ≤ block_check words.now.size) }
     ensures words { AreOfSize words.now.size words.now.list }
-    ensures changed { IfOk result (λ fixed. fixed.changed
-        ≡ distance (block_in words.now.size words.now.list b) fixed.word.items) }
 {
     let size = words.size();
     let checks = usize::from(size.block_check());
     if size.blocks() == 1 {
-        return correct(&Quick, words.list(), checks);
+        return correct_to(&Quick, words.list(), checks, fixed);
     }
-    correct(&Quick, &block(words, b), checks)
+    correct_to(&Quick, &block(words, b), checks, fixed)
 }
 
 /// Restores a block whose places are erased that have marks.

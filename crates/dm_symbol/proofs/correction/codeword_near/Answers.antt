@@ -1,24 +1,16 @@
-use Rattle.std.proofs.Common.{◌≡◌, ◌∙◌, List, ℕ, Result, Ok, Err, length, ap, sym, subst, arith}
-use Rattle.std.specs.Prelude.{IfOk, MatchResult}
-use Rattle.dm_code.specs.Codeword.{IsNear, distance}
+use Rattle.std.proofs.Common.{◌≡◌, ◌≢◌, ◌∙◌, length, ap, sym, subst, arith}
+use Rattle.std.specs.Prelude.{IfOk}
+use Rattle.dm_code.specs.Codeword.{IsCodeword, distance}
 use Rattle.dm_layout.specs.Sizes.{block_check}
 use Rattle.dm_symbol.specs.Blocks.{block_at}
-use Rattle.dm_symbol.specs.Reading.{HasNear}
+use Rattle.dm_symbol.proofs.Distances.{found_moves}
 use Rattle.dm_symbol.proofs.SizeFacts.{size_facts, blocks_of_size}
 use Rattle.dm_symbol.proofs.SymbolBlocks.{only_block}
 use Rattle.dm_symbol.proofs.Below.{block_lengths}
 use Rattle.dm_symbol.proofs.correction.codeword_near.Goals as goal
 
--- What is near a word, or that nothing is near it, is also true of an equal word.
-near_or_none : {A E : Type 0} (r : Result A E) (word : A → List ℕ) (k l : ℕ) (w v : List ℕ) → k ≡ l → w ≡ v
-    → MatchResult r (λ a. IsNear k w (word a)) (λ _. (c : List ℕ) → IsNear k w c → ⊥)
-    → MatchResult r (λ a. IsNear l v (word a)) (λ _. HasNear l v → ⊥)
-near_or_none (Ok a) word k l w v ek ew h = subst (λ x. IsNear x v (word a)) ek (subst (λ x. IsNear k x (word a)) ew h)
-near_or_none (Err e) word k l w v ek ew h =
-    λ n. h n.0 (subst (λ x. IsNear x w n.0) (sym ek) (subst (λ x. IsNear l x n.0) (sym ew) n.1))
-
-pub correct-requires-clause-data : goal.correct-requires-clause-data
-correct-requires-clause-data c =
+pub correct_to-requires-clause-data : goal.correct_to-requires-clause-data
+correct_to-requires-clause-data c =
     let w = c.args.words.now in
     let f = size_facts w.size c.size-size.ensures.words.row in
     let one : w.size.blocks
@@ -43,8 +35,8 @@ correct-requires-clause-data c =
       f.some_data,
     )
 
-pub correct-requires-2-clause-data : goal.correct-requires-2-clause-data
-correct-requires-2-clause-data c =
+pub correct_to-requires-2-clause-data : goal.correct_to-requires-2-clause-data
+correct_to-requires-2-clause-data c =
     let w = c.args.words.now in
     let f = size_facts w.size c.size-size.ensures.words.row in
     omega (
@@ -61,6 +53,8 @@ correct-requires-2-clause-data c =
 pub returns-then-blocks-eq1-clause-near : goal.returns-then-blocks-eq1-clause-near
 returns-then-blocks-eq1-clause-near c =
     let w = c.args.words.now in
+    let checks : c.from-checks.result ≡ block_check w.size = c.from-checks.ensures ∙ c.block_check.ensures.value
+    ∙ ap block_check c.size-size.ensures.value in
     let one : w.size.blocks
     ≡ 1 = omega (
       arith,
@@ -68,12 +62,10 @@ returns-then-blocks-eq1-clause-near c =
       c.if-blocks-eq1.true,
       blocks_of_size c.size-size.result w.size c.size-size.ensures.value,
     ) in
-    let checks : c.from-checks.result ≡ block_check w.size = c.from-checks.ensures ∙ c.block_check.ensures.value
-    ∙ ap block_check c.size-size.ensures.value in
     let same : c.list.result.now ≡ block_at w.size w.list c.args.b = c.list.ensures.value
     ∙ sym (only_block w.size w.list c.size-size.ensures.words one c.args.b c.requires) in
-    near_or_none c.correct.result (λ fixed. fixed.word.items) c.from-checks.result (block_check w.size)
-    c.list.result.now (block_at w.size w.list c.args.b) checks same c.correct.ensures.near
+    found_moves c.correct_to.result c.correct_to.new.fixed.items c.from-checks.result (block_check w.size)
+    c.list.result.now (block_at w.size w.list c.args.b) checks same c.correct_to.ensures.near
 
 pub returns-then-blocks-eq1-clause-changed : goal.returns-then-blocks-eq1-clause-changed
 returns-then-blocks-eq1-clause-changed c =
@@ -87,5 +79,47 @@ returns-then-blocks-eq1-clause-changed c =
     ) in
     let same : c.list.result.now ≡ block_at w.size w.list c.args.b = c.list.ensures.value
     ∙ sym (only_block w.size w.list c.size-size.ensures.words one c.args.b c.requires) in
-    subst (λ v. IfOk c.correct.result (λ fixed. fixed.changed ≡ distance v fixed.word.items)) same
-    c.correct.ensures.changed
+    subst (λ v. IfOk c.correct_to.result (λ n. n ≢ 0 → n ≡ distance v c.correct_to.new.fixed.items)) same
+    c.correct_to.ensures.changed
+
+pub returns-then-blocks-eq1-clause-itself : goal.returns-then-blocks-eq1-clause-itself
+returns-then-blocks-eq1-clause-itself c e =
+    let w = c.args.words.now in
+    let checks : c.from-checks.result ≡ block_check w.size = c.from-checks.ensures ∙ c.block_check.ensures.value
+    ∙ ap block_check c.size-size.ensures.value in
+    let one : w.size.blocks
+    ≡ 1 = omega (
+      arith,
+      c.blocks-2.ensures.value,
+      c.if-blocks-eq1.true,
+      blocks_of_size c.size-size.result w.size c.size-size.ensures.value,
+    ) in
+    let same : c.list.result.now ≡ block_at w.size w.list c.args.b = c.list.ensures.value
+    ∙ sym (only_block w.size w.list c.size-size.ensures.words one c.args.b c.requires) in
+    subst (λ k. IsCodeword k (block_at w.size w.list c.args.b)) checks
+    (subst (IsCodeword c.from-checks.result) same (c.correct_to.ensures.itself.0 e))
+
+pub returns-clause-near : goal.returns-clause-near
+returns-clause-near c =
+    let w = c.args.words.now in
+    let checks : c.from-checks.result ≡ block_check w.size = c.from-checks.ensures ∙ c.block_check.ensures.value
+    ∙ ap block_check c.size-size.ensures.value in
+    let same : c.deref.result.now ≡ block_at w.size w.list c.args.b = c.deref.ensures.0 ∙ c.block.ensures.value in
+    found_moves c.correct_to-2.result c.correct_to-2.new.fixed.items c.from-checks.result (block_check w.size)
+    c.deref.result.now (block_at w.size w.list c.args.b) checks same c.correct_to-2.ensures.near
+
+pub returns-clause-changed : goal.returns-clause-changed
+returns-clause-changed c =
+    let w = c.args.words.now in
+    let same : c.deref.result.now ≡ block_at w.size w.list c.args.b = c.deref.ensures.0 ∙ c.block.ensures.value in
+    subst (λ v. IfOk c.correct_to-2.result (λ n. n ≢ 0 → n ≡ distance v c.correct_to-2.new.fixed.items)) same
+    c.correct_to-2.ensures.changed
+
+pub returns-clause-itself : goal.returns-clause-itself
+returns-clause-itself c e =
+    let w = c.args.words.now in
+    let checks : c.from-checks.result ≡ block_check w.size = c.from-checks.ensures ∙ c.block_check.ensures.value
+    ∙ ap block_check c.size-size.ensures.value in
+    let same : c.deref.result.now ≡ block_at w.size w.list c.args.b = c.deref.ensures.0 ∙ c.block.ensures.value in
+    subst (λ k. IsCodeword k (block_at w.size w.list c.args.b)) checks
+    (subst (IsCodeword c.from-checks.result) same (c.correct_to-2.ensures.itself.0 e))

@@ -1,22 +1,14 @@
-use Rattle.std.proofs.Common.{◌≡◌, ◌∙◌, List, ℕ, Result, Ok, Err, length, ap, sym, subst, arith}
-use Rattle.std.specs.Prelude.{IfOk, MatchResult}
-use Rattle.dm_code.specs.Codeword.{IsNear, distance}
+use Rattle.std.proofs.Common.{◌≡◌, ◌≢◌, ◌∙◌, length, ap, sym, subst, arith}
+use Rattle.std.specs.Prelude.{IfOk}
+use Rattle.dm_code.specs.Codeword.{IsCodeword, distance}
 use Rattle.dm_modules.specs.Sizes.{block_check}
 use Rattle.dm_symbol.specs.SymbolBlocks.{block_in}
-use Rattle.dm_symbol.specs.Reading.{HasNear}
+use Rattle.dm_symbol.proofs.Distances.{few_found, found_moves}
 use Rattle.dm_symbol.proofs.SymbolBelow.{block_facts, blocks_are, only_block, only_short}
 use Rattle.dm_symbol.proofs.symbol.correction.codeword_near.Goals as goal
 
--- What is near a word, or that nothing is near it, is also true of an equal word.
-near_or_none : {A E : Type 0} (r : Result A E) (word : A → List ℕ) (k l : ℕ) (w v : List ℕ) → k ≡ l → w ≡ v
-    → MatchResult r (λ a. IsNear k w (word a)) (λ _. (c : List ℕ) → IsNear k w c → ⊥)
-    → MatchResult r (λ a. IsNear l v (word a)) (λ _. HasNear l v → ⊥)
-near_or_none (Ok a) word k l w v ek ew h = subst (λ x. IsNear x v (word a)) ek (subst (λ x. IsNear k x (word a)) ew h)
-near_or_none (Err e) word k l w v ek ew h =
-    λ n. h n.0 (subst (λ x. IsNear x w n.0) (sym ek) (subst (λ x. IsNear l x n.0) (sym ew) n.1))
-
-pub correct-requires-clause-data : goal.correct-requires-clause-data
-correct-requires-clause-data c =
+pub correct_to-requires-clause-data : goal.correct_to-requires-clause-data
+correct_to-requires-clause-data c =
     let w = c.args.words.now in
     let one : w.size.blocks ≡ 1 =
     omega (
@@ -35,8 +27,8 @@ correct-requires-clause-data c =
       short.1,
     )
 
-pub correct-requires-clause-long : goal.correct-requires-clause-long
-correct-requires-clause-long c =
+pub correct_to-requires-clause-long : goal.correct_to-requires-clause-long
+correct_to-requires-clause-long c =
     let w = c.args.words.now in
     let one : w.size.blocks ≡ 1 =
     omega (
@@ -48,8 +40,8 @@ correct-requires-clause-long c =
     let short = only_short w.size w.list c.size-size.ensures.words one in
     omega (arith, ap length c.list.ensures.value, short.0)
 
-pub correct-requires-2-clause-data : goal.correct-requires-2-clause-data
-correct-requires-2-clause-data c =
+pub correct_to-requires-2-clause-data : goal.correct_to-requires-2-clause-data
+correct_to-requires-2-clause-data c =
     let w = c.args.words.now in
     let f = block_facts w.size c.size-size.ensures.words.size c.args.b c.requires in
     omega (
@@ -65,6 +57,8 @@ correct-requires-2-clause-data c =
 pub returns-then-blocks-eq1-clause-near : goal.returns-then-blocks-eq1-clause-near
 returns-then-blocks-eq1-clause-near c =
     let w = c.args.words.now in
+    let checks : c.from-checks.result ≡ block_check w.size = c.from-checks.ensures ∙ c.block_check.ensures.value
+    ∙ ap block_check c.size-size.ensures.value in
     let one : w.size.blocks ≡ 1 =
     omega (
       arith,
@@ -72,12 +66,10 @@ returns-then-blocks-eq1-clause-near c =
       c.if-blocks-eq1.true,
       blocks_are c.size-size.result w.size c.size-size.ensures.value,
     ) in
-    let checks : c.from-checks.result ≡ block_check w.size = c.from-checks.ensures ∙ c.block_check.ensures.value
-    ∙ ap block_check c.size-size.ensures.value in
     let same : c.list.result.now ≡ block_in w.size w.list c.args.b = c.list.ensures.value
     ∙ sym (only_block w.size w.list c.size-size.ensures.words one c.args.b c.requires) in
-    near_or_none c.correct.result (λ fixed. fixed.word.items) c.from-checks.result (block_check w.size)
-    c.list.result.now (block_in w.size w.list c.args.b) checks same c.correct.ensures.near
+    found_moves c.correct_to.result c.correct_to.new.fixed.items c.from-checks.result (block_check w.size)
+    c.list.result.now (block_in w.size w.list c.args.b) checks same c.correct_to.ensures.near
 
 pub returns-then-blocks-eq1-clause-changed : goal.returns-then-blocks-eq1-clause-changed
 returns-then-blocks-eq1-clause-changed c =
@@ -91,5 +83,59 @@ returns-then-blocks-eq1-clause-changed c =
     ) in
     let same : c.list.result.now ≡ block_in w.size w.list c.args.b = c.list.ensures.value
     ∙ sym (only_block w.size w.list c.size-size.ensures.words one c.args.b c.requires) in
-    subst (λ v. IfOk c.correct.result (λ fixed. fixed.changed ≡ distance v fixed.word.items)) same
-    c.correct.ensures.changed
+    subst (λ v. IfOk c.correct_to.result (λ n. n ≢ 0 → n ≡ distance v c.correct_to.new.fixed.items)) same
+    c.correct_to.ensures.changed
+
+pub returns-then-blocks-eq1-clause-itself : goal.returns-then-blocks-eq1-clause-itself
+returns-then-blocks-eq1-clause-itself c e =
+    let w = c.args.words.now in
+    let checks : c.from-checks.result ≡ block_check w.size = c.from-checks.ensures ∙ c.block_check.ensures.value
+    ∙ ap block_check c.size-size.ensures.value in
+    let one : w.size.blocks ≡ 1 =
+    omega (
+      arith,
+      c.blocks-2.ensures.value,
+      c.if-blocks-eq1.true,
+      blocks_are c.size-size.result w.size c.size-size.ensures.value,
+    ) in
+    let same : c.list.result.now ≡ block_in w.size w.list c.args.b = c.list.ensures.value
+    ∙ sym (only_block w.size w.list c.size-size.ensures.words one c.args.b c.requires) in
+    subst (λ k. IsCodeword k (block_in w.size w.list c.args.b)) checks
+    (subst (IsCodeword c.from-checks.result) same (c.correct_to.ensures.itself.0 e))
+
+pub returns-then-blocks-eq1-clause-few : goal.returns-then-blocks-eq1-clause-few
+returns-then-blocks-eq1-clause-few c =
+    let w = c.args.words.now in
+    few_found c.correct_to.result c.correct_to.new.fixed.items (block_check w.size) (block_in w.size w.list c.args.b)
+    (returns-then-blocks-eq1-clause-near c) (returns-then-blocks-eq1-clause-changed c)
+
+pub returns-clause-near : goal.returns-clause-near
+returns-clause-near c =
+    let w = c.args.words.now in
+    let checks : c.from-checks.result ≡ block_check w.size = c.from-checks.ensures ∙ c.block_check.ensures.value
+    ∙ ap block_check c.size-size.ensures.value in
+    let same : c.deref.result.now ≡ block_in w.size w.list c.args.b = c.deref.ensures.0 ∙ c.block.ensures.value in
+    found_moves c.correct_to-2.result c.correct_to-2.new.fixed.items c.from-checks.result (block_check w.size)
+    c.deref.result.now (block_in w.size w.list c.args.b) checks same c.correct_to-2.ensures.near
+
+pub returns-clause-changed : goal.returns-clause-changed
+returns-clause-changed c =
+    let w = c.args.words.now in
+    let same : c.deref.result.now ≡ block_in w.size w.list c.args.b = c.deref.ensures.0 ∙ c.block.ensures.value in
+    subst (λ v. IfOk c.correct_to-2.result (λ n. n ≢ 0 → n ≡ distance v c.correct_to-2.new.fixed.items)) same
+    c.correct_to-2.ensures.changed
+
+pub returns-clause-itself : goal.returns-clause-itself
+returns-clause-itself c e =
+    let w = c.args.words.now in
+    let checks : c.from-checks.result ≡ block_check w.size = c.from-checks.ensures ∙ c.block_check.ensures.value
+    ∙ ap block_check c.size-size.ensures.value in
+    let same : c.deref.result.now ≡ block_in w.size w.list c.args.b = c.deref.ensures.0 ∙ c.block.ensures.value in
+    subst (λ k. IsCodeword k (block_in w.size w.list c.args.b)) checks
+    (subst (IsCodeword c.from-checks.result) same (c.correct_to-2.ensures.itself.0 e))
+
+pub returns-clause-few : goal.returns-clause-few
+returns-clause-few c =
+    let w = c.args.words.now in
+    few_found c.correct_to-2.result c.correct_to-2.new.fixed.items (block_check w.size)
+    (block_in w.size w.list c.args.b) (returns-clause-near c) (returns-clause-changed c)
