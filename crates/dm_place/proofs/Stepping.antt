@@ -1,8 +1,9 @@
 -- The steps over the closed form.
 use Rattle.std.proofs.Common.{◌≡◌, ◌⊎◌, inl, inr, ℕ, zero, suc, ◌+◌, ◌-◌, ◌%◌, ◌<◌, ◌≤◌, List, [], ◌∷◌, ◌++◌, flat_map}
+use Rattle.std.proofs.Common.{Bool, true, false, ◌&&◌, nat_eq}
 use Rattle.std.proofs.Common.{refl, ap, sym, ◌∙◌, arith, append_assoc}
 use Rattle.std.specs.List.{range_with_len}
-use Rattle.std.proofs.lemmas.Bool.{cases_lt}
+use Rattle.std.proofs.lemmas.Bool.{cases_lt, eqb-true}
 use Rattle.dm_place.specs.declared.shape.Shape.{Shape}
 use Rattle.dm_place.specs.declared.shapes.Part.{Part}
 use Rattle.dm_place.specs.declared.shapes.Part.TheVariants.{Corner, Even, Odd}
@@ -108,15 +109,46 @@ corner_odd rows columns s i first p o is l e zero_left before =
     none_in_row rows columns s r (λ k m. before r (omega (arith, b)) m))
     ∙ ap (λ (j : ℕ). flat_map (in_odd_row rows columns s) (range_with_len j (rows - j))) none)
 
--- Of any other sum at most the corner comes before the shapes of the next sum.
-pub corner_none : (rows columns s i : ℕ) (p : Part) (o : List Shape) → p ≡ Corner → s + 1 < rows + columns →
-    o ≡ corner_before rows columns s → (s % 8 ≡ 4 → ⊥) → (s % 8 ≡ 0 → ⊥) →
-    left_at rows columns s p i ≡ o ++ from_sum rows columns (s + 1)
-corner_none rows columns s i p o is l e four zero_left =
-    ap (λ (q : Part). left_at rows columns s q i) is
-    ∙ split rows columns s o [] [] l e (none_of (in_even_row rows columns s) (range_with_len 0 columns)
-    (λ c. none_even rows columns s c four)) (none_of (in_odd_row rows columns s) (range_with_len 0 rows)
-    (λ r. none_odd rows columns s r zero_left))
+-- Three tests fail together where the first and the last can't both pass.
+not_both : (a b c : Bool) → (a ≡ true → c ≡ true → ⊥) → (a && b && c) ≡ false
+not_both true true true f = absurd (f refl refl)
+not_both true false true f = refl
+not_both true true false f = refl
+not_both true false false f = refl
+not_both false b c f = refl
+
+-- No corner comes before the anchors of a sum that isn't a multiple of 4.
+no_corner : (rows columns s : ℕ) → 6 ≤ rows → (s % 4 ≡ 0 → ⊥) → corner_before rows columns s ≡ []
+no_corner rows columns s low f =
+    let first : (k n d : ℕ) → (rows % 8 ≡ k → s ≡ n → s % 4 ≡ 0) →
+    (nat_eq (rows % 8) k && nat_eq (columns % 8) d && nat_eq s n) ≡ false =
+    λ k n d h. not_both (nat_eq (rows % 8) k) (nat_eq (columns % 8) d) (nat_eq s n)
+    (λ x y. f (h (eqb-true _ _ x) (eqb-true _ _ y))) in
+    let a = first 4 rows 4 (λ x y. omega (arith, x, y)) in
+    let b = first 6 (rows - 2) 6 (λ x y. omega (arith, low, x, y)) in
+    let c = first 6 (rows - 2) 4 (λ x y. omega (arith, low, x, y)) in
+    let d = first 6 (rows + 6) 0 (λ x y. omega (arith, x, y)) in
+    rw (corner_before, a, b, c, d) refl
+
+-- A sum that isn't a multiple of 4 has no shapes.
+no_shapes : (rows columns s : ℕ) → 6 ≤ rows → (s % 4 ≡ 0 → ⊥) → shapes_of_sum rows columns s ≡ []
+no_shapes rows columns s low f =
+    ap (λ (xs : List Shape). xs ++ flat_map (in_even_row rows columns s) (range_with_len 0 columns)
+    ++ flat_map (in_odd_row rows columns s) (range_with_len 0 rows)) (no_corner rows columns s low f)
+    ∙ ap (λ (xs : List Shape). xs ++ flat_map (in_odd_row rows columns s) (range_with_len 0 rows))
+    (none_of (in_even_row rows columns s) (range_with_len 0 columns)
+    (λ c. none_even rows columns s c (λ (h : s % 8 ≡ 4). f (omega (arith, h)))))
+    ∙ none_of (in_odd_row rows columns s) (range_with_len 0 rows)
+    (λ r. none_odd rows columns s r (λ (h : s % 8 ≡ 0). f (omega (arith, h))))
+
+-- After a sum that is a multiple of 4 the next one that has shapes is four further.
+pub next_sum : (rows columns s : ℕ) → 6 ≤ rows → s % 4 ≡ 0 →
+    from_sum rows columns (s + 1) ≡ from_sum rows columns (s + 4)
+next_sum rows columns s low four =
+    let e : s + 1 + 3 ≡ s + 4 = omega arith in
+    skipped (shapes_of_sum rows columns) 3 (s + 1) (rows + columns - 1)
+    (λ t a b. no_shapes rows columns t low (λ h. omega (arith, a, b, h, four)))
+    ∙ ap (from_sum rows columns) e
 
 -- Among the anchors in even rows that of an even column comes first, if there is one, and then those of the next even
 -- columns.

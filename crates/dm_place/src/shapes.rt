@@ -31,7 +31,7 @@ pub(crate) enum Part {
 pub(crate) struct Steps {
     rows: u16,
     columns: u16,
-    /// The sum of row and column of the anchors that come next.
+    /// The sum of row and column of the anchors that come next, a multiple of 4, since no other has shapes.
     sum: u16,
     part: Part,
     /// The column in which the next anchor of an even row may lie, an even one, or the row of the next one of an odd
@@ -223,22 +223,20 @@ impl Steps {
         match self.part {
             Part::Corner => {
                 let found = corner(self.rows, self.columns, self.sum);
-                // The anchors of a sum lie all in even rows or all in odd ones, and only multiples of 4 have any.
+                // The anchors of a sum lie all in even rows or all in odd ones.
                 if self.sum % 8 == 4 {
                     self.part = Part::Even;
                     self.index = first_even_column(self.rows, self.sum);
-                } else if self.sum % 8 == 0 {
+                } else {
                     self.part = Part::Odd;
                     self.index = first_odd_row(self.columns, self.sum);
-                } else {
-                    self.sum += 1;
                 }
                 found
             }
             Part::Even => {
                 if is_past(self.columns, self.sum, index) {
                     self.part = Part::Corner;
-                    self.sum += 1;
+                    self.sum += 4;
                     None
                 } else {
                     self.index = index + 2;
@@ -248,7 +246,7 @@ impl Steps {
             Part::Odd => {
                 if is_past(self.rows, self.sum, index) {
                     self.part = Part::Corner;
-                    self.sum += 1;
+                    self.sum += 4;
                     None
                 } else {
                     self.index = index + 2;

@@ -20,10 +20,11 @@ left_at rows columns s Even i =
 left_at rows columns s Odd i =
     flat_map (in_odd_row rows columns s) (range_with_len i (rows - i)) ++ from_sum rows columns (s + 1)
 
--- Before the corner the sum is at most one past the last; among the anchors it is one that has some, and their column,
--- an even one, or their row, an odd one, is at most two past the last, and none of those before the first.
+-- Before the corner the sum is a multiple of 4, and at most the first one past the last; among the anchors it is one
+-- that has some, and their column, an even one, or their row, an odd one, is at most two past the last, and none of
+-- those before the first.
 abbrev pub PartIsSafe : ℕ → ℕ → ℕ → Part → ℕ → Type 0
-PartIsSafe rows columns s Corner i = s ≤ rows + columns - 1
+PartIsSafe rows columns s Corner i = (s ≤ rows + columns + 2) × (s % 4 ≡ 0)
 PartIsSafe rows columns s Even i =
     (s < rows + columns - 1) × (i ≤ columns + 1) × (i % 2 ≡ 0) × (s % 8 ≡ 4) × (s < rows + i)
 PartIsSafe rows columns s Odd i =
