@@ -16,6 +16,7 @@
 mod border;
 mod cells;
 pub mod laws;
+mod places;
 mod placing;
 mod run;
 mod shape;

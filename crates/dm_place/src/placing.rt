@@ -1,28 +1,26 @@
 //! Codewords read out of a mapping matrix and put into one, shape by shape.
 
-ghost use Rattle.std.specs.Prelude.{◌≡◌, ◌*◌, ◌+◌, ◌<◌, ◌≤◌, Some, false, get_or, length};
+ghost use Rattle.std.specs.Prelude.{◌≡◌, ℕ, ◌*◌, ◌+◌, ◌<◌, ◌≤◌, Some, false, get_or, length, map};
 ghost use Rattle.dm_place.specs.Sides.{row_with_sides, sides_of};
-ghost use Rattle.dm_place.specs.Placement.{CellsInside, ShapesInside, cells_of};
-ghost use Rattle.dm_place.specs.Holding.{digit, look_at, word_at, HoldsBits, KeepsFixedSquare};
-ghost use Rattle.dm_place.specs.inner.Laying.{with_word, laid, lifted};
+ghost use Rattle.dm_place.specs.Placement.{ShapesInside, cells_of};
+ghost use Rattle.dm_place.specs.Holding.{digit, look_at, number_of, word_at, HoldsBits, KeepsFixedSquare};
+ghost use Rattle.dm_place.specs.inner.Laying.{with_bits, with_word, laid, lifted};
 ghost use Rattle.dm_place.specs.inner.Runs.{shapes_on, shapes_of, IsInner, IsInnerRun};
 ghost use Rattle.dm_place.specs.declared.shape.Shape.{Shape};
 
+use crate::places::places_of;
 use crate::run::{Diagonal, Run, Sides};
-use crate::shape::Cell;
 use crate::shapes::Steps;
 
-/// Gives the codeword in these cells.
+/// Gives the codeword in the cells at these places.
 #[inline(always)]
-fn word_at(cells: &[bool], rows: u16, columns: u16, places: &[Cell; 8]) -> u8
-    requires cells { length cells.now ≡ rows * columns }
-    requires inside { CellsInside rows columns places.now }
-    ensures { result ≡ word_at (look_at cells.now columns) places.now }
+fn word_at(cells: &[bool], places: &[usize; 8]) -> u8
+    requires inside { (k : ℕ) → k < 8 → get_or places.now k 0 < length cells.now }
+    ensures { result ≡ number_of 0 (map (λ place. get_or cells.now place false) places.now) }
 {
     let mut word: u16 = 0;
-    for cell in places {
-        let index = cell.row as usize * columns as usize + cell.column as usize;
-        word = 2 * word + u16::from(cells[index]);
+    for index in places {
+        word = 2 * word + u16::from(cells[*index]);
     }
     word as u8
 }
@@ -108,8 +106,7 @@ fn lift_run(sides: Sides, cells: &[bool], run: Run, word: usize, words: &mut [u8
 {
     match run {
         Run::One(shape) => {
-            let places = shape.cells(sides.rows, sides.columns);
-            words[word] = word_at(cells, sides.rows, sides.columns, &places);
+            words[word] = word_at(cells, &places_of(sides, shape));
             word + 1
         }
         Run::Rising(diagonal) => {
@@ -139,18 +136,16 @@ pub fn lift(rows: u16, columns: u16, cells: &[bool], words: &mut [u8])
     }
 }
 
-/// Puts the bits of a codeword into these cells.
+/// Puts the bits of a codeword into the cells at these places.
 #[inline(always)]
-fn put_word(cells: &mut [bool], rows: u16, columns: u16, places: &[Cell; 8], word: u8)
-    requires cells { length cells.old ≡ rows * columns }
-    requires inside { CellsInside rows columns places.now }
-    ensures { cells.new ≡ with_word columns word 0 places.now cells.old }
+fn put_word(cells: &mut [bool], places: &[usize; 8], word: u8)
+    requires inside { (k : ℕ) → k < 8 → get_or places.now k 0 < length cells.old }
+    ensures { cells.new ≡ with_bits word 0 places.now cells.old }
 {
     let mut shift: u8 = 8;
-    for cell in places {
+    for index in places {
         shift -= 1;
-        let index = cell.row as usize * columns as usize + cell.column as usize;
-        cells[index] = (word >> shift) % 2 == 1;
+        cells[*index] = (word >> shift) % 2 == 1;
     }
 }
 
@@ -223,8 +218,7 @@ fn lay_run(sides: Sides, words: &[u8], run: Run, word: usize, cells: &mut [bool]
 {
     match run {
         Run::One(shape) => {
-            let places = shape.cells(sides.rows, sides.columns);
-            put_word(cells, sides.rows, sides.columns, &places, words[word]);
+            put_word(cells, &places_of(sides, shape), words[word]);
             word + 1
         }
         Run::Rising(diagonal) => {

@@ -5,6 +5,16 @@ use Rattle.dm_place.specs.declared.shape.Shape.{Shape}
 use Rattle.dm_place.specs.Holding.{word_at}
 use Rattle.dm_place.specs.Placement.{cells_of}
 
+-- The place of a cell in the list of all cells of a matrix of so many columns, row by row.
+abbrev pub place_in : ℕ → Cell → ℕ
+place_in columns cell = cell.row * columns + cell.column
+
+-- The cells with the bits of a codeword from bit k + 1 on put at these places.
+abbrev pub with_bits : ℕ → ℕ → List ℕ → List Bool → List Bool
+with_bits word k [] cells = cells
+with_bits word k (place ∷ rest) cells =
+    with_bits word (suc k) rest (set cells place (nat_eq (word / 2 ^ (8 - (k + 1)) % 2) 1))
+
 -- The cells of a matrix of so many columns, row by row, with the bits of a codeword from bit k + 1 on put into the
 -- cells of this list.
 abbrev pub with_word : ℕ → ℕ → ℕ → List Cell → List Bool → List Bool
