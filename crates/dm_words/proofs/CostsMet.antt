@@ -11,10 +11,10 @@ use Rattle.dm_words.specs.declared.item.Item.{Item}
 use Rattle.dm_words.specs.declared.item.Item.TheVariants.{Byte, Fnc1}
 use Rattle.dm_words.specs.declared.c40.set.CodeSet.{CodeSet}
 use Rattle.dm_words.specs.declared.c40.set.CodeSet.TheVariants.{C40, Text, X12}
-use Rattle.dm_words.specs.declared.smallest.row.Pairs.{Pairs}
-use Rattle.dm_words.specs.declared.smallest.row.Groups.{Groups}
-use Rattle.dm_words.specs.declared.smallest.row.Going.{Going}
-use Rattle.dm_words.specs.declared.smallest.row.Row.{Row}
+use Rattle.dm_words.specs.inner.Costs.{Pairs}
+use Rattle.dm_words.specs.inner.Costs.{Groups}
+use Rattle.dm_words.specs.inner.Costs.{Going}
+use Rattle.dm_words.specs.inner.Costs.{Row}
 use Rattle.dm_words.specs.declared.smallest.plan.Begin.{Begin}
 use Rattle.dm_words.specs.declared.smallest.plan.Begin.TheVariants.{One, Two, Run, Edifact, Segment, Rest}
 use Rattle.dm_words.specs.Ascii.{is_digit}
@@ -78,7 +78,7 @@ pairs_of Text r = r.text
 pairs_of X12 r = r.x12
 
 -- The least is at most each.
-is_least : (item : Item) (pair : Bool) (next : Row) (going : Going) (begin : Begin)
+pub is_least : (item : Item) (pair : Bool) (next : Row) (going : Going) (begin : Begin)
     → least item pair next going ≤ cost_of item pair next going begin
 is_least item pair next going One = omega arith
 is_least item pair next going Two = omega arith

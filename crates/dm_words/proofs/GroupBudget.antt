@@ -8,8 +8,8 @@ use Rattle.dm_words.specs.declared.extent.Extent.{Extent}
 use Rattle.dm_words.specs.declared.extent.Extent.TheVariants.{Usual, Wide}
 use Rattle.dm_words.specs.declared.item.Item.{Item}
 use Rattle.dm_words.specs.declared.item.Item.TheVariants.{Byte, Fnc1}
-use Rattle.dm_words.specs.declared.smallest.row.Groups.{Groups}
-use Rattle.dm_words.specs.declared.smallest.plan.Step.{Step}
+use Rattle.dm_words.specs.inner.Costs.{Groups}
+use Rattle.dm_words.specs.inner.Costs.{Step}
 use Rattle.dm_words.specs.declared.smallest.edifact.Group.{Group}
 use Rattle.dm_words.specs.declared.smallest.edifact.Group.TheVariants as group
 use Rattle.dm_words.specs.inner.Costs.{never, owed_group, no_groups, leave, or_leave_edifact, has_edifact, stay_edifact}

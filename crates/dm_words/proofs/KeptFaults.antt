@@ -1,5 +1,5 @@
 -- Which faults of messages are faults of letters.
-use Rattle.std.proofs.Common.{◌≡◌, ◌≢◌, ◌⊎◌, ℕ, ◌+◌, ◌<◌, List, [], ◌∷◌, ◌++◌, length, refl, sym, ap, subst, ◌∙◌, arith}
+use Rattle.std.proofs.Common.{◌≡◌, ◌≢◌, ◌⊎◌, ℕ, ◌+◌, List, [], ◌∷◌, ◌++◌, length, refl, sym, ap, subst, ◌∙◌, arith}
 use Rattle.std.proofs.Common.{append_assoc, length-append, Some, inl, inr}
 use Rattle.std.proofs.lemmas.Bool.{cases_eq}
 use Rattle.dm_words.specs.declared.codeword.Codeword.TheVariants as codeword
@@ -12,11 +12,11 @@ use Rattle.dm_words.specs.declared.letters.fault.LetterFault.TheVariants as faul
 use Rattle.dm_words.specs.declared.letters.opening.Opening.TheVariants.{Plain, Framed}
 use Rattle.dm_words.specs.Codewords.{codeword_of}
 use Rattle.dm_words.specs.Joined.{Piece, spelled, AreJoined}
-use Rattle.dm_words.specs.Laws.{AreCodewords, HasOneResult}
+use Rattle.dm_words.specs.Laws.{AreCodewords}
 use Rattle.dm_words.specs.Spells.{IsPart}
 use Rattle.dm_words.specs.Refused.{IsFault, left_out, always, macro_behind, HaveFault, BeginNoMacro, Refused}
 use Rattle.dm_words.specs.Refused.{plain as plain_fault, by_macro as behind_macro}
-use Rattle.dm_words.specs.Letters.{IsLetterFault, word, HaveLetterFault, RefusedLetter, behind, AreEmptyRuns}
+use Rattle.dm_words.specs.Letters.{word, HaveLetterFault, RefusedLetter, behind, AreEmptyRuns}
 use Rattle.dm_words.specs.Letters.{BeginsFrame}
 use Rattle.dm_words.specs.Letters.{BeginsWithHeadWord, framed, plain as opens_plain}
 use Rattle.dm_words.specs.LetterResults.{IsOfLetters, eci, head, late_frame}

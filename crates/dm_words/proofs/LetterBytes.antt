@@ -1,5 +1,5 @@
 -- The codewords of the normal form of a letter are 0 to 255.
-use Rattle.std.proofs.Common.{◌≡◌, ℕ, ◌+◌, ◌-◌, ◌/◌, ◌≤◌, ◌<◌, List, [], ◌∷◌, ◌++◌, length, take, drop, sym, subst}
+use Rattle.std.proofs.Common.{ℕ, ◌-◌, ◌/◌, ◌≤◌, ◌<◌, List, [], ◌∷◌, length, take, drop, sym, subst}
 use Rattle.std.proofs.Common.{arith}
 use Rattle.std.proofs.Common.{Option, Some, None}
 use Rattle.std.proofs.lemmas.List.Elements.{All-from_recursion, recursion_from_All}
@@ -9,7 +9,7 @@ use Rattle.dm_words.specs.declared.letters.mark.Mark.{Mark}
 use Rattle.dm_words.specs.declared.profile.Profile.{Profile}
 use Rattle.dm_words.specs.Ascii.{ascii}
 use Rattle.dm_words.specs.Base256.{AreBytes}
-use Rattle.dm_words.specs.Designators.{IsDesignator, one, two, three, designator, most_assigned}
+use Rattle.dm_words.specs.Designators.{IsDesignator, one, two, three, designator}
 use Rattle.dm_words.specs.Heads.{IsHead, SpellsHead, programming, appended, head_words}
 use Rattle.dm_words.specs.Laws.{AreCodewords}
 use Rattle.dm_words.specs.Letters.{LetterView, IsLetter, AreMarks}

@@ -1,7 +1,7 @@
 -- What codewords say in an extent.
-use Rattle.std.proofs.Common.{◌≡◌, ◌≢◌, ◌⊎◌, ◌↔◌, ◌≤◌, ◌<◌, ◌*◌, ℕ, List, [], length, refl, sym, ap, subst, ◌∙◌, arith}
+use Rattle.std.proofs.Common.{◌≡◌, ◌⊎◌, ◌≤◌, ◌<◌, ℕ, List, [], length, refl, sym, ap, subst, ◌∙◌, arith}
 use Rattle.std.proofs.Common.{None}
-use Rattle.std.proofs.Common.{Result, Ok, Err, IfOk, inl, inr, Option}
+use Rattle.std.proofs.Common.{Result, Ok, Err, inl, inr, Option}
 use Rattle.std.proofs.lemmas.List.Elements.{All-from_get_or}
 use Rattle.dm_words.specs.declared.extent.Extent.{Extent}
 use Rattle.dm_words.specs.declared.extent.Extent.TheVariants.{Usual, Wide}
@@ -12,7 +12,7 @@ use Rattle.dm_words.specs.declared.letters.fault.LetterFault.{LetterFault}
 use Rattle.dm_words.specs.declared.letters.fault.LetterFault.TheVariants as fault
 use Rattle.dm_words.specs.declared.letters.head.Head.{Head}
 use Rattle.dm_words.specs.declared.letters.mark.Mark.{Mark}
-use Rattle.dm_words.specs.Messages.{IsMessage, most_spelled, largest_data}
+use Rattle.dm_words.specs.Messages.{largest_data}
 use Rattle.dm_words.specs.Pads.{padded}
 use Rattle.dm_words.specs.NormalForm.{normal_form}
 use Rattle.dm_words.specs.Spells.{Spells}
@@ -24,7 +24,6 @@ use Rattle.dm_words.specs.LetterResults.{IsLetterResult, BeginsLateFrame}
 use Rattle.dm_words.specs.LetterExtents.{as_letter, SaysIn, RefusedIn, IsSaidIn, IsLetterResultIn}
 use Rattle.dm_words.specs.Results.{IsMessageResult}
 use Rattle.dm_words.proofs.Extents.{wide_reads_the_same}
-use Rattle.dm_words.proofs.ItemBytes.{spelled_is_message}
 use Rattle.dm_words.proofs.LawLemmas.{one_result}
 use Rattle.dm_words.proofs.LetterForms.{letter_form_says}
 use Rattle.dm_words.proofs.NormalForms.{normal_form_spells}

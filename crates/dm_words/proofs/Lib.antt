@@ -38,6 +38,8 @@ mod SpellingCounts
 mod LowerBounds
 mod EdifactBounds
 mod CostsMet
+mod CostLanes
+mod LeastLanes
 mod Plans
 mod RunWritten
 mod RunBudget

@@ -9,7 +9,7 @@ use Rattle.dm_words.specs.declared.c40.set.CodeSet.{CodeSet}
 use Rattle.dm_words.specs.declared.c40.set.CodeSet.TheVariants.{C40, Text, X12}
 use Rattle.dm_words.specs.declared.smallest.plan.Begin.{Begin}
 use Rattle.dm_words.specs.declared.smallest.plan.Begin.TheVariants.{One, Two, Run, Edifact, Segment, Rest}
-use Rattle.dm_words.specs.declared.smallest.plan.Step.{Step}
+use Rattle.dm_words.specs.inner.Costs.{Step}
 use Rattle.dm_words.specs.inner.Costs.{never, owed, unit_cost, cost_of, segment_cost, is_digit_item, digit_first}
 use Rattle.dm_words.specs.inner.Costs.{pair_first, row, parts_cost, going_from, going_pairs, IsRightStep}
 use Rattle.dm_words.proofs.CostsMet.{second_is}

@@ -2,9 +2,7 @@
 use Rattle.std.proofs.Common.{◌≡◌, ℕ, zero, suc, ◌+◌, ◌-◌, ◌*◌, ◌<◌, ◌≤◌, List, [], ◌∷◌, length, drop, get_or, refl}
 use Rattle.std.proofs.Common.{sym, ap, subst, ◌∙◌, arith, Bool, true, false, cond, ltb, inl, inr}
 use Rattle.std.specs.Prelude.{nat_le}
-use Prim.Native.Nat.{min}
 use Rattle.std.proofs.lemmas.Bool.{cases_lt}
-use Rattle.std.proofs.lemmas.Bool.Decides.{nat_tests}
 use Rattle.std.proofs.lemmas.List.{at_drop_all, get_or-set_same, get_or-set_other}
 use Rattle.std.proofs.Math.ListN.{set}
 use Rattle.std.proofs.Math.Seq.{drop-cons}
@@ -13,28 +11,22 @@ use Rattle.dm_words.specs.declared.item.Item.{Item}
 use Rattle.dm_words.specs.declared.item.Item.TheVariants.{Byte, Fnc1}
 use Rattle.dm_words.specs.declared.c40.set.CodeSet.{CodeSet}
 use Rattle.dm_words.specs.declared.c40.set.CodeSet.TheVariants.{C40, Text, X12}
-use Rattle.dm_words.specs.declared.smallest.row.Pairs.{Pairs}
-use Rattle.dm_words.specs.declared.smallest.row.Groups.{Groups}
-use Rattle.dm_words.specs.declared.smallest.row.Going.{Going}
-use Rattle.dm_words.specs.declared.smallest.row.Row.{Row}
+use Rattle.dm_words.specs.inner.Costs.{Pairs}
+use Rattle.dm_words.specs.inner.Costs.{Groups}
+use Rattle.dm_words.specs.inner.Costs.{Going}
+use Rattle.dm_words.specs.inner.Costs.{Row}
 use Rattle.dm_words.specs.declared.smallest.plan.Begin.{Begin}
 use Rattle.dm_words.specs.declared.smallest.plan.Begin.TheVariants.{One}
-use Rattle.dm_words.specs.declared.smallest.plan.Step.{Step}
+use Rattle.dm_words.specs.inner.Costs.{Step}
 use Rattle.dm_words.specs.inner.Costs.{never, is_basic, low_values, shift_values, set_values, has_edifact, stay}
 use Rattle.dm_words.specs.inner.Costs.{stay_edifact, ArePaid, ArePaidGroups, least, cost_of, going_over, with_ascii}
+use Rattle.dm_words.specs.declared.smallest.plan.StepBits.{StepBits}
+use Rattle.dm_words.specs.declared.smallest.row.Costs.{Costs}
+use Rattle.dm_words.specs.inner.CostLanes.{HasRow}
+use Rattle.dm_words.specs.inner.Costs.{AreSmall, step_in}
 use Rattle.dm_words.specs.inner.Costs.{none_going, row, parts_cost, pair_first, IsWithin, IsRightStep, step_of}
-use Rattle.dm_words.proofs.CostsMet.{least_is}
+use Rattle.dm_words.proofs.CostsMet.{least_is, is_least}
 use Rattle.dm_words.proofs.SpellingCounts.{unit_few}
-
--- A choice between two ways costs what the chosen way costs.
-pub or_right : (f : Begin → ℕ) (old new chosen : Begin) (n k cost : ℕ) → f old ≡ n → k ≡ f new → cost ≡ min n k
-    → chosen ≡ cond (ltb k n) new old → f chosen ≡ cost
-or_right f old new chosen n k cost is_old is_new least taken = by_test (ltb k n) refl where
-  by_test : (t : Bool) → ltb k n ≡ t → f chosen ≡ cost
-  by_test true e = let lt : k < n = grind (arith, nat_tests) in let c : chosen ≡ new = taken ∙ (rw e refl) in ap f c
-      ∙ sym is_new ∙ (omega (arith, least, lt))
-  by_test false e = let le : n ≤ k = grind (arith, nat_tests) in let c : chosen ≡ old = taken ∙ (rw e refl) in ap f c
-      ∙ is_old ∙ (omega (arith, least, le))
 
 -- A byte below 128 has at most two values in a set that has shifts.
 low_few : (set : CodeSet) (b : ℕ) → low_values set b ≤ 2
@@ -206,39 +198,96 @@ turn extent m at x d next new pair going begins cost step some within is_x is_ne
     is_step is_new)
 
 -- One more step of the plan is written.
-pub plan_more : (extent : Extent) (m : List Item) (at : ℕ) (old : List Step) (step : Step) → 0 < at → at ≤ length m
-    → length m < length old → IsRightStep extent (drop (at - 1) m) step
-    → ((i : ℕ) (other : Step) → at ≤ i → i ≤ length m → IsRightStep extent (drop i m) (get_or old i other))
-    → (i : ℕ) (other : Step) → at - 1 ≤ i → i ≤ length m
-    → IsRightStep extent (drop i m) (get_or (set old (at - 1) step) i other)
+pub plan_more : (extent : Extent) (m : List Item) (at : ℕ) (old : List StepBits) (step : StepBits) → 0 < at
+    → at ≤ length m → length m < length old → IsRightStep extent (drop (at - 1) m) (step_in step)
+    → ((i : ℕ) (other : StepBits) → at ≤ i → i ≤ length m
+    → IsRightStep extent (drop i m) (step_in (get_or old i other)))
+    → (i : ℕ) (other : StepBits) → at - 1 ≤ i → i ≤ length m
+    → IsRightStep extent (drop i m) (step_in (get_or (set old (at - 1) step) i other))
 plan_more extent m at old step some within room right others i other from to =
     elim (cases_lt (at - 1) i) [
-      | inl later ↦ subst (IsRightStep extent (drop i m))
+      | inl later ↦ subst (λ (s : StepBits). IsRightStep extent (drop i m) (step_in s))
           (sym (get_or-set_other old (at - 1) i step other (omega (arith, later))))
           (others i other (omega (arith, later, some)) to)
       | inr le ↦ (let e : at - 1 ≡ i = omega (arith, le, from) in
-          let here : IsRightStep extent (drop (at - 1) m) (get_or (set old (at - 1) step) (at - 1) other) =
-          subst (IsRightStep extent (drop (at - 1) m))
+          let here : IsRightStep extent (drop (at - 1) m)
+          (step_in (get_or (set old (at - 1) step) (at - 1) other)) =
+          subst (λ (s : StepBits). IsRightStep extent (drop (at - 1) m) (step_in s))
           (sym (get_or-set_same old (at - 1) step other (omega (arith, within, some, room)))) right in
-          subst (λ (j : ℕ). IsRightStep extent (drop j m) (get_or (set old (at - 1) step) j other)) e here)
+          subst (λ (j : ℕ). IsRightStep extent (drop j m) (step_in (get_or (set old (at - 1) step) j other))) e here)
     ]
 
 -- The first step of the plan that is written is that behind the last item.
-pub plan_first : (extent : Extent) (m : List Item) (old : List Step) (begins : Begin) (step : Step) (r : Row)
-    → length m < length old → step ≡ step_of 0 begins none_going → r ≡ with_ascii 0 never none_going
-    → (r ≡ row extent (drop (length m) m)) × ((i : ℕ) (other : Step) → length m ≤ i → i ≤ length m
-    → IsRightStep extent (drop i m) (get_or (set old (length m) step) i other))
+pub plan_first : (extent : Extent) (m : List Item) (old : List StepBits) (begins : Begin) (step : StepBits)
+    → length m < length old → step_in step ≡ step_of 0 begins none_going
+    → (i : ℕ) (other : StepBits) → length m ≤ i → i ≤ length m
+    → IsRightStep extent (drop i m) (step_in (get_or (set old (length m) step) i other))
 unfolding row
-plan_first extent m old begins step r room is is_row =
+plan_first extent m old begins step room is i other from to =
     let all : drop (length m) m ≡ [] = at_drop_all (λ (l : List Item). l) m (length m) (omega arith) in
-    let right : IsRightStep extent [] step =
+    let right : IsRightStep extent [] (step_in step) =
     subst (IsRightStep extent []) (sym is) (record { begins = tt; ends = refl }) in
-    let here : (other : Step)
-    → IsRightStep extent (drop (length m) m) (get_or (set old (length m) step) (length m) other) =
-    λ other. subst (IsRightStep extent (drop (length m) m)) (sym (get_or-set_same old (length m) step other room))
-    (subst (λ (l : List Item). IsRightStep extent l step) (sym all) right) in (
-      is_row ∙ ap (row extent) (sym all),
-      λ i other from to. (let e : length m
-          ≡ i = omega (arith, from, to) in subst
-          (λ (j : ℕ). IsRightStep extent (drop j m) (get_or (set old (length m) step) j other)) e (here other)),
-    )
+    let here : IsRightStep extent (drop (length m) m) (step_in (get_or (set old (length m) step) (length m) other)) =
+    subst (λ (s : StepBits). IsRightStep extent (drop (length m) m) (step_in s))
+    (sym (get_or-set_same old (length m) step other room))
+    (subst (λ (l : List Item). IsRightStep extent l (step_in step)) (sym all) right) in
+    let e : length m ≡ i = omega (arith, from, to) in
+    subst (λ (j : ℕ). IsRightStep extent (drop j m) (step_in (get_or (set old (length m) step) j other))) e here
+
+-- ---- lanes
+
+-- The costs behind the last item.
+pub last_costs : (extent : Extent) (m : List Item) (costs : Costs) → HasRow (with_ascii 0 never none_going) costs
+    → HasRow (row extent (drop (length m) m)) costs
+unfolding row
+last_costs extent m costs has =
+    let all : drop (length m) m ≡ [] = at_drop_all (λ (l : List Item). l) m (length m) (omega arith) in
+    subst (λ (l : List Item). HasRow (row extent l) costs) (sym all) has
+
+-- Behind the last item no cost is too great.
+pub none_small : AreSmall none_going
+none_small = record {
+  c40 = (omega arith, omega arith, omega arith);
+  text = (omega arith, omega arith, omega arith);
+  x12 = (omega arith, omega arith, omega arith);
+  edifact = (omega arith, omega arith, omega arith, omega arith);
+  bytes = omega arith;
+  rest = omega arith;
+}
+
+-- Over an item no cost grows too great.
+pub going_small : (extent : Extent) (x : Item) (r : Row) → IsWithin 3200 r → AreSmall (going_over extent x r)
+going_small extent x r w =
+    let c = stay_paid (set_values C40 x) 29184 r.c40 (values_few C40 x) w.c40 (omega arith) in
+    let t = stay_paid (set_values Text x) 29184 r.text (values_few Text x) w.text (omega arith) in
+    let y = stay_paid (set_values X12 x) 29184 r.x12 (values_few X12 x) w.x12 (omega arith) in
+    let e = stay_edifact_paid (has_edifact extent x) 29184 r.edifact w.edifact (omega arith) in
+    let s = in_segment x in
+    record {
+      c40 = (omega (arith, c.0), omega (arith, c.1), omega (arith, c.2));
+      text = (omega (arith, t.0), omega (arith, t.1), omega (arith, t.2));
+      x12 = (omega (arith, y.0), omega (arith, y.1), omega (arith, y.2));
+      edifact = (omega (arith, e.0), omega (arith, e.1), omega (arith, e.2), omega (arith, e.3));
+      bytes = s.0;
+      rest = s.1;
+    } where
+      in_segment : (x : Item) → ((going_over extent x r).segment.bytes ≤ 17000)
+          × ((going_over extent x r).segment.rest ≤ 30000)
+      in_segment Fnc1 = (omega arith, omega arith)
+      in_segment (Byte b) = (omega (arith, w.bytes), omega (arith, w.rest))
+
+-- The least cost of an item is small.
+pub least_small : (x : Item) (pair : Bool) (r : Row) (g : Going) → IsWithin 3200 r → least x pair r g ≤ 16384
+least_small x pair r g w = omega (arith, is_least x pair r g One, unit_few x, w.ascii)
+
+-- The numbers of a row that are kept by themselves are small.
+pub kept_small : (r : Row) (costs : Costs) → IsWithin 3200 r → HasRow r costs
+    → (costs.ascii ≤ 16384) × (costs.after ≤ 16384) × (costs.near ≤ 16384)
+kept_small r costs w h = (
+  omega (arith, h.ascii, w.ascii),
+  omega (arith, h.second, w.second),
+  omega (arith, h.near, by_test (nat_le r.ascii r.segment.bytes)),
+) where
+  by_test : (t : Bool) → cond t 0 r.segment.near ≤ 3200
+  by_test true = omega arith
+  by_test false = w.near

@@ -10,8 +10,8 @@ use Rattle.dm_words.specs.declared.extent.Extent.{Extent}
 use Rattle.dm_words.specs.declared.item.Item.{Item}
 use Rattle.dm_words.specs.declared.c40.set.CodeSet.{CodeSet}
 use Rattle.dm_words.specs.declared.c40.set.CodeSet.TheVariants.{C40, Text, X12}
-use Rattle.dm_words.specs.declared.smallest.row.Pairs.{Pairs}
-use Rattle.dm_words.specs.declared.smallest.plan.Step.{Step}
+use Rattle.dm_words.specs.inner.Costs.{Pairs}
+use Rattle.dm_words.specs.inner.Costs.{Step}
 use Rattle.dm_words.specs.declared.smallest.run.Part.{Part}
 use Rattle.dm_words.specs.declared.smallest.run.Part.TheVariants as part
 use Rattle.dm_words.specs.inner.Costs.{never, owed, set_values, no_pairs, stay, leave, or_leave, going_from}

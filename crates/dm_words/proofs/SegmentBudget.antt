@@ -8,8 +8,8 @@ use Rattle.std.proofs.lemmas.List.{length-drop, at_drop_more}
 use Rattle.dm_words.specs.declared.extent.Extent.{Extent}
 use Rattle.dm_words.specs.declared.item.Item.{Item}
 use Rattle.dm_words.specs.declared.item.Item.TheVariants.{Byte, Fnc1}
-use Rattle.dm_words.specs.declared.smallest.row.Bytes.{Bytes}
-use Rattle.dm_words.specs.declared.smallest.plan.Step.{Step}
+use Rattle.dm_words.specs.inner.Costs.{Bytes}
+use Rattle.dm_words.specs.inner.Costs.{Step}
 use Rattle.dm_words.specs.NormalForm.{has_fnc1, length_numbers}
 use Rattle.dm_words.specs.inner.Costs.{never, row, parts_cost, segment_cost, going_from, IsRightStep}
 use Rattle.dm_words.proofs.NormalForms.{short_numbers, long_numbers}

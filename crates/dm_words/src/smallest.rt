@@ -27,7 +27,7 @@ use crate::macros::{HEADER_LENGTH, TRAILER_LENGTH, macro_of};
 use crate::message::MessageIn;
 use crate::pad::pad_to;
 use crate::smallest::parts::write_parts;
-use crate::smallest::plan::{Step, plan_to};
+use crate::smallest::plan::{StepBits, plan_to};
 use arrayvec::ArrayVec;
 use dm_modules::{SizeChoice, SymbolSize};
 
@@ -80,7 +80,7 @@ fn smallest_by<const STEPS: usize>(
     ensures smallest { IsSmallestResult extent choice items.now result words.new.items }
     ensures same { OnErr result (words.new.items ≡ words.old.items) }
 {
-    let mut plan = [Step::NONE; STEPS];
+    let mut plan = [StepBits::NONE; STEPS];
     let way = least_way(extent, items, &mut plan);
     match SymbolSize::for_words(choice, way.cost) {
         None => Err(TooLong),
@@ -104,7 +104,7 @@ struct Way {
 
 /// Gives a way to write these items than which none takes fewer codewords, and leaves a plan for what is written that
 /// way: the text of the macro, or else the items.
-fn least_way(extent: Extent, items: &[Item], plan: &mut [Step]) -> Way
+fn least_way(extent: Extent, items: &[Item], plan: &mut [StepBits]) -> Way
     requires few { length items.now ≤ LARGEST_ROOM }
     requires steps { length items.now < length plan.old }
     ensures way { IsWay extent items.now result.macro_word result.cost }
@@ -123,7 +123,7 @@ fn least_way(extent: Extent, items: &[Item], plan: &mut [Step]) -> Way
 
 /// Gives the way of the macro that stands for the header and the trailer of the items, where it takes no more codewords
 /// than their parts, and else that of the parts, whose cost is known; and leaves its plan.
-fn with_macro(extent: Extent, items: &[Item], word: u8, cost: u16, plan: &mut [Step]) -> Way
+fn with_macro(extent: Extent, items: &[Item], word: u8, cost: u16, plan: &mut [StepBits]) -> Way
     requires few { length items.now ≤ LARGEST_ROOM }
     requires steps { length items.now < length plan.old }
     requires framed { IsMacroOf extent items.now word }
@@ -160,7 +160,7 @@ fn write_plainest<const N: usize>(
     extent: Extent,
     items: &[Item],
     way: Way,
-    plan: &mut [Step],
+    plan: &mut [StepBits],
     words: &mut ArrayVec<u8, N>,
     count: u16,
 )
@@ -191,7 +191,7 @@ fn write_plainest<const N: usize>(
 fn write_usual_if_fits<const N: usize>(
     extent: Extent,
     items: &[Item],
-    plan: &mut [Step],
+    plan: &mut [StepBits],
     words: &mut ArrayVec<u8, N>,
     count: u16,
 )
@@ -222,7 +222,7 @@ fn write_way<const N: usize>(
     extent: Extent,
     items: &[Item],
     way: Way,
-    plan: &[Step],
+    plan: &[StepBits],
     words: &mut ArrayVec<u8, N>,
     count: u16,
 ) -> bool
@@ -254,7 +254,7 @@ fn write_way<const N: usize>(
 fn write_plain<const N: usize>(
     extent: Extent,
     items: &[Item],
-    plan: &[Step],
+    plan: &[StepBits],
     words: &mut ArrayVec<u8, N>,
     count: u16,
 ) -> bool

@@ -1,7 +1,8 @@
 -- What it costs to write items: the fewest codewords for all that follows, for each state of writing; and the plan
 -- that attains these costs. A run is said to be in a state where some values of its next pair or group stand already.
 -- Their codewords count as paid.
-use Rattle.std.specs.Prelude.{◌≡◌, ℕ, zero, suc, ◌+◌, ◌-◌, ◌*◌, ◌≤◌, List, [], ◌∷◌, Bool, false, nat_le, nat_lt, ◌==◌}
+use Rattle.std.specs.Prelude.{◌≡◌, ℕ, zero, suc, ◌+◌, ◌-◌, ◌*◌, ◌/◌, ◌%◌, ◌≤◌, List, [], ◌∷◌, Bool, false, nat_le}
+use Rattle.std.specs.Prelude.{nat_lt, ◌==◌}
 use Rattle.std.specs.Prelude.{◌&&◌, ◌||◌, if◌then◌else◌, length, drop, get_or}
 use Prim.Native.Nat.{min}
 use Rattle.dm_words.specs.declared.extent.Extent.{Extent}
@@ -10,15 +11,48 @@ use Rattle.dm_words.specs.declared.item.Item.{Item}
 use Rattle.dm_words.specs.declared.item.Item.TheVariants.{Byte, Fnc1}
 use Rattle.dm_words.specs.declared.c40.set.CodeSet.{CodeSet}
 use Rattle.dm_words.specs.declared.c40.set.CodeSet.TheVariants.{C40, Text, X12}
-use Rattle.dm_words.specs.declared.smallest.row.Pairs.{Pairs}
-use Rattle.dm_words.specs.declared.smallest.row.Groups.{Groups}
-use Rattle.dm_words.specs.declared.smallest.row.Bytes.{Bytes}
-use Rattle.dm_words.specs.declared.smallest.row.Going.{Going}
-use Rattle.dm_words.specs.declared.smallest.row.Row.{Row}
+use Rattle.dm_words.specs.declared.smallest.plan.StepBits.{StepBits}
 use Rattle.dm_words.specs.declared.smallest.plan.Begin.{Begin}
 use Rattle.dm_words.specs.declared.smallest.plan.Begin.TheVariants.{One, Two, Run, Edifact, Segment, Rest}
-use Rattle.dm_words.specs.declared.smallest.plan.Step.{Step}
 use Rattle.dm_words.specs.Ascii.{is_digit}
+
+-- In a run of C40, Text or X12 it costs this much where no, one or two values of a pair stand already and are paid.
+pub record Pairs : Type 0 where
+  pub none : ℕ
+  pub one : ℕ
+  pub two : ℕ
+
+-- In a run of EDIFACT it costs this much where no, one, two or three values of a group stand already and are paid.
+pub record Groups : Type 0 where
+  pub none : ℕ
+  pub one : ℕ
+  pub two : ℕ
+  pub three : ℕ
+
+-- In a segment of Base 256 it costs this much where the length is written out, with at least so many bytes, and this
+-- much up to the end of the symbol.
+pub record Bytes : Type 0 where
+  pub bytes : ℕ
+  pub near : ℕ
+  pub rest : ℕ
+
+-- Runs and segments that go on over an item cost this much.
+pub record Going : Type 0 where
+  pub c40 : Pairs
+  pub text : Pairs
+  pub x12 : Pairs
+  pub edifact : Groups
+  pub segment : Bytes
+
+-- From an item on it costs this much: in ASCII, in ASCII from the next item on, in runs and in segments.
+pub record Row : Type 0 where
+  pub ascii : ℕ
+  pub second : ℕ
+  pub c40 : Pairs
+  pub text : Pairs
+  pub x12 : Pairs
+  pub edifact : Groups
+  pub segment : Bytes
 
 -- More than any cost. What can't be written costs this much, or more.
 abbrev pub never : ℕ
@@ -180,8 +214,8 @@ cost_of item pair next going Rest = 2 + going.segment.rest
 abbrev pub least : Item → Bool → Row → Going → ℕ
 least item pair next going =
     let cost = cost_of item pair next going in
-    min (min (min (min (min (min (min (cost Two) (cost One)) (cost (Run C40))) (cost (Run Text))) (cost (Run X12)))
-    (cost Edifact)) (cost Segment)) (cost Rest)
+    min (min (min (cost Two) (cost (Run X12))) (min (cost (Run C40)) (cost Segment)))
+    (min (min (cost One) (cost Edifact)) (min (cost (Run Text)) (cost Rest)))
 
 -- The costs, from the cost in ASCII and those where runs go on.
 abbrev pub with_ascii : ℕ → ℕ → Going → Row
@@ -227,6 +261,16 @@ parts_cost extent items = (row extent items).ascii
 
 -- ---- the plan
 
+-- What to do at an item: what begins there, in ASCII, and which runs and segments that come so far end there.
+pub record Step : Type 0 where
+  pub begins : Begin
+  pub c40_ends : Bool
+  pub text_ends : Bool
+  pub x12_ends : Bool
+  pub edifact_ends : Bool
+  pub group_ends : Bool
+  pub segment_ends : Bool
+
 -- Two items are two digits.
 abbrev pub pair_first : List Item → Bool
 pair_first [] = false
@@ -257,15 +301,42 @@ step_of cost begins going = record {
   segment_ends = nat_le cost going.segment.bytes;
 }
 
+-- The ways to begin, in the order in which the first of those that are equally cheap is taken.
+abbrev pub begin_at : ℕ → Begin
+begin_at zero = Two
+begin_at (suc zero) = One
+begin_at (suc (suc zero)) = Run C40
+begin_at (suc (suc (suc zero))) = Run Text
+begin_at (suc (suc (suc (suc zero)))) = Run X12
+begin_at (suc (suc (suc (suc (suc zero))))) = Edifact
+begin_at (suc (suc (suc (suc (suc (suc zero)))))) = Segment
+begin_at _ = Rest
+
+-- A number has 1 as the bit of this weight, which is a power of 2.
+abbrev pub has_bit : ℕ → ℕ → Bool
+has_bit weight number = number / weight % 2 == 1
+
+-- A step is kept so.
+abbrev pub step_in : StepBits → Step
+step_in bits = record {
+  begins = begin_at bits.begins;
+  c40_ends = has_bit 1 bits.first;
+  text_ends = has_bit 8 bits.first;
+  x12_ends = has_bit 1 bits.second;
+  edifact_ends = has_bit 8 bits.second;
+  group_ends = has_bit 64 bits.second;
+  segment_ends = has_bit 64 bits.first;
+}
+
 -- The plan says what is right at these items.
 pub record IsRightStep (extent : Extent) (items : List Item) (step : Step) : Type 0 where
   pub begins : IsRightBegin extent items step.begins
   pub ends : step ≡ step_of (parts_cost extent items) step.begins (going_from extent items)
 
 -- The plan says what is right at each item, and behind the last one.
-abbrev pub IsRightPlan : Extent → List Item → List Step → Type 0
-IsRightPlan extent items plan = (i : ℕ) (other : Step) → i ≤ length items
-    → IsRightStep extent (drop i items) (get_or plan i other)
+abbrev pub IsRightPlan : Extent → List Item → List StepBits → Type 0
+IsRightPlan extent items plan = (i : ℕ) (other : StepBits) → i ≤ length items
+    → IsRightStep extent (drop i items) (step_in (get_or plan i other))
 
 -- Where runs go on, no cost is too great.
 pub record AreSmall (going : Going) : Type 0 where

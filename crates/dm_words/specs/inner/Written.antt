@@ -22,7 +22,7 @@ use Rattle.dm_words.specs.declared.smallest.edifact.Group.{Group}
 use Rattle.dm_words.specs.declared.smallest.edifact.Group.TheVariants as group
 use Rattle.dm_words.specs.declared.extent.Extent.{Extent}
 use Rattle.dm_words.specs.declared.item.Item.{Item}
-use Rattle.dm_words.specs.declared.smallest.plan.Step.{Step}
+use Rattle.dm_words.specs.inner.Costs.{Step}
 use Rattle.dm_words.specs.CodeSets.{basic_of, shifted_of}
 use Rattle.dm_words.specs.Values.{IsCharacter, IsSpelling}
 use Rattle.dm_words.specs.inner.Costs.{is_basic}

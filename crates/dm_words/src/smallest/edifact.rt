@@ -1,14 +1,14 @@
 //! Runs of EDIFACT that follow the plan.
 
 ghost use Rattle.std.specs.Prelude.{◌≡◌, ◌+◌, ◌-◌, ◌≤◌, ◌<◌, not, length, take, drop};
-ghost use Rattle.dm_words.specs.inner.Costs.{going_from, parts_cost, IsRightPlan};
+ghost use Rattle.dm_words.specs.inner.Costs.{step_in, going_from, parts_cost, IsRightPlan};
 ghost use Rattle.dm_words.specs.inner.Written.{IsSmallGroup, waiting_values, whole_words, IsGroupPushed, group_stops};
 ghost use Rattle.dm_words.specs.inner.Written.{IsEdifactEnded, IsPartWritten};
 
 use crate::extent::Extent;
 use crate::item::{Item, byte};
 use crate::limits::{LARGEST_DATA, LARGEST_ROOM};
-use crate::smallest::plan::Step;
+use crate::smallest::plan::StepBits;
 use arrayvec::ArrayVec;
 
 /// The latch to EDIFACT.
@@ -51,12 +51,12 @@ fn push_value<const N: usize>(group: Group, value: u8, words: &mut ArrayVec<u8, 
 }
 
 /// Whether a run goes on at a step.
-fn goes_on(group: Group, step: &Step) -> bool
-    ensures { result ≡ not (group_stops group step.now) }
+fn goes_on(group: Group, step: &StepBits) -> bool
+    ensures { result ≡ not (group_stops group (step_in step.now)) }
 {
     match group {
-        Group::Empty => !step.edifact_ends,
-        Group::Three(_, _, _) => !step.group_ends,
+        Group::Empty => !step.edifact_ends(),
+        Group::Three(_, _, _) => !step.group_ends(),
         _ => true,
     }
 }
@@ -83,7 +83,7 @@ pub(crate) fn write_edifact<const N: usize>(
     extent: Extent,
     items: &[Item],
     at: usize,
-    plan: &[Step],
+    plan: &[StepBits],
     words: &mut ArrayVec<u8, N>,
     total: usize,
 ) -> usize

@@ -11,7 +11,7 @@ use crate::extent::Extent;
 use crate::item::{Item, byte};
 use crate::limits::{LARGEST_DATA, LARGEST_ROOM};
 use crate::smallest::edifact::write_edifact;
-use crate::smallest::plan::{Begin, Step};
+use crate::smallest::plan::{Begin, StepBits};
 use crate::smallest::run::write_run;
 use crate::smallest::segment::{segment_end, write_segment};
 use arrayvec::ArrayVec;
@@ -30,7 +30,7 @@ fn write_part<const N: usize>(
     extent: Extent,
     items: &[Item],
     at: usize,
-    plan: &[Step],
+    plan: &[StepBits],
     words: &mut ArrayVec<u8, N>,
     total: usize,
 ) -> Written
@@ -52,7 +52,7 @@ fn write_part<const N: usize>(
         → IsPartWritten Usual total words.old.items words.new.items
         (take (result.next - at) (drop at items.now)) }
 {
-    match plan[at].begins {
+    match plan[at].begin() {
         Begin::One => {
             let _one = write_unit(unit_of(items[at]), words);
             Written {
@@ -97,7 +97,7 @@ fn write_part<const N: usize>(
 pub(crate) fn write_parts<const N: usize>(
     extent: Extent,
     items: &[Item],
-    plan: &[Step],
+    plan: &[StepBits],
     words: &mut ArrayVec<u8, N>,
     total: usize,
 ) -> bool

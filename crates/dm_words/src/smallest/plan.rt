@@ -1,17 +1,24 @@
 //! What to do at each item, so that the message takes the fewest codewords.
 
-ghost use Rattle.std.specs.Prelude.{◌≡◌, ◌+◌, ◌≤◌, ◌<◌, Bool, if◌then◌else◌, nat_lt, ℕ, drop, length};
+ghost use Rattle.std.specs.Prelude.{◌≡◌, ◌+◌, ◌^◌, ◌≤◌, ◌<◌, if◌then◌else◌, ℕ, nat_le, get_or, drop, length};
 ghost use Prim.Native.Nat.{min};
-ghost use Rattle.dm_words.specs.inner.Costs.{cost_of, least, segment_cost, step_of, IsWithin, AreSmall, IsRightPlan};
-ghost use Rattle.dm_words.specs.inner.Costs.{row, parts_cost, is_digit_item, pair_first, never};
+ghost use Rattle.std.specs.Simd.Lanes.{zip2};
+ghost use Rattle.dm_words.specs.inner.Costs.{Row, Going, cost_of, least, segment_cost, step_of, IsWithin, AreSmall};
+ghost use Rattle.dm_words.specs.inner.Costs.{row, parts_cost, is_digit_item, pair_first, never, begin_at, step_in};
+ghost use Rattle.dm_words.specs.inner.Costs.{has_bit};
+ghost use Rattle.dm_words.specs.inner.Costs.{IsRightPlan};
+ghost use Rattle.dm_words.specs.inner.Written.{run_ends};
+ghost use Rattle.dm_words.specs.inner.CostLanes.{HasRow, HasGoing, cost_lanes, least_of};
 
 use crate::c40::set::CodeSet;
 use crate::extent::Extent;
 use crate::item::Item;
 use crate::limits::LARGEST_ROOM;
 use crate::smallest::row::{
-    Going, NEVER, Row, going_over, leave, none_going, unit_cost, with_ascii,
+    Costs, GoingCosts, NEVER, first_ends, going_over, none_going, second_ends, unit_cost,
+    with_ascii,
 };
+use std::simd::prelude::*;
 
 /// What begins at an item, in ASCII.
 #[derive(Clone, Copy)]
@@ -32,71 +39,95 @@ pub enum Begin {
 
 /// What to do at an item.
 #[derive(Clone, Copy)]
-pub struct Step {
-    /// What begins there, in ASCII.
-    pub begins: Begin,
-    /// Whether a run of C40 ends there, between pairs.
-    pub c40_ends: bool,
-    /// Whether a run of Text ends there, between pairs.
-    pub text_ends: bool,
-    /// Whether a run of X12 ends there, between pairs.
-    pub x12_ends: bool,
-    /// Whether a run of EDIFACT ends there, between groups.
-    pub edifact_ends: bool,
-    /// Whether a run of EDIFACT ends there, with an unlatch as the fourth value of a group.
-    pub group_ends: bool,
-    /// Whether a segment that comes so far ends there.
-    pub segment_ends: bool,
+pub struct StepBits {
+    /// What begins there, in ASCII: a place in the order in which the first of those that are equally cheap is taken.
+    pub begins: u8,
+    /// Whether a run or a segment that comes so far ends there: with weight 1 one of C40, with 8 one of Text, between
+    /// pairs, and with 64 a segment.
+    pub first: u8,
+    /// Whether a run that comes so far ends there: with weight 1 one of X12, between pairs, with 8 one of EDIFACT,
+    /// between groups, and with 64 one of EDIFACT, with an unlatch as the fourth value of a group.
+    pub second: u8,
 }
 
-impl Step {
+impl StepBits {
     /// What stands in a plan before it is made.
-    pub const NONE: Step = Step {
-        begins: Begin::One,
-        c40_ends: false,
-        text_ends: false,
-        x12_ends: false,
-        edifact_ends: false,
-        group_ends: false,
-        segment_ends: false,
+    pub const NONE: StepBits = StepBits {
+        begins: 0,
+        first: 0,
+        second: 0,
     };
+
+    /// Gives what begins there, in ASCII.
+    pub(crate) fn begin(&self) -> Begin
+        ensures { result ≡ (step_in self.now).begins }
+    {
+        match self.begins {
+            0 => Begin::Two,
+            1 => Begin::One,
+            2 => Begin::Run(CodeSet::C40),
+            3 => Begin::Run(CodeSet::Text),
+            4 => Begin::Run(CodeSet::X12),
+            5 => Begin::Edifact,
+            6 => Begin::Segment,
+            _ => Begin::Rest,
+        }
+    }
+
+    /// Whether a run of a set that comes so far ends there, between pairs.
+    pub(crate) fn run_ends(&self, set: CodeSet) -> bool
+        ensures { result ≡ run_ends set (step_in self.now) }
+    {
+        match set {
+            CodeSet::C40 => has_bit(1, self.first),
+            CodeSet::Text => has_bit(8, self.first),
+            CodeSet::X12 => has_bit(1, self.second),
+        }
+    }
+
+    /// Whether a run of EDIFACT that comes so far ends there, between groups.
+    pub(crate) fn edifact_ends(&self) -> bool
+        ensures { result ≡ (step_in self.now).edifact_ends }
+    {
+        has_bit(8, self.second)
+    }
+
+    /// Whether a run of EDIFACT that comes so far ends there, with an unlatch as the fourth value of a group.
+    pub(crate) fn group_ends(&self) -> bool
+        ensures { result ≡ (step_in self.now).group_ends }
+    {
+        has_bit(64, self.second)
+    }
+
+    /// Whether a segment that comes so far ends there.
+    pub(crate) fn segment_ends(&self) -> bool
+        ensures { result ≡ (step_in self.now).segment_ends }
+    {
+        has_bit(64, self.first)
+    }
+}
+
+/// Whether a number has 1 as the bit of this weight.
+fn has_bit(weight: u8, number: u8) -> bool
+    requires { 0 < weight }
+    ensures { result ≡ has_bit weight number }
+{
+    number / weight % 2 == 1
 }
 
 /// A way to begin, and what it costs.
 #[derive(Clone, Copy)]
 struct Choice {
-    begins: Begin,
+    begins: u8,
     cost: u16,
 }
 
-impl Choice {
-    /// Gives another way, if it costs less, and else this one.
-    fn or(self, begins: Begin, cost: u16) -> Choice
-        ensures cost { result.cost ≡ min self.cost cost }
-        ensures begins { result.begins ≡ (if nat_lt cost self.cost then begins else self.begins) }
-    {
-        if cost < self.cost {
-            Choice { begins, cost }
-        } else {
-            self
-        }
-    }
-}
-
-/// Gives the cost of a segment.
-fn segment_cost(bytes: u16, near: u16) -> u16
-    requires { bytes ≤ 20000 }
-    ensures { result ≡ segment_cost bytes near }
-{
-    if near <= 249 { 2 + bytes } else { 3 + bytes }
-}
-
 /// Gives the cost of taking two digits together, where there are two.
-fn pair_cost(pair: bool, next: &Row) -> u16
-    requires { next.now.second ≤ 16384 }
-    ensures { result ≡ (if pair then 1 + next.now.second else never) }
+fn pair_cost(pair: bool, after: u16) -> u16
+    requires { after ≤ 16384 }
+    ensures { result ≡ (if pair then 1 + after else never) }
 {
-    if pair { 1 + next.second } else { NEVER }
+    if pair { 1 + after } else { NEVER }
 }
 
 /// Whether two digits begin at an index.
@@ -107,43 +138,90 @@ fn is_pair(items: &[Item], at: usize) -> bool
     is_digit_item(items[at]) && at + 1 < items.len() && is_digit_item(items[at + 1])
 }
 
-/// Gives the cheapest way to begin, the first of those that are equally cheap.
-fn choose(item: Item, pair: bool, next: &Row, going: &Going) -> Choice
-    requires within { IsWithin 3200 next.now }
-    requires small { AreSmall going.now }
-    ensures cost { result.cost ≡ least item pair next.now going.now }
-    ensures most { result.cost ≤ 16384 }
-    ensures begins { cost_of item pair next.now going.now result.begins ≡ result.cost }
+/// Gives the costs of each way to begin.
+#[inline]
+fn costs_of(item: Item, pair: bool, next: &Costs, going: &GoingCosts) -> Simd<u16, 8>
+    requires ascii { next.now.ascii ≤ 16384 }
+    requires after { next.now.after ≤ 16384 }
+    ensures { (r : Row) (g : Going) → HasRow r next.now → AreSmall g → HasGoing g going.now
+        → result ≡ cost_lanes item pair r g }
 {
-    let two = Choice {
-        begins: Begin::Two,
-        cost: pair_cost(pair, next),
-    };
-    let unit = two.or(Begin::One, unit_cost(item) + next.ascii);
-    let c40 = unit.or(Begin::Run(CodeSet::C40), 1 + going.c40.none);
-    let text = c40.or(Begin::Run(CodeSet::Text), 1 + going.text.none);
-    let x12 = text.or(Begin::Run(CodeSet::X12), 1 + going.x12.none);
-    let edifact = x12.or(Begin::Edifact, 1 + going.edifact.none);
-    let segment = edifact.or(
-        Begin::Segment,
-        segment_cost(going.segment.bytes, going.segment.near),
-    );
-    segment.or(Begin::Rest, 2 + going.segment.rest)
+    let two = pair_cost(pair, next.after);
+    let one = unit_cost(item) + next.ascii;
+    let length = if going.near <= 249 { 2 } else { 3 };
+    going
+        .first
+        .shuffle(going.second, [15, 15, 0, 3, 8, 11, 6, 7])
+        + u16x8::from_array([two, one, 1, 1, 1, 1, length, 2])
+}
+
+/// Gives the lesser number of each lane.
+#[inline]
+fn lesser(one: Simd<u16, 8>, other: Simd<u16, 8>) -> Simd<u16, 8>
+    ensures { result ≡ zip2 min one other }
+{
+    one.simd_min(other)
+}
+
+/// Gives the least of eight costs, by halves.
+#[inline]
+fn least(costs: Simd<u16, 8>) -> u16
+    ensures { result ≡ least_of costs }
+{
+    let four = lesser(costs, costs.swizzle([4, 5, 6, 7, 4, 5, 6, 7]));
+    let two = lesser(four, four.swizzle([2, 3, 2, 3, 2, 3, 2, 3]));
+    let one = lesser(two, two.swizzle([1, 1, 1, 1, 1, 1, 1, 1]));
+    one.to_array()[0]
+}
+
+/// Gives the least of eight costs, and the first place where it stands.
+#[inline]
+fn first_least(costs: Simd<u16, 8>) -> Choice
+    ensures least { result.cost ≡ least_of costs }
+    ensures found { get_or costs result.begins 0 ≡ result.cost }
+    ensures place { result.begins < 8 }
+{
+    let cost = least(costs);
+    let places = costs.simd_eq(u16x8::splat(cost)).to_bitmask();
+    Choice {
+        begins: places.trailing_zeros() as u8,
+        cost,
+    }
+}
+
+/// Gives the cheapest way to begin, the first of those that are equally cheap.
+#[inline]
+fn choose(item: Item, pair: bool, next: &Costs, going: &GoingCosts) -> Choice
+    requires ascii { next.now.ascii ≤ 16384 }
+    requires after { next.now.after ≤ 16384 }
+    ensures cost { (r : Row) (g : Going) → HasRow r next.now → AreSmall g → HasGoing g going.now
+        → result.cost ≡ least item pair r g }
+    ensures begins { (r : Row) (g : Going) → HasRow r next.now → AreSmall g → HasGoing g going.now
+        → cost_of item pair r g (begin_at result.begins) ≡ result.cost }
+{
+    first_least(costs_of(item, pair, next, going))
+}
+
+/// Gives a bit for each lane, of weight 2^k for the lane k: whether it ends there no dearer than going on is.
+#[inline]
+fn ended(ends: Simd<u16, 8>, going: Simd<u16, 8>) -> u8
+    ensures { (k : ℕ) → k < 8
+        → has_bit (2 ^ k) result ≡ nat_le (get_or ends k 0) (get_or going k 0) }
+{
+    ends.simd_le(going).to_bitmask() as u8
 }
 
 /// Gives what to do at an item where this costs so much in ASCII.
-fn step_of(cost: u16, begins: Begin, going: &Going) -> Step
+#[inline]
+fn step_of(cost: u16, begins: u8, going: &GoingCosts) -> StepBits
     requires { cost ≤ 16384 }
-    ensures { result ≡ step_of cost begins going.now }
+    ensures { (g : Going) → HasGoing g going.now
+        → step_in result ≡ step_of cost (begin_at begins) g }
 {
-    Step {
+    StepBits {
         begins,
-        c40_ends: leave(1, cost) <= going.c40.none,
-        text_ends: leave(1, cost) <= going.text.none,
-        x12_ends: leave(1, cost) <= going.x12.none,
-        edifact_ends: leave(2, cost) <= going.edifact.none,
-        group_ends: cost <= going.edifact.three,
-        segment_ends: cost <= going.segment.bytes,
+        first: ended(first_ends(cost), going.first),
+        second: ended(second_ends(cost), going.second),
     }
 }
 
@@ -158,7 +236,7 @@ fn is_digit_item(item: Item) -> bool
 }
 
 /// Writes what to do at each item, and behind the last one, into the plan, and gives the least number of codewords.
-pub(crate) fn plan_to(extent: Extent, items: &[Item], plan: &mut [Step]) -> u16
+pub(crate) fn plan_to(extent: Extent, items: &[Item], plan: &mut [StepBits]) -> u16
     requires few { length items.now ≤ LARGEST_ROOM }
     requires steps { length items.now < length plan.old }
     ensures cost { result ≡ parts_cost extent items.now }
@@ -166,14 +244,14 @@ pub(crate) fn plan_to(extent: Extent, items: &[Item], plan: &mut [Step]) -> u16
     ensures plan { IsRightPlan extent items.now plan.new }
 {
     let none = none_going();
-    let mut row = with_ascii(0, NEVER, &none);
-    plan[items.len()] = step_of(0, Begin::One, &none);
+    let mut costs = with_ascii(0, NEVER, &none);
+    plan[items.len()] = step_of(0, 0, &none);
     for at in (0..items.len()).rev() {
         let item = items[at];
-        let going = going_over(extent, item, &row);
-        let choice = choose(item, is_pair(items, at), &row, &going);
+        let going = going_over(extent, item, &costs);
+        let choice = choose(item, is_pair(items, at), &costs, &going);
         plan[at] = step_of(choice.cost, choice.begins, &going);
-        row = with_ascii(choice.cost, row.ascii, &going);
+        costs = with_ascii(choice.cost, costs.ascii, &going);
     }
-    row.ascii
+    costs.ascii
 }

@@ -1,85 +1,67 @@
-//! What it costs to write all that follows an item, for each state of writing.
+//! What it costs to write all that follows an item, for each state of writing, in lanes.
 
-ghost use Rattle.std.specs.Prelude.{◌≡◌, ℕ, ◌+◌, ◌≤◌, ◌<◌};
-ghost use Rattle.dm_words.specs.inner.Costs.{value_before, stay, leave, or_leave, stay_edifact, or_leave_edifact};
-ghost use Rattle.dm_words.specs.inner.Costs.{is_basic, low_values, set_values, has_edifact, unit_cost, segment_before};
-ghost use Rattle.dm_words.specs.inner.Costs.{going_over, with_ascii, last_row, none_going, ArePaid, ArePaidGroups};
+ghost use Rattle.std.specs.Prelude.{◌≡◌, ℕ, ◌+◌, ◌≤◌, ◌<◌, ◌&&◌, nat_le, if◌then◌else◌, false};
+ghost use Rattle.dm_words.specs.inner.Costs.{Pairs, Groups, Going, Row, no_pairs, no_groups, values_before, never};
+ghost use Rattle.dm_words.specs.inner.Costs.{stay, stay_edifact};
+ghost use Rattle.dm_words.specs.inner.Costs.{is_basic, unit_cost, set_values, has_edifact, leave, going_over};
+ghost use Rattle.dm_words.specs.inner.Costs.{with_ascii, last_row, none_going};
 ghost use Rattle.dm_words.specs.inner.Costs.{IsWithin, AreSmall};
+ghost use Rattle.dm_words.specs.inner.CostLanes.{is_upper, is_lower, in_x12, in_edifact, read_edifact, one_or_two};
+ghost use Rattle.dm_words.specs.inner.CostLanes.{AreNext, end_lanes};
+ghost use Rattle.dm_words.specs.inner.CostLanes.{first_lanes, second_lanes, AreFirst, AreSecond, HasRow, HasGoing};
 
 use crate::c40::set::CodeSet;
 use crate::extent::Extent;
 use crate::item::Item;
+use std::simd::prelude::*;
 
 /// More than any cost. What can't be written costs this much, or more.
 pub const NEVER: u16 = 16384;
 
-/// In a run of C40, Text or X12: the cost where this many values of a pair stand already and are paid.
-#[derive(Clone, Copy)]
-pub struct Pairs {
-    /// No value stands.
-    pub none: u16,
-    /// One value stands.
-    pub one: u16,
-    /// Two values stand.
-    pub two: u16,
-}
-
-/// In a run of EDIFACT: the cost where this many values of a group stand already and are paid.
-#[derive(Clone, Copy)]
-pub struct Groups {
-    /// No value stands.
-    pub none: u16,
-    /// One value stands.
-    pub one: u16,
-    /// Two values stand.
-    pub two: u16,
-    /// Three values stand.
-    pub three: u16,
-}
-
-/// In a segment of Base 256.
-#[derive(Clone, Copy)]
-pub struct Bytes {
-    /// The cost where the length is written out.
-    pub bytes: u16,
-    /// The fewest bytes with which that cost is met.
-    pub near: u16,
-    /// The cost up to the end of the symbol.
-    pub rest: u16,
-}
-
-/// The costs where runs and segments go on over an item.
-#[derive(Clone, Copy)]
-pub struct Going {
-    /// In a run of C40.
-    pub c40: Pairs,
-    /// In a run of Text.
-    pub text: Pairs,
-    /// In a run of X12.
-    pub x12: Pairs,
-    /// In a run of EDIFACT.
-    pub edifact: Groups,
-    /// In a segment of Base 256.
-    pub segment: Bytes,
-}
-
 /// The costs from an item on.
 #[derive(Clone, Copy)]
-pub struct Row {
+pub struct Costs {
     /// In ASCII.
     pub ascii: u16,
     /// In ASCII, from the next item on.
-    pub second: u16,
-    /// In a run of C40.
-    pub c40: Pairs,
-    /// In a run of Text.
-    pub text: Pairs,
-    /// In a run of X12.
-    pub x12: Pairs,
-    /// In a run of EDIFACT.
-    pub edifact: Groups,
-    /// In a segment of Base 256.
-    pub segment: Bytes,
+    pub after: u16,
+    /// In runs where so many values of a pair stand already and are paid: of C40 with none, one and two, then of Text;
+    /// then in a segment of Base 256 whose length is written out, or before it ends; and in one up to the end.
+    pub first: Simd<u16, 8>,
+    /// In runs of X12 with none, one and two values; then of EDIFACT with none to three; and 0.
+    pub second: Simd<u16, 8>,
+    /// How many bytes follow at least in a segment whose length is written out, 0 where it ends.
+    pub near: u16,
+}
+
+/// The costs where runs and segments go on over an item, in the same lanes.
+#[derive(Clone, Copy)]
+pub struct GoingCosts {
+    /// In runs of C40 and Text, and in segments.
+    pub first: Simd<u16, 8>,
+    /// In runs of X12 and EDIFACT.
+    pub second: Simd<u16, 8>,
+    /// The fewest bytes with which the cost of a segment whose length is written out is met.
+    pub near: u16,
+}
+
+/// Which sets have a byte below 128 as one value.
+#[derive(Clone, Copy)]
+pub enum Class {
+    /// A space or a digit: each.
+    Both,
+    /// C40, X12 and EDIFACT.
+    Upper,
+    /// Text.
+    Lower,
+    /// X12.
+    Return,
+    /// X12 and EDIFACT.
+    Mark,
+    /// EDIFACT.
+    Printed,
+    /// None.
+    Other,
 }
 
 /// Whether the byte is one value of a set.
@@ -97,63 +79,169 @@ pub(crate) fn is_basic(set: CodeSet, byte: u8) -> bool
         }
 }
 
-/// Gives the number of the values of a byte below 128 in a set that has shifts.
-fn low_values(set: CodeSet, byte: u8) -> u8
-    ensures values { result ≡ low_values set byte }
-    ensures few { result ≤ 2 }
+/// Gives the class of a byte.
+fn class_of(byte: u8) -> Class
+    ensures c40 { is_basic CodeSet.C40 byte ≡ is_upper result }
+    ensures text { is_basic CodeSet.Text byte ≡ is_lower result }
+    ensures x12 { is_basic CodeSet.X12 byte ≡ in_x12 result }
+    ensures edifact { (nat_le 32 byte && nat_le byte 94) ≡ in_edifact result }
 {
-    if is_basic(set, byte) { 1 } else { 2 }
+    match byte {
+        b' ' | b'0'..=b'9' => Class::Both,
+        b'A'..=b'Z' => Class::Upper,
+        b'a'..=b'z' => Class::Lower,
+        b'\r' => Class::Return,
+        b'*' | b'>' => Class::Mark,
+        b'!'..=b'^' => Class::Printed,
+        _ => Class::Other,
+    }
 }
 
-/// Gives the number of the values of an item in a set, 0 where the set doesn't have it.
-pub(crate) fn set_values(set: CodeSet, item: Item) -> u8
-    ensures values { result ≡ set_values set item }
-    ensures few { result ≤ 4 }
+/// Gives the first costs before a byte of a class, from those behind it.
+#[inline]
+fn first_over(class: Class, next: Simd<u16, 8>) -> Simd<u16, 8>
+    ensures { (c t : Pairs) (bytes rest : ℕ) → AreFirst c t bytes rest next
+        → result ≡ first_lanes (values_before (one_or_two (is_upper class)) c)
+        (values_before (one_or_two (is_lower class)) t) (1 + bytes) (1 + rest) }
 {
-    match (set, item) {
-        (CodeSet::X12, Item::Fnc1) => 0,
-        (CodeSet::X12, Item::Byte(byte)) => { if is_basic(set, byte) { 1 } else { 0 } }
-        (_, Item::Fnc1) => 2,
-        (_, Item::Byte(byte)) => {
-            if byte < 128 {
-                low_values(set, byte)
-            } else {
-                2 + low_values(set, byte - 128)
-            }
+    match class {
+        Class::Both => {
+            next.swizzle([1, 2, 0, 4, 5, 3, 6, 7]) + u16x8::from_array([2, 0, 0, 2, 0, 0, 1, 1])
         }
+        Class::Upper => {
+            next.swizzle([1, 2, 0, 5, 3, 4, 6, 7]) + u16x8::from_array([2, 0, 0, 2, 0, 2, 1, 1])
+        }
+        Class::Lower => {
+            next.swizzle([2, 0, 1, 4, 5, 3, 6, 7]) + u16x8::from_array([2, 0, 2, 2, 0, 0, 1, 1])
+        }
+        _ => next.swizzle([2, 0, 1, 5, 3, 4, 6, 7]) + u16x8::from_array([2, 0, 2, 2, 0, 2, 1, 1]),
     }
 }
 
-/// Gives the costs before one more value, from those behind it.
-fn value_before(next: Pairs) -> Pairs
-    requires { ArePaid 40000 next }
-    ensures before { result ≡ value_before next }
-    ensures paid { (most : ℕ) → ArePaid most next → ArePaid (most + 2) result }
+/// Gives the first costs before an Upper Shift, from those behind it.
+#[inline]
+fn first_raised(next: Simd<u16, 8>) -> Simd<u16, 8>
+    ensures { (c t : Pairs) (bytes rest : ℕ) → AreFirst c t bytes rest next
+        → result ≡ first_lanes (values_before 2 c) (values_before 2 t) bytes rest }
 {
-    Pairs {
-        none: 2 + next.one,
-        one: next.two,
-        two: next.none,
+    next.swizzle([2, 0, 1, 5, 3, 4, 6, 7]) + u16x8::from_array([2, 0, 2, 2, 0, 2, 0, 0])
+}
+
+/// Gives the first costs before FNC1, from those behind it.
+#[inline]
+fn first_over_fnc1(next: Simd<u16, 8>) -> Simd<u16, 8>
+    ensures { (c t : Pairs) (bytes rest : ℕ) → AreFirst c t bytes rest next
+        → result ≡ first_lanes (values_before 2 c) (values_before 2 t) never never }
+{
+    next.shuffle(u16x8::splat(NEVER), [2, 0, 1, 5, 3, 4, 8, 8])
+        + u16x8::from_array([2, 0, 2, 2, 0, 2, 0, 0])
+}
+
+/// Gives the second costs where no run goes on.
+#[inline]
+fn no_second() -> Simd<u16, 8>
+    ensures { result ≡ second_lanes no_pairs no_groups }
+{
+    u16x8::from_array([NEVER, NEVER, NEVER, NEVER, NEVER, NEVER, NEVER, 0])
+}
+
+/// Gives the second costs before a byte that X12 has and EDIFACT, where it is read, from those behind it.
+#[inline]
+fn second_over_both(extent: Extent, next: Simd<u16, 8>) -> Simd<u16, 8>
+    ensures { (x : Pairs) (e : Groups) → AreSecond x e next → result ≡ second_lanes (stay 1 x)
+        (stay_edifact (read_edifact extent Class.Both) e) }
+{
+    match extent {
+        Extent::Wide => {
+            next.swizzle([1, 2, 0, 4, 5, 6, 3, 7]) + u16x8::from_array([2, 0, 0, 1, 1, 1, 0, 0])
+        }
+        Extent::Usual => second_over_x12(next),
     }
 }
 
-/// Gives the costs of a run that goes on over an item, from the number of its values.
-fn stay(count: u8, next: Pairs) -> Pairs
-    requires few { count ≤ 4 }
-    requires paid { ArePaid 29184 next }
-    ensures going { result ≡ stay count next }
-    ensures paid { ArePaid 30000 result }
+/// Gives the second costs before a byte that X12 has alone, from those behind it.
+#[inline]
+fn second_over_x12(next: Simd<u16, 8>) -> Simd<u16, 8>
+    ensures { (x : Pairs) (e : Groups) → AreSecond x e next
+        → result ≡ second_lanes (stay 1 x) (stay_edifact false e) }
 {
-    match count {
-        0 => Pairs {
-            none: NEVER,
-            one: NEVER,
-            two: NEVER,
+    next.shuffle(no_second(), [1, 2, 0, 8, 8, 8, 8, 7])
+        + u16x8::from_array([2, 0, 0, 0, 0, 0, 0, 0])
+}
+
+/// Gives the second costs before a byte that EDIFACT has alone, where it is read, from those behind it.
+#[inline]
+fn second_over_edifact(extent: Extent, next: Simd<u16, 8>) -> Simd<u16, 8>
+    ensures { (x : Pairs) (e : Groups) → AreSecond x e next → result ≡ second_lanes (stay 0 x)
+        (stay_edifact (read_edifact extent Class.Printed) e) }
+{
+    match extent {
+        Extent::Wide => {
+            next.shuffle(no_second(), [8, 8, 8, 4, 5, 6, 3, 7])
+                + u16x8::from_array([0, 0, 0, 1, 1, 1, 0, 0])
+        }
+        Extent::Usual => no_second(),
+    }
+}
+
+/// Gives the second costs before a byte of a class, from those behind it.
+#[inline]
+fn second_over(extent: Extent, class: Class, next: Simd<u16, 8>) -> Simd<u16, 8>
+    ensures { (x : Pairs) (e : Groups) → AreSecond x e next
+        → result ≡ second_lanes (stay (if in_x12 class then 1 else 0) x)
+        (stay_edifact (read_edifact extent class) e) }
+{
+    match class {
+        Class::Both => second_over_both(extent, next),
+        Class::Upper => second_over_both(extent, next),
+        Class::Mark => second_over_both(extent, next),
+        Class::Return => second_over_x12(next),
+        Class::Printed => second_over_edifact(extent, next),
+        Class::Lower => no_second(),
+        Class::Other => no_second(),
+    }
+}
+
+/// Gives the first costs before a byte, from those behind it.
+#[inline]
+fn first_over_byte(byte: u8, next: Simd<u16, 8>) -> Simd<u16, 8>
+    ensures { (c t : Pairs) (bytes rest : ℕ) → AreNext c t bytes rest next
+        → result ≡ first_lanes (stay (set_values CodeSet.C40 (Item.Byte byte)) c)
+        (stay (set_values CodeSet.Text (Item.Byte byte)) t) (1 + bytes) (1 + rest) }
+{
+    if byte < 128 {
+        return first_over(class_of(byte), next);
+    }
+    first_over(class_of(byte - 128), first_raised(next))
+}
+
+/// Gives the second costs before a byte, from those behind it.
+#[inline]
+fn second_over_byte(extent: Extent, byte: u8, next: Simd<u16, 8>) -> Simd<u16, 8>
+    ensures { (x : Pairs) (e : Groups) → AreSecond x e next
+        → result ≡ second_lanes (stay (set_values CodeSet.X12 (Item.Byte byte)) x)
+        (stay_edifact (has_edifact extent (Item.Byte byte)) e) }
+{
+    second_over(extent, class_of(byte), next)
+}
+
+/// Gives the costs where runs and segments go on over an item, from those behind it.
+#[inline]
+pub(crate) fn going_over(extent: Extent, item: Item, next: &Costs) -> GoingCosts
+    requires { next.now.near ≤ 16384 }
+    ensures { (r : Row) → IsWithin 3200 r → HasRow r next.now → HasGoing (going_over extent item r) result }
+{
+    match item {
+        Item::Fnc1 => GoingCosts {
+            first: first_over_fnc1(next.first),
+            second: no_second(),
+            near: 0,
         },
-        1 => value_before(next),
-        2 => value_before(value_before(next)),
-        3 => value_before(value_before(value_before(next))),
-        _ => value_before(value_before(value_before(value_before(next)))),
+        Item::Byte(byte) => GoingCosts {
+            first: first_over_byte(byte, next.first),
+            second: second_over_byte(extent, byte, next.second),
+            near: 1 + next.near,
+        },
     }
 }
 
@@ -165,61 +253,57 @@ pub(crate) fn leave(limit: u16, cost: u16) -> u16
     if cost <= limit { cost } else { 1 + cost }
 }
 
-/// Gives the costs of a run.
-fn or_leave(cost: u16, going: Pairs) -> Pairs
+/// What a lane holds that is no end, which is more than any cost.
+const NO_END: u16 = u16::MAX;
+
+/// Gives the first costs where a run or a segment ends before what costs this much.
+#[inline]
+pub(crate) fn first_ends(cost: u16) -> Simd<u16, 8>
     requires { cost ≤ 16384 }
-    ensures { result ≡ or_leave cost going }
+    ensures { result ≡ end_lanes (leave 1 cost) (leave 1 cost) cost }
 {
-    Pairs {
-        none: leave(1, cost).min(going.none),
-        one: going.one,
-        two: going.two,
-    }
+    let run = leave(1, cost);
+    u16x8::from_array([run, NO_END, NO_END, run, NO_END, NO_END, cost, NO_END])
 }
 
-/// Whether an item is a value of EDIFACT.
-fn has_edifact(extent: Extent, item: Item) -> bool
-    ensures { result ≡ has_edifact extent item }
-{
-    match (extent, item) {
-        (Extent::Wide, Item::Byte(byte)) => 32 <= byte && byte <= 94,
-        _ => false,
-    }
-}
-
-/// Gives the costs of a run of EDIFACT that goes on over an item.
-fn stay_edifact(has: bool, next: Groups) -> Groups
-    requires { ArePaidGroups 29184 next }
-    ensures going { result ≡ stay_edifact has next }
-    ensures paid { ArePaidGroups 30000 result }
-{
-    if has {
-        Groups {
-            none: 1 + next.one,
-            one: 1 + next.two,
-            two: 1 + next.three,
-            three: next.none,
-        }
-    } else {
-        Groups {
-            none: NEVER,
-            one: NEVER,
-            two: NEVER,
-            three: NEVER,
-        }
-    }
-}
-
-/// Gives the costs of a run of EDIFACT.
-fn or_leave_edifact(cost: u16, going: Groups) -> Groups
+/// Gives the second costs where a run ends before what costs this much.
+#[inline]
+pub(crate) fn second_ends(cost: u16) -> Simd<u16, 8>
     requires { cost ≤ 16384 }
-    ensures { result ≡ or_leave_edifact cost going }
+    ensures { result ≡ end_lanes (leave 1 cost) (leave 2 cost) cost }
 {
-    Groups {
-        none: leave(2, cost).min(going.none),
-        one: going.one,
-        two: going.two,
-        three: cost.min(going.three),
+    let (run, group) = (leave(1, cost), leave(2, cost));
+    u16x8::from_array([run, NO_END, NO_END, group, NO_END, NO_END, cost, NO_END])
+}
+
+/// Gives the costs from an item on, from the cost in ASCII, that from the next item on, and those where runs go on.
+#[inline]
+pub(crate) fn with_ascii(cost: u16, after: u16, going: &GoingCosts) -> Costs
+    requires { cost ≤ 16384 }
+    ensures { (g : Going) → AreSmall g → HasGoing g going.now
+        → HasRow (with_ascii cost after g) result }
+{
+    Costs {
+        ascii: cost,
+        after,
+        first: going.first.simd_min(first_ends(cost)),
+        second: going.second.simd_min(second_ends(cost)),
+        near: if cost <= going.first.to_array()[6] {
+            0
+        } else {
+            going.near
+        },
+    }
+}
+
+/// Gives what goes on behind the last item: nothing.
+pub(crate) fn none_going() -> GoingCosts
+    ensures { HasGoing none_going result }
+{
+    GoingCosts {
+        first: no_second(),
+        second: no_second(),
+        near: 0,
     }
 }
 
@@ -231,91 +315,5 @@ pub(crate) fn unit_cost(item: Item) -> u16
     match item {
         Item::Fnc1 => 1,
         Item::Byte(byte) => { if byte < 128 { 1 } else { 2 } }
-    }
-}
-
-/// Gives the costs of a segment that takes the item.
-fn segment_before(item: Item, next: &Row) -> Bytes
-    requires ascii { next.now.ascii ≤ 16384 }
-    requires bytes { next.now.segment.bytes ≤ 16384 }
-    requires near { next.now.segment.near ≤ 16384 }
-    requires rest { next.now.segment.rest ≤ 29184 }
-    ensures going { result ≡ segment_before item next.now }
-    ensures bytes { result.bytes ≤ 17000 }
-    ensures rest { result.rest ≤ 30000 }
-{
-    match item {
-        Item::Fnc1 => Bytes {
-            bytes: NEVER,
-            near: 0,
-            rest: NEVER,
-        },
-        Item::Byte(_) => Bytes {
-            bytes: 1 + next.ascii.min(next.segment.bytes),
-            near: if next.ascii <= next.segment.bytes {
-                1
-            } else {
-                1 + next.segment.near
-            },
-            rest: 1 + next.segment.rest,
-        },
-    }
-}
-
-/// Gives the costs where runs and segments go on over an item.
-pub(crate) fn going_over(extent: Extent, item: Item, next: &Row) -> Going
-    requires { IsWithin 3200 next.now }
-    ensures going { result ≡ going_over extent item next.now }
-    ensures small { AreSmall result }
-{
-    Going {
-        c40: stay(set_values(CodeSet::C40, item), next.c40),
-        text: stay(set_values(CodeSet::Text, item), next.text),
-        x12: stay(set_values(CodeSet::X12, item), next.x12),
-        edifact: stay_edifact(has_edifact(extent, item), next.edifact),
-        segment: segment_before(item, next),
-    }
-}
-
-/// Gives the costs, from the cost in ASCII and those where runs go on.
-pub(crate) fn with_ascii(cost: u16, second: u16, going: &Going) -> Row
-    requires { cost ≤ 16384 }
-    ensures { result ≡ with_ascii cost second going.now }
-{
-    Row {
-        ascii: cost,
-        second,
-        c40: or_leave(cost, going.c40),
-        text: or_leave(cost, going.text),
-        x12: or_leave(cost, going.x12),
-        edifact: or_leave_edifact(cost, going.edifact),
-        segment: going.segment,
-    }
-}
-
-/// Gives what goes on behind the last item: nothing.
-pub(crate) fn none_going() -> Going
-    ensures { result ≡ none_going }
-{
-    let pairs = Pairs {
-        none: NEVER,
-        one: NEVER,
-        two: NEVER,
-    };
-    Going {
-        c40: pairs,
-        text: pairs,
-        x12: pairs,
-        edifact: Groups {
-            none: NEVER,
-            one: NEVER,
-            two: NEVER,
-            three: NEVER,
-        },
-        segment: Bytes {
-            bytes: NEVER,
-            near: 0,
-            rest: 0,
-        },
     }
 }

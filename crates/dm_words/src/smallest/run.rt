@@ -2,11 +2,11 @@
 
 ghost use Rattle.std.specs.Prelude.{◌≡◌, ◌+◌, ◌-◌, ◌*◌, ◌/◌, ◌≤◌, ◌<◌, ◌&&◌, not, Some, length, All, ℕ, take, drop};
 ghost use Rattle.dm_words.specs.declared.extent.Extent.{Extent};
-ghost use Rattle.dm_words.specs.declared.smallest.plan.Step.{Step};
 ghost use Rattle.dm_words.specs.declared.codeword.Codeword.TheVariants as Codeword;
 ghost use Rattle.dm_words.specs.Codewords.{codeword_of};
 ghost use Rattle.dm_words.specs.Values.{IsRunValue};
-ghost use Rattle.dm_words.specs.inner.Costs.{set_values, owed, going_pairs, going_from, parts_cost, IsRightPlan};
+ghost use Rattle.dm_words.specs.inner.Costs.{step_in, set_values, owed, going_pairs, going_from, parts_cost};
+ghost use Rattle.dm_words.specs.inner.Costs.{IsRightPlan};
 ghost use Rattle.dm_words.specs.inner.Written.{part_values, IsSmallPart, IsValuePushed, ArePushed, IsItemPushed};
 ghost use Rattle.dm_words.specs.inner.Written.{is_empty, run_ends, IsPartWritten};
 
@@ -15,7 +15,7 @@ use crate::codeword::UNLATCH;
 use crate::extent::Extent;
 use crate::item::Item;
 use crate::limits::{LARGEST_DATA, LARGEST_ROOM};
-use crate::smallest::plan::Step;
+use crate::smallest::plan::StepBits;
 use crate::smallest::values::values_of;
 use arrayvec::ArrayVec;
 
@@ -27,17 +27,6 @@ fn latch(set: CodeSet) -> u8
         CodeSet::C40 => 230,
         CodeSet::X12 => 238,
         CodeSet::Text => 239,
-    }
-}
-
-/// Whether the plan ends a run of a set there.
-fn ends(step: &Step, set: CodeSet) -> bool
-    ensures { result ≡ run_ends set step.now }
-{
-    match set {
-        CodeSet::C40 => step.c40_ends,
-        CodeSet::Text => step.text_ends,
-        CodeSet::X12 => step.x12_ends,
     }
 }
 
@@ -105,11 +94,11 @@ fn push_item<const N: usize>(
 }
 
 /// Whether a run goes on at a step.
-fn goes_on(part: Part, step: &Step, set: CodeSet) -> bool
-    ensures { result ≡ not (is_empty part && run_ends set step.now) }
+fn goes_on(part: Part, step: &StepBits, set: CodeSet) -> bool
+    ensures { result ≡ not (is_empty part && run_ends set (step_in step.now)) }
 {
     match part {
-        Part::Empty => !ends(step, set),
+        Part::Empty => !step.run_ends(set),
         _ => true,
     }
 }
@@ -120,7 +109,7 @@ pub(crate) fn write_run<const N: usize>(
     items: &[Item],
     at: usize,
     set: CodeSet,
-    plan: &[Step],
+    plan: &[StepBits],
     words: &mut ArrayVec<u8, N>,
     total: usize,
 ) -> usize

@@ -12,11 +12,11 @@ use crate::codeword::BASE256_LATCH;
 use crate::extent::Extent;
 use crate::item::Item;
 use crate::limits::{LARGEST_DATA, LARGEST_ROOM};
-use crate::smallest::plan::Step;
+use crate::smallest::plan::StepBits;
 use arrayvec::ArrayVec;
 
 /// Gives the index behind a segment whose length is written out, from that of its first byte.
-pub(crate) fn segment_end(extent: Extent, items: &[Item], at: usize, plan: &[Step]) -> usize
+pub(crate) fn segment_end(extent: Extent, items: &[Item], at: usize, plan: &[StepBits]) -> usize
     requires at { at < length items.now }
     requires few { length items.now ≤ LARGEST_ROOM }
     requires steps { length items.now < length plan.now }
@@ -31,7 +31,7 @@ pub(crate) fn segment_end(extent: Extent, items: &[Item], at: usize, plan: &[Ste
         + parts_cost extent (drop result items.now) }
 {
     let mut next = at + 1;
-    while !plan[next].segment_ends {
+    while !plan[next].segment_ends() {
         next += 1;
     }
     next

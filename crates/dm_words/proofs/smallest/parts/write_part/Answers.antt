@@ -19,7 +19,7 @@ pub write_unit-one-requires : goal.write_unit-one-requires
 write_unit-one-requires g c =
     let p = one_paid c.args.extent c.args.items.now c.args.at (Byte 0) _ c.requires.at
     (c.requires.plan c.args.at _ (omega (arith, c.requires.at))) (length c.args.words.now.items) c.args.total
-    c.requires.budget c.in-One.is in
+    c.requires.budget (sym c.begin.ensures ∙ c.in-One.is) in
     omega (
       arith,
       p,
@@ -32,7 +32,7 @@ pub returns-in-One-clause-budget : goal.returns-in-One-clause-budget
 returns-in-One-clause-budget g c =
     let p = one_paid c.args.extent c.args.items.now c.args.at (Byte 0) _ c.requires.at
     (c.requires.plan c.args.at _ (omega (arith, c.requires.at))) (length c.args.words.now.items) c.args.total
-    c.requires.budget c.in-One.is in
+    c.requires.budget (sym c.begin.ensures ∙ c.in-One.is) in
     omega (
       arith,
       p,
@@ -58,14 +58,14 @@ pub bounds-items-at-in-Two-2 : goal.bounds-items-at-in-Two-2
 bounds-items-at-in-Two-2 g c =
     (pair_paid c.args.extent c.args.items.now c.args.at (Byte 0) _ c.requires.at
     (c.requires.plan c.args.at _ (omega (arith, c.requires.at))) (length c.args.words.now.items) c.args.total
-    c.requires.budget (omega (arith, c.requires.total)) c.in-Two.is).second_there
+    c.requires.budget (omega (arith, c.requires.total)) (sym c.begin.ensures ∙ c.in-Two.is)).second_there
 
 pub digit_pair-requires-clause-tens : goal.digit_pair-requires-clause-tens
 digit_pair-requires-clause-tens g c =
     digit_byte (get_or c.args.items.now c.args.at (Byte 0)) c.byte.result
     (pair_paid c.args.extent c.args.items.now c.args.at (Byte 0) _ c.requires.at
     (c.requires.plan c.args.at _ (omega (arith, c.requires.at))) (length c.args.words.now.items) c.args.total
-    c.requires.budget (omega (arith, c.requires.total)) c.in-Two.is).first
+    c.requires.budget (omega (arith, c.requires.total)) (sym c.begin.ensures ∙ c.in-Two.is)).first
     c.byte.ensures
 
 pub digit_pair-requires-clause-ones : goal.digit_pair-requires-clause-ones
@@ -73,14 +73,14 @@ digit_pair-requires-clause-ones g c =
     digit_byte (get_or c.args.items.now (c.args.at + 1) (Byte 0)) c.byte-in-Two.result
     (pair_paid c.args.extent c.args.items.now c.args.at (Byte 0) _ c.requires.at
     (c.requires.plan c.args.at _ (omega (arith, c.requires.at))) (length c.args.words.now.items) c.args.total
-    c.requires.budget (omega (arith, c.requires.total)) c.in-Two.is).second
+    c.requires.budget (omega (arith, c.requires.total)) (sym c.begin.ensures ∙ c.in-Two.is)).second
     c.byte-in-Two.ensures
 
 pub push-requires : goal.push-requires
 push-requires g c =
     let q = pair_paid c.args.extent c.args.items.now c.args.at (Byte 0) _ c.requires.at
     (c.requires.plan c.args.at _ (omega (arith, c.requires.at))) (length c.args.words.now.items) c.args.total
-    c.requires.budget (omega (arith, c.requires.total)) c.in-Two.is in
+    c.requires.budget (omega (arith, c.requires.total)) (sym c.begin.ensures ∙ c.in-Two.is) in
     (omega arith, omega (arith, q.paid, c.requires.total))
 
 pub returns-in-Two-clause-within : goal.returns-in-Two-clause-within
@@ -89,7 +89,7 @@ returns-in-Two-clause-within g c =
       arith,
       (pair_paid c.args.extent c.args.items.now c.args.at (Byte 0) _ c.requires.at
           (c.requires.plan c.args.at _ (omega (arith, c.requires.at))) (length c.args.words.now.items) c.args.total
-          c.requires.budget (omega (arith, c.requires.total)) c.in-Two.is).second_there,
+          c.requires.budget (omega (arith, c.requires.total)) (sym c.begin.ensures ∙ c.in-Two.is)).second_there,
     )
 
 pub returns-in-Two-clause-budget : goal.returns-in-Two-clause-budget
@@ -98,7 +98,7 @@ returns-in-Two-clause-budget g c =
       arith,
       (pair_paid c.args.extent c.args.items.now c.args.at (Byte 0) _ c.requires.at
           (c.requires.plan c.args.at _ (omega (arith, c.requires.at))) (length c.args.words.now.items) c.args.total
-          c.requires.budget (omega (arith, c.requires.total)) c.in-Two.is).paid,
+          c.requires.budget (omega (arith, c.requires.total)) (sym c.begin.ensures ∙ c.in-Two.is)).paid,
       c.push.ensures.len,
     )
 
@@ -106,7 +106,7 @@ pub returns-in-Two-clause-part : goal.returns-in-Two-clause-part
 returns-in-Two-clause-part g c =
     let q = pair_paid c.args.extent c.args.items.now c.args.at (Byte 0) _ c.requires.at
     (c.requires.plan c.args.at _ (omega (arith, c.requires.at))) (length c.args.words.now.items) c.args.total
-    c.requires.budget (omega (arith, c.requires.total)) c.in-Two.is in
+    c.requires.budget (omega (arith, c.requires.total)) (sym c.begin.ensures ∙ c.in-Two.is) in
     let word : c.digit_pair.result
     ≡ digit_pair (byte_of (get_or c.args.items.now c.args.at (Byte 0)))
     (byte_of (get_or c.args.items.now (c.args.at + 1) (Byte 0))) =
@@ -119,7 +119,7 @@ pub returns-in-Two-clause-usual : goal.returns-in-Two-clause-usual
 returns-in-Two-clause-usual g c = λ usual.
     let q = pair_paid c.args.extent c.args.items.now c.args.at (Byte 0) _ c.requires.at
     (c.requires.plan c.args.at _ (omega (arith, c.requires.at))) (length c.args.words.now.items) c.args.total
-    c.requires.budget (omega (arith, c.requires.total)) c.in-Two.is in
+    c.requires.budget (omega (arith, c.requires.total)) (sym c.begin.ensures ∙ c.in-Two.is) in
     let word : c.digit_pair.result
     ≡ digit_pair (byte_of (get_or c.args.items.now c.args.at (Byte 0)))
     (byte_of (get_or c.args.items.now (c.args.at + 1) (Byte 0))) =
@@ -133,7 +133,7 @@ write_run-requires g c =
     let budget =
     run_paid c.args.extent c.args.items.now c.args.at (Byte 0) _ c.requires.at
     (c.requires.plan c.args.at _ (omega (arith, c.requires.at))) (length c.args.words.now.items) c.args.total
-    c.requires.budget c.in-Run.set c.in-Run.is in (
+    c.requires.budget c.in-Run.set (sym c.begin.ensures ∙ c.in-Run.is) in (
       search rules,
       (
         c.requires.at,
@@ -146,7 +146,7 @@ write_edifact-requires g c =
     let budget =
     edifact_paid c.args.extent c.args.items.now c.args.at (Byte 0) _ c.requires.at
     (c.requires.plan c.args.at _ (omega (arith, c.requires.at))) (length c.args.words.now.items) c.args.total
-    c.requires.budget c.in-Edifact.is in (
+    c.requires.budget (sym c.begin.ensures ∙ c.in-Edifact.is) in (
       search rules,
       (
         c.requires.at,
@@ -160,7 +160,7 @@ segment_end-end-requires-clause-byte g c =
       arith,
       (segment_paid c.args.extent c.args.items.now c.args.at (Byte 0) _ c.requires.at
           (c.requires.plan c.args.at _ (omega (arith, c.requires.at))) (length c.args.words.now.items) c.args.total
-          c.requires.budget c.in-Segment.is).1,
+          c.requires.budget (sym c.begin.ensures ∙ c.in-Segment.is)).1,
       c.requires.total,
     )
 
@@ -168,7 +168,7 @@ pub write_segment-requires-in-Rest : goal.write_segment-requires-in-Rest
 write_segment-requires-in-Rest g c =
     let p = rest_paid c.args.extent c.args.items.now c.args.at (Byte 0) _ c.requires.at
     (c.requires.plan c.args.at _ (omega (arith, c.requires.at))) (length c.args.words.now.items) c.args.total
-    c.requires.budget c.in-Rest.is in
+    c.requires.budget (sym c.begin.ensures ∙ c.in-Rest.is) in
     let rest = rest_is c.args.extent (drop c.args.at c.args.items.now) (omega (arith, p, c.requires.total)) in
     let bytes = subst (λ (l : List Item). has_fnc1 l ≡ false) (sym (take_rest c.args.items.now c.args.at)) rest.0 in
     let message =

@@ -1,46 +1,90 @@
-use Rattle.std.proofs.Common.{◌≡◌, ◌∙◌, ℕ, drop, rules, ap, arith, refl}
+use Rattle.std.proofs.Common.{◌≡◌, ◌∙◌, ◌-◌, ℕ, drop, get_or, rules, ap, subst, arith, refl}
 use Rattle.std.proofs.lemmas.List.{length-drop}
-use Rattle.dm_words.specs.declared.smallest.plan.Begin.TheVariants.{One}
+use Rattle.dm_words.specs.declared.smallest.plan.Begin.TheVariants.{Two}
 use Rattle.dm_words.specs.declared.item.Item.TheVariants.{Byte}
-use Rattle.dm_words.specs.declared.smallest.row.Row.{Row}
-use Rattle.dm_words.specs.inner.Costs.{row}
-use Rattle.dm_words.proofs.Plans.{within, turn, plan_more, plan_first, row_within}
+use Rattle.dm_words.specs.inner.Costs.{Row, row, going_over, with_ascii, begin_at, step_in, none_going}
+use Rattle.dm_words.specs.inner.CostLanes.{HasRow}
+use Rattle.dm_words.proofs.Plans.{within, turn, plan_more, plan_first, row_within, last_costs, none_small, going_small}
+use Rattle.dm_words.proofs.Plans.{least_small, kept_small}
 use Rattle.dm_words.proofs.smallest.plan.plan_to.Goals as goal
 
 pub loop-at-init : goal.loop-at-init
-loop-at-init c =
-    let f = plan_first c.args.extent c.args.items.now c.args.plan.now One c.step_of.result c.with_ascii-row.result
-    (search rules) (rw c.none_going-none.ensures at c.step_of.ensures)
-    (rw c.none_going-none.ensures at c.with_ascii-row.ensures) in
-    record { in_range = omega arith; room = search rules; row = f.0; plan = f.1 }
+loop-at-init c = record {
+  in_range = omega arith;
+  room = search rules;
+  row = last_costs c.args.extent c.args.items.now c.with_ascii-costs.result
+      (c.with_ascii-costs.ensures none_going none_small c.none_going-none.ensures);
+  plan = plan_first c.args.extent c.args.items.now c.args.plan.now Two c.step_of.result c.requires.steps
+      (c.step_of.ensures none_going c.none_going-none.ensures);
+}
 
 pub going_over-going-requires : goal.going_over-going-requires
 going_over-going-requires c =
-    within c.args.extent c.args.items.now c.loop-at.at c.loop-at.row (omega (arith, c.requires.few))
-    c.loop-at.invariant.row
-    (omega (arith, length-drop c.loop-at.at c.args.items.now))
+    let w = within c.args.extent c.args.items.now c.loop-at.at _ (omega (arith, c.requires.few)) refl
+    (omega (arith, length-drop c.loop-at.at c.args.items.now)) in
+    (kept_small _ c.loop-at.costs w c.loop-at.invariant.row).2
 
-pub choose-choice-requires-clause-within : goal.choose-choice-requires-clause-within
-choose-choice-requires-clause-within c =
-    within c.args.extent c.args.items.now c.loop-at.at c.loop-at.row (omega (arith, c.requires.few))
-    c.loop-at.invariant.row
-    (omega (arith, length-drop c.loop-at.at c.args.items.now))
+pub choose-choice-requires-clause-ascii : goal.choose-choice-requires-clause-ascii
+choose-choice-requires-clause-ascii c =
+    let w = within c.args.extent c.args.items.now c.loop-at.at _ (omega (arith, c.requires.few)) refl
+    (omega (arith, length-drop c.loop-at.at c.args.items.now)) in
+    (kept_small _ c.loop-at.costs w c.loop-at.invariant.row).0
+
+pub choose-choice-requires-clause-after : goal.choose-choice-requires-clause-after
+choose-choice-requires-clause-after c =
+    let w = within c.args.extent c.args.items.now c.loop-at.at _ (omega (arith, c.requires.few)) refl
+    (omega (arith, length-drop c.loop-at.at c.args.items.now)) in
+    (kept_small _ c.loop-at.costs w c.loop-at.invariant.row).1
+
+pub step_of-requires-in-loop-at : goal.step_of-requires-in-loop-at
+step_of-requires-in-loop-at c =
+    let w = within c.args.extent c.args.items.now c.loop-at.at _ (omega (arith, c.requires.few)) refl
+    (omega (arith, length-drop c.loop-at.at c.args.items.now)) in
+    let x = get_or c.args.items.now (c.loop-at.at - 1) (Byte 0) in
+    let next = row c.args.extent (drop c.loop-at.at c.args.items.now) in
+    let g = going_over c.args.extent x next in
+    let cost = c.choose-choice.ensures.cost next g c.loop-at.invariant.row (going_small c.args.extent x next w)
+    (c.going_over-going.ensures next w c.loop-at.invariant.row) in
+    omega (arith, cost, least_small x c.is_pair.result next g w)
+
+pub with_ascii-costs-requires-in-loop-at : goal.with_ascii-costs-requires-in-loop-at
+with_ascii-costs-requires-in-loop-at c =
+    let w = within c.args.extent c.args.items.now c.loop-at.at _ (omega (arith, c.requires.few)) refl
+    (omega (arith, length-drop c.loop-at.at c.args.items.now)) in
+    let x = get_or c.args.items.now (c.loop-at.at - 1) (Byte 0) in
+    let next = row c.args.extent (drop c.loop-at.at c.args.items.now) in
+    let g = going_over c.args.extent x next in
+    let cost = c.choose-choice.ensures.cost next g c.loop-at.invariant.row (going_small c.args.extent x next w)
+    (c.going_over-going.ensures next w c.loop-at.invariant.row) in
+    omega (arith, cost, least_small x c.is_pair.result next g w)
 
 pub loop-at-preserved : goal.loop-at-preserved
 loop-at-preserved c =
     let v = c.loop-at.invariant in
-    let t = turn c.args.extent c.args.items.now c.loop-at.at _ (Byte 0) c.loop-at.row
-    c.with_ascii-row-in-loop-at.result c.is_pair.result c.going_over-going.result c.choose-choice.result.begins
-    c.choose-choice.result.cost c.step_of-in-loop-at.result
-    (omega (arith, c.loop-at-test.true)) v.in_range refl v.row c.is_pair.ensures c.going_over-going.ensures.going
-    c.choose-choice.ensures.cost c.choose-choice.ensures.begins c.step_of-in-loop-at.ensures
-    c.with_ascii-row-in-loop-at.ensures in
+    let extent = c.args.extent in
+    let m = c.args.items.now in
+    let at = c.loop-at.at in
+    let x = get_or m (at - 1) (Byte 0) in
+    let next = row extent (drop at m) in
+    let w = within c.args.extent c.args.items.now c.loop-at.at _ (omega (arith, c.requires.few)) refl
+    (omega (arith, length-drop c.loop-at.at c.args.items.now)) in
+    let g = going_over extent x next in
+    let small = going_small extent x next w in
+    let going = c.going_over-going.ensures next w v.row in
+    let choice = c.choose-choice.result in
+    let new = with_ascii choice.cost next.ascii g in
+    let t = turn extent m at x (Byte 0) next new c.is_pair.result g (begin_at choice.begins) choice.cost
+    (step_in c.step_of-in-loop-at.result) (omega (arith, c.loop-at-test.true)) v.in_range refl refl c.is_pair.ensures
+    refl (c.choose-choice.ensures.cost next g v.row small going)
+    (c.choose-choice.ensures.begins next g v.row small going) (c.step_of-in-loop-at.ensures g going) refl in
     record {
       in_range = omega (arith, v.in_range);
       room = search rules;
-      row = t.0;
-      plan = plan_more c.args.extent c.args.items.now c.loop-at.at c.loop-at.plan c.step_of-in-loop-at.result
-          (omega (arith, c.loop-at-test.true)) v.in_range (omega (arith, v.room, c.requires.steps)) t.1 v.plan;
+      row = subst (λ (r : Row). HasRow r c.with_ascii-costs-in-loop-at.result)
+          (ap (λ (n : ℕ). with_ascii choice.cost n g) v.row.ascii ∙ t.0)
+          (c.with_ascii-costs-in-loop-at.ensures g small going);
+      plan = plan_more extent m at c.loop-at.plan c.step_of-in-loop-at.result (omega (arith, c.loop-at-test.true))
+          v.in_range (omega (arith, v.room)) t.1 v.plan;
     }
 
 pub returns-clause-most : goal.returns-clause-most
@@ -48,10 +92,10 @@ returns-clause-most c =
     let all : drop c.loop-at.at c.args.items.now ≡ c.args.items.now =
     ap (λ (i : ℕ). drop i c.args.items.now) (let none : c.loop-at.at
     ≡ 0 = omega (arith, c.loop-at-test.false) in none) in
-    let is = c.loop-at.invariant.row ∙ ap (row c.args.extent) all in
     omega (
       arith,
-      ap (λ (r : Row). r.ascii) is,
+      c.loop-at.invariant.row.ascii,
+      ap (λ (r : Row). r.ascii) (ap (row c.args.extent) all),
       (row_within c.args.extent c.args.items.now (omega (arith, c.requires.few))).ascii,
       c.requires.few,
     )

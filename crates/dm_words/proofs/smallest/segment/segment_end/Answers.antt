@@ -1,4 +1,4 @@
-use Rattle.std.proofs.Common.{arith}
+use Rattle.std.proofs.Common.{◌∙◌, sym, arith}
 use Rattle.dm_words.specs.declared.item.Item.TheVariants.{Byte}
 use Rattle.dm_words.proofs.SegmentBudget.{begun_at, byte_at, ended_at}
 use Rattle.dm_words.proofs.smallest.segment.segment_end.Goals as goal
@@ -12,7 +12,9 @@ pub loop-next-preserved : goal.loop-next-preserved
 loop-next-preserved c =
     let v = c.loop-next.invariant in
     let g = byte_at c.args.extent c.args.items.now c.args.at c.loop-next.next (Byte 0) _ (omega (arith, c.requires.few))
-    (omega (arith, v.from)) v.within (c.requires.plan c.loop-next.next _ v.within) c.loop-next-test.true v.so_far
+    (omega (arith, v.from)) v.within (c.requires.plan c.loop-next.next _ v.within)
+    (sym c.segment_ends.ensures ∙ c.loop-next-test.true)
+    v.so_far
     v.bytes in
     record { from = omega (arith, v.from); within = omega (arith, g.there); so_far = g.so_far; bytes = g.bytes }
 
@@ -22,7 +24,9 @@ loop-next-smaller c =
     omega (
       arith,
       (byte_at c.args.extent c.args.items.now c.args.at c.loop-next.next (Byte 0) _ (omega (arith, c.requires.few))
-          (omega (arith, v.from)) v.within (c.requires.plan c.loop-next.next _ v.within) c.loop-next-test.true v.so_far
+          (omega (arith, v.from)) v.within (c.requires.plan c.loop-next.next _ v.within)
+          (sym c.segment_ends.ensures ∙ c.loop-next-test.true)
+          v.so_far
           v.bytes).there,
     )
 
@@ -30,4 +34,4 @@ pub returns-clause-cost : goal.returns-clause-cost
 returns-clause-cost c =
     let v = c.loop-next.invariant in
     ended_at c.args.extent c.args.items.now c.args.at c.loop-next.next _ (c.requires.plan c.loop-next.next _ v.within)
-    c.loop-next-test.false v.so_far
+    (sym c.segment_ends.ensures ∙ c.loop-next-test.false) v.so_far

@@ -1,0 +1,7 @@
+use Rattle.dm_words.proofs.CostLanes.{second_byte}
+use Rattle.dm_words.proofs.smallest.row.second_over_byte.Goals as goal
+
+pub returns : goal.returns
+returns c x e h =
+    second_byte c.args.extent c.args.byte c.class_of.result x e c.second_over.result c.class_of.ensures.x12
+    c.class_of.ensures.edifact (c.second_over.ensures x e h)
