@@ -3,7 +3,8 @@
 use super::samples::{WORD, codeword, data_and_checks, part, put, turned_over, with_errors};
 use crate::calls::generator_of;
 use crate::claims::holds;
-use dm_code::{BeyondLimit, Elimination, Fixed, KeySolver, Quick, correct};
+use arrayvec::ArrayVec;
+use dm_code::{BeyondLimit, Elimination, Fixed, KeySolver, Quick, correct, correct_to};
 use dm_layout::table;
 
 /// What `correct` gives with a solver, and None where there is no such block.
@@ -56,6 +57,17 @@ fn two_errors_with_five_checks_are_corrected_and_three_refused(rt: HostRuntime) 
         is_corrected(&[0, 0, 186, 114, 25, 5, 88, 102], &WORD, 5, 2),
     );
     holds(&rt, is_refused(&[0, 0, 0, 114, 25, 5, 88, 102], 5));
+}
+
+#[test]
+fn a_target_takes_the_codeword_that_is_near(rt: HostRuntime) {
+    let mut fixed = ArrayVec::new();
+    let damaged = [0, 0, 186, 114, 25, 5, 88, 102];
+    holds(&rt, correct_to(&Quick, &damaged, 5, &mut fixed) == Ok(2));
+    holds(&rt, fixed.as_slice() == WORD.as_slice());
+    holds(&rt, correct_to(&Quick, &WORD, 5, &mut fixed) == Ok(0));
+    let beyond = [0, 0, 0, 114, 25, 5, 88, 102];
+    holds(&rt, correct_to(&Quick, &beyond, 5, &mut fixed) == Err(BeyondLimit));
 }
 
 /// Whether the first `length` codewords of a word are corrected with as many wrong codewords as can be, at every

@@ -1,8 +1,12 @@
 //! Colours that make no modules, and modules with wrong borders.
 
+ghost use Rattle.std.specs.Prelude.{◌≡◌};
+
 use crate::claims::holds;
 use crate::modules::words_of;
-use dm_modules::{Modules, ModulesFault, SymbolSize, border_colour, border_faults, lay};
+use dm_modules::{
+    Modules, ModulesFault, SymbolSize, border_colour, border_faults, border_faults_but, lay,
+};
 
 /// Why so many light modules make no symbol of these rows and columns, or None where they make one.
 fn fault_of(rows: u16, columns: u16, count: usize) -> Option<ModulesFault> {
@@ -27,7 +31,9 @@ fn other_counts_and_sizes_are_refused(rt: HostRuntime) {
 }
 
 /// Gives a module the other colour, where there is such a module.
-fn turn(modules: &mut Modules, row: u16, column: u16) {
+fn turn(modules: &mut Modules, row: u16, column: u16)
+    ensures { modules.new.size ≡ modules.old.size }
+{
     let size = modules.size();
     if row < size.rows() && column < size.columns() {
         let dark = modules.is_dark(row, column);
@@ -51,6 +57,23 @@ fn wrong_border_modules_are_counted(rt: HostRuntime) {
     turn(&mut modules, 3, 14);
     turn(&mut modules, 1, 17);
     holds(&rt, border_faults(&modules) == 4);
+}
+
+#[test]
+fn doubtful_border_modules_are_not_counted(rt: HostRuntime) {
+    let Some(words) = words_of(8, 32, &[0; 21]) else {
+        holds(&rt, false);
+        return;
+    };
+    let mut modules = lay(&words);
+    let mut doubtful = Modules::light(modules.size());
+    turn(&mut modules, 0, 0);
+    turn(&mut modules, 7, 31);
+    turn(&mut modules, 3, 15);
+    holds(&rt, border_faults_but(&modules, &doubtful) == 3);
+    turn(&mut doubtful, 7, 31);
+    turn(&mut doubtful, 3, 16);
+    holds(&rt, border_faults_but(&modules, &doubtful) == 2);
 }
 
 /// The colour that a border of 8 x 32 prescribes at a row and a column.
