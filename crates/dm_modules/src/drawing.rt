@@ -149,11 +149,12 @@ fn read_row(modules: &Modules, row: u16, line: &mut [bool])
 {
     let size = modules.size();
     let outer = symbol_row(size, row);
-    let width = size.region_columns();
-    for region in 0..size.regions_across() {
-        let start = (region * width) as usize;
-        let part = modules.part(outer, region * (width + 2) + 1, width);
-        line[start..start + width as usize].copy_from_slice(part);
+    let all = modules.part(outer, 0, size.columns());
+    let width = size.region_columns() as usize;
+    for region in 0..size.regions_across() as usize {
+        let start = region * width;
+        let inner = region * (width + 2) + 1;
+        line[start..start + width].copy_from_slice(&all[inner..inner + width]);
     }
 }
 

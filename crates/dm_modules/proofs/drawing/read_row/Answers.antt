@@ -1,6 +1,9 @@
-use Rattle.std.proofs.Common.{◌≡◌, ℕ, ◌*◌, ◌≤◌, ◌∙◌, ap, refl, arith, length, false, get_or, List, Bool}
+use Rattle.std.proofs.Common.{◌≡◌, ℕ, ◌+◌, ◌-◌, ◌*◌, ◌<◌, ◌≤◌, ◌∙◌, ap, refl, sym, arith, length, false, get_or}
+use Rattle.std.proofs.Common.{List, Bool}
 use Rattle.std.proofs.Math.Nat.{mul-le-mul_right}
+use Rattle.std.proofs.lemmas.Simd.{get_or-chunk, length-chunk}
 use Rattle.dm_place.specs.Border.{symbol_line}
+use Rattle.dm_modules.specs.Modules.{module_at}
 use Rattle.dm_modules.specs.Sizes.{SizeEntry, mapping_columns}
 use Rattle.dm_modules.proofs.Drawn.{region_read}
 use Rattle.dm_modules.proofs.drawing.read_row.Goals as goal
@@ -21,9 +24,24 @@ loop-region-preserved c =
     let all : across * w ≡ mapping_columns m.size =
     ap (λ (k : ℕ). k * w) regions ∙ ap (λ (k : ℕ). m.size.regions_across * k) width in
     let below : region * w ≤ across * w = mul-le-mul_right w (omega (arith, c.loop-region-test.true)) in
+    let inner : ℕ = region * (w + 2) + 1 in
+    let part : List Bool = c.part-all.result.now in
+    let wide : (region + 1) * (w + 2) ≤ across * (w + 2) =
+    mul-le-mul_right (w + 2) (omega (arith, c.loop-region-test.true)) in
+    let columns : c.columns.result ≡ across * (w + 2) =
+    c.columns.ensures.value ∙ c.region_columns-width.ensures.columns
+    ∙ ap (λ (k : ℕ). k * (c.size-size.result.region_columns + 2)) (sym c.regions_across-region-end.ensures.value)
+    ∙ ap (λ (k : ℕ). across * (k + 2)) (sym c.region_columns-width.ensures.value) in
+    let inside : inner + w < c.columns.result = omega (arith, wide, columns) in
+    let count : inner + w - inner ≡ w = omega arith in
     region_read m c.args.row region w (region * w) _ c.symbol_row-outer.result c.loop-region.line
     c.copy_from_slice.new.self width refl outer
-    (ap length c.copy_from_slice.ensures.after ∙ c.part-part.ensures.count)
+    (ap length c.copy_from_slice.ensures.after
+    ∙ length-chunk inner (inner + w - inner) part (omega (arith, inside, count, c.part-all.ensures.count)) ∙ count)
     (omega (arith, below, all, c.loop-region.auto.line, c.requires.line)) c.loop-region.invariant
-    (λ j l. ap (λ (xs : List Bool). get_or xs j false) c.copy_from_slice.ensures.after
-    ∙ c.part-part.ensures.colours j l)
+    (λ j l.
+    let z : 0 + (inner + j) ≡ inner + j = omega arith in
+    ap (λ (xs : List Bool). get_or xs j false) c.copy_from_slice.ensures.after
+    ∙ get_or-chunk inner (inner + w - inner) part j false (omega (arith, count, l))
+    ∙ c.part-all.ensures.colours (inner + j) (omega (arith, inside, l))
+    ∙ ap (module_at m c.symbol_row-outer.result) z)
