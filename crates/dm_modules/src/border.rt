@@ -1,12 +1,12 @@
 //! Borders, which are the finder pattern and the alignment patterns, and the lines of the symbol between them: ISO/IEC
 //! 16022, symbol structure.
 
-ghost use Rattle.std.specs.Prelude.{◌≡◌, ℕ, ◌+◌, ◌%◌, ◌<◌, ◌≤◌, Some, cond, count_by, nat_eq, not};
+ghost use Rattle.std.specs.Prelude.{◌≡◌, ℕ, false, ◌+◌, ◌%◌, ◌<◌, ◌≤◌, Some, cond, count_by, get_or, length, nat_eq};
+ghost use Rattle.std.specs.Prelude.{not};
 ghost use Rattle.std.specs.Bool.{beq};
 ghost use Rattle.std.specs.List.{range_with_len};
 ghost use Rattle.dm_modules.specs.Sizes.{mapping_rows, mapping_columns};
 ghost use Rattle.dm_place.specs.Border.{symbol_line};
-ghost use Rattle.dm_modules.specs.Modules.{module_at};
 ghost use Rattle.dm_modules.specs.Border.{border_colour as border_colour_by, is_fault, border_fault_count};
 ghost use Rattle.dm_modules.specs.inner.Drawing.{edge_colour, IsBetween};
 
@@ -66,18 +66,14 @@ pub(crate) fn edge_is_dark(solid: bool, column: usize) -> bool
     solid || column % 2 == 0
 }
 
-/// Gives 1 if a module has another colour than this one, and else 0.
-fn fault(modules: &Modules, row: u16, column: u16, dark: bool) -> u16
-    requires row { row < modules.now.size.rows }
-    requires column { column < modules.now.size.columns }
-    ensures value { result ≡ cond (not (beq (module_at modules.now row column) dark)) 1 0 }
+/// Gives 1 if a module of a row has another colour than this one, and else 0.
+#[inline(always)]
+fn fault(line: &[bool], column: usize, dark: bool) -> u16
+    requires { column < length line.now }
+    ensures value { result ≡ cond (not (beq (get_or line.now column false) dark)) 1 0 }
     ensures most { result ≤ 1 }
 {
-    if modules.is_dark(row, column) == dark {
-        0
-    } else {
-        1
-    }
+    if line[column] == dark { 0 } else { 1 }
 }
 
 /// Gives how many modules of a row that lies at the top of its regions, or at the bottom, where it is solid, have the
@@ -89,10 +85,12 @@ fn edge_faults(modules: &Modules, row: u16, solid: bool) -> u16
         ≡ count_by (is_fault modules.now row) (range_with_len 0 modules.now.size.columns) }
     ensures most { result ≤ modules.now.size.columns }
 {
+    let columns = modules.size().columns();
+    let line = modules.part(row, 0, columns);
     let mut faults = 0;
-    for column in 0..modules.size().columns() {
-        let dark = edge_is_dark(solid, column as usize);
-        faults += fault(modules, row, column, dark);
+    for column in 0..columns as usize {
+        let dark = edge_is_dark(solid, column);
+        faults += fault(line, column, dark);
     }
     faults
 }
@@ -108,12 +106,13 @@ fn side_faults(modules: &Modules, row: u16, end: bool) -> u16
     ensures most { result ≤ modules.now.size.columns }
 {
     let size = modules.size();
-    let width = size.region_columns() + 2;
+    let line = modules.part(row, 0, size.columns());
+    let width = size.region_columns() as usize + 2;
     let mut faults = 0;
-    for region in 0..size.regions_across() {
+    for region in 0..size.regions_across() as usize {
         let left = region * width;
-        let at_left = fault(modules, row, left, true);
-        let at_right = fault(modules, row, left + (width - 1), end);
+        let at_left = fault(line, left, true);
+        let at_right = fault(line, left + (width - 1), end);
         faults += at_left + at_right;
     }
     faults
