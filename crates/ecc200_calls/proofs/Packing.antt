@@ -132,14 +132,14 @@ rest_at xs at k d l =
 pub short_small : (n k : ℕ) → n < 2 ^ k → k < 16 → n < 2 ^ 16
 short_small n k small l = omega (arith, small, pow_below k 16 l)
 
--- The mask of sixteen modules has sixteen bits.
-pub mask_small : (modules : List ℕ) (bits : ℕ) → bits ≡ mask_l (map is_dark (chunk 0 16 modules)) →
-    16 ≤ length modules → bits < 2 ^ 16
-mask_small modules bits e long =
-    let count : length (map is_dark (chunk 0 16 modules)) ≡ 16 =
-    length-map (chunk 0 16 modules) is_dark ∙ length-chunk 0 16 modules long in
-    subst (λ n. n < 2 ^ 16) (sym e) (subst (λ n. mask_l (map is_dark (chunk 0 16 modules)) < 2 ^ n) count
-    (mask_l-lt (map is_dark (chunk 0 16 modules))))
+-- The mask of n modules has n bits.
+pub mask_small : (n : ℕ) (modules : List ℕ) (bits : ℕ) → bits ≡ mask_l (map is_dark (chunk 0 n modules)) →
+    n ≤ length modules → bits < 2 ^ n
+mask_small n modules bits e long =
+    let count : length (map is_dark (chunk 0 n modules)) ≡ n =
+    length-map (chunk 0 n modules) is_dark ∙ length-chunk 0 n modules (omega (arith, long)) in
+    subst (λ b. b < 2 ^ n) (sym e) (subst (λ k. mask_l (map is_dark (chunk 0 n modules)) < 2 ^ k) count
+    (mask_l-lt (map is_dark (chunk 0 n modules))))
 
 -- A bit of a mask is 1 where its lane is true.
 cond_one : (b : Bool) → nat_eq (cond b 1 0) 1 ≡ b
@@ -147,13 +147,14 @@ cond_one true = refl
 cond_one false = refl
 
 -- Its bits are the modules.
-pub mask_dark : (modules : List ℕ) (bits : ℕ) → bits ≡ mask_l (map is_dark (chunk 0 16 modules)) → 16 ≤ length modules
-    → (column : ℕ) → column < 16 → column < length modules → is_dark_in bits column ≡ is_dark (get_or modules column 0)
-mask_dark modules bits e long column l within =
-    let block = chunk 0 16 modules in
-    let count : length block ≡ 16 = length-chunk 0 16 modules long in
-    ap (λ n. is_dark_in n column) e ∙ ap (λ b. nat_eq b 1) (bit_mask_l (map is_dark block) column)
+pub mask_dark : (n : ℕ) (modules : List ℕ) (bits : ℕ) → bits ≡ mask_l (map is_dark (chunk 0 n modules))
+    → n ≤ length modules
+    → (column : ℕ) → column < n → column < length modules → is_dark_in bits column ≡ is_dark (get_or modules column 0)
+mask_dark n modules bits e long column l within =
+    let block = chunk 0 n modules in
+    let count : length block ≡ n = length-chunk 0 n modules (omega (arith, long)) in
+    ap (λ b. is_dark_in b column) e ∙ ap (λ b. nat_eq b 1) (bit_mask_l (map is_dark block) column)
     ∙ cond_one (get_or (map is_dark block) column false)
     ∙ get_or-map is_dark block column 0 false (omega (arith, count, l))
-    ∙ ap is_dark (get_or-chunk 0 16 modules column 0 l
+    ∙ ap is_dark (get_or-chunk 0 n modules column 0 l
     ∙ ap (λ j. get_or modules j 0) (let first : 0 + column ≡ column = omega arith in first))

@@ -1,8 +1,8 @@
-//! Squares that are read and written as grids: their modules as bytes, row by row from the top. They are packed and
-//! unpacked sixteen at once.
+//! Squares that are read and written as grids: their modules as bytes, row by row from the top. They are packed
+//! sixty-four at once, where so many follow, or sixteen, and unpacked sixteen at once.
 
-ghost use Rattle.std.specs.Prelude.{◌≡◌, ◌+◌, ◌*◌, ◌^◌, ◌≤◌, ◌<◌, ◌≢◌, ◌++◌, ℕ, [], drop, get_or, length, map, take};
-ghost use Rattle.std.specs.Prelude.{IfErr};
+ghost use Rattle.std.specs.Prelude.{◌≡◌, ◌+◌, ◌*◌, ◌%◌, ◌^◌, ◌≤◌, ◌<◌, ◌≢◌, ◌++◌, ℕ, [], drop, get_or, length, map};
+ghost use Rattle.std.specs.Prelude.{take, IfErr};
 ghost use Rattle.std.specs.Prelude.{IsSome, IsTrue, OnOk};
 ghost use Rattle.dm_symbol.specs.Sizes.{row_with_side};
 ghost use Rattle.dm_symbol.specs.Grid.{is_dark_in, symbol_modules};
@@ -20,6 +20,9 @@ use std::simd::prelude::*;
 
 /// This many modules are packed together, and as many are unpacked.
 const TOGETHER: usize = 16;
+
+/// The first modules of a row are packed this many together, those of most squares at once.
+const WIDE: usize = 64;
 
 /// The modules of a row of the largest side, and some more, so that the last ones can be unpacked together.
 const LINE: usize = LARGEST_SIDE / TOGETHER * TOGETHER + TOGETHER;
@@ -59,15 +62,38 @@ pub(crate) fn make_grid(modules: &[u8], side: u16, grid: &mut Grid) -> Result<()
 }
 
 /// Packs the first modules into one number: the module of a column is the bit whose weight is 2 to the power of that
-/// column, 1 for dark. What its other bits are is of no account.
+/// column, 1 for dark. What its other bits are is of no account. The first sixty-four are packed at once, modules of
+/// the rows below among them, but in the last rows, which fewer modules follow.
 fn pack(modules: &[u8], across: usize) -> u128
     requires few { across ≤ LARGEST_SIDE }
     requires there { across ≤ length modules.now }
     ensures { (column : ℕ) → column < across
         → is_dark_in result column ≡ is_dark_number (get_or modules.now column 0) }
 {
-    let mut row = 0;
-    let mut column = 0;
+    if modules.len() < WIDE {
+        return pack_on(modules, across, 0, 0);
+    }
+    let first = u128::from(wide_dark_bits(u8x64::from_slice(modules)));
+    if across <= WIDE {
+        return first;
+    }
+    pack_on(modules, across, WIDE, first)
+}
+
+/// Packs the modules from column `start` on, sixteen at a time, behind those before it, which are packed.
+fn pack_on(modules: &[u8], across: usize, start: usize, packed: u128) -> u128
+    requires few { across ≤ LARGEST_SIDE }
+    requires there { across ≤ length modules.now }
+    requires start { start % TOGETHER ≡ 0 }
+    requires within { start < across + TOGETHER }
+    requires packed { (column : ℕ) → column < start → column < across
+        → is_dark_in packed column ≡ is_dark_number (get_or modules.now column 0) }
+    requires small { packed < 2 ^ start }
+    ensures { (column : ℕ) → column < across
+        → is_dark_in result column ≡ is_dark_number (get_or modules.now column 0) }
+{
+    let mut row = packed;
+    let mut column = start;
     while column < across {
         row |= pack_together(&modules[column..]) << column;
         column += TOGETHER;
@@ -94,6 +120,14 @@ fn dark_bits(modules: u8x16) -> u64
     ensures { result ≡ mask_l (map is_dark_number modules) }
 {
     modules.simd_ne(u8x16::splat(0)).to_bitmask()
+}
+
+/// Does the same for as many modules as are packed together at the start of a row.
+#[inline]
+fn wide_dark_bits(modules: u8x64) -> u64
+    ensures { result ≡ mask_l (map is_dark_number modules) }
+{
+    modules.simd_ne(u8x64::splat(0)).to_bitmask()
 }
 
 /// Packs these modules, one after the other.

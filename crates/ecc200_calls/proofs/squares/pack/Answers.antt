@@ -1,29 +1,13 @@
-use Rattle.std.proofs.Common.{◌≡◌, ◌<◌, ◌≤◌, ◌+◌, ◌*◌, ◌%◌, ◌^◌, ◌∙◌, ℕ, arith, get_or, subst, sym, ap, bit_or}
-use Rattle.dm_symbol.specs.Grid.{is_dark_in}
-use Rattle.dm_modules.specs.Modules.{is_dark_number as is_dark}
-use Rattle.ecc200_calls.proofs.Packing.{together_is, together_more, together_small, rest_at}
+use Rattle.std.proofs.Common.{◌∙◌, arith}
+use Rattle.ecc200_calls.proofs.Packing.{mask_dark}
 use Rattle.ecc200_calls.proofs.squares.pack.Goals as goal
 
-pub loop-column-preserved : goal.loop-column-preserved
-loop-column-preserved c =
-    let row = c.loop-column.row in
-    let column = c.loop-column.column in
-    let next = c.pack_together.result in
-    let modules = c.args.modules.now in
-    let i = c.loop-column.invariant in
-    let low : column ≤ 112 = omega (arith, c.loop-column-test.true, c.requires.few, i.multiple) in
-    let sum : bit_or row (next * 2 ^ column % 2 ^ 128) ≡ next * 2 ^ column + row =
-    together_is row next column low i.small c.pack_together.ensures.small in
-    record {
-      before =
-          subst (λ n. (k : ℕ) → k < column + 16 → k < c.args.across → is_dark_in n k ≡ is_dark (get_or modules k 0))
-          (sym sum)
-          (together_more modules row next column c.args.across i.small i.before (λ k l w.
-          c.pack_together.ensures.modules k l (rest_at modules column k 0 (omega (arith, w, c.requires.there))).0
-          ∙ ap is_dark (rest_at modules column k 0 (omega (arith, w, c.requires.there))).1));
-      small =
-          subst (λ n. n < 2 ^ (column + 16)) (sym sum)
-          (together_small row next column i.small c.pack_together.ensures.small);
-      multiple = omega (arith, i.multiple);
-      within = omega (arith, c.loop-column-test.true);
-    }
+pub returns-then-across-le-WIDE : goal.returns-then-across-le-WIDE
+returns-then-across-le-WIDE c column l =
+    mask_dark 64 c.args.modules.now c.from-first.result (c.from-first.ensures ∙ c.wide_dark_bits.ensures)
+    c.if-modules-lt-WIDE.false column (omega (arith, l, c.if-across-le-WIDE.true)) (omega (arith, l, c.requires.there))
+
+pub pack_on-requires-2-clause-packed : goal.pack_on-requires-2-clause-packed
+pack_on-requires-2-clause-packed c column l within =
+    mask_dark 64 c.args.modules.now c.from-first.result (c.from-first.ensures ∙ c.wide_dark_bits.ensures)
+    c.if-modules-lt-WIDE.false column l (omega (arith, within, c.requires.there))

@@ -8,8 +8,8 @@ returns-then-modules-lt-TOGETHER-clause-small c =
 
 pub returns-clause-small : goal.returns-clause-small
 returns-clause-small c =
-    mask_small c.args.modules.now c.from.result (c.from.ensures ∙ c.dark_bits.ensures) c.if-modules-lt-TOGETHER.false
+    mask_small 16 c.args.modules.now c.from.result (c.from.ensures ∙ c.dark_bits.ensures) c.if-modules-lt-TOGETHER.false
 
 pub returns-clause-modules : goal.returns-clause-modules
 returns-clause-modules c =
-    mask_dark c.args.modules.now c.from.result (c.from.ensures ∙ c.dark_bits.ensures) c.if-modules-lt-TOGETHER.false
+    mask_dark 16 c.args.modules.now c.from.result (c.from.ensures ∙ c.dark_bits.ensures) c.if-modules-lt-TOGETHER.false

@@ -1,7 +1,7 @@
 use Rattle.std.proofs.Common.{◌≡◌, ◌-◌, ◌+◌, ◌%◌, ◌<◌, ◌^◌, ℕ, get_or}
 use Rattle.dm_symbol.specs.Grid.{is_dark_in}
 use Rattle.dm_modules.specs.Modules.{is_dark_number as is_dark}
-use Rattle.ecc200_calls.proofs.squares.pack.Given as goal
+use Rattle.ecc200_calls.proofs.squares.pack_on.Given as goal
 
 -- The modules before this column, a multiple of sixteen, are packed, and nothing else.
 abbrev pub invariant-loop-column : goal.invariant-loop-column
