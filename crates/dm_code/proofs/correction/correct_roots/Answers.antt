@@ -87,7 +87,8 @@ loop-lane-preserved c =
                 (c.loop-lane.auto.word ∙ c.loop-part.auto.word) (omega arith) xe ze
                 (b.word-is ∙ ap (λ n. slice_set f n b.add.result.0) (let r : length f - 1 - (j + lane) ≡ q =
                 omega (arith, c.loop-lane.auto.word, c.loop-part.auto.word) in r)
-                ∙ ap (slice_set f q) (b.add.ensures ∙ ap (λ n. get_or f n 0 ⊕ y) (let r : length f - 1 - (j + lane) ≡ q =
+                ∙ ap (slice_set f q) (b.add.ensures
+                ∙ ap (λ n. get_or f n 0 ⊕ y) (let r : length f - 1 - (j + lane) ≡ q =
                 omega (arith, c.loop-lane.auto.word, c.loop-part.auto.word) in r)))
                 b.error_value-value.ensures.byte
                 (divided_by l at (get_or c.sums.result.1 lane 0) y (value (first (coefficient v) (length l - 1)) at) (o
@@ -136,7 +137,11 @@ loop-part-preserved c =
 pub loop-part-preserved-then-zero_lanes-eq0 : goal.loop-part-preserved-then-zero_lanes-eq0
 loop-part-preserved-then-zero_lanes-eq0 c =
     let l = c.args.locator.now in
+    let v = c.args.evaluator.now in
     let w = c.args.word.now in
+    let f = c.loop-part.word in
+    let k = c.args.k in
+    let s = take k c.loop-part.syndromes in
     let n = length w in
     let j = 16 * c.loop-part.part in
     let q = n - 16 * (c.loop-part.part + 1) in
@@ -148,9 +153,8 @@ loop-part-preserved-then-zero_lanes-eq0 c =
     ap length c.sums.ensures.values ∙ length-map (values_from power j 16) (value l) ∙ length-values_from power j 16 in
     record {
       bytes = i.bytes;
-      corrected = apart_steps l c.args.evaluator.now w c.loop-part.word (take c.args.k c.loop-part.syndromes) c.args.k q m
-          (subst (IsCorrectedFrom l c.args.evaluator.now w c.loop-part.word (take c.args.k c.loop-part.syndromes) c.args.k)
-          (sym all) i.corrected)
+      corrected = apart_steps l v w f s k q m
+          (subst (IsCorrectedFrom l v w f s k) (sym all) i.corrected)
           (λ a b z.
           let lane = n - suc (q + a) - j in
           let back : j + lane ≡ n - suc (q + a) = omega arith in

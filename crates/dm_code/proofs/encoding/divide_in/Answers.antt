@@ -41,7 +41,9 @@ pub take_two-requires-clause-row : goal.take_two-requires-clause-row
 take_two-requires-clause-row g c = λ i h.
     let k = c.args.k in
     let t = c.taps.result.now in
-    let at = tap_at k t (omega (arith, c.row_after-row.ensures.long)) (λ j b. c.taps.ensures j (omega (arith, c.row_after-row.ensures.long))) in
+    let at =
+    tap_at k t (omega (arith, c.row_after-row.ensures.long))
+    (λ j b. c.taps.ensures j (omega (arith, c.row_after-row.ensures.long))) in
     c.row_after-row.ensures.each i h
     ∙ ap (λ y. y ⊕ get_or t 0 0 ⊗ get_or t i 0) (at (suc i))
     ∙ ap (λ y. coefficient (generator k) (suc (suc i)) ⊕ y ⊗ get_or t i 0) (at 0)

@@ -1,5 +1,5 @@
-use Rattle.std.proofs.Common.{◌≡◌, ◌+◌, ◌-◌, ◌*◌, ◌<◌, ◌≤◌, ◌++◌, length, length-append, length-take, map, take, sym, ap}
-use Rattle.std.proofs.Common.{subst, ◌∙◌, arith}
+use Rattle.std.proofs.Common.{◌≡◌, ◌+◌, ◌-◌, ◌*◌, ◌<◌, ◌≤◌, ◌++◌, length, length-append, length-take, map, take}
+use Rattle.std.proofs.Common.{sym, ap, subst, ◌∙◌, arith}
 use Rattle.std.proofs.lemmas.List.{length-map}
 use Rattle.gf301.specs.declared.generators.TheConstants.{MOST_CHECKS}
 use Rattle.gf301.specs.Field.{power}
@@ -40,11 +40,16 @@ loop-group-preserved c =
     let added : length (take n c.values_from_root.result) ≡ n = simp length-take (omega (arith, size)) in
     let room : length c.loop-group.values.items + length (take n c.values_from_root.result) ≤ MOST_CHECKS =
     omega (arith, before, added) in
-    let all : c.try_extend_from_slice-room.new.self.items ≡ c.loop-group.values.items ++ take n c.values_from_root.result
-    = grind (arith, room) in
+    let all : c.try_extend_from_slice-room.new.self.items
+    ≡ c.loop-group.values.items ++ take n c.values_from_root.result = grind (arith, room) in
     let long : length c.try_extend_from_slice-room.new.self.items ≡ done + n =
-    omega (arith, ap length all, length-append c.loop-group.values.items (take n c.values_from_root.result), before, added)
-    in
+    omega (
+      arith,
+      ap length all,
+      length-append c.loop-group.values.items (take n c.values_from_root.result),
+      before,
+      added,
+    ) in
     record {
       values =
           all ∙ ap (λ t. t ++ take n c.values_from_root.result) (c.loop-group.invariant.values
