@@ -1,5 +1,6 @@
 -- Shapes none of whose cells is wrapped.
-use Rattle.std.proofs.Common.{◌≡◌, ℕ, zero, suc, ◌+◌, ◌-◌, ◌*◌, ◌/◌, ◌%◌, ◌^◌, ◌<◌, ◌≤◌, Bool, true, false, nat_eq, ◌⊎◌, inl, inr}
+use Rattle.std.proofs.Common.{◌≡◌, ℕ, zero, suc, ◌+◌, ◌-◌, ◌*◌, ◌/◌, ◌%◌}
+use Rattle.std.proofs.Common.{◌^◌, ◌<◌, ◌≤◌, Bool, true, false, nat_eq, ◌⊎◌, inl, inr}
 use Rattle.std.proofs.Common.{nat_lt, nat_le, List, [], ◌∷◌, ◌++◌, map, get_or, set, length, refl, sym, ◌∙◌, ap, arith}
 use Rattle.std.specs.List.{range_with_len}
 use Rattle.std.proofs.Math.Bool.{and-false}
@@ -14,7 +15,8 @@ use Rattle.dm_place.specs.declared.shape.Shape.TheVariants.{Standard}
 use Rattle.dm_place.specs.declared.shapes.Part.{Part}
 use Rattle.dm_place.specs.declared.shapes.Part.TheVariants.{Even, Odd}
 use Rattle.dm_place.specs.declared.run.Diagonal.{Diagonal}
-use Rattle.dm_place.specs.Placement.{At, cells_of, lowered_cell, standard_by, wrapped_cell, wrapped_twice, is_absent, in_even_row, in_odd_row, CellsInside}
+use Rattle.dm_place.specs.Placement.{At, cells_of, lowered_cell, standard_by, wrapped_cell}
+use Rattle.dm_place.specs.Placement.{wrapped_twice, is_absent, in_even_row, in_odd_row, CellsInside}
 use Rattle.dm_place.specs.Placement.{ShapesInside}
 use Rattle.dm_place.specs.Holding.{digit, look_at, number_of, word_at}
 use Rattle.dm_place.specs.inner.Laying.{laid, lifted, place_in, with_bits, with_word}
@@ -181,7 +183,8 @@ inner_word rows columns cells r c first second third lr inside lc a b d =
 -- ---- shapes of a run
 
 -- The shapes of a diagonal from number i on begin with number i.
-first_on : (rising : Bool) (d : Diagonal) (i : ℕ) → i < d.count → shapes_from rising d i ≡ anchor_at rising d i ∷ shapes_from rising d (i + 1)
+first_on : (rising : Bool) (d : Diagonal) (i : ℕ) → i < d.count
+    → shapes_from rising d i ≡ anchor_at rising d i ∷ shapes_from rising d (i + 1)
 first_on rising d i l =
     let e : d.count - i ≡ suc (d.count - (i + 1)) = omega (arith, l) in
     ap (λ (k : ℕ). map (anchor_at rising d) (range_with_len i k)) e
@@ -193,18 +196,21 @@ none_on rising d i l =
     ap (λ (k : ℕ). map (anchor_at rising d) (range_with_len i k)) e
 
 -- After the codeword of number i of a diagonal, those of the next are lifted.
-pub lifted_next : (look : ℕ → ℕ → Bool) (rows columns : ℕ) (rising : Bool) (d : Diagonal) (first i w : ℕ) (words all : List ℕ) →
+pub lifted_next : (look : ℕ → ℕ → Bool) (rows columns : ℕ) (rising : Bool) (d : Diagonal) (first i w : ℕ)
+    (words all : List ℕ) →
     i < d.count → w ≡ word_at look (cells_of rows columns (anchor_at rising d i)) →
     lifted look rows columns (shapes_from rising d i) (first + i) words ≡ all →
     lifted look rows columns (shapes_from rising d (i + 1)) (first + (i + 1)) (set words (first + i) w) ≡ all
 lifted_next look rows columns rising d first i w words all l e so_far =
     let k : first + (i + 1) ≡ first + i + 1 = omega arith in
     ap (λ (j : ℕ). lifted look rows columns (shapes_from rising d (i + 1)) j (set words (first + i) w)) k
-    ∙ ap (λ (x : ℕ). lifted look rows columns (shapes_from rising d (i + 1)) (first + i + 1) (set words (first + i) x)) e
+    ∙ ap (λ (x : ℕ). lifted look rows columns (shapes_from rising d (i + 1)) (first + i + 1)
+        (set words (first + i) x)) e
     ∙ sym (ap (λ (ss : List Shape). lifted look rows columns ss (first + i) words) (first_on rising d i l)) ∙ so_far
 
 -- After the last of a diagonal nothing is left to be lifted.
-pub lifted_last : (look : ℕ → ℕ → Bool) (rows columns : ℕ) (rising : Bool) (d : Diagonal) (i k : ℕ) (words : List ℕ) → d.count ≤ i →
+pub lifted_last : (look : ℕ → ℕ → Bool) (rows columns : ℕ) (rising : Bool) (d : Diagonal) (i k : ℕ) (words : List ℕ)
+    → d.count ≤ i →
     lifted look rows columns (shapes_from rising d i) k words ≡ words
 lifted_last look rows columns rising d i k words l =
     ap (λ (ss : List Shape). lifted look rows columns ss k words) (none_on rising d i l)
@@ -222,7 +228,8 @@ laid_next rows columns ws rising d first i cells all l so_far =
     ∙ sym (ap (λ (ss : List Shape). laid rows columns ws ss (first + i) cells) (first_on rising d i l)) ∙ so_far
 
 -- After the last of a diagonal nothing is left to be laid.
-pub laid_last : (rows columns : ℕ) (ws : List ℕ) (rising : Bool) (d : Diagonal) (i k : ℕ) (cells : List Bool) → d.count ≤ i →
+pub laid_last : (rows columns : ℕ) (ws : List ℕ) (rising : Bool) (d : Diagonal) (i k : ℕ) (cells : List Bool)
+    → d.count ≤ i →
     laid rows columns ws (shapes_from rising d i) k cells ≡ cells
 laid_last rows columns ws rising d i k cells l =
     ap (λ (ss : List Shape). laid rows columns ws ss k cells) (none_on rising d i l)
