@@ -2,12 +2,12 @@
 use Rattle.std.proofs.Common.{◌≡◌, ◌≢◌, ℕ, zero, suc, ◌+◌, ◌-◌, ◌<◌, ◌≤◌, List, [], ◌∷◌, length, get_or, slice_set}
 use Rattle.std.proofs.Common.{refl, sym, ap, subst, ◌∙◌, arith, bit_xor, inl, inr, length-set}
 use Rattle.std.proofs.lemmas.Bool.{cases_eq}
-use Rattle.std.proofs.lemmas.List.{get_or-set_same, get_or-set_other, ext_get_or}
+use Rattle.std.proofs.lemmas.List.{get_or-set_same, get_or-set_other}
 use Rattle.std.proofs.Math.Nat.{pos_of_ne-zero}
 use lib.Bits.{xor_zero_r, xor_zero_l, xor_self}
 use Rattle.gf301.specs.Field.{◌⊕◌, ◌⊗◌, raise, power}
 use Rattle.gf301.specs.Polynomial.{Bytes, value}
-use Rattle.gf301.proofs.Exported.{product_assoc, product_comm, product_zero_right, product_one_left, product_one_right}
+use Rattle.gf301.proofs.Exported.{product_comm, product_zero_right, product_one_left}
 use Rattle.gf301.proofs.Exported.{product_cancels, raise_below, sum_zero, power_injective, factor_value, value_below}
 use Rattle.gf301.proofs.Exported.{weigh, weighted, weigh_same, weigh_weighted, value_weigh, length-weighted}
 use Rattle.gf301.proofs.Exported.{bytes_weighted, laid, sums, laid_sums}
@@ -17,8 +17,6 @@ use Rattle.dm_code.proofs.Codewords.{codeword_bytes, codeword_values, codeword_f
 use Rattle.dm_code.proofs.Distance.{codewords_one, differs_apart, differs_le, differs_same, differing_triangle}
 use Rattle.dm_code.proofs.ErrorPlaces.{locator_at}
 use Rattle.dm_code.proofs.CleanWords.{distance_self}
-use Rattle.dm_code.proofs.Corrections.{value_set}
-use Rattle.dm_code.specs.inner.Lessened.{IsLess}
 
 -- ---- one place weighed away
 -- Each number of a list is multiplied by x - r at its locator x, where r is the locator of a place: there it becomes 0.
@@ -26,7 +24,7 @@ unfoldable pub lessened : ℕ → List ℕ → List ℕ
 lessened r w = weighted (value (1 ∷ r ∷ [])) w
 
 -- A weighed list is weighed place by place.
-get_or-weighted : (f : ℕ → ℕ) (e : List ℕ) (i : ℕ) → i < length e →
+pub get_or-weighted : (f : ℕ → ℕ) (e : List ℕ) (i : ℕ) → i < length e →
     get_or (weighted f e) i 0 ≡ get_or e i 0 ⊗ f (locator_at (length e) i)
 unfolding weighted
 get_or-weighted f [] i h = absurd (omega arith)
@@ -353,108 +351,3 @@ self_near_zero w c b s e =
       long = ap length e;
       close = omega (arith, distance_self w c e);
     })
-
--- A word less a place is the lessened one.
-pub less_lessened : (p : ℕ) (w v : List ℕ) → p < length w → IsLess p w v → v ≡ lessened (locator_at (length w) p) w
-less_lessened p w v h l =
-    let r = locator_at (length w) p in
-    ext_get_or 0 v (lessened r w) (l.long ∙ sym (length-lessened r w)) (λ i b.
-    let ib : i < length w = omega (arith, l.long) in
-    l.each i ib ∙ ap (λ y. get_or w i 0 ⊗ y) (sym
-    (factor_value r (locator_at (length w) i) (raise_below 2 (length w - suc p))
-    (raise_below 2 (length w - suc i))))
-    ∙ sym (lessened_at w r i ib))
-
--- Completeness of a step, of words less a place.
-pub near_less : (k m : ℕ) (q w v c : List ℕ) (p : ℕ) → suc k ≡ m → m < 255 → Bytes w → length w ≤ 255 → m ≤ length w →
-    p < length w → IsLess p w v
-    → IsNearBut m w (p ∷ q) c → IsNearBut k v q (lessened (locator_at (length w) p) c)
-near_less k m q w v c p e small wb s room h l n =
-    subst (λ u. IsNearBut k u q (lessened (locator_at (length w) p) c)) (sym (less_lessened p w v h l))
-    (near_but_lessened k q w c p (omega arith) wb s (omega arith) h (subst (λ j. IsNearBut j w (p ∷ q) c) (sym e) n))
-
--- Soundness of a step, of words less a place.
-pub near_restored : (k m : ℕ) (q w v c d : List ℕ) (p : ℕ) → suc k ≡ m → m < 255 → Bytes w → Bytes c → length w ≤ 255 →
-    m ≤ length w → p < length w → IsLess p w v → IsLess p c d
-    → value c (power 1) ≡ 0 → IsNearBut k v q d →
-    IsNearBut m w (p ∷ q) c × (distance_but (p ∷ q) w c ≡ distance_but q v d)
-near_restored k m q w v c d p e small wb cb s room h l o z n =
-    let lc : length c ≡ length w = sym o.long ∙ n.long ∙ l.long in
-    let ve : v ≡ lessened (locator_at (length w) p) w = less_lessened p w v h l in
-    let de : d ≡ lessened (locator_at (length w) p) c =
-    less_lessened p c d (omega (arith, lc)) o ∙ ap (λ x. lessened (locator_at x p) c) lc in (
-      subst (λ j. IsNearBut j w (p ∷ q) c) e
-          (near_but_back k q w c p (omega arith) wb cb lc s (omega arith) h z
-          (subst (λ u. IsNearBut k u q (lessened (locator_at (length w) p) c)) ve (subst (IsNearBut k v q) de n))),
-      distance_step q w c p wb cb lc s h ∙ ap (λ u. distance_but q u (lessened (locator_at (length w) p) c)) (sym ve)
-          ∙ ap (distance_but q v) (sym de),
-    )
-
--- What is near to the lessened word, but not 0 at the place, comes from no codeword.
-pub near_nothing : (k m : ℕ) (q w v c d : List ℕ) (p : ℕ) → suc k ≡ m → m < 255 → Bytes w → length w ≤ 255 →
-    m ≤ length w → p < length w → IsLess p w v
-    → IsNearBut k v q d → (get_or d p 0 ≡ 0 → ⊥) → IsNearBut m w (p ∷ q) c → ⊥
-near_nothing k m q w v c d p e small wb s room h l nd nz n =
-    let r = locator_at (length w) p in
-    let ve : v ≡ lessened r w = less_lessened p w v h l in
-    let same : d ≡ lessened r c =
-    near_but_one k v q d (lessened r c) (omega (arith, l.long)) nd (near_less k m q w v c p e small wb s room h l n) in
-    nz (ap (λ t. get_or t p 0) same ∙ ap (λ x. get_or (lessened (locator_at x p) c) p 0) (sym n.long)
-    ∙ lessened_same c p (omega (arith, n.long)))
-
--- ---- a place given back
--- The power 1 of 2 is 2.
-power_one : power 1 ≡ 2
-unfolding raise
-power_one = product_one_right 2 (omega arith)
-
--- A number divided by the difference of two locators, times this difference, is the number, where it is 0 if the
--- locators are the same.
-pub divided_at : (n p i d y z : ℕ) → n ≤ 255 → p < n → i < n → d ≡ power (n - suc i) ⊕ power (n - suc p) →
-    (0 < d → d ⊗ y ≡ z) → (i ≡ p → z ≡ 0)
-    → z ≡ y ⊗ (power (n - suc i) ⊕ power (n - suc p))
-divided_at n p i d y z h a b e v o =
-    elim (cases_eq i p) [
-      | inl s ↦
-          o s ∙ sym (product_zero_right y) ∙ ap (λ x. y ⊗ x)
-          (sym (ap (λ j. power (n - suc j) ⊕ power (n - suc p)) s ∙ xor_self (power (n - suc p))))
-      | inr s ↦
-          let pos : 0 < d =
-          pos_of_ne-zero (λ q. s (let m : n - suc i ≡ n - suc p =
-          power_injective (n - suc i) (n - suc p) (omega arith) (omega arith)
-          (sum_zero (power (n - suc i)) (power (n - suc p)) (sym e ∙ q)) in omega arith)) in
-          sym (v pos) ∙ product_comm d y ∙ ap (λ x. y ⊗ x) e
-    ]
-
--- A word that is another one less a place is so still when the place is changed.
-pub less_set : (p x : ℕ) (a f v : List ℕ) → f ≡ slice_set a p x → p < length a → IsLess p a v → IsLess p f v
-less_set p x a f v e h l =
-    let lf : length f ≡ length a = ap length e ∙ length-set a p x in
-    record {
-      long = l.long ∙ sym lf;
-      each = λ i b. elim (cases_eq i p) [
-        | inl s ↦
-            l.each i (omega arith)
-            ∙ ap (λ j. get_or a i 0 ⊗ (power (length a - suc j) ⊕ power (length a - suc p))) s
-            ∙ ap (λ y. get_or a i 0 ⊗ y) (xor_self (power (length a - suc p)))
-            ∙ product_zero_right (get_or a i 0) ∙ sym (product_zero_right (get_or f i 0))
-            ∙ sym (ap (λ j. get_or f i 0 ⊗ (power (length f - suc j) ⊕ power (length f - suc p))) s
-            ∙ ap (λ y. get_or f i 0 ⊗ y) (xor_self (power (length f - suc p))))
-        | inr s ↦
-            l.each i (omega arith)
-            ∙ ap (λ y. y ⊗ (power (length a - suc i) ⊕ power (length a - suc p)))
-            (sym (ap (λ t. get_or t i 0) e ∙ get_or-set_other a p i x 0 s))
-            ∙ ap (λ n. get_or f i 0 ⊗ (power (n - suc i) ⊕ power (n - suc p))) (sym lf)
-      ];
-    }
-
--- With what its value at the first root is, divided by the locator of a place, added there, a word is 0 at this root.
-pub root_set : (p x i y s : ℕ) (a f : List ℕ) → p < length a → x ≡ power (length a - suc p) → x ⊗ i ≡ 1 →
-    s ≡ value a 2 → y ≡ s ⊗ i → f ≡ slice_set a p (get_or a p 0 ⊕ y) → value f (power 1) ≡ 0
-root_set p x i y s a f h xe ie se ye fe =
-    let two : power 1 ≡ 2 = power_one in
-    ap (λ t. value t (power 1)) fe ∙ ap (value (slice_set a p (get_or a p 0 ⊕ y))) two ∙ value_set a p y 2 h
-    ∙ ap (λ z. value a 2 ⊕ y ⊗ z) (sym xe) ∙ ap (λ z. value a 2 ⊕ z ⊗ x) ye
-    ∙ ap (bit_xor (value a 2)) (product_assoc s i x ∙ ap (λ z. s ⊗ z) (product_comm i x ∙ ie)
-    ∙ product_one_right s (subst (λ z. z < 256) (sym se) (value_below a 2)) ∙ se)
-    ∙ xor_self (value a 2)

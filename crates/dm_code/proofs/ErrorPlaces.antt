@@ -193,12 +193,12 @@ quotient_times p r z b h k y =
     (ap (λ x. x ⊕ value p r) (product_zero_left (raise r (length p))) ∙ y))
     ∙ ap (λ x. x ⊕ value p z) (product_zero_left (raise z (length p)))
 
--- The quotient by x - r vanishes at the errors but the one whose locator is r.
-pub quotient_vanishes : (e p : List ℕ) (i : ℕ) → length e ≤ 255 → Bytes p → Vanishes p e → i < length e →
-    0 < get_or e i 0
+-- The quotient by x - r vanishes at the errors but the one whose locator is r, if that is a root.
+pub quotient_vanishes_but : (e p : List ℕ) (i : ℕ) → length e ≤ 255 → Bytes p → Vanishes p e → i < length e →
+    value p (locator_at (length e) i) ≡ 0
     → (k : ℕ) → k < length e → 0 < get_or e k 0 → (k ≡ i → ⊥) →
     value (quotient (locator_at (length e) i) 0 p) (locator_at (length e) k) ≡ 0
-quotient_vanishes e p i h b v l z k q y n =
+quotient_vanishes_but e p i h b v l z k q y n =
     let r = locator_at (length e) i in
     let x = locator_at (length e) k in
     let rb : r < 256 = raise_below 2 (length e - suc i) in
@@ -208,10 +208,17 @@ quotient_vanishes e p i h b v l z k q y n =
     power_injective (length e - suc k) (length e - suc i) (omega arith) (omega arith) (sum_zero x r w) in
     omega arith)) in
     product_cancel (x ⊕ r) (value (quotient r 0 p) x) d (sum_below x r xb rb) (value_below (quotient r 0 p) x)
-    (product_comm (x ⊕ r) (value (quotient r 0 p) x) ∙ quotient_times p r x b rb xb (v i l z) ∙ v k q y)
+    (product_comm (x ⊕ r) (value (quotient r 0 p) x) ∙ quotient_times p r x b rb xb z ∙ v k q y)
+
+-- The quotient by x - r vanishes at the errors but the one whose locator is r.
+pub quotient_vanishes : (e p : List ℕ) (i : ℕ) → length e ≤ 255 → Bytes p → Vanishes p e → i < length e →
+    0 < get_or e i 0
+    → (k : ℕ) → k < length e → 0 < get_or e k 0 → (k ≡ i → ⊥) →
+    value (quotient (locator_at (length e) i) 0 p) (locator_at (length e) k) ≡ 0
+quotient_vanishes e p i h b v l z = quotient_vanishes_but e p i h b v l (v i l z)
 
 -- The quotient begins with 0, which may be left out.
-quotient_zero : (r a : ℕ) (p : List ℕ) (x : ℕ) → value (quotient r 0 (a ∷ p)) x ≡ value (quotient r a p) x
+pub quotient_zero : (r a : ℕ) (p : List ℕ) (x : ℕ) → value (quotient r 0 (a ∷ p)) x ≡ value (quotient r a p) x
 unfolding value quotient
 quotient_zero r a p x =
     ap (λ y. y ⊕ value (quotient r (a ⊕ r ⊗ 0) p) x) (product_zero_left (raise x (length (quotient r (a ⊕ r ⊗ 0) p))))

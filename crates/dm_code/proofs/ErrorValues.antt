@@ -128,7 +128,7 @@ weigh_none f (a ∷ e) z =
     (let r : length e - suc k ≡ length (a ∷ e) - suc (suc k) = omega arith in r) ∙ z (suc k) (omega arith))
 
 -- A sum in which all places but one add 0 is what this place adds.
-weigh_single : (f : ℕ → ℕ) (e : List ℕ) (i : ℕ) → i < length e →
+pub weigh_single : (f : ℕ → ℕ) (e : List ℕ) (i : ℕ) → i < length e →
     ((k : ℕ) → k < length e → (k ≡ i → ⊥) → get_or e k 0 ⊗ f (locator_at (length e) k) ≡ 0) →
     weigh f e ≡ get_or e i 0 ⊗ f (locator_at (length e) i)
 unfolding weigh
@@ -157,7 +157,7 @@ pub record IsErrorValue (l w : List ℕ) (x y : ℕ) : Type 0 where
       (x ⊗ value (quotient x 0 l) x) ⊗ y ≡ value (first (coefficient w) (length l - 1)) x
 
 -- A list gives the same when it is laid on series that agree as far as it reaches.
-laid_same : (p : List ℕ) (s t : ℕ → ℕ) (u : ℕ) → ((i : ℕ) → i < length p + u → s i ≡ t i) → laid p s u ≡ laid p t u
+pub laid_same : (p : List ℕ) (s t : ℕ → ℕ) (u : ℕ) → ((i : ℕ) → i < length p + u → s i ≡ t i) → laid p s u ≡ laid p t u
 unfolding laid
 laid_same [] s t u h = refl
 laid_same (a ∷ p) s t u h =
@@ -165,12 +165,12 @@ laid_same (a ∷ p) s t u h =
     ∙ ap (bit_xor (a ⊗ t (length p + u))) (laid_same p s t u (λ i l. h i (omega arith)))
 
 -- The power 1 of an element is the element.
-raise_one : (x : ℕ) → x < 256 → raise x 1 ≡ x
+pub raise_one : (x : ℕ) → x < 256 → raise x 1 ≡ x
 unfolding raise
 raise_one x h = product_one_right x h
 
 -- A number is 0 or above 0.
-zero_or_positive : (a : ℕ) → (a ≡ 0) ⊎ (0 < a)
+pub zero_or_positive : (a : ℕ) → (a ≡ 0) ⊎ (0 < a)
 zero_or_positive zero = inl refl
 zero_or_positive (suc a) = inr (omega arith)
 

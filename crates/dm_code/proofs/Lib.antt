@@ -20,7 +20,11 @@ mod ErrorPlaces
 mod ErrorValues
 mod Nearness
 mod ErasedPlaces
+mod GivenBack
 mod EachErased
+mod ErasedValues
+mod WeighedSums
+mod LocatorSteps
 mod OddTerms
 mod Corrections
 mod ErrorTerms

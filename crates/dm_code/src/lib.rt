@@ -40,6 +40,7 @@ mod products;
 mod quick;
 mod syndrome;
 mod system;
+mod weighing;
 
 pub use correction::{BeyondLimit, Fixed, correct, correct_to};
 pub use elimination::Elimination;
