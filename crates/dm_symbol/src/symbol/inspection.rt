@@ -11,7 +11,7 @@ use crate::symbol::correction::restore_block;
 use crate::symbol::doubt::{may_have_dark, sure_faults};
 use crate::symbol::reading::BlockReading;
 use arrayvec::ArrayVec;
-use dm_modules::{MOST_BLOCKS, Modules, SymbolWords, lift, lift_to, table};
+use dm_modules::{MOST_BLOCKS, MOST_DATA, Modules, SymbolWords, lift, lift_to, table};
 
 /// The codewords of a symbol, and the same restored as far as they can be.
 #[derive(Clone, Debug, Drop, PartialEq, Eq)]
@@ -33,10 +33,12 @@ impl SymbolInspection {
         ensures blocks { result.blocks.items ≡ [] }
         ensures border { result.border_faults ≡ 0 }
     {
-        let none = lift(&Modules::light(table()[0]));
+        let size = table()[0];
+        let zeros = [0; MOST_DATA];
+        let data = &zeros[..usize::from(size.data_count())];
         SymbolInspection {
-            held: SymbolWords::new(none.size(), none.list()),
-            mended: none,
+            held: SymbolWords::with_data(size, data),
+            mended: SymbolWords::with_data(size, data),
             blocks: ArrayVec::new(),
             border_faults: 0,
         }
@@ -59,7 +61,7 @@ pub fn inspect_symbol_to(
 {
     inspection.border_faults = sure_faults(modules, doubtful);
     lift_to(modules, &mut inspection.held);
-    lift_to(modules, &mut inspection.mended);
+    inspection.mended = SymbolWords::new(inspection.held.size(), inspection.held.list());
     mend_blocks(&mut inspection.mended, doubtful, &mut inspection.blocks);
 }
 

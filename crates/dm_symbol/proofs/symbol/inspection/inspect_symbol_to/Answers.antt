@@ -9,19 +9,25 @@ use Rattle.dm_symbol.proofs.symbol.inspection.inspect_symbol_to.Goals as goal
 
 pub mend_blocks-requires : goal.mend_blocks-requires
 mend_blocks-requires c =
-    subst (λ s. IfSome c.args.doubtful (λ d. d.now.size ≡ s)) (sym c.lift_to-2.ensures.holds.same_size) c.requires
+    let again = c.new-inspection.result in
+    let size : again.size ≡ c.args.modules.now.size =
+    ap (λ (w : WordsView). w.size) c.new-inspection.ensures.value ∙ c.size.ensures.value
+    ∙ c.lift_to.ensures.holds.same_size in
+    subst (λ s. IfSome c.args.doubtful (λ d. d.now.size ≡ s)) (sym size) c.requires
 
 pub returns : goal.returns
 returns c =
     let m = c.args.modules.now in
     let doubt = option_map (λ d. d.now) c.args.doubtful in
     let held = c.lift_to.new.words in
-    let again = c.lift_to-2.new.words in
+    let again = c.new-inspection.result in
     let new = c.mend_blocks.new.words.list in
     let said = c.mend_blocks.new.blocks.items in
-    let size = c.lift_to-2.ensures.holds.same_size in
+    let size : again.size ≡ m.size =
+    ap (λ (w : WordsView). w.size) c.new-inspection.ensures.value ∙ c.size.ensures.value
+    ∙ c.lift_to.ensures.holds.same_size in
     let same : again.list ≡ held.list =
-    ap (λ (w : WordsView). w.list) (c.lift_to.ensures.no_other_words again c.lift_to-2.ensures.holds) in
+    ap (λ (w : WordsView). w.list) c.new-inspection.ensures.value ∙ c.list.ensures.value in
     record {
       held = c.lift_to.ensures.holds;
       same_size = c.mend_blocks.ensures.size ∙ size;
