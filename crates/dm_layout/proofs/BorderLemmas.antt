@@ -1,13 +1,15 @@
 -- Border cells by row and column, and their faults.
-use Rattle.std.proofs.Common.{◌≡◌, ◌≢◌, ℕ, ◌+◌, ◌-◌, ◌*◌, ◌/◌, ◌%◌, ◌<◌, ◌≤◌, Bool, true, false, not, ◌&&◌, ◌||◌, []}
-use Rattle.std.proofs.Common.{◌∷◌, ◌++◌, nat_eq, refl, sym, ◌∙◌, ap, arith}
+use Rattle.std.proofs.Common.{◌≡◌, ◌≢◌, ℕ, ◌+◌, ◌-◌, ◌*◌, ◌/◌, ◌%◌, ◌<◌, ◌≤◌, Bool, true, false, not, ◌&&◌, ◌||◌}
+use Rattle.std.proofs.Common.{◌++◌, nat_eq, refl, sym, ◌∙◌, ap, arith}
 use Rattle.std.specs.Prelude.{count_by, sum_by}
 use Rattle.std.specs.List.{range_with_len}
 use Rattle.std.proofs.lemmas.Nat.{mod-mul-add, div-mul-add}
-use Rattle.std.proofs.lemmas.List.Sums.{sum_by_push}
+use Rattle.std.proofs.lemmas.List.Sums.{sum_by-append, sum_by_push}
+use Rattle.std.proofs.Math.Nat.{zero-add}
 use Rattle.dm_layout.specs.Sizes.{SizeRow, IsRow, regions_across}
 use Rattle.dm_layout.specs.Grid.{GridView}
 use Rattle.dm_layout.specs.Border.{is_border, is_fault, symbol_line}
+use Rattle.dm_layout.specs.inner.BorderMasks.{faults_in_rows}
 use Rattle.dm_layout.specs.inner.Drawing.{mapping_line}
 use Rattle.std.proofs.Math.Nat.{div-add-mod, mul-le-mul_right, lt_of_mul-lt-mul_right}
 use Rattle.std.proofs.lemmas.Bool.{and_parts}
@@ -16,19 +18,22 @@ use Rattle.dm_place.proofs.Exported.{range-append}
 
 -- ---- all rows
 
--- The number of border faults in the rows above this one.
-abbrev pub faults_above : GridView → ℕ → ℕ
-faults_above grid row =
-    sum_by (λ r. count_by (is_fault grid r) (range_with_len 0 grid.size.side)) (range_with_len 0 row)
-
--- The border faults above the next row are those above this row and those in it.
-pub faults_above_more : (grid : GridView) (row : ℕ) →
-    faults_above grid (row + 1) ≡ faults_above grid row + count_by (is_fault grid row) (range_with_len 0 grid.size.side)
-faults_above_more grid row =
+-- The border faults in some rows and the next one are those in these rows and those in that one.
+pub faults_more : (grid : GridView) (first rows : ℕ) →
+    faults_in_rows grid first (rows + 1) ≡
+    faults_in_rows grid first rows + count_by (is_fault grid (first + rows)) (range_with_len 0 grid.size.side)
+faults_more grid first rows =
     let f : ℕ → ℕ = λ r. count_by (is_fault grid r) (range_with_len 0 grid.size.side) in
-    let z : 0 + row ≡ row = omega arith in
-    ap (sum_by f) (range-append 0 row 1 ∙ ap (λ k. range_with_len 0 row ++ k ∷ []) z)
-    ∙ sum_by_push f (range_with_len 0 row) row
+    ap (sum_by f) (range-append first rows 1) ∙ sum_by_push f (range_with_len first rows) (first + rows)
+
+-- The border faults above some rows, and those in these rows, are those above the row behind them.
+pub faults_joined : (grid : GridView) (first rows : ℕ) →
+    faults_in_rows grid 0 (first + rows) ≡ faults_in_rows grid 0 first + faults_in_rows grid first rows
+faults_joined grid first rows =
+    let f : ℕ → ℕ = λ r. count_by (is_fault grid r) (range_with_len 0 grid.size.side) in
+    ap (sum_by f) (range-append 0 first rows
+    ∙ ap (λ k. range_with_len 0 first ++ range_with_len k rows) (zero-add first))
+    ∙ sum_by-append f (range_with_len 0 first) (range_with_len first rows)
 
 -- ---- rows and columns of the symbol and of the mapping square
 

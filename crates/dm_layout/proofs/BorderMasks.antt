@@ -9,7 +9,7 @@ use Rattle.std.specs.Int.{bit_at}
 use Rattle.std.specs.Int.RustNames.{bit_xor}
 use lib.Bits.{bit_and}
 use Rattle.std.specs.List.{range_with_len, list_all}
-use Rattle.std.proofs.Math.Nat.{mul-div_cancel, mod-add-mod}
+use Rattle.std.proofs.Math.Nat.{mul-div_cancel}
 use Rattle.std.proofs.Math.Pow.{pow_mono}
 use Rattle.std.proofs.lemmas.Bool.{eqb-true, ne_eqb, and_parts, cases_lt, le-ltb, lt-ltb}
 use Rattle.std.proofs.lemmas.Nat.{div-add-mod', mod-mul-add}
@@ -351,10 +351,6 @@ module _ (size : SizeRow) (last left both even all : ℕ) (b : AreBorders size l
       ∙ ap (λ (t : Bool). (p || nat_eq inner (d + 1) || t || s)
       && cond (p || nat_eq inner (d + 1)) true (cond t (nat_eq (c % (d + 2) % 2) 0) (nat_eq (inner % 2) 1)))
       (sym (eq-eqb inner 0 e))
-
--- The place of the next row in its square follows from the place of the row before it.
-pub row_below : (s row inner : ℕ) → inner ≡ row % s → (inner + 1) % s ≡ (row + 1) % s
-row_below s row inner e = ap (λ (i : ℕ). (i + 1) % s) e ∙ mod-add-mod row s 1
 
 -- A row of a square has its place in it, if the square's first row is a multiple of its side.
 pub row_of_square : (s first inner : ℕ) → first % s ≡ 0 → inner < s → (first + inner) % s ≡ inner

@@ -1,12 +1,13 @@
 //! Borders, which are the finder pattern and the alignment patterns, and the fixed square: ISO/IEC 16022, symbol
 //! structure.
 
-ghost use Rattle.std.specs.Prelude.{◌≡◌, ℕ, ◌+◌, ◌%◌, ◌^◌, ◌<◌, ◌≤◌, ◌&&◌, count_by};
+ghost use Rattle.std.specs.Prelude.{◌≡◌, ℕ, ◌+◌, ◌*◌, ◌%◌, ◌^◌, ◌<◌, ◌≤◌, ◌&&◌, count_by};
 ghost use Rattle.std.specs.List.{range_with_len};
 ghost use Rattle.dm_layout.specs.Grid.{IsGrid, is_dark_in};
 ghost use Rattle.dm_layout.specs.Border.{is_on_edge, edge_is_dark, border_fault_count};
 ghost use Rattle.dm_layout.specs.inner.Drawing.{empty_grid, HasBorders};
-ghost use Rattle.dm_layout.specs.inner.BorderMasks.{is_wrong};
+ghost use Rattle.dm_layout.specs.inner.BorderMasks.{faults_in_rows, is_wrong};
+ghost use Rattle.dm_layout.specs.Sizes.{largest_side};
 
 use crate::grid::Grid;
 use crate::packed::prefix;
@@ -19,11 +20,10 @@ pub fn border_faults(grid: &Grid) -> u16
 {
     let size = grid.size();
     let borders = Borders::new(size);
+    let square = size.region_side() + 2;
     let mut faults = 0;
-    let mut inner = 0;
-    for row in 0..size.side() {
-        faults += borders.row_faults(grid.row(row), inner);
-        inner = borders.below(inner);
+    for region in 0..size.regions_across() {
+        faults += borders.square_faults(grid, region * square);
     }
     faults
 }
@@ -131,7 +131,26 @@ impl Borders {
         grid.darken(first + self.last, self.dark(self.last));
     }
 
+    /// Gives how many border cells of one row of regions have the wrong colour. The squares of these regions begin at
+    /// the row `first` of the symbol. The first and the last row of a square stand apart, so that in the loop between
+    /// them a row's colours depend on nothing but whether it is odd.
+    #[inline(always)]
+    fn square_faults(&self, grid: &Grid, first: u16) -> u16
+        requires size { self.now ≡ grid.now.size }
+        requires first { first % (self.now.region_side + 2) ≡ 0 }
+        requires fits { first + (self.now.region_side + 2) ≤ self.now.side }
+        ensures count { result ≡ faults_in_rows grid.now first (self.now.region_side + 2) }
+        ensures most { result ≤ (self.now.region_side + 2) * largest_side }
+    {
+        let mut faults = self.row_faults(grid.row(first), 0);
+        for inner in 1..self.last {
+            faults += self.row_faults(grid.row(first + inner), inner);
+        }
+        faults + self.row_faults(grid.row(first + self.last), self.last)
+    }
+
     /// Gives how many border cells of a row have the wrong colour.
+    #[inline(always)]
     fn row_faults(&self, row: u128, inner: u16) -> u16
         ensures count { result
             ≡ count_by (is_wrong self.now.region_side inner row) (range_with_len 0 self.now.side) }
@@ -139,14 +158,6 @@ impl Borders {
     {
         let wrong = (row ^ self.dark(inner)) & self.cells(inner);
         wrong.count_ones() as u16
-    }
-
-    /// Gives the place in its square of the row below.
-    fn below(&self, inner: u16) -> u16
-        requires { inner < self.now.region_side + 2 }
-        ensures { result ≡ (inner + 1) % (self.now.region_side + 2) }
-    {
-        if inner == self.last { 0 } else { inner + 1 }
     }
 }
 

@@ -1,9 +1,11 @@
 -- The border cells of the rows of a symbol as bits, as the code keeps them.
 use Rattle.std.specs.Prelude.{◌≡◌, ℕ, ◌+◌, ◌%◌, ◌^◌, ◌<◌, Bool, true, not, ◌&&◌, ◌||◌, nat_eq}
+use Rattle.std.specs.Prelude.{count_by, sum_by}
 use Rattle.std.specs.Bool.{beq}
+use Rattle.std.specs.List.{range_with_len}
 use Rattle.dm_layout.specs.Sizes.{SizeRow, IsRow}
-use Rattle.dm_layout.specs.Grid.{is_dark_in}
-use Rattle.dm_layout.specs.Border.{is_on_edge, edge_is_dark}
+use Rattle.dm_layout.specs.Grid.{GridView, is_dark_in}
+use Rattle.dm_layout.specs.Border.{is_on_edge, edge_is_dark, is_fault}
 
 -- Of the rows, `left` marks the left columns of the squares of the regions and their borders, `both` the left and
 -- right ones, `even` the even columns of the symbol and `all` all of them; `last` is the last line of such a square.
@@ -26,3 +28,8 @@ pub record AreBorders (size : SizeRow) (last left both even all : ℕ) : Type 0 
 abbrev pub is_wrong : ℕ → ℕ → ℕ → ℕ → Bool
 is_wrong d inner row column =
     is_on_edge d inner (column % (d + 2)) && not (beq (is_dark_in row column) (edge_is_dark d inner (column % (d + 2))))
+
+-- The border faults in so many rows of a grid, from one row on.
+abbrev pub faults_in_rows : GridView → ℕ → ℕ → ℕ
+faults_in_rows grid first rows =
+    sum_by (λ r. count_by (is_fault grid r) (range_with_len 0 grid.size.side)) (range_with_len first rows)
