@@ -3,6 +3,7 @@
 
 ghost use Rattle.std.specs.Prelude.{◌≡◌};
 ghost use Rattle.dm_words.specs.Codewords.{codeword_of};
+ghost use Rattle.dm_words.specs.inner.Scan.Lone.{IsLone};
 
 use crate::c40::set::CodeSet;
 
@@ -56,6 +57,29 @@ pub enum Codeword {
     Macro(u8),
     /// The first codeword of something that is not read in any extent.
     LeftOut,
+}
+
+/// What a codeword is by itself where ASCII encodation is in force, if it is a whole part.
+#[derive(Clone, Copy)]
+pub enum Lone {
+    /// The byte of 0 to 127.
+    Character(u8),
+    /// The two digits of a number of 0 to 99.
+    Digits(u8),
+    /// No part by itself.
+    Other,
+}
+
+/// Gives what a codeword is by itself.
+// Most codewords are characters or digits, and this asks for nothing else.
+pub(crate) fn lone_of(codeword: u8) -> Lone
+    ensures { IsLone codeword result }
+{
+    match codeword {
+        1..=128 => Lone::Character(codeword - 1),
+        FIRST_DIGITS..=229 => Lone::Digits(codeword - FIRST_DIGITS),
+        _ => Lone::Other,
+    }
 }
 
 /// Gives the meaning of a codeword in ASCII encodation, or `None` where it has none.

@@ -18,7 +18,7 @@ ghost use Rattle.dm_words.specs.inner.Scan.Results.{HasRoomAt, IsPartTakenOrEnd,
 
 use crate::base256::segment_part;
 use crate::c40::run::run_part;
-use crate::codeword::{Codeword, meaning};
+use crate::codeword::{Codeword, Lone, lone_of, meaning};
 use crate::edifact::edifact_part;
 use crate::extent::Extent;
 use crate::fault::WordFault;
@@ -135,16 +135,16 @@ fn one_word_part<const ROOM: usize>(word: u8, message: &mut MessageIn<ROOM>) -> 
     ensures one { result ≡ is_one_word (codeword_of word) }
     ensures taken { IsOneWordTaken result message.old message.new word }
 {
-    match meaning(word) {
-        Some(Codeword::Character(byte)) => {
+    match lone_of(word) {
+        Lone::Character(byte) => {
             message.add(Item::Byte(byte));
             true
         }
-        Some(Codeword::Digits(number)) => {
+        Lone::Digits(number) => {
             add_digits(number, message);
             true
         }
-        _ => false,
+        Lone::Other => false,
     }
 }
 

@@ -4,3 +4,4 @@
 pub mod Walk
 pub mod Prefixes
 pub mod Results
+pub mod Lone

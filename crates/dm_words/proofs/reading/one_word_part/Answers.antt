@@ -1,13 +1,30 @@
-use Rattle.std.proofs.Common.{◌∙◌, sym, ap, Some}
+use Rattle.std.proofs.Common.{sym, ap}
+use Rattle.dm_words.specs.inner.Scan.Prefixes.{is_one_word}
 use Rattle.dm_words.proofs.PartLoops.{character_taken, digits_taken}
 use Rattle.dm_words.proofs.reading.one_word_part.Goals as goal
 
-pub returns-in-Some-Character-clause-taken : goal.returns-in-Some-Character-clause-taken
-returns-in-Some-Character-clause-taken g c = λ extent place more.
-    character_taken extent place c.args.word c.in-Some-Character.byte more c.args.message.now c.add.new.self
-    (sym c.meaning.ensures ∙ c.in-Some-Character.is ∙ ap Some c.in-Some-Character.field-0-is) c.add.ensures
+pub returns-in-Character-clause-one : goal.returns-in-Character-clause-one
+returns-in-Character-clause-one g c =
+    let is = rw c.in-Character.is at c.lone_of.ensures in
+    sym (ap is_one_word is)
 
-pub returns-in-Some-Digits-clause-taken : goal.returns-in-Some-Digits-clause-taken
-returns-in-Some-Digits-clause-taken g c = λ extent place more.
-    digits_taken extent place c.args.word c.in-Some-Digits.number more c.args.message.now c.add_digits.new.message
-    (sym c.meaning.ensures ∙ c.in-Some-Digits.is ∙ ap Some c.in-Some-Digits.field-0-is) c.add_digits.ensures
+pub returns-in-Character-clause-taken : goal.returns-in-Character-clause-taken
+returns-in-Character-clause-taken g c = λ extent place more.
+    let is = rw c.in-Character.is at c.lone_of.ensures in
+    character_taken extent place c.args.word c.in-Character.byte more c.args.message.now c.add.new.self is c.add.ensures
+
+pub returns-in-Digits-clause-one : goal.returns-in-Digits-clause-one
+returns-in-Digits-clause-one g c =
+    let is = rw c.in-Digits.is at c.lone_of.ensures in
+    sym (ap is_one_word is)
+
+pub returns-in-Digits-clause-taken : goal.returns-in-Digits-clause-taken
+returns-in-Digits-clause-taken g c = λ extent place more.
+    let is = rw c.in-Digits.is at c.lone_of.ensures in
+    digits_taken extent place c.args.word c.in-Digits.number more c.args.message.now c.add_digits.new.message is
+    c.add_digits.ensures
+
+pub returns-in-Other-clause-one : goal.returns-in-Other-clause-one
+returns-in-Other-clause-one g c =
+    let is = rw c.in-Other.is at c.lone_of.ensures in
+    sym is
