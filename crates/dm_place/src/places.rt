@@ -30,7 +30,8 @@ fn left_place(sides: Sides, row: u16, column: u16, up: u16, left: u16) -> usize
     requires top { 2 ≤ row }
     requires above { (sides.columns + 4) % 8 ≤ row + 2 }
     requires below { row + 4 < sides.rows + (sides.columns + 4) % 8 }
-    ensures { result ≡ place_in sides.columns (wrapped_cell sides.rows sides.columns row column up left) }
+    ensures { result ≡ place_in sides.columns
+        (wrapped_cell sides.rows sides.columns row column up left) }
 {
     let down = (sides.columns + 4) % 8;
     if column < left {
@@ -65,7 +66,8 @@ fn top_place(sides: Sides, row: u16, column: u16, up: u16, left: u16) -> usize
     requires left { left ≤ 2 }
     requires side { 2 ≤ column }
     requires before { (sides.rows + 4) % 8 ≤ column + 2 }
-    ensures { result ≡ place_in sides.columns (wrapped_cell sides.rows sides.columns row column up left) }
+    ensures { result ≡ place_in sides.columns
+        (wrapped_cell sides.rows sides.columns row column up left) }
 {
     let right = (sides.rows + 4) % 8;
     if row < up {

@@ -189,7 +189,8 @@ fn lay_diagonal(
     requires cells { length cells.old ≡ sides.rows * sides.columns }
     requires inner { IsInner sides.rows sides.columns is_rising diagonal }
     requires room { first + diagonal.count ≤ length words.now }
-    ensures { cells.new ≡ laid sides.rows sides.columns words.now (shapes_on is_rising diagonal) first cells.old }
+    ensures { cells.new ≡ laid sides.rows sides.columns words.now (shapes_on is_rising diagonal)
+        first cells.old }
 {
     for i in 0..diagonal.count as usize {
         put_inner_word(
@@ -214,7 +215,8 @@ fn lay_run(sides: Sides, words: &[u8], run: Run, word: usize, cells: &mut [bool]
     requires inner { IsInnerRun sides.rows sides.columns run }
     requires room { word + length (shapes_of run) ≤ length words.now }
     ensures next { result ≡ word + length (shapes_of run) }
-    ensures laid { cells.new ≡ laid sides.rows sides.columns words.now (shapes_of run) word cells.old }
+    ensures laid { cells.new ≡ laid sides.rows sides.columns words.now (shapes_of run) word
+        cells.old }
 {
     match run {
         Run::One(shape) => {

@@ -8,7 +8,9 @@ use crate::shape::Shape;
 /// How many rows and columns a mapping matrix has.
 #[derive(Clone, Copy)]
 pub(crate) struct Sides {
+    /// The number of rows.
     pub rows: u16,
+    /// The number of columns.
     pub columns: u16,
 }
 

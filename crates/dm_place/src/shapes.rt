@@ -276,7 +276,8 @@ impl Steps {
     #[inline(always)]
     fn next_diagonal(&mut self) -> Option<Run>
         requires safe { StepsAreSafe self.old }
-        ensures left { IfSome result (λ run. shapes_left self.old ≡ shapes_of run ++ shapes_left self.new) }
+        ensures left { IfSome result
+            (λ run. shapes_left self.old ≡ shapes_of run ++ shapes_left self.new) }
         ensures inner { IfSome result (IsInnerRun self.old.rows self.old.columns) }
         ensures safe { StepsAreSafe self.new }
         ensures rows { self.new.rows ≡ self.old.rows }
@@ -320,7 +321,8 @@ impl Steps {
     #[inline(always)]
     pub(crate) fn next_run(&mut self) -> Option<Run>
         requires safe { StepsAreSafe self.old }
-        ensures left { IfSome result (λ run. shapes_left self.old ≡ shapes_of run ++ shapes_left self.new) }
+        ensures left { IfSome result
+            (λ run. shapes_left self.old ≡ shapes_of run ++ shapes_left self.new) }
         ensures none { IsNone result → shapes_left self.old ≡ [] }
         ensures inner { IfSome result (IsInnerRun self.old.rows self.old.columns) }
         ensures safe { StepsAreSafe self.new }

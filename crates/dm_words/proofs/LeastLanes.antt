@@ -13,6 +13,7 @@ use Rattle.std.proofs.lemmas.Bool.Decides.{nat_tests}
 use Rattle.std.proofs.lemmas.Simd.{tops_compared, mask_l-lt, mask_l-mod, bit_mask_l, get_or-zip2, length-zip2}
 use Rattle.std.proofs.lemmas.Simd.{bitmask_splat}
 use Rattle.std.proofs.lemmas.Simd.{trailing_mask_l, leading_from_mask_l}
+use Rattle.std.proofs.lemmas.List.Sums.{prefix_len_passes}
 use Rattle.dm_words.specs.inner.Costs.{has_bit}
 use Rattle.dm_words.specs.inner.CostLanes.{least_of}
 
@@ -78,11 +79,19 @@ first_stands (x ∷ xs) m (suc k) there is =
           let there : get_or (x ∷ xs) (suc r) 0 ≡ m = f.1 in
           (omega (arith, f.0), subst (λ (n : ℕ). get_or (x ∷ xs) n 0 ≡ m) e there)
 
+-- Before that it doesn't stand.
+first_before : (xs : List ℕ) (m k : ℕ) → k < prefix_len (λ x. not (eqb x m)) xs → get_or xs k 0 ≡ m → ⊥
+first_before xs m k there is =
+    let same : eqb (get_or xs k 0) m ≡ true = (let e : get_or xs k 0 ≡ m = is in grind (arith, nat_tests)) in
+    let passed : not (eqb (get_or xs k 0) m) ≡ true = prefix_len_passes (λ x. not (eqb x m)) xs k 0 there in
+    let stopped : not (eqb (get_or xs k 0) m) ≡ false = ap not same in
+    cc
+
 -- The lowest bit of a comparison of eight numbers with the least is the first place where it stands.
 pub least_place : (xs : List ℕ) (m : ℕ) → length xs ≡ 8 → m ≡ least_of xs
     → let r = count_trailing_zeros 64
     (mask_l (map (top 15) (zip2 (λ a b. cond (eqb a b) 65535 0) xs (replicate 8 m))) % 18446744073709551616) in
-    (r < 8) × (get_or xs r 0 ≡ m)
+    (r < 8) × (get_or xs r 0 ≡ m) × ((k : ℕ) → k < r → get_or xs k 0 ≡ m → ⊥)
 least_place xs m long is =
     let s = least_in xs long in
     let f = first_stands xs m s.0 s.1 (s.2 ∙ sym is) in
@@ -97,8 +106,8 @@ least_place xs m long is =
     ] in
     let place : count_trailing_zeros 64 mask ≡ prefix_len (λ x. not (eqb x m)) xs =
     trailing_mask_l (λ x. eqb x m) 64 xs (omega (arith, long)) some in
-    let P : ℕ → Type 0 = λ r. (r < 8) × (get_or xs r 0 ≡ m) in
-    subst P (sym (ap (count_trailing_zeros 64) masked ∙ place)) (omega (arith, f.0, long), f.1)
+    let P : ℕ → Type 0 = λ r. (r < 8) × (get_or xs r 0 ≡ m) × ((k : ℕ) → k < r → get_or xs k 0 ≡ m → ⊥) in
+    subst P (sym (ap (count_trailing_zeros 64) masked ∙ place)) (omega (arith, f.0, long), f.1, first_before xs m)
 
 -- ---- the ends
 

@@ -70,8 +70,7 @@ pub enum Lone {
     Other,
 }
 
-/// Gives what a codeword is by itself.
-// Most codewords are characters or digits, and this asks for nothing else.
+/// Gives what a codeword is by itself. Most codewords are characters or digits, and this asks for nothing else.
 pub(crate) fn lone_of(codeword: u8) -> Lone
     ensures { IsLone codeword result }
 {

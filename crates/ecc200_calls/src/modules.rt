@@ -9,7 +9,7 @@ ghost use Rattle.ecc200_calls.specs.Modules.{AreModulesOf, IsModulesFault, modul
 ghost use Rattle.ecc200_calls.specs.inner.ToldDoubt.{AreZero, IsTold};
 
 use crate::fault::Fault;
-use dm_modules::{Modules, ModulesFault, table};
+use dm_modules::{MOST_MODULES, Modules, ModulesFault, table};
 
 /// Gives modules into which those of any symbol can be put.
 pub(crate) fn light_modules() -> Modules {
@@ -46,7 +46,11 @@ pub(crate) fn none_doubtful(doubtful: &[u8]) -> bool
 pub(crate) fn told_doubt(doubtful: &[u8], rows: u16, columns: u16) -> &[u8]
     ensures { IsTold rows columns doubtful.now result.now }
 {
-    if doubtful.len() == usize::from(rows) * usize::from(columns) && are_zero(doubtful) {
+    // No symbol has more modules than this, and what is refused for their number isn't looked at before.
+    if doubtful.len() <= MOST_MODULES
+        && doubtful.len() == usize::from(rows) * usize::from(columns)
+        && are_zero(doubtful)
+    {
         return &doubtful[..0];
     }
     doubtful

@@ -180,6 +180,7 @@ fn first_least(costs: Simd<u16, 8>) -> Choice
     ensures least { result.cost ≡ least_of costs }
     ensures found { get_or costs result.begins 0 ≡ result.cost }
     ensures place { result.begins < 8 }
+    ensures first { (k : ℕ) → k < result.begins → get_or costs k 0 ≡ result.cost → ⊥ }
 {
     let cost = least(costs);
     let places = costs.simd_eq(u16x8::splat(cost)).to_bitmask();

@@ -229,7 +229,8 @@ fn second_over_byte(extent: Extent, byte: u8, next: Simd<u16, 8>) -> Simd<u16, 8
 #[inline]
 pub(crate) fn going_over(extent: Extent, item: Item, next: &Costs) -> GoingCosts
     requires { next.now.near ≤ 16384 }
-    ensures { (r : Row) → IsWithin 3200 r → HasRow r next.now → HasGoing (going_over extent item r) result }
+    ensures { (r : Row) → IsWithin 3200 r → HasRow r next.now
+        → HasGoing (going_over extent item r) result }
 {
     match item {
         Item::Fnc1 => GoingCosts {

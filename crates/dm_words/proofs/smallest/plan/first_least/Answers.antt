@@ -6,3 +6,6 @@ returns-clause-found c = (least_place c.args.costs c.least-cost.result c.fits-co
 
 pub returns-clause-place : goal.returns-clause-place
 returns-clause-place c = (least_place c.args.costs c.least-cost.result c.fits-costs.0 c.least-cost.ensures).0
+
+pub returns-clause-first : goal.returns-clause-first
+returns-clause-first c = (least_place c.args.costs c.least-cost.result c.fits-costs.0 c.least-cost.ensures).2
