@@ -14,7 +14,7 @@ use crate::errors::{add_error, error_value};
 use crate::key::{Key, KeySolver};
 use crate::limits::{LONGEST_WORD, MOST_COEFFICIENTS};
 use crate::polynomial::{first_coefficients, sums, trim_zeros};
-use crate::syndrome::syndromes;
+use crate::syndrome::syndromes_of_short;
 use arrayvec::ArrayVec;
 use gf301::{CHECKS_ROOM, Gf, MOST_CHECKS};
 use std::simd::prelude::*;
@@ -91,7 +91,7 @@ pub fn correct_to<S: KeySolver>(
     if are_zero(&rest) {
         return Ok(0);
     }
-    let syndromes = syndromes(&rest, k);
+    let syndromes = syndromes_of_short(&rest, k);
     let Some(key) = solver.solve(&syndromes, k / 2) else {
         return Err(BeyondLimit);
     };

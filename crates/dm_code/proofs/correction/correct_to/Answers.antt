@@ -36,7 +36,7 @@ returns-then-are_zero-clause-itself g c =
 pub solve-requires-clause-half : goal.solve-requires-clause-half
 solve-requires-clause-half g c =
     let n : length c.deref-3.result.now ≡ c.args.k =
-    ap length (c.deref-3.ensures.0 ∙ c.syndromes-syndromes.ensures.values
+    ap length (c.deref-3.ensures.0 ∙ c.syndromes_of_short-syndromes.ensures.values
     ∙ ap (λ t. syndromes_of t c.args.k) c.deref-2.ensures.0 ∙ c.remainder-rest.ensures)
     ∙ syndromes_length c.args.word.now c.args.k in
     let r : 2 * (c.args.k / 2) ≤ length c.deref-3.result.now = omega arith in r
@@ -47,7 +47,7 @@ returns-in_default-clause-near g c v h =
     let s = c.deref-3.result.now in
     let k = c.args.k in
     let e : s ≡ syndromes_of w k =
-    c.deref-3.ensures.0 ∙ c.syndromes-syndromes.ensures.values
+    c.deref-3.ensures.0 ∙ c.syndromes_of_short-syndromes.ensures.values
     ∙ ap (λ t. syndromes_of t c.args.k) c.deref-2.ensures.0 ∙ c.remainder-rest.ensures in
     let n : length s ≡ k = ap length e ∙ syndromes_length w k in
     near_pair w s v (e ∙ ap (syndromes_of w) (sym n)) (subst (λ m. IsNear m w v) (sym n) h)
@@ -67,7 +67,7 @@ correct_errors-changed-requires-clause-syndromes g c =
     let k = c.args.k in
     let s = c.deref-4.result.now in
     let e : s ≡ syndromes_of w k =
-    c.deref-4.ensures.0 ∙ c.syndromes-syndromes.ensures.values
+    c.deref-4.ensures.0 ∙ c.syndromes_of_short-syndromes.ensures.values
     ∙ ap (λ t. syndromes_of t c.args.k) c.deref-2.ensures.0 ∙ c.remainder-rest.ensures in
     ap (λ n. take n c.with_room-left.result) (sym (ap length e ∙ syndromes_length w k)) ∙ c.with_room-left.ensures ∙ e
     ∙ ap (λ u. syndromes_of u k) (sym (c.deref_mut.ensures.value ∙ c.copy_to.ensures))
@@ -78,7 +78,7 @@ correct_errors-changed-requires-clause-key g c =
     let l = c.in-Some.key.locator.items in
     let v = c.in-Some.key.evaluator.items in
     subst (λ u. IsLeastPair u (k / 2) l v)
-    (c.deref-3.ensures.0 ∙ c.syndromes-syndromes.ensures.values ∙ ap (λ t. syndromes_of t c.args.k) c.deref-2.ensures.0
+    (c.deref-3.ensures.0 ∙ c.syndromes_of_short-syndromes.ensures.values ∙ ap (λ t. syndromes_of t c.args.k) c.deref-2.ensures.0
     ∙ c.remainder-rest.ensures ∙ ap (λ u. syndromes_of u k)
     (sym (c.deref_mut.ensures.value ∙ c.copy_to.ensures)))
     c.in-Some.ensures.least
