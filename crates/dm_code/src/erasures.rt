@@ -178,7 +178,7 @@ fn give_back(word: &mut [u8], places: &[u8], locator: &[u8; LOCATOR_ROOM], odd: 
     let syndromes = syndromes(word, places.len());
     let evaluator = evaluator_of(locator, &syndromes);
     let terms = &evaluator[..places.len()];
-    if places.len() < word.len() / 8 {
+    if 8 * places.len() <= word.len() {
         return fill_few(word, places, terms, odd);
     }
     let numerators = at_places(terms, word.len()).values;
