@@ -78,7 +78,8 @@ correct_errors-changed-requires-clause-key g c =
     let l = c.in-Some.key.locator.items in
     let v = c.in-Some.key.evaluator.items in
     subst (λ u. IsLeastPair u (k / 2) l v)
-    (c.deref-3.ensures.0 ∙ c.syndromes_of_short-syndromes.ensures.values ∙ ap (λ t. syndromes_of t c.args.k) c.deref-2.ensures.0
+    (c.deref-3.ensures.0 ∙ c.syndromes_of_short-syndromes.ensures.values
+    ∙ ap (λ t. syndromes_of t c.args.k) c.deref-2.ensures.0
     ∙ c.remainder-rest.ensures ∙ ap (λ u. syndromes_of u k)
     (sym (c.deref_mut.ensures.value ∙ c.copy_to.ensures)))
     c.in-Some.ensures.least
