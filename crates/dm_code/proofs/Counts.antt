@@ -1,5 +1,5 @@
 -- How many products the algorithm of Berlekamp and Massey makes.
-use Rattle.std.proofs.Common.{◌≡◌, ℕ, zero, suc, ◌+◌, ◌-◌, ◌*◌, ◌≤◌, subst, arith}
+use Rattle.std.proofs.Common.{◌≡◌, ℕ, zero, suc, ◌+◌, ◌-◌, ◌*◌, ◌<◌, ◌≤◌, subst, arith}
 use Rattle.std.proofs.lemmas.Nat.{mul-le}
 
 -- One more value adds at most 2 t + 3 products: t + 1 for the discrepancy, and t + 2 for the correction.
@@ -23,3 +23,13 @@ pub all_products : (k t d p q : ℕ) → 2 * t ≤ k → d ≤ t → p ≤ k * (
 all_products k t d p q h b l m =
     let e : 2 * t + (k - 2 * t) ≡ k = omega arith in
     subst (λ n. p ≤ n * (2 * t + 3) → q ≤ 4 * n * n) e (λ a. products_over t (k - 2 * t) d p q b a m) l
+
+-- With k values, one more adds at most k + t + 3 products where products with the values are kept: one for the factor,
+-- k for the product, and t + 2 for the locator.
+pub step_with_products : (n k t p q : ℕ) → 2 * t ≤ k → 0 < k → p ≤ n * (4 * k) → q ≤ p + (k + t + 3) →
+    q ≤ (n + 1) * (4 * k)
+step_with_products n k t p q h b l m = omega arith
+
+-- For up to k values of at most 4 k products each there are at most 4 k k.
+pub products_by_steps : (n k p : ℕ) → n ≤ k → p ≤ n * (4 * k) → p ≤ 4 * k * k
+products_by_steps n k p h l = omega (arith, mul-le n (4 * k) k (4 * k) h (omega arith))

@@ -1,11 +1,11 @@
 //! The products of the locators of a search with the syndromes.
 
-ghost use Rattle.std.specs.Prelude.{◌≡◌, ◌+◌, ◌%◌, ◌<◌, ◌≤◌, ℕ, IsTrue, length, not, take};
+ghost use Rattle.std.specs.Prelude.{◌≡◌, ◌+◌, ◌^◌, ◌<◌, ◌≤◌, ℕ, IsTrue, length, not, take};
 ghost use Rattle.gf301.specs.Field.{◌⊕◌, ◌⊗◌};
 ghost use Rattle.gf301.specs.Polynomial.{coefficient};
 
 use crate::quick::COEFFICIENTS_ROOM;
-use gf301::{CHECKS_ROOM, Gf, MOST_CHECKS, add_scaled};
+use gf301::{CHECKS_ROOM, Gf, MOST_CHECKS, Meter, add_scaled};
 
 /// Room for the coefficients of a product that is moved up by up to [`COEFFICIENTS_ROOM`] places.
 const PRODUCT_ROOM: usize = CHECKS_ROOM + COEFFICIENTS_ROOM;
@@ -43,21 +43,33 @@ impl Products {
         &self.product[..degree]
     }
 
-    /// Adds `factor` times the earlier product, moved up by the gap, to the product, for its first `width`
-    /// coefficients. Where the degree grows, what the product was before is the earlier one from now on.
-    pub(crate) fn adjust(&mut self, factor: Gf, gap: usize, width: usize, grows: bool)
+    /// Adds `factor` times the earlier product, moved up by the gap, to the product, for its first `count`
+    /// coefficients: so many products, which the meter counts. Up to 15 more, for coefficients that don't count, fill
+    /// the last sixteen lanes. Where the degree grows, what the product was before is the earlier one from now on.
+    pub(crate) fn adjust(
+        &mut self,
+        factor: Gf,
+        gap: usize,
+        count: usize,
+        grows: bool,
+        meter: &mut Meter,
+    )
         requires near { gap ≤ COEFFICIENTS_ROOM }
-        requires lanes { width % 16 ≡ 0 }
-        requires narrow { width ≤ CHECKS_ROOM }
+        requires few { count ≤ MOST_CHECKS }
+        requires room { meter.old.products + count < 2 ^ 32 }
         ensures low { (i : ℕ) → i < gap
             → coefficient self.new.product i ≡ coefficient self.old.product i }
-        ensures high { (i : ℕ) → i < width → coefficient self.new.product (gap + i)
+        ensures high { (i : ℕ) → i < count → coefficient self.new.product (gap + i)
             ≡ coefficient self.old.product (gap + i) ⊕ factor.0 ⊗ coefficient self.old.earlier i }
         ensures grown { IsTrue grows → self.new.earlier ≡ take CHECKS_ROOM self.old.product }
         ensures kept { IsTrue (not grows) → self.new.earlier ≡ self.old.earlier }
+        ensures products { meter.new.products ≡ meter.old.products + count }
+        ensures inversions { meter.new.inversions ≡ meter.old.inversions }
     {
         let mut before = [0; CHECKS_ROOM];
         before.copy_from_slice(&self.product[..CHECKS_ROOM]);
+        let width = count.div_ceil(16) * 16;
+        meter.products += count as u32;
         add_scaled(&mut self.product[gap..gap + width], factor.0, &self.earlier);
         if grows {
             self.earlier = before;

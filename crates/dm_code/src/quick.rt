@@ -64,12 +64,52 @@ impl Quick {
         let locator = copy_of(coefficients);
         (Some(Key { locator, evaluator }), meter)
     }
+
+    /// Gives what [`KeySolver::solve`] gives, and the products and inversions that were made for it: for k syndromes at
+    /// most 4 k^2 products and k inversions, as for [`Quick::solve_counted`]. A discrepancy is a number of the
+    /// locator's product and takes none; where it isn't 0, both the locator and its product are corrected. Products
+    /// that only fill lanes aren't counted: those with the zeros behind a locator, and those for coefficients of its
+    /// product behind the last syndrome.
+    fn solve_by_products(s: &[u8], t: usize) -> (Option<Key>, Meter)
+        requires few { length s.now ≤ MOST_CHECKS }
+        requires half { 2 * t ≤ length s.now }
+        ensures least { IfSome result.0
+            (λ key. IsLeastPair s.now t key.locator.items key.evaluator.items) }
+        ensures none { IfNone result.0 (NoPair s.now t) }
+        ensures exact { IfSome result.0 (λ key. IsExact key.locator.items key.evaluator.items) }
+        ensures products { result.1.products ≤ 4 * length s.now * length s.now }
+        ensures inversions { result.1.inversions ≤ length s.now }
+    {
+        let mut counts = Meter::default();
+        let mut state = Search::new();
+        let mut products = Products::new(s);
+        for n in 0..s.len() {
+            let discrepancy = Gf(products.product[n]);
+            if discrepancy.0 != 0 {
+                let degree = state.degree.max(n + 1 - state.degree);
+                if degree > t {
+                    return (None, counts);
+                }
+                let grows = state.degree < degree;
+                let factor = counts.mul(discrepancy, state.inverse);
+                products.adjust(factor, state.gap, s.len(), grows, &mut counts);
+                state.adjust(discrepancy, degree, &mut counts);
+            }
+            state.gap += 1;
+        }
+        let product = products.below(state.degree);
+        let evaluator = copy_of(product);
+        let coefficients = state.coefficients();
+        let locator = copy_of(coefficients);
+        (Some(Key { locator, evaluator }), counts)
+    }
 }
 
 impl KeySolver for Quick {
     /// Gives what [`Quick::solve_counted`] gives, without the counts: the lists of both are those of the least pair
     /// with no number too many, and so the same ([`crate::laws::exact_least_pair_is_one`]). The [`Products`] of the
-    /// locators stand in place of the product that each discrepancy is there.
+    /// locators stand in place of the product that each discrepancy is there. For k syndromes there are at most 4 k^2
+    /// products and k inversions here too.
     fn solve(&self, s: &[u8], t: usize) -> Option<Key>
         requires few { length s.now ≤ MOST_CHECKS }
         requires half { 2 * t ≤ length s.now }
@@ -78,28 +118,7 @@ impl KeySolver for Quick {
         ensures none { IfNone result (NoPair s.now t) }
         ensures exact { IfSome result (λ key. IsExact key.locator.items key.evaluator.items) }
     {
-        let width = s.len().div_ceil(16) * 16;
-        let mut uncounted = Meter::default();
-        let mut state = Search::new();
-        let mut products = Products::new(s);
-        for n in 0..s.len() {
-            let discrepancy = Gf(products.product[n]);
-            if discrepancy.0 != 0 {
-                let degree = state.degree.max(n + 1 - state.degree);
-                if degree > t {
-                    return None;
-                }
-                let factor = discrepancy.mul(state.inverse);
-                products.adjust(factor, state.gap, width, state.degree < degree);
-                state.adjust(discrepancy, degree, &mut uncounted);
-            }
-            state.gap += 1;
-        }
-        let product = products.below(state.degree);
-        let evaluator = copy_of(product);
-        let coefficients = state.coefficients();
-        let locator = copy_of(coefficients);
-        Some(Key { locator, evaluator })
+        Quick::solve_by_products(s, t).0
     }
 }
 

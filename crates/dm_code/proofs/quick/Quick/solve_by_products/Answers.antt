@@ -1,6 +1,5 @@
-use Rattle.std.proofs.Common.{◌≡◌, ℕ, ◌+◌, ◌-◌, ◌*◌, ◌<◌, ◌≤◌, length, refl, sym, ap, subst, ◌∙◌, arith, inl, inr}
-use Rattle.std.proofs.Common.{not, get_or}
-use Rattle.std.proofs.Common.{take}
+use Rattle.std.proofs.Common.{◌≡◌, ℕ, ◌+◌, ◌-◌, ◌<◌, ◌≤◌, length, refl, sym, ap, subst, ◌∙◌, arith, inl}
+use Rattle.std.proofs.Common.{inr, not, get_or, take}
 use Rattle.std.proofs.lemmas.Bool.{cases_lt, lt-ltb, le-ltb}
 use Rattle.std.proofs.lemmas.List.{get_or-take}
 use Rattle.gf301.specs.Field.{◌⊕◌, ◌⊗◌}
@@ -15,8 +14,9 @@ use Rattle.dm_code.proofs.BerlekampMassey.{search_taken, taken_product, search_k
 use Rattle.dm_code.proofs.BerlekampMassey.{search_refuses, search_results, search_exact}
 use Rattle.dm_code.proofs.LocatorProducts.{HasProduct, one_product, corrected_product, same_product}
 use Rattle.dm_code.proofs.LocatorProducts.{renamed_product}
-use Rattle.dm_code.proofs.quick.QuickKeySolver.solve.Goals as goal
-use Rattle.dm_code.proofs.quick.QuickKeySolver.solve.Goals.{then-discrepancy-ne0+else-degree-t, else-discrepancy-ne0}
+use Rattle.dm_code.proofs.Counts.{step_with_products, products_by_steps}
+use Rattle.dm_code.proofs.quick.Quick.solve_by_products.Goals as goal
+use Rattle.dm_code.proofs.quick.Quick.solve_by_products.Goals.{then-discrepancy-ne0+else-degree-t, else-discrepancy-ne0}
 
 pub loop-n-init : goal.loop-n-init
 loop-n-init c =
@@ -28,8 +28,9 @@ loop-n-init c =
           restated (search_start s c.new-state.result.locator c.new-state.result.earlier e.locator e.earlier) refl refl
           (sym e.inverse) (sym e.gap) (sym e.degree) refl;
       within = omega (arith, e.degree);
-      products = omega (arith, c.default-uncounted.ensures.0);
-      inversions = omega (arith, c.default-uncounted.ensures.1);
+      products = omega (arith, c.default-counts.ensures.0);
+      room = omega (arith, c.default-counts.ensures.0);
+      inversions = omega (arith, c.default-counts.ensures.1);
       product =
           one_product (length s) c.new-state.result.locator s c.new-products.result.product e.locator
           (λ i. omega (arith, c.type_inv.s i)) p.product;
@@ -67,12 +68,21 @@ loop-n-preserved c =
           record { low = r.low; high = r.high } in
           let u : m ≡ new = sym w.state-is in
           let next = w.max-degree.ensures in
-          let wide : k ≤ c.div_ceil-width.result * 16 = omega (arith, c.div_ceil-width.ensures) in
+          let made : c.if-discrepancy-ne0.counts.products ≤ c.loop-n.counts.products + (k + c.args.t + 3) =
+          omega (
+            arith,
+            r.products,
+            q.products,
+            w.mul-factor.ensures.counted,
+            w.if-degree-t.false,
+            ap (λ (q : Meter). q.products) w.counts-is,
+          ) in
           let whole : HasProduct k m.locator s qs.product =
           corrected_product k s l old.earlier m.locator ps.product ps.earlier qs.product x old.inverse.0 old.gap cor
           c.loop-n.invariant.product c.loop-n.invariant.earlier q.low
-          (λ i b. q.high i (omega (arith, wide))
-          ∙ ap (λ (y : ℕ). coefficient ps.product (old.gap + i) ⊕ y ⊗ coefficient ps.earlier i) w.mul-factor.ensures) in
+          (λ i b. q.high i b
+          ∙ ap (λ (y : ℕ). coefficient ps.product (old.gap + i) ⊕ y ⊗ coefficient ps.earlier i)
+          w.mul-factor.ensures.product) in
           record {
             search = elim (cases_lt n (d + d)) [
               | inl b ↦
@@ -94,22 +104,31 @@ loop-n-preserved c =
                   (omega (arith, r.degree, next, ap (λ (q : Search). q.degree) u)) (omega arith)
             ];
             within = omega (arith, r.degree, w.if-degree-t.false, ap (λ (q : Search). q.degree) u);
-            products = omega (
-              arith,
-              r.products,
-              c.loop-n.invariant.products,
-              w.if-degree-t.false,
-              c.requires.half,
-              c.requires.few,
-              ap (λ (q : Meter). q.products) w.uncounted-is,
-            );
+            products =
+                step_with_products n k c.args.t c.loop-n.counts.products c.if-discrepancy-ne0.counts.products
+                c.requires.half (omega (arith, c.loop-n-test.true)) c.loop-n.invariant.products made;
+            room = omega (arith, made, c.loop-n.invariant.room, c.requires.half, c.requires.few);
             inversions = elim (cases_lt n (d + d)) [
               | inl b ↦
                   let o = r.kept (omega (arith, next)) in
-                  omega (arith, o.3, c.loop-n.invariant.inversions, ap (λ (q : Meter). q.inversions) w.uncounted-is)
+                  omega (
+                    arith,
+                    o.3,
+                    q.inversions,
+                    w.mul-factor.ensures.kept,
+                    c.loop-n.invariant.inversions,
+                    ap (λ (q : Meter). q.inversions) w.counts-is,
+                  )
               | inr b ↦
                   let o = r.grown (omega (arith, next)) in
-                  omega (arith, o.3, c.loop-n.invariant.inversions, ap (λ (q : Meter). q.inversions) w.uncounted-is)
+                  omega (
+                    arith,
+                    o.3,
+                    q.inversions,
+                    w.mul-factor.ensures.kept,
+                    c.loop-n.invariant.inversions,
+                    ap (λ (q : Meter). q.inversions) w.counts-is,
+                  )
             ];
             product =
                 renamed_product k m.locator new.locator s qs.product c.if-discrepancy-ne0.products.product whole
@@ -142,8 +161,12 @@ loop-n-preserved c =
                 (ap (λ (q : Search). q.inverse.0) u) (omega (arith, ap (λ (q : Search). q.gap) u))
                 (ap (λ (q : Search). q.degree) u) (omega arith);
             within = omega (arith, c.loop-n.invariant.within, ap (λ (q : Search). q.degree) u);
-            products = omega (arith, c.loop-n.invariant.products, ap (λ (q : Meter). q.products) w.uncounted-is);
-            inversions = omega (arith, c.loop-n.invariant.inversions, ap (λ (q : Meter). q.inversions) w.uncounted-is);
+            products =
+                step_with_products n k c.args.t c.loop-n.counts.products c.if-discrepancy-ne0.counts.products
+                c.requires.half (omega (arith, c.loop-n-test.true)) c.loop-n.invariant.products
+                (omega (arith, ap (λ (q : Meter). q.products) w.counts-is));
+            room = omega (arith, c.loop-n.invariant.room, ap (λ (q : Meter). q.products) w.counts-is);
+            inversions = omega (arith, c.loop-n.invariant.inversions, ap (λ (q : Meter). q.inversions) w.counts-is);
             product =
                 renamed_product k l new.locator s ps.product c.if-discrepancy-ne0.products.product
                 c.loop-n.invariant.product (ap (λ (q : Search). q.locator) u)
@@ -182,3 +205,13 @@ returns-clause-exact c =
     search_exact (search_taken c.loop-n.invariant.search p) (omega arith)
     (omega (arith, ap length c.copy_of-locator.ensures, c.coefficients-coefficients.ensures.count)) long
     (returns-clause-least c)
+
+pub returns-then-degree-t-clause-products : goal.returns-then-degree-t-clause-products
+returns-then-degree-t-clause-products c =
+    products_by_steps c.loop-n.n (length c.args.s.now) c.loop-n.counts.products (omega (arith, c.loop-n-test.true))
+    c.loop-n.invariant.products
+
+pub returns-clause-products : goal.returns-clause-products
+returns-clause-products c =
+    products_by_steps c.loop-n.n (length c.args.s.now) c.loop-n.counts.products (omega arith)
+    c.loop-n.invariant.products
