@@ -139,6 +139,16 @@ pub(crate) fn draw(size: SymbolSize, mapping: &[bool], modules: &mut Modules)
     }
 }
 
+/// Copies the colours of a part of a row. It stands by itself since the loop of its caller is slower with a copy's
+/// tests in it.
+#[inline(never)]
+fn copy_part(part: &[bool], target: &mut [bool])
+    requires { length target.old ≡ length part.now }
+    ensures { target.new ≡ part.now }
+{
+    target.copy_from_slice(part);
+}
+
 /// Reads a row of the mapping matrix out of the modules of a symbol.
 fn read_row(modules: &Modules, row: u16, line: &mut [bool])
     requires row { row < mapping_rows modules.now.size }
@@ -154,7 +164,7 @@ fn read_row(modules: &Modules, row: u16, line: &mut [bool])
     for region in 0..size.regions_across() as usize {
         let start = region * width;
         let inner = region * (width + 2) + 1;
-        line[start..start + width].copy_from_slice(&all[inner..inner + width]);
+        copy_part(&all[inner..inner + width], &mut line[start..start + width]);
     }
 }
 

@@ -35,13 +35,13 @@ loop-region-preserved c =
     let inside : inner + w < c.columns.result = omega (arith, wide, columns) in
     let count : inner + w - inner ≡ w = omega arith in
     region_read m c.args.row region w (region * w) _ c.symbol_row-outer.result c.loop-region.line
-    c.copy_from_slice.new.self width refl outer
-    (ap length c.copy_from_slice.ensures.after
+    c.copy_part.new.target width refl outer
+    (ap length c.copy_part.ensures
     ∙ length-chunk inner (inner + w - inner) part (omega (arith, inside, count, c.part-all.ensures.count)) ∙ count)
     (omega (arith, below, all, c.loop-region.auto.line, c.requires.line)) c.loop-region.invariant
     (λ j l.
     let z : 0 + (inner + j) ≡ inner + j = omega arith in
-    ap (λ (xs : List Bool). get_or xs j false) c.copy_from_slice.ensures.after
+    ap (λ (xs : List Bool). get_or xs j false) c.copy_part.ensures
     ∙ get_or-chunk inner (inner + w - inner) part j false (omega (arith, count, l))
     ∙ c.part-all.ensures.colours (inner + j) (omega (arith, inside, l))
     ∙ ap (module_at m c.symbol_row-outer.result) z)
