@@ -189,12 +189,6 @@ first_on rising d i l =
     let e : d.count - i ≡ suc (d.count - (i + 1)) = omega (arith, l) in
     ap (λ (k : ℕ). map (anchor_at rising d) (range_with_len i k)) e
 
--- A diagonal has no shapes past its last.
-none_on : (rising : Bool) (d : Diagonal) (i : ℕ) → d.count ≤ i → shapes_from rising d i ≡ []
-none_on rising d i l =
-    let e : d.count - i ≡ 0 = omega (arith, l) in
-    ap (λ (k : ℕ). map (anchor_at rising d) (range_with_len i k)) e
-
 -- After the codeword of number i of a diagonal, those of the next are lifted.
 pub lifted_next : (look : ℕ → ℕ → Bool) (rows columns : ℕ) (rising : Bool) (d : Diagonal) (first i w : ℕ)
     (words all : List ℕ) →
@@ -208,13 +202,6 @@ lifted_next look rows columns rising d first i w words all l e so_far =
         (set words (first + i) x)) e
     ∙ sym (ap (λ (ss : List Shape). lifted look rows columns ss (first + i) words) (first_on rising d i l)) ∙ so_far
 
--- After the last of a diagonal nothing is left to be lifted.
-pub lifted_last : (look : ℕ → ℕ → Bool) (rows columns : ℕ) (rising : Bool) (d : Diagonal) (i k : ℕ) (words : List ℕ)
-    → d.count ≤ i →
-    lifted look rows columns (shapes_from rising d i) k words ≡ words
-lifted_last look rows columns rising d i k words l =
-    ap (λ (ss : List Shape). lifted look rows columns ss k words) (none_on rising d i l)
-
 -- After the codeword of number i of a diagonal, those of the next are laid.
 pub laid_next : (rows columns : ℕ) (ws : List ℕ) (rising : Bool) (d : Diagonal) (first i : ℕ) (cells all : List Bool) →
     i < d.count → laid rows columns ws (shapes_from rising d i) (first + i) cells ≡ all →
@@ -226,13 +213,6 @@ laid_next rows columns ws rising d first i cells all l so_far =
     with_word columns (get_or ws (first + i) 0) 0 (cells_of rows columns (anchor_at rising d i)) cells in
     ap (λ (j : ℕ). laid rows columns ws (shapes_from rising d (i + 1)) j next) k
     ∙ sym (ap (λ (ss : List Shape). laid rows columns ws ss (first + i) cells) (first_on rising d i l)) ∙ so_far
-
--- After the last of a diagonal nothing is left to be laid.
-pub laid_last : (rows columns : ℕ) (ws : List ℕ) (rising : Bool) (d : Diagonal) (i k : ℕ) (cells : List Bool)
-    → d.count ≤ i →
-    laid rows columns ws (shapes_from rising d i) k cells ≡ cells
-laid_last rows columns ws rising d i k cells l =
-    ap (λ (ss : List Shape). laid rows columns ws ss k cells) (none_on rising d i l)
 
 -- A diagonal has as many shapes as it says.
 pub length-on : (rising : Bool) (d : Diagonal) → length (shapes_on rising d) ≡ d.count
