@@ -133,7 +133,7 @@ impl Rows {
 
     /// Takes the whole lines at the start of some bytes that are as long as the first line of all, each with its LF,
     /// and says how many bytes they are. That length being known, no line's end is searched for. How many lines it
-    /// takes matters for speed alone: none where they are longer than a block.
+    /// takes matters for speed alone: none where they are longer than a block, or where the lines differ already.
     fn take_even_lines(&mut self, bytes: &[u8]) -> usize
         requires { (lines : List (List ℕ)) × HoldsLines self.old lines [] }
         ensures within { result ≤ length bytes.now }
@@ -142,7 +142,7 @@ impl Rows {
     {
         let side = self.first;
         let mut at = 0;
-        if side == 0 || usize::from(side) > BLOCK {
+        if self.differs || side == 0 || usize::from(side) > BLOCK {
             return at;
         }
         while let Some(line) = RowPart::of_line(&bytes[at..], side) {

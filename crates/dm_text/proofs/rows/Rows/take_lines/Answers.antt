@@ -53,8 +53,7 @@ loop-cells-preserved c =
           let here =
           subst (λ (i : ℕ). EndsLines c.push_line.new.self lines (take i bytes)) (sym next) one in
           subst (λ (i : List ℕ). EndsLines c.take_even_lines.new.self lines i)
-              (go_on [] bytes (at + c.from.result + 1) k)
+          (go_on [] bytes (at + c.from.result + 1) k)
           (ends_joined c.push_line.new.self c.take_even_lines.new.self lines (take (at + c.from.result + 1) bytes) _
-              here
-          (c.take_even_lines.ensures.ended (lines ++ here.more) here.held));
+          here (c.take_even_lines.ensures.ended (lines ++ here.more) here.held));
     }
