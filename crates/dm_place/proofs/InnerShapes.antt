@@ -199,7 +199,7 @@ lifted_next look rows columns rising d first i w words all l e so_far =
     let k : first + (i + 1) ≡ first + i + 1 = omega arith in
     ap (λ (j : ℕ). lifted look rows columns (shapes_from rising d (i + 1)) j (set words (first + i) w)) k
     ∙ ap (λ (x : ℕ). lifted look rows columns (shapes_from rising d (i + 1)) (first + i + 1)
-        (set words (first + i) x)) e
+    (set words (first + i) x)) e
     ∙ sym (ap (λ (ss : List Shape). lifted look rows columns ss (first + i) words) (first_on rising d i l)) ∙ so_far
 
 -- After the codeword of number i of a diagonal, those of the next are laid.

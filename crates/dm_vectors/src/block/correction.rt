@@ -67,7 +67,10 @@ fn a_target_takes_the_codeword_that_is_near(rt: HostRuntime) {
     holds(&rt, fixed.as_slice() == WORD.as_slice());
     holds(&rt, correct_to(&Quick, &WORD, 5, &mut fixed) == Ok(0));
     let beyond = [0, 0, 0, 114, 25, 5, 88, 102];
-    holds(&rt, correct_to(&Quick, &beyond, 5, &mut fixed) == Err(BeyondLimit));
+    holds(
+        &rt,
+        correct_to(&Quick, &beyond, 5, &mut fixed) == Err(BeyondLimit),
+    );
 }
 
 /// Whether the first `length` codewords of a word are corrected with as many wrong codewords as can be, at every

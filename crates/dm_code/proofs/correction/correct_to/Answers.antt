@@ -110,7 +110,7 @@ found_near g c =
           codeword_from_syndromes k f (take k c.correct_errors-changed.new.syndromes) c.requires.most
           (omega (arith, now.long, c.requires.data)) (omega (arith, now.long, c.requires.long))
           c.correct_errors-changed.ensures.bytes c.correct_errors-changed.ensures.kept
-              (c.are_zero-2.ensures.0 c.if-are_zero-2.true);
+          (c.are_zero-2.ensures.0 c.if-are_zero-2.true);
       long = now.long;
       close = d;
     })

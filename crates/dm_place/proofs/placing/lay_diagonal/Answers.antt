@@ -17,7 +17,7 @@ loop-i-preserved c =
     ∙ ap (λ (r : ℕ). with_word columns word 0 (cells_of rows columns (Standard r c.column_at.result)) c.loop-i.cells)
     c.row_at.ensures
     ∙ ap (λ (x : ℕ). with_word columns word 0 (cells_of rows columns
-        (Standard (row_at c.args.is_rising c.args.diagonal i) x))
+    (Standard (row_at c.args.is_rising c.args.diagonal i) x))
     c.loop-i.cells) c.column_at.ensures)
     ∙ laid_next rows columns c.args.words.now c.args.is_rising c.args.diagonal c.args.first i c.loop-i.cells _
     (omega (arith, c.loop-i-test.true)) c.loop-i.invariant

@@ -61,7 +61,7 @@ loop-run-preserved c =
       so_far = let look = look_at c.args.cells.now c.args.columns in
           ap (λ (k : ℕ). lifted look c.args.rows c.args.columns rest k c.lift_run-word.new.words) n
           ∙ ap (lifted look c.args.rows c.args.columns rest (c.loop-run.word + length now))
-              c.lift_run-word.ensures.lifted
+          c.lift_run-word.ensures.lifted
           ∙ sym (lifted-append look c.args.rows c.args.columns now rest c.loop-run.word c.loop-run.words)
           ∙ sym (ap (λ (ss : List Shape). lifted look c.args.rows c.args.columns ss c.loop-run.word c.loop-run.words) e)
           ∙ c.loop-run.invariant.so_far;

@@ -16,5 +16,5 @@ loop-i-preserved c =
     (c.inner_word_at.ensures
     ∙ ap (λ (r : ℕ). word_at look (cells_of rows columns (Standard r c.column_at.result))) c.row_at.ensures
     ∙ ap (λ (x : ℕ). word_at look (cells_of rows columns
-        (Standard (row_at c.args.is_rising c.args.diagonal c.loop-i.i) x)))
+    (Standard (row_at c.args.is_rising c.args.diagonal c.loop-i.i) x)))
     c.column_at.ensures) c.loop-i.invariant
