@@ -1,13 +1,12 @@
 -- Shapes none of whose cells is wrapped.
-use Rattle.std.proofs.Common.{◌≡◌, ℕ, zero, suc, ◌+◌, ◌-◌, ◌*◌, ◌/◌, ◌%◌}
-use Rattle.std.proofs.Common.{◌^◌, ◌<◌, ◌≤◌, Bool, true, false, nat_eq, ◌⊎◌, inl, inr}
+use Rattle.std.proofs.Common.{◌≡◌, ℕ, zero, suc, ◌+◌, ◌-◌, ◌*◌, ◌%◌}
+use Rattle.std.proofs.Common.{◌<◌, ◌≤◌, Bool, true, false, nat_eq, ◌⊎◌, inl, inr}
 use Rattle.std.proofs.Common.{nat_lt, nat_le, List, [], ◌∷◌, ◌++◌, map, get_or, set, length, refl, sym, ◌∙◌, ap, arith}
 use Rattle.std.specs.List.{range_with_len}
 use Rattle.std.proofs.Math.Bool.{and-false}
 use Rattle.std.proofs.Math.Nat.{mul_comm}
 use Rattle.std.proofs.lemmas.Bool.{ne_eqb, le-ltb}
 use Rattle.std.proofs.lemmas.Nat.{mul-add-lt}
-use Rattle.std.proofs.lemmas.Simd.{map-map}
 use Rattle.std.proofs.lemmas.Bool.Decides.{leb_tells}
 use Rattle.dm_place.specs.declared.shape.Cell.{Cell}
 use Rattle.dm_place.specs.declared.shape.Shape.{Shape}
@@ -18,8 +17,8 @@ use Rattle.dm_place.specs.declared.run.Diagonal.{Diagonal}
 use Rattle.dm_place.specs.Placement.{At, cells_of, lowered_cell, standard_by, wrapped_cell}
 use Rattle.dm_place.specs.Placement.{wrapped_twice, is_absent, in_even_row, in_odd_row, CellsInside}
 use Rattle.dm_place.specs.Placement.{ShapesInside}
-use Rattle.dm_place.specs.Holding.{digit, look_at, number_of, word_at}
-use Rattle.dm_place.specs.inner.Laying.{laid, lifted, place_in, with_bits, with_word}
+use Rattle.dm_place.specs.Holding.{digit, look_at, word_at}
+use Rattle.dm_place.specs.inner.Laying.{laid, lifted, place_in, with_word}
 use Rattle.dm_place.specs.inner.Runs.{anchor_at, shapes_from, shapes_on}
 use Rattle.dm_place.specs.inner.Walking.{left_at}
 use Rattle.dm_place.proofs.Bits.{sum_of_digits}
@@ -262,27 +261,6 @@ second_inside rows columns [] ys h = h
 second_inside rows columns (x ∷ xs) ys h = second_inside rows columns xs ys h.2
 
 -- ---- places of cells
-
--- The codeword at the places of cells is that in the cells.
-pub word_at_places : (columns : ℕ) (cells : List Bool) (xs : List Cell) (places : List ℕ) →
-    places ≡ map (place_in columns) xs →
-    number_of 0 (map (λ place. get_or cells place false) places) ≡ word_at (look_at cells columns) xs
-word_at_places columns cells xs places e =
-    ap (λ (ps : List ℕ). number_of 0 (map (λ place. get_or cells place false) ps)) e
-    ∙ ap (number_of 0) (map-map (λ place. get_or cells place false) (place_in columns) xs)
-
--- A codeword is put into cells by putting it at their places.
-put_at_places : (columns word k : ℕ) (xs : List Cell) (cells : List Bool) →
-    with_bits word k (map (place_in columns) xs) cells ≡ with_word columns word k xs cells
-put_at_places columns word k [] cells = refl
-put_at_places columns word k (x ∷ xs) cells =
-    put_at_places columns word (suc k) xs
-    (set cells (x.row * columns + x.column) (nat_eq (word / 2 ^ (8 - (k + 1)) % 2) 1))
-
-pub word_put_at : (columns word : ℕ) (xs : List Cell) (places : List ℕ) (cells : List Bool) →
-    places ≡ map (place_in columns) xs → with_bits word 0 places cells ≡ with_word columns word 0 xs cells
-word_put_at columns word xs places cells e =
-    ap (λ (ps : List ℕ). with_bits word 0 ps cells) e ∙ put_at_places columns word 0 xs cells
 
 -- The places of cells that lie in a matrix are below its number of cells.
 below_all : (rows columns : ℕ) (xs : List Cell) (k : ℕ) → CellsInside rows columns xs → k < length xs →
