@@ -31,6 +31,9 @@ pub fn border_faults(grid: &Grid) -> u16
 /// A row in which the cells of even columns are dark.
 const EVEN_COLUMNS: u128 = 0x5555_5555_5555_5555_5555_5555_5555_5555;
 
+/// The most columns whose cells are counted as the bits of a number of 64 bits.
+const NARROW_SIDE: u16 = 64;
+
 /// The border cells of a symbol's rows, as bits: the cell of column `c` is the bit of weight 2^c. Which row it is
 /// doesn't matter, but only its place inside the square of a region and its border, counted from 0 at the top;
 /// functions call this place `inner`.
@@ -149,7 +152,8 @@ impl Borders {
         faults + self.row_faults(grid.row(first + self.last), self.last)
     }
 
-    /// Gives how many border cells of a row have the wrong colour.
+    /// Gives how many border cells of a row have the wrong colour. Up to 64 columns only half of each number is worked
+    /// on: no bit of the others is 1.
     #[inline(always)]
     fn row_faults(&self, row: u128, inner: u16) -> u16
         ensures count { result
@@ -157,7 +161,11 @@ impl Borders {
         ensures most { result ≤ self.now.side }
     {
         let wrong = (row ^ self.dark(inner)) & self.cells(inner);
-        wrong.count_ones() as u16
+        if self.size.side() <= NARROW_SIDE {
+            (wrong as u64).count_ones() as u16
+        } else {
+            wrong.count_ones() as u16
+        }
     }
 }
 
