@@ -1,13 +1,15 @@
 -- Rows of sixteen bytes as numbers.
 use Rattle.std.proofs.Common.{◌≡◌, ◌⊎◌, inl, inr, ℕ, zero, suc, ◌+◌, ◌-◌, ◌*◌, ◌/◌, ◌%◌, ◌^◌, ◌<◌, ◌≤◌, Bool, false}
-use Rattle.std.proofs.Common.{◌&&◌, ◌||◌, nat_eq, nat_le, List, [], ◌∷◌, length, get_or, set, replicate, refl, sym, ◌∙◌}
-use Rattle.std.proofs.Common.{ap, arith, subst, get_or-set_other, get_or-set_same}
+use Rattle.std.proofs.Common.{◌&&◌, ◌||◌, nat_eq, nat_le, List, [], ◌∷◌, length, length-append, get_or, set, take}
+use Rattle.std.proofs.Common.{replicate, refl, sym, ◌∙◌, ap, arith, subst, get_or-set_other, get_or-set_same}
 use Rattle.std.specs.Int.{from_le_bytes, to_le_bytes, bytes_low_first, byte_at, w128}
 use Rattle.std.specs.Int.RustNames.{bit_or}
 use Rattle.std.proofs.Math.Arith.{mod-mul}
 use Rattle.std.proofs.Math.Bool.{or-false}
 use Rattle.std.proofs.Math.Nat.{div-div-eq-div-mul, pow-suc}
 use Rattle.std.proofs.lemmas.Bool.{le-leb, lt-leb, cases_lt, cases_eq}
+use Rattle.std.specs.List.{flat_map}
+use Rattle.std.proofs.lemmas.List.Concat.{get_or-flat_map}
 use Rattle.std.proofs.lemmas.List.{get_or-map, get_or-replicate, map-set, length-set, length-replicate}
 use Rattle.std.proofs.lemmas.Nat.{or_lt, pow-add, pow_pos, mod_below}
 use Rattle.std.proofs.lemmas.Nat.Bits.{bit_at-zero, bit_at_cat_low, bit_at_cat_high, bit_at_above}
@@ -241,6 +243,27 @@ in_low_first n l = low_first 0 16 n ∙ whole n l
 pub slot_inside : (x : ℕ) → HasSlot largest_mapping x → x / 16 < largest_mapping + 1
 slot_inside x (inl e) = omega (arith, e)
 slot_inside x (inr within) = let h = within.0 in omega (arith, h)
+
+-- The rows before one have sixteen bytes each.
+rows_before : (rows : List (List ℕ)) (r : ℕ) → ((q : ℕ) → q < length rows → length (get_or rows q []) ≡ 16) →
+    r ≤ length rows → length (flat_map (λ bs. bs) (take r rows)) ≡ 16 * r
+rows_before rows zero wide l = refl
+rows_before [] (suc r) wide l = absurd (omega arith)
+rows_before (bs ∷ rows) (suc r) wide l =
+    let here : length bs ≡ 16 = wide 0 (omega arith) in
+    let rest = rows_before rows r (λ q k. wide (suc q) (omega (arith, k))) (omega (arith, l)) in
+    let both = length-append bs (flat_map (λ ys. ys) (take r rows)) in
+    omega (arith, here, rest, both)
+
+-- Of the bytes of all rows, the one at a slot's place is that of the slot in its row.
+pub flat_byte : (rows : List (List ℕ)) (x : ℕ) → AreSlotRows rows → x / 16 < length rows →
+    get_or (flat_map (λ bs. bs) rows) x 0 ≡ get_or (get_or rows (x / 16) []) (x % 16) 0
+flat_byte rows x are room =
+    let wide = are.wide (x / 16) room in
+    let before = rows_before rows (x / 16) are.wide (omega (arith, room)) in
+    let place : x ≡ length (flat_map (λ (bs : List ℕ). bs) (take (x / 16) rows)) + x % 16 = omega (arith, before) in
+    ap (λ (i : ℕ). get_or (flat_map (λ (bs : List ℕ). bs) rows) i 0) place
+    ∙ get_or-flat_map (λ (bs : List ℕ). bs) rows (x / 16) (x % 16) [] 0 room (omega (arith, wide))
 
 -- Slots without a codeword are rows of sixteen bytes.
 pub slots_empty : (n : ℕ) → AreSlotRows (replicate n (replicate {A = ℕ} 16 0))

@@ -63,13 +63,14 @@ impl Slots {
         self.rows[row] = number.to_le_bytes();
     }
 
-    /// Gives the byte of a slot.
+    /// Gives the byte of a slot. Among the bytes of all rows it stands at the slot's own place, so that no row is
+    /// looked for.
     #[inline(always)]
     pub(crate) fn byte(&self, slot: u16) -> u8
         requires { HasSlot largest_mapping slot }
         ensures { result ≡ slot_byte self.now slot }
     {
-        self.rows[slot as usize / ROW_SLOTS][slot as usize % ROW_SLOTS]
+        self.rows.as_flattened()[slot as usize]
     }
 
     /// Lays a byte over that of its slot.
