@@ -97,18 +97,18 @@ fn join_anchors<R: BitRows>(rows: &R, slots: &mut Slots, mapping: u16)
     }
 }
 
-/// Gives the codewords in widened rows, in their slots.
-pub(crate) fn join_rows<R: BitRows>(rows: &R, mapping: u16) -> Slots
+/// Puts the codewords in widened rows into their slots. The slots are the caller's, since a list of their size would be
+/// cleared and copied once more to be given back.
+pub(crate) fn join_rows<R: BitRows>(rows: &R, slots: &mut Slots, mapping: u16)
     requires room { length (R.numbers rows.now) ≡ R.most + 6 }
     requires low { 8 ≤ mapping }
     requires small { mapping ≤ R.most }
-    ensures { HasSlots mapping (R.numbers rows.now) result }
+    requires slots { length slots.old ≡ largest_mapping + 1 }
+    ensures { HasSlots mapping (R.numbers rows.now) slots.new }
 {
-    let mut slots = Slots::empty();
-    join_anchors(rows, &mut slots, mapping);
+    join_anchors(rows, slots, mapping);
     let corner = corner_word(rows, mapping);
     slots.put_row(LARGEST_MAPPING, u128::from(reverse(corner)));
-    slots
 }
 
 /// Gives the codeword of a slot.

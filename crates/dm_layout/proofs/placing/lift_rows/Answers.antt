@@ -1,6 +1,6 @@
 use Rattle.std.proofs.Common.{◌≡◌, true, ℕ, ◌+◌, ◌<◌, List, map, take, length, get_or, ap, sym, subst, arith, ◌∙◌}
 use Rattle.std.specs.List.{list_all}
-use Rattle.std.proofs.lemmas.List.{length-map, take_all}
+use Rattle.std.proofs.lemmas.List.{length-map, length-replicate, take_all}
 use Rattle.dm_layout.specs.Sizes.{SizeRow, codeword_count, largest_mapping}
 use Rattle.dm_layout.specs.Border.{mapped_cell}
 use Rattle.dm_layout.specs.Placement.{shapes, cells_of}
@@ -18,6 +18,10 @@ use Rattle.dm_layout.proofs.placing.lift_rows.Goals as goal
 -- The codeword in a slot.
 abbrev word_by : List ℕ → ℕ → ℕ
 word_by slots x = reversed_bits (slot_byte slots x)
+
+pub join_rows-requires-clause-slots : goal.join_rows-requires-clause-slots
+join_rows-requires-clause-slots g c =
+    ap length c.empty-slots.ensures ∙ length-replicate {A = ℕ} (largest_mapping + 1) 0
 
 pub codeword-requires : goal.codeword-requires
 codeword-requires g c =
@@ -38,7 +42,7 @@ put-requires g c =
 
 pub loop-i-preserved : goal.loop-i-preserved
 loop-i-preserved g c =
-    let f = word_by c.join_rows-slots.result in
+    let f = word_by c.join_rows.new.slots in
     let k = ap length c.order-slot-items.ensures in
     let n =
     slot_count c.size-size.result c.mapping-mapping.result c.order-slot-items.result.now
@@ -62,7 +66,7 @@ returns-clause-holds g c =
     let n : ℕ = c.args.grid.now.size.mapping in
     let m : ℕ = c.mapping-mapping.result in
     let row = c.mapping-mapping.ensures.row in
-    let f = word_by c.join_rows-slots.result in
+    let f = word_by c.join_rows.new.slots in
     let em : m ≡ n = c.mapping-mapping.ensures.value ∙ ap (λ (s : SizeRow). s.mapping) c.size-size.ensures.value in
     let order = order_at_row c.size-size.result row in
     let es : c.size-size.result.mapping ≡ n = ap (λ (s : SizeRow). s.mapping) c.size-size.ensures.value in
@@ -79,8 +83,8 @@ returns-clause-holds g c =
     slot_words m (mapped_cell c.args.grid.now) rows
     (omega (arith, c.mapping-mapping.ensures.least, c.mapping-mapping.ensures.value))
     (side_at_row c.size-size.result m row c.mapping-mapping.ensures.value)
-    (omega (arith, c.mapping-mapping.ensures.even, c.mapping-mapping.ensures.value)) wide c.join_rows-slots.result
-    c.join_rows-slots.ensures (shapes m)
+    (omega (arith, c.mapping-mapping.ensures.even, c.mapping-mapping.ensures.value)) wide c.join_rows.new.slots
+    c.join_rows.ensures (shapes m)
     (subst (λ (i : ℕ). list_all (fits_test i) (shapes i) ≡ true) (sym c.mapping-mapping.ensures.value) order.fits) in
     held c.args.grid.now c.loop-i.words c.size-size.ensures.grid c.loop-i.invariant.words c.loop-i.invariant.size
     (sym (take_all c.loop-i.i c.loop-i.words.list

@@ -1,12 +1,7 @@
-use Rattle.std.proofs.Common.{ℕ, set, ◌+◌, ◌∙◌, length, ap, arith}
-use Rattle.std.proofs.lemmas.List.{length-replicate}
+use Rattle.std.proofs.Common.{ℕ, set, ◌∙◌, ap, arith}
 use Rattle.dm_layout.specs.Sizes.{largest_mapping}
 use Rattle.dm_layout.proofs.SlotRows.{corner_beside}
 use Rattle.dm_layout.proofs.slots.join_rows.Goals as goal
-
-pub join_anchors-requires-clause-slots : goal.join_anchors-requires-clause-slots
-join_anchors-requires-clause-slots g c =
-    ap length c.empty-slots.ensures ∙ length-replicate {A = ℕ} (largest_mapping + 1) 0
 
 pub returns : goal.returns
 returns g c =
