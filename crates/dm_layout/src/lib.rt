@@ -8,7 +8,7 @@
 //! [`lay()`] gives the one grid with correct borders and the fixed square that holds given codewords, and [`lift()`]
 //! the codewords that a grid holds, whatever stands in its borders and its fixed square. [`lay_to()`] and [`lift_to()`]
 //! leave the same in a grid, or in codewords, of the caller's, whatever these were before and whatever their size, so
-//! that one of each serves any number of symbols.
+//! that one of each serves any number of symbols; [`Words::zeros()`] gives codewords to lift into.
 //!
 //! [`block()`] reads one Reed-Solomon block of the codewords, and [`put_block()`] writes one. [`border_faults()`]
 //! counts the border cells of a grid that have the wrong colour. Cell by cell, [`border_colour()`] gives the colour

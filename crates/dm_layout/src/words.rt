@@ -69,9 +69,11 @@ impl Words {
         self.kept[start..end].copy_from_slice(checks);
     }
 
-    /// Gives codewords of this size with any values, for [`lift_to`](crate::lift_to) to replace.
-    pub(crate) fn any(size: Size) -> Words
-        ensures size { result.size ≡ size }
+    /// Gives codewords of this size that are all 0, for [`lift_to`](crate::lift_to) to replace: whoever lifts into
+    /// these spares the copies that [`lift`](crate::lift) makes of what it gives back.
+    pub fn zeros(size: Size) -> Words
+        ensures value { result
+            ≡ record { size = size; list = replicate (codeword_count size) 0 } }
         ensures words { IsWords result }
     {
         // For the proof alone: what `check_count` ensures says that the codewords fit.

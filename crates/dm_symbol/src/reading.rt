@@ -9,7 +9,7 @@ ghost use Rattle.dm_symbol.specs.Reading.{IsRead, IsFirstBeyond, reading_of};
 
 use crate::correction::correct_block;
 use arrayvec::ArrayVec;
-use dm_layout::{Grid, MOST_BLOCKS, Words, border_faults, lift};
+use dm_layout::{Grid, MOST_BLOCKS, Words, border_faults, lift_to};
 use dm_words::{Extent, Message, WordFault, message_to_as};
 
 /// What a grid says, and how much of it was wrong.
@@ -83,7 +83,8 @@ pub fn read_to(
         return Err(ReadFault::Border(border_faults));
     }
     reading.border_faults = border_faults;
-    let mut words = lift(grid);
+    let mut words = Words::zeros(grid.size());
+    lift_to(grid, &mut words);
     match correct_blocks(&mut words, &mut reading.corrected) {
         Ok(()) => {}
         Err(b) => return Err(ReadFault::Block(b)),

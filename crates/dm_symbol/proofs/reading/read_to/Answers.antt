@@ -34,8 +34,8 @@ returns-in-Err-clause-read c =
     let few : border_fault_count c.args.grid.now ≤ c.args.border_limit =
     omega (arith, c.if-border_faults-border_limit.false, c.border_faults-border_faults.ensures) in
     is_read c.args.extent c.args.grid.now c.args.border_limit _
-    (block_result c.args.extent c.args.grid.now c.args.border_limit c.lift-words.result c.in-Err.b few
-    c.lift-words.ensures.holds c.in-Err.ensures.beyond)
+    (block_result c.args.extent c.args.grid.now c.args.border_limit c.lift_to.new.words c.in-Err.b few
+    c.lift_to.ensures.holds c.in-Err.ensures.beyond)
 
 pub returns-in-Ok-message_to_as-clause-read : goal.returns-in-Ok-message_to_as-clause-read
 returns-in-Ok-message_to_as-clause-read c =
@@ -45,8 +45,8 @@ returns-in-Ok-message_to_as-clause-read c =
     subst (λ words. Spells c.args.extent words c.message_to_as.new.message) c.data_part.ensures.value
     ((c.in-Ok-message_to_as.ensures.message c.message_to_as.new.message).0 refl) in
     is_read c.args.extent c.args.grid.now c.args.border_limit _
-    (message_result c.args.extent c.args.grid.now c.args.border_limit c.lift-words.result
-    c.correct_blocks.new.words few c.lift-words.ensures.holds c.in-Ok.ensures.size c.in-Ok.ensures.words
+    (message_result c.args.extent c.args.grid.now c.args.border_limit c.lift_to.new.words
+    c.correct_blocks.new.words few c.lift_to.ensures.holds c.in-Ok.ensures.size c.in-Ok.ensures.words
     c.in-Ok.ensures.near c.message_to_as.new.message c.correct_blocks.new.counts c.border_faults-border_faults.result
     c.in-Ok.ensures.counts c.border_faults-border_faults.ensures spelled)
 
@@ -58,6 +58,6 @@ returns-in-Err-message_to_as-clause-read c =
     subst (λ words. Refused c.args.extent words c.in-Err-message_to_as.fault) c.data_part.ensures.value
     ((c.in-Err-message_to_as.ensures.fault c.in-Err-message_to_as.fault).0 refl) in
     is_read c.args.extent c.args.grid.now c.args.border_limit _
-    (words_result c.args.extent c.args.grid.now c.args.border_limit c.lift-words.result c.correct_blocks.new.words
-    few c.lift-words.ensures.holds c.in-Ok.ensures.size c.in-Ok.ensures.words
+    (words_result c.args.extent c.args.grid.now c.args.border_limit c.lift_to.new.words c.correct_blocks.new.words
+    few c.lift_to.ensures.holds c.in-Ok.ensures.size c.in-Ok.ensures.words
     c.in-Ok.ensures.near c.in-Err-message_to_as.fault refused)
