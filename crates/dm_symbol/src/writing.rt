@@ -49,7 +49,9 @@ pub fn write_to(profile: Profile, message: &Message, grid: &mut Grid) -> Result<
         return Err(TooLong);
     };
     add_pads(&mut list, size);
-    lay_to(&with_checks(&list, size), grid);
+    let mut words = Words::with_data(size, &list);
+    complete(&mut words);
+    lay_to(&words, grid);
     Ok(())
 }
 
@@ -65,24 +67,22 @@ pub fn light_grid() -> Grid
     }
 }
 
-/// Gives the codewords of a symbol of this size with these data codewords: the check codewords make each block a
-/// codeword of its Reed-Solomon code.
-fn with_checks(list: &[u8], size: Size) -> Words
-    requires { length list.now ≡ size.data_count }
-    ensures size { result.size ≡ size }
-    ensures data_words { data_part size result.list ≡ list.now }
-    ensures checked { BlocksAreCodewords size result.list }
+/// Puts the check codewords, which make each block a codeword of its Reed-Solomon code; the data codewords stay. The
+/// codewords are the caller's, since a list for the largest symbol would be copied to be given back.
+fn complete(words: &mut Words)
+    ensures size { words.new.size ≡ words.old.size }
+    ensures data_words { data_part words.old.size words.new.list
+        ≡ data_part words.old.size words.old.list }
+    ensures checked { BlocksAreCodewords words.old.size words.new.list }
 {
-    let mut words = Words::with_data(size, list);
-    let blocks = size.blocks();
+    let blocks = words.size().blocks();
     if blocks == 1 {
-        complete_only_block(&mut words);
-        return words;
+        complete_only_block(words);
+        return;
     }
     for b in 0..usize::from(blocks) {
-        complete_block(&mut words, b);
+        complete_block(words, b);
     }
-    words
 }
 
 /// Puts the check codewords of a symbol that has one block.
