@@ -52,14 +52,15 @@ pub fn run<I: Source, O: Sink>(
         (O.contents sink.old) (O.contents sink.new) (O.flushed sink.old sink.new)
         (O.is_pending sink.new) (O.failed sink.old) (O.failed sink.new) }
 {
+    // The large rooms come first, ahead of all branches: what the program clears at the start anyway is then theirs.
+    let mut buffer = [0u8; PIECE];
+    let mut answers = Answers::new();
     let Some(mut answering) = Answering::new(task) else {
         return print_table(sink);
     };
     let mut tally = NO_ANSWER;
     let mut left = most;
-    let mut buffer = [0u8; PIECE];
     let mut targets = Targets::new();
-    let mut answers = Answers::new();
     'pieces: loop {
         let count = match next_piece(source, &mut buffer, left) {
             Ok(0) => {
