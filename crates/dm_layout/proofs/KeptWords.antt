@@ -1,5 +1,8 @@
 -- Codewords that are kept at the start of a list of bytes.
-use Rattle.std.proofs.Common.{◌+◌, ◌<◌, ◌≤◌, ◌≡◌, ◌++◌, ℕ, List, length, set, take, drop, replicate}
+use Rattle.std.proofs.Common.{◌+◌, ◌-◌, ◌<◌, ◌≤◌, ◌≡◌, ◌∙◌, ◌++◌, ℕ, List, ap, sym, arith, length, set, take, drop}
+use Rattle.std.proofs.Common.{replicate}
+use Rattle.std.proofs.Math.Seq.{take-append-add}
+use Rattle.std.proofs.lemmas.List.{drop-take}
 use Rattle.std.specs.Prelude.{All}
 use borrow.Rule.Slice.PartMut.{put_mid}
 use Rattle.dm_modules.proofs.Exported as symbols
@@ -53,6 +56,19 @@ part_kept size start count kept part h short long bytes = record {
   row = h.row;
   words = symbols.part_kept (symbol_size size) start count kept part h.words short long bytes;
 }
+
+-- Where data codewords are put at the start of what is kept, the codewords are these and then those behind them.
+pub data_put : (n d k : ℕ) (kept part prefix : List ℕ) → d ≤ n → k ≡ d → part ≡ prefix → length prefix ≡ d →
+    take n (put_mid 0 k kept part) ≡ prefix ++ drop d (take n kept)
+data_put n d k kept part prefix le same is count =
+    let room : n ≡ length prefix + (n - d) = omega (arith, le, count) in
+    let whole : n ≡ d + (n - d) = omega (arith, le) in
+    ap (λ (i : ℕ). take n (put_mid 0 i kept part)) same
+    ∙ ap (λ (xs : List ℕ). take n (put_mid 0 d kept xs)) is
+    ∙ ap (λ (i : ℕ). take i (prefix ++ drop d kept)) room
+    ∙ take-append-add prefix (drop d kept) (n - d)
+    ∙ ap (λ (xs : List ℕ). prefix ++ xs) (sym (drop-take d (n - d) kept))
+    ∙ ap (λ (i : ℕ). prefix ++ drop d (take i kept)) (sym whole)
 
 -- Where one codeword is put, codewords are kept as before.
 pub one_kept : (size : SizeRow) (kept : List ℕ) (place word : ℕ) → word < 256 → AreKept size kept →

@@ -1,6 +1,6 @@
 //! The codewords of a symbol.
 
-ghost use Rattle.std.specs.Prelude.{◌≡◌, ◌<◌, ◌≤◌, ◌++◌, length, replicate, set};
+ghost use Rattle.std.specs.Prelude.{◌≡◌, ◌<◌, ◌≤◌, ◌++◌, drop, length, replicate, set};
 ghost use Rattle.dm_layout.specs.Sizes.{codeword_count, most_codewords};
 ghost use Rattle.dm_layout.specs.Words.{WordsView, IsWords, data_of};
 
@@ -55,6 +55,18 @@ impl Words {
         let mut kept = [0; MOST_CODEWORDS];
         kept[..prefix.len()].copy_from_slice(prefix);
         Words { size, kept }
+    }
+
+    /// Puts the data codewords, as many as the size has. The check codewords stay.
+    pub fn put_data(&mut self, prefix: &[u8])
+        requires { length prefix.now ≡ self.old.size.data_count }
+        ensures value { self.new ≡ record {
+            size = self.old.size;
+            list = prefix.now ++ drop self.old.size.data_count self.old.list } }
+        ensures words { IsWords self.new }
+    {
+        let end = usize::from(self.size.data_count());
+        self.kept[0..end].copy_from_slice(prefix);
     }
 
     /// Puts the check codewords, as many as the size has. The data codewords stay.

@@ -49,7 +49,8 @@ pub fn write_to(profile: Profile, message: &Message, grid: &mut Grid) -> Result<
         return Err(TooLong);
     };
     add_pads(&mut list, size);
-    let mut words = Words::with_data(size, &list);
+    let mut words = Words::zeros(size);
+    words.put_data(&list);
     complete(&mut words);
     lay_to(&words, grid);
     Ok(())

@@ -1,4 +1,4 @@
-use Rattle.std.proofs.Common.{◌≡◌, ◌∙◌, ◌++◌, ℕ, length, refl, replicate, sym, ap, subst, take, Some}
+use Rattle.std.proofs.Common.{◌≡◌, ◌∙◌, ◌++◌, ℕ, drop, length, refl, sym, ap, subst, take, Some}
 use Rattle.std.proofs.Math.Seq.{take-append_seam}
 use Rattle.dm_layout.specs.Sizes.{row_for_words}
 use Rattle.dm_words.specs.NormalForm.{normal_form}
@@ -7,6 +7,11 @@ use Rattle.dm_layout.specs.Words.{WordsView}
 use Rattle.dm_symbol.specs.Blocks.{BlocksAreCodewords, data_part}
 use Rattle.dm_symbol.proofs.WriteSteps.{laid_is_normal, is_written, none_is_written, too_long_fits_none}
 use Rattle.dm_symbol.proofs.writing.write_to.Goals as goal
+
+pub put_data-requires : goal.put_data-requires
+put_data-requires c =
+    ap length c.deref.ensures.0 ∙ c.add_pads.ensures.count
+    ∙ ap (λ (w : WordsView). w.size.data_count) (sym c.zeros-words.ensures.value)
 
 pub returns-in-Err-clause-written : goal.returns-in-Err-clause-written
 returns-in-Err-clause-written c = none_is_written c.args.profile c.args.message.now _ refl
@@ -23,17 +28,19 @@ returns-clause-written c =
     let row : row_for_words (length (normal_form p m))
     ≡ Some size =
     sym (c.in-Some.ensures.value ∙ ap row_for_words (c.len.ensures.value ∙ ap length c.in-Ok.ensures.form.words)) in
-    let words = c.with_data-words.result in
-    let value = c.with_data-words.ensures.value in
+    let zeros = c.zeros-words.result in
+    let words = c.put_data.new.self in
     let given = c.deref.result.now in
-    let same : words.size ≡ size = ap (λ (w : WordsView). w.size) value in
+    let behind = drop zeros.size.data_count zeros.list in
+    let same : words.size ≡ size =
+    ap (λ (w : WordsView). w.size) c.put_data.ensures.value ∙ ap (λ (w : WordsView). w.size) c.zeros-words.ensures.value
+    in
     let count : length given ≡ size.data_count = ap length c.deref.ensures.0 ∙ c.add_pads.ensures.count in
     let kept : data_part size c.complete.new.words.list ≡ data_part size words.list =
     subst (λ s. data_part s c.complete.new.words.list ≡ data_part s words.list) same c.complete.ensures.data_words in
     let front : data_part size words.list ≡ given =
-    ap (λ (w : WordsView). data_part size w.list) value
-    ∙ ap (λ (n : ℕ). take n (given ++ replicate size.check_count 0)) (sym count)
-    ∙ take-append_seam given (replicate size.check_count 0) in
+    ap (λ (w : WordsView). data_part size w.list) c.put_data.ensures.value
+    ∙ ap (λ (n : ℕ). take n (given ++ behind)) (sym count) ∙ take-append_seam given behind in
     let checked = subst (λ s. BlocksAreCodewords s c.complete.new.words.list) same c.complete.ensures.checked in
     let prefix : data_part size c.complete.new.words.list ≡ padded (normal_form p m) size.data_count =
     kept ∙ front ∙ c.deref.ensures.0 ∙ c.add_pads.ensures.words
