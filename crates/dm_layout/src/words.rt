@@ -61,8 +61,9 @@ impl Words {
     pub fn put_data(&mut self, prefix: &[u8])
         requires { length prefix.now ≡ self.old.size.data_count }
         ensures value { self.new ≡ record {
-            size = self.old.size;
-            list = prefix.now ++ drop self.old.size.data_count self.old.list } }
+          size = self.old.size;
+          list = prefix.now ++ drop self.old.size.data_count self.old.list;
+        } }
         ensures words { IsWords self.new }
     {
         let end = usize::from(self.size.data_count());
