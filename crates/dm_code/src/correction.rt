@@ -91,7 +91,32 @@ pub fn correct_to<S: KeySolver>(
     if are_zero(&rest) {
         return Ok(0);
     }
-    let syndromes = syndromes_of_short(&rest, k);
+    mend(solver, word, k, &rest, fixed)
+}
+
+/// Does what [`correct_to`] does, for a word whose syndromes are those of `rest`, a short list. It is a function of its
+/// own, since the room that it takes is cleared at each call, and most words are codewords, which need none of it.
+#[inline(never)]
+fn mend<S: KeySolver>(
+    solver: &S,
+    word: &[u8],
+    k: usize,
+    rest: &[u8],
+    fixed: &mut ArrayVec<u8, LONGEST_WORD>,
+) -> Result<u8, BeyondLimit>
+    requires checks { 0 < k }
+    requires most { k ≤ MOST_CHECKS }
+    requires data { k < length word.now }
+    requires long { length word.now ≤ LONGEST_WORD }
+    requires rest { syndromes_of rest.now k ≡ syndromes_of word.now k }
+    ensures near { MatchResult result
+        (λ changed. changed ≢ 0 → IsNear k word.now fixed.new.items)
+        (λ _. (c : List ℕ) → IsNear k word.now c → ⊥) }
+    ensures changed { IfOk result
+        (λ changed. changed ≢ 0 → changed ≡ distance word.now fixed.new.items) }
+    ensures itself { (result ≡ Ok 0) ↔ IsCodeword k word.now }
+{
+    let syndromes = syndromes_of_short(rest, k);
     let Some(key) = solver.solve(&syndromes, k / 2) else {
         return Err(BeyondLimit);
     };
