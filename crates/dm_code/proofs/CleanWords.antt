@@ -1,9 +1,9 @@
 -- What the results of a correction rest on: a word is a codeword where its syndromes are 0, and then it is near to
 -- itself.
 use Rattle.std.proofs.Common.{◌≡◌, ℕ, zero, suc, ◌+◌, ◌/◌, ◌<◌, ◌≤◌, List, [], ◌∷◌, ◌++◌, length, get_or, take, drop}
-use Rattle.std.proofs.Common.{refl, sym, ap, subst, ◌∙◌, arith, All, replicate}
+use Rattle.std.proofs.Common.{length-take, min, refl, sym, ap, subst, ◌∙◌, arith, All, replicate}
 use Rattle.std.proofs.lemmas.Grind.{common_steps}
-use Rattle.std.proofs.lemmas.List.{ext_get_or, length-replicate, get_or-replicate}
+use Rattle.std.proofs.lemmas.List.{ext_get_or, length-replicate, get_or-replicate, get_or-take}
 use Rattle.gf301.specs.Field.{power}
 use Rattle.gf301.specs.Polynomial.{Bytes, value}
 use Rattle.gf301.proofs.Exported.{value_zeros}
@@ -31,6 +31,13 @@ codeword_from_syndromes k w s a b l h e z =
     let n : length s ≡ k = ap length e ∙ syndromes_length w k in
     codeword_from_values k w (omega arith) l (omega arith) h (λ i q. sym (syndrome_at w k i q)
     ∙ ap (λ t. get_or t i 0) (sym e) ∙ z i 0 (omega arith))
+
+-- The first ones of zeros are zeros.
+pub zeros_of_first : (k : ℕ) (r : List ℕ) → AreZero r → AreZero (take k r)
+zeros_of_first k r z =
+    zero_places (take k r) (λ i h.
+    let l : length (take k r) ≡ min k (length r) = simp length-take refl in
+    get_or-take k r i 0 (omega arith) ∙ z i 0 (omega arith))
 
 -- The syndromes of zeros are all 0.
 pub zeros_of_zeros : (k : ℕ) (r : List ℕ) → AreZero r → AreZero (syndromes_of r k)

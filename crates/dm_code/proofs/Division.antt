@@ -1,175 +1,59 @@
--- Division by a generator polynomial: a step takes its multiple away from a first number and those that follow.
-use Rattle.std.proofs.Common.{◌≡◌, ℕ, zero, suc, ◌+◌, ◌-◌, ◌<◌, ◌≤◌, List, [], ◌∷◌, ◌++◌, length, get_or, take, drop}
-use Rattle.std.proofs.Common.{drop-cons, length-take, length-drop, length-append, replicate, refl, sym, ap, ◌∙◌, arith}
-use Rattle.std.proofs.Common.{bit_xor, inl, inr, map, subst}
+-- Division by a generator polynomial: a register takes in a list, and keeps what is left of what it has taken in.
+use Rattle.std.proofs.Common.{◌≡◌, ℕ, suc, ◌+◌, ◌-◌, ◌<◌, ◌≤◌, List, ◌∷◌, ◌++◌, length, get_or, take, drop}
+use Rattle.std.proofs.Common.{take-suc, length-take, length-drop, length-append, replicate, refl, sym, ap, ◌∙◌, arith}
+use Rattle.std.proofs.Common.{bit_xor, subst, inl, inr, map}
+use Rattle.std.specs.List.{range_with_len}
 use Rattle.std.proofs.lemmas.Bool.{cases_lt}
 use Rattle.std.proofs.lemmas.List.{ext_get_or, get_or_past, get_or-replicate, length-replicate, get_or-take}
-use Rattle.std.proofs.lemmas.List.{get_or-drop, get_or-map, length-map}
-use Rattle.std.proofs.lemmas.Simd.{length-zip2, length-chunk, get_or-zip2, get_or-chunk}
-use borrow.Rule.Slice.PartMut.{put_mid}
-use lib.Lanes.{zip2, chunk}
-use Rattle.std.proofs.Math.Seq.{take-append-add}
-use lib.Bits.{xor_assoc, xor_comm, xor_zero_r}
+use Rattle.std.proofs.lemmas.List.{get_or-drop, get_or-map, length-map, take-append-drop, get_or_append_left}
+use Rattle.std.proofs.lemmas.List.{get_or-append_right}
+use Rattle.std.proofs.lemmas.Simd.{length-zip2, length-chunk, get_or-zip2, get_or-chunk, pick_l-range_with_len}
+use lib.Lanes.{zip2, chunk, pick_l}
+use lib.Bits.{xor_assoc, xor_comm, xor_zero_l, xor_zero_r}
 use Rattle.gf301.specs.Field.{◌⊕◌, ◌⊗◌, raise}
 use Rattle.gf301.specs.Polynomial.{value, coefficient, values_from}
 use Rattle.gf301.specs.Generator.{generator}
 use Rattle.gf301.proofs.Exported.{product_assoc, product_sum_left, product_sum_right, product_zero_left}
-use Rattle.gf301.proofs.Exported.{product_zero_right, plus, scale, length_plus, length_scale, sum_below}
-use Rattle.gf301.proofs.Exported.{value_plus, value_scale, value_shift, get_or-plus, length-values_from}
-use Rattle.gf301.proofs.Exported.{get_or-values_from, generator_length, generator_first}
-use Rattle.dm_code.proofs.Register.{get_or-scaled, tap_value}
-use Rattle.dm_code.proofs.Parts.{mid_before, mid_at, mid_past}
+use Rattle.gf301.proofs.Exported.{product_zero_right, plus, length_plus, value_plus, value_zeros, get_or-plus}
+use Rattle.gf301.proofs.Exported.{length-values_from, get_or-values_from, generator_length, product_below, sum_below}
+use Rattle.dm_code.proofs.Register.{register_step, codeword_taken, taps_whole, taps_length, value_append}
 
--- Zeros at the end of a list change none of its numbers.
-get_or-padded : (g : List ℕ) (n i : ℕ) → get_or (g ++ replicate n 0) i 0 ≡ get_or g i 0
-get_or-padded [] zero i = refl
-get_or-padded [] (suc n) zero = refl
-get_or-padded [] (suc n) (suc i) = get_or-padded [] n i
-get_or-padded (a ∷ g) n zero = refl
-get_or-padded (a ∷ g) n (suc i) = get_or-padded g n i
-
--- The tail has the m numbers after the first one of a generator, which are 0 past its end.
-tail_of : ℕ → ℕ → List ℕ
-tail_of k m = values_from (λ i. coefficient (generator k) (suc i)) 0 m
-
--- With the 1 in front of it, the tail is the generator with zeros behind it.
-tail_whole : (k m : ℕ) → k ≤ m → 1 ∷ tail_of k m ≡ generator k ++ replicate (m - k) 0
-unfolding tail_of
-tail_whole k m h =
-    let t = values_from (λ i. coefficient (generator k) (suc i)) 0 m in
-    let tl : length t ≡ m = length-values_from (λ i. coefficient (generator k) (suc i)) 0 m in
-    ext_get_or 0 (1 ∷ t) (generator k ++ replicate (m - k) 0)
-    (omega (
-      arith,
-      tl,
-      length-append (generator k) (replicate (m - k) 0),
-      generator_length k,
-      length-replicate {A = ℕ} (m - k) 0,
-    ))
-    (λ i b. each_place i (omega (arith, tl)) ∙ sym (get_or-padded (generator k) (m - k) i))
-  where
-    each_place : (i : ℕ) → i < suc m → get_or (1 ∷ values_from (λ i. coefficient (generator k) (suc i)) 0 m) i 0 ≡
-        get_or (generator k) i 0
-    each_place zero b = sym (generator_first k)
-    each_place (suc i) b =
-        get_or-values_from (λ i. coefficient (generator k) (suc i)) 0 m i (omega arith)
-        ∙ ap (λ j. coefficient (generator k) (suc j)) (let e : 0 + i ≡ i = omega arith in e)
-
--- At a root of the generator the value of the tail is the power that stands in front of it.
-tail_value : (k m x : ℕ) → k ≤ m → value (generator k) x ≡ 0 → value (tail_of k m) x ≡ raise x m
-unfolding tail_of
-tail_value k m x h z =
-    tap_value (tail_of k m) x
-    (ap (λ p. value p x) (tail_whole k m h) ∙ value_shift x (m - k) (generator k) ∙ ap (λ y. y ⊗ raise x (m - k)) z
-    ∙ product_zero_left (raise x (m - k)))
-    ∙ ap (raise x) (length-values_from (λ i. coefficient (generator k) (suc i)) 0 m)
-
--- A step of the division keeps the value at each root of the generator.
-division_step : (k m a x : ℕ) (r s : List ℕ) → length r ≡ m → length s ≡ m → k ≤ m
-    → ((i : ℕ) → i < m → get_or s i 0 ≡ get_or r i 0 ⊕ a ⊗ coefficient (generator k) (suc i)) →
-    value (generator k) x ≡ 0 → value s x ≡ value (a ∷ r) x
-unfolding tail_of value
-division_step k m a x r s lr ls h each z =
-    let t = tail_of k m in
-    let tl : length t ≡ m = length-values_from (λ i. coefficient (generator k) (suc i)) 0 m in
-    let n : length r ≡ length (scale a t) = omega (arith, length_scale a t, tl) in
-    ap (λ p. value p x)
-    (ext_get_or 0 s (plus r (scale a t)) (omega (arith, length_plus r (scale a t) n))
-    (λ i b.
-    let lt : i < m = omega arith in
-    each i lt
-    ∙ ap (λ y. get_or r i 0 ⊕ a ⊗ y) (ap (λ j. coefficient (generator k) (suc j)) (let e : i ≡ 0 + i = omega arith in e)
-    ∙ sym (get_or-values_from (λ i. coefficient (generator k) (suc i)) 0 m i lt))
-    ∙ ap (bit_xor (get_or r i 0)) (sym (get_or-scaled a t i))
-    ∙ sym (get_or-plus r (scale a t) i n)))
-    ∙ value_plus x r (scale a t) n
-    ∙ ap (bit_xor (value r x)) (value_scale x a t ∙ ap (λ y. a ⊗ y) (tail_value k m x h z ∙ ap (raise x) (sym lr)))
-    ∙ xor_comm (value r x) (a ⊗ raise x (length r))
-
--- The m numbers from the place p on, or as many as there are, are what is left.
-abbrev pub left_from : ℕ → ℕ → List ℕ → List ℕ
-left_from m p b = take m (drop p b)
-
--- If the list is long enough, m numbers are left.
-length-left : (m p : ℕ) (b : List ℕ) → p + m ≤ length b → length (left_from m p b) ≡ m
-length-left m p b h = simp (length-take, length-drop) (omega arith)
-
--- The number i of what is left from p on stands at p + i.
-pub get_or-left : (m p i : ℕ) (b : List ℕ) → i < m → get_or (left_from m p b) i 0 ≡ get_or b (p + i) 0
-get_or-left m p i b h = get_or-take m (drop p b) i 0 h ∙ get_or-drop p b i 0
-
--- After a step at the place p of a list, in which what follows loses the multiple of the generator, what is left has
--- the same value.
-pub divided : (k m p x : ℕ) (b c : List ℕ) → k ≤ m → suc p + m ≤ length b → length c ≡ length b
-    → ((i : ℕ) → get_or c (suc p + i) 0 ≡ get_or b (suc p + i) 0 ⊕ get_or b p 0 ⊗ coefficient (generator k) (suc i)) →
-    value (generator k) x ≡ 0
-    → value (left_from m (suc p) c) x ≡ value (left_from (suc m) p b) x
-divided k m p x b c h l n each z =
-    division_step k m (get_or b p 0) x (left_from m (suc p) b) (left_from m (suc p) c) (length-left m (suc p) b l)
-    (length-left m (suc p) c (omega arith)) h
-    (λ i o. get_or-left m (suc p) i c o ∙ each i
-    ∙ ap (λ y. y ⊕ get_or b p 0 ⊗ coefficient (generator k) (suc i)) (sym (get_or-left m (suc p) i b o))) z
-    ∙ ap (λ u. value (take (suc m) u) x) (sym (drop-cons b p 0 (omega arith)))
-
--- Past the end of the generator its coefficients are 0, and add nothing.
-pub generator_past : (k i : ℕ) → k ≤ i → (a b : ℕ) → b ≡ b ⊕ a ⊗ coefficient (generator k) (suc i)
-generator_past k i h a b =
-    sym (ap (λ y. b ⊕ a ⊗ y) (get_or_past (generator k) (suc i) 0 (omega (arith, generator_length k)))
-    ∙ ap (bit_xor b) (product_zero_right a) ∙ xor_zero_r b)
-
--- ---- before the first step
--- A list that is written over the beginning of zeros is followed by zeros.
-pub padded : (front zs ys : List ℕ) (k : ℕ) → ys ≡ front → ((i : ℕ) → get_or zs i 0 ≡ 0) →
-    length front + k ≤ length zs → take (length front + k) (ys ++ drop (length front) zs) ≡ front ++ replicate k 0
-padded front zs ys k e z h =
-    ap (λ u. take (length front + k) (u ++ drop (length front) zs)) e
-    ∙ take-append-add front (drop (length front) zs) k
-    ∙ ap (λ u. front ++ u)
-    (ext_get_or 0 (take k (drop (length front) zs)) (replicate k 0)
-    (let l : length (take k (drop (length front) zs)) ≡ k = simp (length-take, length-drop) (omega arith) in
-    l ∙ sym (length-replicate {A = ℕ} k 0))
-    (λ i b.
-    let l : length (take k (drop (length front) zs)) ≡ k = simp (length-take, length-drop) (omega arith) in
-    let lt : i < k = omega arith in
-    get_or-take k (drop (length front) zs) i 0 lt ∙ get_or-drop (length front) zs i 0 ∙ z (length front + i)
-    ∙ sym (get_or-replicate k i 0 0 lt)))
-
--- A list of zeros holds 0 at each place.
-pub zeros_at : (n i : ℕ) → get_or {A = ℕ} (replicate n 0) i 0 ≡ 0
-zeros_at n i = elim (cases_lt i n) [
-  | inl h ↦ get_or-replicate n i 0 0 h
-  | inr h ↦ get_or_past (replicate n 0) i 0 (omega (arith, length-replicate {A = ℕ} n 0))
-]
-
--- ---- two steps at once
--- After a step at the place p, what follows that place.
-after_step : ℕ → ℕ → List ℕ → List ℕ
-after_step k p b =
-    values_from (λ j. get_or b j 0 ⊕ get_or b p 0 ⊗ coefficient (generator k) (j - p)) 0 (length b)
-
--- It is as long as the list.
-length-after_step : (k p : ℕ) (b : List ℕ) → length (after_step k p b) ≡ length b
-unfolding after_step
-length-after_step k p b =
-    length-values_from (λ j. get_or b j 0 ⊕ get_or b p 0 ⊗ coefficient (generator k) (j - p)) 0 (length b)
-
--- Each number that follows loses its multiple, also where there is none.
-each_after_step : (k p i : ℕ) (b : List ℕ) → suc p + k ≤ length b →
-    get_or (after_step k p b) (suc p + i) 0 ≡ get_or b (suc p + i) 0 ⊕ get_or b p 0 ⊗ coefficient (generator k) (suc i)
-unfolding after_step
-each_after_step k p i b h =
-    let f : ℕ → ℕ = λ j. get_or b j 0 ⊕ get_or b p 0 ⊗ coefficient (generator k) (j - p) in
-    elim (cases_lt (suc p + i) (length b)) [
-      | inl o ↦
-          get_or-values_from f 0 (length b) (suc p + i) o
-          ∙ ap f (let e : 0 + (suc p + i) ≡ suc p + i = omega arith in e)
-          ∙ ap (λ j. get_or b (suc p + i) 0 ⊕ get_or b p 0 ⊗ coefficient (generator k) j)
-          (let e : suc p + i - p ≡ suc i = omega arith in e)
+-- ---- a register that takes in a list
+-- A register of the k numbers that are left takes in the number at the place p: its first number and that one tell
+-- which multiple of the generator is taken away.
+one_taken : (k p x : ℕ) (front r s : List ℕ) → 0 < k → k ≤ length r → k ≤ length s → p < length front
+    → get_or front p 0 < 256 → get_or r k 0 ≡ 0
+    → ((i : ℕ) → i < k → get_or s i 0
+    ≡ get_or r (suc i) 0 ⊕ (get_or front p 0 ⊕ get_or r 0 0) ⊗ coefficient (generator k) (suc i))
+    → value (generator k) x ≡ 0 → value (take p front) x ⊗ raise x k ≡ value (take k r) x
+    → value (take (suc p) front) x ⊗ raise x k ≡ value (take k s) x
+one_taken k p x front r s pos lr ls lf b past each z h =
+    let d = get_or front p 0 in
+    let a = take k r in
+    let n = take k s in
+    let al : length a ≡ k = simp length-take (omega arith) in
+    let nl : length n ≡ k = simp length-take (omega arith) in
+    let g = generator k in
+    let t = take (length g - 1) (drop 1 g) in
+    let tl : length t ≡ k = taps_length k g refl in
+    let tz : value (1 ∷ t) x ≡ 0 = ap (λ p. value p x) (taps_whole k g refl) ∙ z in
+    let next : (i : ℕ) → i < k → get_or r (suc i) 0 ≡ get_or a (suc i) 0 = λ i l. elim (cases_lt (suc i) k) [
+      | inl o ↦ sym (get_or-take k r (suc i) 0 o)
       | inr o ↦
-          get_or_past (values_from f 0 (length b)) (suc p + i) 0 (omega (arith, length-values_from f 0 (length b)))
-          ∙ sym (get_or_past b (suc p + i) 0 o)
-          ∙ generator_past k i (omega arith) (get_or b p 0) (get_or b (suc p + i) 0)
-    ]
+          ap (λ j. get_or r j 0) (let q : suc i ≡ k = omega arith in q) ∙ past
+          ∙ sym (get_or_past a (suc i) 0 (omega (arith, al)))
+    ] in
+    let step : value n x ≡ value a x ⊗ x ⊕ d ⊗ raise x (length a) =
+    register_step a t n d x (omega (arith, al)) (tl ∙ sym al) (nl ∙ sym al) (λ i m.
+    let l : i < k = omega (arith, al) in
+    get_or-take k s i 0 l ∙ each i l
+    ∙ ap (λ y. y ⊕ (d ⊕ get_or r 0 0) ⊗ coefficient (generator k) (suc i)) (next i l)
+    ∙ ap (λ y. get_or a (suc i) 0 ⊕ (d ⊕ y) ⊗ coefficient (generator k) (suc i)) (sym (get_or-take k r 0 0 pos))
+    ∙ ap (λ y. get_or a (suc i) 0 ⊕ (d ⊕ get_or a 0 0) ⊗ y)
+    (ap (λ j. get_or g j 0) (let e : suc i ≡ 1 + i = omega arith in e) ∙ sym (get_or-drop 1 g i 0)
+    ∙ sym (get_or-take (length g - 1) (drop 1 g) i 0 (omega (arith, generator_length k))))) tz in
+    ap (λ u. value u x ⊗ raise x k) (take-suc front p 0 lf)
+    ∙ codeword_taken (take p front) a n d x k b h (step ∙ ap (λ j. value a x ⊗ x ⊕ d ⊗ raise x j) al)
 
 -- What two steps take away, the second of what the first has left.
 two_steps : (a b t u v w : ℕ) → (w ⊕ a ⊗ u) ⊕ (b ⊕ a ⊗ t) ⊗ v ≡ w ⊕ (a ⊗ (u ⊕ t ⊗ v) ⊕ b ⊗ v)
@@ -180,34 +64,139 @@ two_steps a b t u v w =
     ∙ ap (bit_xor w) (sym (xor_assoc (a ⊗ u) (a ⊗ (t ⊗ v)) (b ⊗ v))
     ∙ ap (λ y. y ⊕ b ⊗ v) (sym (product_sum_right a u (t ⊗ v))))
 
--- After two steps at the places p and p + 1 of a list at once, what is left has the same value.
-pub divided_twice : (k m p x : ℕ) (b c : List ℕ) → k ≤ m → suc (suc p) + m ≤ length b → length c ≡ length b
-    → ((i : ℕ) → get_or c (suc (suc p) + i) 0 ≡ get_or b (suc (suc p) + i) 0
-    ⊕ (get_or b p 0 ⊗ (coefficient (generator k) (suc (suc i))
-    ⊕ coefficient (generator k) 1 ⊗ coefficient (generator k) (suc i))
-    ⊕ get_or b (suc p) 0 ⊗ coefficient (generator k) (suc i))) →
-    value (generator k) x ≡ 0
-    → value (left_from m (suc (suc p)) c) x ≡ value (left_from (suc (suc m)) p b) x
-divided_twice k m p x b c h l n each z =
-    let s = after_step k p b in
+-- Past the end of the generator nothing is added by one step, nor by two.
+pub past_one : (k i a : ℕ) → k ≤ i → a ⊗ coefficient (generator k) (suc i) ≡ 0
+past_one k i a h =
+    ap (λ y. a ⊗ y) (get_or_past (generator k) (suc i) 0 (omega (arith, generator_length k))) ∙ product_zero_right a
+
+pub past_two : (k i a b : ℕ) → k ≤ i →
+    a ⊗ (coefficient (generator k) (suc (suc i)) ⊕ coefficient (generator k) 1 ⊗ coefficient (generator k) (suc i))
+    ⊕ b ⊗ coefficient (generator k) (suc i) ≡ 0
+past_two k i a b h =
+    ap (λ y. a ⊗ (y ⊕ coefficient (generator k) 1 ⊗ coefficient (generator k) (suc i))
+    ⊕ b ⊗ coefficient (generator k) (suc i))
+    (get_or_past (generator k) (suc (suc i)) 0 (omega (arith, generator_length k)))
+    ∙ ap (λ y. a ⊗ (0 ⊕ y) ⊕ b ⊗ coefficient (generator k) (suc i)) (past_one k i (coefficient (generator k) 1) h)
+    ∙ ap (λ y. a ⊗ 0 ⊕ y) (past_one k i b h)
+    ∙ ap (λ y. y ⊕ 0) (product_zero_right a)
+
+-- Two numbers are taken in at once: s is the register after both, and f and g are what is fed back by each.
+pub record AreTaken (k f g : ℕ) (r s : List ℕ) : Type 0 where
+  pub each : (i : ℕ) → get_or s i 0 ≡ get_or r (suc (suc i)) 0
+      ⊕ (f ⊗ (coefficient (generator k) (suc (suc i)) ⊕ coefficient (generator k) 1 ⊗ coefficient (generator k) (suc i))
+      ⊕ g ⊗ coefficient (generator k) (suc i))
+
+-- The register then has zeros behind its k numbers, if it had them before.
+pub past_taken : (k f g : ℕ) (r s : List ℕ) → ((i : ℕ) → k ≤ i → get_or r i 0 ≡ 0) → AreTaken k f g r s
+    → (i : ℕ) → k ≤ i → get_or s i 0 ≡ 0
+past_taken k f g r s past t i h =
+    t.each i ∙ ap (bit_xor (get_or r (suc (suc i)) 0)) (past_two k i f g h)
+    ∙ ap (λ y. y ⊕ 0) (past (suc (suc i)) (omega arith))
+
+-- It then has bytes, if it had them before.
+pub bytes_taken : (k f g : ℕ) (r s : List ℕ) → ((i : ℕ) → get_or r i 0 < 256) → AreTaken k f g r s
+    → (i : ℕ) → get_or s i 0 < 256
+bytes_taken k f g r s b t i =
+    let v = coefficient (generator k) (suc i) in
+    let u = coefficient (generator k) (suc (suc i)) ⊕ coefficient (generator k) 1 ⊗ v in
+    subst (λ y. y < 256) (sym (t.each i))
+    (sum_below (get_or r (suc (suc i)) 0) (f ⊗ u ⊕ g ⊗ v) (b (suc (suc i)))
+    (sum_below (f ⊗ u) (g ⊗ v) (product_below f u) (product_below g v)))
+
+-- Its value is then that of what it has taken in, times the power k.
+pub two_taken : (k p q n x : ℕ) (front r s : List ℕ) → 0 < k → k ≤ length r → k ≤ length s → q ≡ suc p →
+    n ≡ suc (suc p) → q < length front → ((i : ℕ) → get_or front i 0 < 256) → ((i : ℕ) → k ≤ i → get_or r i 0 ≡ 0)
+    → AreTaken k (get_or front p 0 ⊕ get_or r 0 0) (get_or front q 0 ⊕ get_or r 1 0) r s
+    → value (generator k) x ≡ 0 → value (take p front) x ⊗ raise x k ≡ value (take k r) x
+    → value (take n front) x ⊗ raise x k ≡ value (take k s) x
+two_taken k p q n x front r s pos lr ls e en lf b past t z h =
     let g = generator k in
-    let sl : length s ≡ length b = length-after_step k p b in
-    divided k m (suc p) x s c h (omega (arith, sl)) (n ∙ sym sl)
-    (λ i.
-    each i
-    ∙ sym (ap (λ y. y ⊕ get_or s (suc p) 0 ⊗ coefficient g (suc i))
-    (ap (λ j. get_or s j 0) (let e : suc (suc p) + i ≡ suc p + suc i = omega arith in e)
-    ∙ each_after_step k p (suc i) b (omega arith)
-    ∙ ap (λ j. get_or b j 0 ⊕ get_or b p 0 ⊗ coefficient g (suc (suc i)))
-    (let e : suc p + suc i ≡ suc (suc p) + i = omega arith in e))
-    ∙ ap (λ y. (get_or b (suc (suc p) + i) 0 ⊕ get_or b p 0 ⊗ coefficient g (suc (suc i))) ⊕ y ⊗ coefficient g (suc i))
-    (ap (λ j. get_or s j 0) (let e : suc p ≡ suc p + 0 = omega arith in e)
-    ∙ each_after_step k p 0 b (omega arith)
-    ∙ ap (λ j. get_or b j 0 ⊕ get_or b p 0 ⊗ coefficient g 1) (let e : suc p + 0 ≡ suc p = omega arith in e))
-    ∙ two_steps (get_or b p 0) (get_or b (suc p) 0) (coefficient g 1) (coefficient g (suc (suc i)))
-    (coefficient g (suc i)) (get_or b (suc (suc p) + i) 0)))
-    z
-    ∙ divided k (suc m) p x b s (omega arith) (omega arith) sl (λ i. each_after_step k p i b (omega arith)) z
+    let a = get_or front p 0 ⊕ get_or r 0 0 in
+    let f : ℕ → ℕ = λ j. get_or r (suc j) 0 ⊕ a ⊗ coefficient g (suc j) in
+    let m = values_from f 0 (suc k) in
+    let ml : length m ≡ suc k = length-values_from f 0 (suc k) in
+    let at : (j : ℕ) → j < suc k → get_or m j 0 ≡ f j =
+    λ j l. get_or-values_from f 0 (suc k) j l ∙ ap f (let y : 0 + j ≡ j = omega arith in y) in
+    let c = get_or front (suc p) 0 in
+    let d = get_or r 1 0 in
+    let first = one_taken k p x front r m pos lr (omega (arith, ml)) (omega arith) (b p) (past k (omega arith))
+    (λ i l. at i (omega arith)) z h in
+    ap (λ j. value (take j front) x ⊗ raise x k) en
+    ∙ one_taken k (suc p) x front m s pos (omega (arith, ml)) ls (omega arith) (b (suc p))
+    (at k (omega arith) ∙ ap (bit_xor (get_or r (suc k) 0)) (past_one k k a (omega arith))
+    ∙ ap (λ y. y ⊕ 0) (past (suc k) (omega arith)))
+    (λ i l.
+    let v = coefficient g (suc i) in
+    let u = coefficient g (suc (suc i)) in
+    let w = get_or r (suc (suc i)) 0 in
+    t.each i
+    ∙ ap (λ j. w ⊕ (a ⊗ (u ⊕ coefficient g 1 ⊗ v) ⊕ (get_or front j 0 ⊕ d) ⊗ v)) e
+    ∙ sym (two_steps a (c ⊕ d) (coefficient g 1) u v w)
+    ∙ ap (λ y. (w ⊕ a ⊗ u) ⊕ y ⊗ v) (xor_assoc c d (a ⊗ coefficient g 1))
+    ∙ ap (λ y. (w ⊕ a ⊗ u) ⊕ (c ⊕ y) ⊗ v) (sym (at 0 (omega arith)))
+    ∙ ap (λ y. y ⊕ (c ⊕ get_or m 0 0) ⊗ v) (sym (at (suc i) (omega arith)))) z first
+
+-- ---- before the first step
+-- A list of zeros holds 0 at each place.
+pub zeros_at : (n i : ℕ) → get_or {A = ℕ} (replicate n 0) i 0 ≡ 0
+zeros_at n i = elim (cases_lt i n) [
+  | inl h ↦ get_or-replicate n i 0 0 h
+  | inr h ↦ get_or_past (replicate n 0) i 0 (omega (arith, length-replicate {A = ℕ} n 0))
+]
+
+-- Zeros at the beginning of which k are taken are k zeros.
+zeros_taken : (k n : ℕ) → k ≤ n → take k (replicate {A = ℕ} n 0) ≡ replicate k 0
+zeros_taken k n h =
+    let r = replicate {A = ℕ} n 0 in
+    let s = replicate {A = ℕ} k 0 in
+    let l : length (take k r) ≡ k = simp length-take (omega (arith, length-replicate {A = ℕ} n 0)) in
+    ext_get_or 0 (take k r) s (l ∙ sym (length-replicate {A = ℕ} k 0)) (λ i b.
+    let o : i < k = omega (arith, l) in
+    get_or-take k r i 0 o ∙ get_or-replicate n i 0 0 (omega arith) ∙ sym (get_or-replicate k i 0 0 o))
+
+-- A register of zeros has taken in nothing.
+pub none_taken : (k n x : ℕ) (front : List ℕ) → k ≤ n →
+    value (take 0 front) x ⊗ raise x k ≡ value (take k (replicate {A = ℕ} n 0)) x
+unfolding value
+none_taken k n x front h =
+    product_zero_left (raise x k) ∙ sym (value_zeros x k) ∙ ap (λ u. value u x) (sym (zeros_taken k n h))
+
+-- The first number is taken into a register of zeros.
+pub first_taken : (k n x : ℕ) (front s : List ℕ) → 0 < k → k ≤ n → k ≤ length s → 0 < length front →
+    get_or front 0 0 < 256 → ((i : ℕ) → get_or s i 0 ≡ get_or front 0 0 ⊗ coefficient (generator k) (suc i))
+    → value (generator k) x ≡ 0 → value (take 1 front) x ⊗ raise x k ≡ value (take k s) x
+first_taken k n x front s pos h ls lf b each z =
+    let r = replicate {A = ℕ} n 0 in
+    let a = get_or front 0 0 in
+    one_taken k 0 x front r s pos (omega (arith, length-replicate {A = ℕ} n 0)) ls lf b (zeros_at n k)
+    (λ i l.
+    let c = coefficient (generator k) (suc i) in
+    each i ∙ sym (ap (λ y. y ⊕ (a ⊕ get_or r 0 0) ⊗ c) (zeros_at n (suc i))
+    ∙ xor_zero_l ((a ⊕ get_or r 0 0) ⊗ c) ∙ ap (λ y. (a ⊕ y) ⊗ c) (zeros_at n 0)
+    ∙ ap (λ y. y ⊗ c) (xor_zero_r a))) z (none_taken k n x front h)
+
+-- ---- after the last step
+-- What is left of the front, plus the last k numbers of a word, has the value of the word.
+pub rest_value : (k x : ℕ) (w l r : List ℕ) → k ≤ length w → k ≤ length l → k ≤ length r
+    → ((i : ℕ) → i < k → get_or r i 0 ≡ get_or l i 0 ⊕ get_or (drop (length w - k) w) i 0)
+    → value (take (length w - k) w) x ⊗ raise x k ≡ value (take k l) x → value (take k r) x ≡ value w x
+rest_value k x w l r hw hl hr each h =
+    let f = take (length w - k) w in
+    let c = drop (length w - k) w in
+    let cl : length c ≡ k = simp length-drop (omega arith) in
+    let ll : length (take k l) ≡ k = simp length-take (omega arith) in
+    let rl : length (take k r) ≡ k = simp length-take (omega arith) in
+    let n : length (take k l) ≡ length c = ll ∙ sym cl in
+    ap (λ u. value u x) (ext_get_or 0 (take k r) (plus (take k l) c) (rl ∙ sym (length_plus (take k l) c n ∙ ll))
+    (λ i b.
+    let o : i < k = omega (arith, rl) in
+    get_or-take k r i 0 o ∙ each i o ∙ ap (λ y. y ⊕ get_or c i 0) (sym (get_or-take k l i 0 o))
+    ∙ sym (get_or-plus (take k l) c i n)))
+    ∙ value_plus x (take k l) c n
+    ∙ ap (λ y. y ⊕ value c x) (sym h)
+    ∙ ap (λ j. value f x ⊗ raise x j ⊕ value c x) (sym cl)
+    ∙ sym (value_append f c x)
+    ∙ ap (λ u. value u x) (take-append-drop (length w - k) w)
 
 -- ---- in lanes
 -- The sixteen sums of the products of two numbers with those of two lists from a place on.
@@ -231,32 +220,38 @@ products_of_two c d a b p q n h k e f =
           ∙ ap (λ x. d ⊗ x) (get_or-chunk n 16 b i 0 l)),
     )
 
--- Where what f gives is added to the numbers of a part, and is 0 past its end, so it is to the list from there on.
-pub part_added : (a v : ℕ) (b ys : List ℕ) (f : ℕ → ℕ) → a + v ≤ length b → length ys ≡ v
-    → ((i : ℕ) → i < v → get_or ys i 0 ≡ get_or (left_from v a b) i 0 ⊕ f i) → ((i : ℕ) → v ≤ i → f i ≡ 0)
-    → (i : ℕ) → get_or (put_mid a v b ys) (a + i) 0 ≡ get_or b (a + i) 0 ⊕ f i
-part_added a v b ys f h l each past i =
-    elim (cases_lt i v) [
+-- Two vectors that stand one behind the other, moved down by two places, and sixteen numbers added.
+pub moved_sums : (f : ℕ → ℕ) (s t : List ℕ) (n : ℕ) → n + 32 ≤ length s → length t ≡ 16 →
+    ((i : ℕ) → i < 16 → get_or t i 0 ≡ f (n + i)) →
+    (length (zip2 bit_xor (pick_l 0 (chunk n 16 s ++ chunk (n + 16) 16 s) (range_with_len 2 16)) t) ≡ 16)
+    × ((i : ℕ) → i < 16
+    → get_or (zip2 bit_xor (pick_l 0 (chunk n 16 s ++ chunk (n + 16) 16 s) (range_with_len 2 16)) t) i 0
+    ≡ get_or s (suc (suc (n + i))) 0 ⊕ f (n + i))
+moved_sums f s t n h lt each =
+    let a = chunk n 16 s in
+    let b = chunk (n + 16) 16 s in
+    let m = pick_l 0 (a ++ b) (range_with_len 2 16) in
+    let al : length a ≡ 16 = length-chunk n 16 s (omega arith) in
+    let bl : length b ≡ 16 = length-chunk (n + 16) 16 s (omega arith) in
+    let both : length (a ++ b) ≡ 32 = omega (arith, length-append a b) in
+    let picked : m ≡ chunk 2 16 (a ++ b) = pick_l-range_with_len 0 (a ++ b) 2 16 (omega arith) in
+    let ml : length m ≡ 16 = ap length picked ∙ length-chunk 2 16 (a ++ b) (omega arith) in
+    let at : (i : ℕ) → i < 16 → get_or m i 0 ≡ get_or s (suc (suc (n + i))) 0 = λ i l.
+    ap (λ u. get_or u i 0) picked ∙ get_or-chunk 2 16 (a ++ b) i 0 l
+    ∙ elim (cases_lt (2 + i) 16) [
       | inl o ↦
-          mid_at a v b ys i (omega arith) l o ∙ each i o ∙ ap (λ y. y ⊕ f i) (get_or-left v a i b o)
+          get_or_append_left a b 0 (2 + i) (omega arith) ∙ get_or-chunk n 16 s (2 + i) 0 o
+          ∙ ap (λ j. get_or s j 0) (let e : n + (2 + i) ≡ suc (suc (n + i)) = omega arith in e)
       | inr o ↦
-          mid_past a v b ys i (omega arith) l o
-          ∙ sym (ap (bit_xor (get_or b (a + i) 0)) (past i o) ∙ xor_zero_r (get_or b (a + i) 0))
-    ]
-
--- The list then still has bytes.
-pub part_bytes : (a v : ℕ) (b ys : List ℕ) (f : ℕ → ℕ) → a + v ≤ length b → length ys ≡ v →
-    ((i : ℕ) → get_or (put_mid a v b ys) (a + i) 0 ≡ get_or b (a + i) 0 ⊕ f i) → ((i : ℕ) → get_or b i 0 < 256)
-    → ((i : ℕ) → f i < 256) → (i : ℕ) → get_or (put_mid a v b ys) i 0 < 256
-part_bytes a v b ys f h l added bb fb i =
-    elim (cases_lt i a) [
-      | inl o ↦ subst (λ y. y < 256) (sym (mid_before a v b ys i (omega arith) o)) (bb i)
-      | inr o ↦
-          let j = i - a in
-          let q : a + j ≡ i = omega arith in
-          subst (λ n. get_or (put_mid a v b ys) n 0 < 256) q
-          (subst (λ y. y < 256) (sym (added j)) (sum_below (get_or b (a + j) 0) (f j) (bb (a + j)) (fb j)))
-    ]
+          get_or-append_right a b 16 (2 + i) 0 al o
+          ∙ get_or-chunk (n + 16) 16 s (2 + i - 16) 0 (omega arith)
+          ∙ ap (λ j. get_or s j 0) (let e : n + 16 + (2 + i - 16) ≡ suc (suc (n + i)) = omega arith in e)
+    ] in (
+      length-zip2 bit_xor m t (ml ∙ sym lt) ∙ ml,
+      λ i l.
+          get_or-zip2 bit_xor m t i 0 0 0 (omega arith) (omega arith)
+          ∙ ap (λ y. y ⊕ get_or t i 0) (at i l) ∙ ap (bit_xor (get_or s (suc (suc (n + i))) 0)) (each i l),
+    )
 
 -- A list with the numbers of a generator after the first one has them at each place.
 pub tap_at : (k : ℕ) (t : List ℕ) → k < length t →
@@ -267,19 +262,3 @@ tap_at k t h each i =
       | inl o ↦ each i o
       | inr o ↦ get_or_past t i 0 o ∙ sym (get_or_past (generator k) (suc i) 0 (omega (arith, generator_length k)))
     ]
-
--- Past the end of the generator nothing is added by one step, nor by two.
-pub past_one : (k i a : ℕ) → k ≤ i → a ⊗ coefficient (generator k) (suc i) ≡ 0
-past_one k i a h =
-    ap (λ y. a ⊗ y) (get_or_past (generator k) (suc i) 0 (omega (arith, generator_length k))) ∙ product_zero_right a
-
-pub past_two : (k i a b : ℕ) → k ≤ i →
-    a ⊗ (coefficient (generator k) (suc (suc i)) ⊕ coefficient (generator k) 1 ⊗ coefficient (generator k) (suc i))
-    ⊕ b ⊗ coefficient (generator k) (suc i) ≡ 0
-past_two k i a b h =
-    ap (λ y. a ⊗ (y ⊕ coefficient (generator k) 1 ⊗ coefficient (generator k) (suc i))
-    ⊕ b ⊗ coefficient (generator k) (suc i))
-    (get_or_past (generator k) (suc (suc i)) 0 (omega (arith, generator_length k)))
-    ∙ ap (λ y. a ⊗ (0 ⊕ y) ⊕ b ⊗ coefficient (generator k) (suc i)) (past_one k i (coefficient (generator k) 1) h)
-    ∙ ap (λ y. a ⊗ 0 ⊕ y) (past_one k i b h)
-    ∙ ap (λ y. y ⊕ 0) (product_zero_right a)

@@ -91,7 +91,7 @@ pub fn correct_to<S: KeySolver>(
     if are_zero(&rest) {
         return Ok(0);
     }
-    mend(solver, word, k, &rest, fixed)
+    mend(solver, word, k, &rest[..k], fixed)
 }
 
 /// Does what [`correct_to`] does, for a word whose syndromes are those of `rest`, a short list. It is a function of its

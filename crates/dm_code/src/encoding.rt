@@ -1,7 +1,7 @@
 //! The check codewords of a block, and what is left of a word when it is divided as for them.
 
-ghost use Rattle.std.specs.Prelude.{◌≡◌, ◌+◌, ◌%◌, ◌<◌, ◌≤◌, ◌++◌, ℕ, List, length, suc, get_or, take, drop};
-ghost use Rattle.gf301.specs.Field.{◌⊕◌, ◌⊗◌, power};
+ghost use Rattle.std.specs.Prelude.{◌≡◌, ◌+◌, ◌%◌, ◌<◌, ◌≤◌, ◌++◌, ℕ, List, length, suc, get_or, take};
+ghost use Rattle.gf301.specs.Field.{◌⊕◌, ◌⊗◌, power, raise};
 ghost use Rattle.gf301.specs.Generator.{generator};
 ghost use Rattle.gf301.specs.Polynomial.{Bytes, coefficient, value};
 ghost use Rattle.dm_code.specs.Codeword.{IsCodeword};
@@ -12,9 +12,11 @@ use arrayvec::ArrayVec;
 use gf301::{CHECKS_ROOM, MOST_CHECKS, add_scaled, scale, taps};
 use std::simd::prelude::*;
 
-/// Room for a word, and behind it for the rest of the last sixteen numbers that a step of the division writes: at most
-/// 15.
-const DIVISION_ROOM: usize = LONGEST_WORD + 15;
+/// Room for what a division leaves, and behind it for the sixteen zeros that move down into its last lanes.
+pub(crate) const LEFT_ROOM: usize = CHECKS_ROOM + 16;
+
+/// The lanes of two vectors, one behind the other, that are the first one's when all move down by two.
+const MOVED_BY_TWO: [usize; 16] = [2, 3, 4, 5, 6, 7, 8, 9, 10, 11, 12, 13, 14, 15, 16, 17];
 
 /// Gives the k check codewords of the data codewords `front`, k of 1 to [`MOST_CHECKS`], where both together are at
 /// most [`LONGEST_WORD`]: the one list of k codewords that completes `front` to a codeword of k checks.
@@ -28,99 +30,99 @@ pub fn encode(front: &[u8], k: usize) -> ArrayVec<u8, MOST_CHECKS>
     ensures only { (c : List ℕ) → length c ≡ k → IsCodeword k (front.now ++ c)
         → c ≡ result.items }
 {
-    let count = front.len();
-    let mut rest = [0; DIVISION_ROOM];
-    rest[..count].copy_from_slice(front);
-    divide(&mut rest, count, k);
+    let left = divide(front, k);
     let mut checks = ArrayVec::new();
-    let _room = checks.try_extend_from_slice(&rest[count..count + k]);
+    let _room = checks.try_extend_from_slice(&left[..k]);
     checks
 }
 
 /// Gives what is left of a word when it is divided by the generator for k check codewords, k of 1 to [`MOST_CHECKS`]: k
-/// numbers, with the same syndromes as the word. They are all 0 where the word is a codeword.
-pub(crate) fn remainder(word: &[u8], k: usize) -> ArrayVec<u8, MOST_CHECKS>
+/// numbers, with the same syndromes as the word, and zeros behind them. All are 0 where the word is a codeword.
+pub(crate) fn remainder(word: &[u8], k: usize) -> [u8; LEFT_ROOM]
     requires some { 1 ≤ k }
     requires most { k ≤ MOST_CHECKS }
     requires whole { k ≤ length word.now }
-    requires long { length word.now ≤ LONGEST_WORD }
-    ensures { syndromes_of result.items k ≡ syndromes_of word.now k }
+    ensures { syndromes_of (take k result) k ≡ syndromes_of word.now k }
 {
-    let count = word.len() - k;
-    let mut rest = [0; DIVISION_ROOM];
-    rest[..word.len()].copy_from_slice(word);
-    divide(&mut rest, count, k);
-    let mut left = ArrayVec::new();
-    let _room = left.try_extend_from_slice(&rest[count..count + k]);
-    left
+    let (front, checks) = word.split_at(word.len() - k);
+    let mut rest = divide(front, k);
+    let mut last = [0; LEFT_ROOM];
+    last[..k].copy_from_slice(checks);
+    for i in 0..LEFT_ROOM {
+        rest[i] ^= last[i];
+    }
+    rest
 }
 
-/// Divides the first `count` + k numbers, as a polynomial, by the generator for k check codewords: takes a multiple of
-/// it away from each of the first `count` places on, so that its last k numbers are then what is left.
-fn divide(rest: &mut [u8; DIVISION_ROOM], count: usize, k: usize)
+/// Divides `front`, as a polynomial, by the generator for k check codewords, with k zeros behind it: gives the k
+/// numbers that are left, and zeros behind them.
+fn divide(front: &[u8], k: usize) -> [u8; LEFT_ROOM]
     requires some { 1 ≤ k }
     requires most { k ≤ MOST_CHECKS }
-    requires room { count + k ≤ LONGEST_WORD }
-    ensures bytes { (i : ℕ) → get_or rest.new i 0 < 256 }
+    ensures bytes { (i : ℕ) → get_or result i 0 < 256 }
     ensures same { (i : ℕ) → i < k
-        → value (take k (drop count rest.new)) (power (suc i))
-        ≡ value (take (count + k) rest.old) (power (suc i)) }
+        → value front.now (power (1 + i)) ⊗ raise (power (1 + i)) k
+        ≡ value (take k result) (power (1 + i)) }
 {
     match k.div_ceil(16) {
-        1 => divide_in::<16>(rest, count, k),
-        2 => divide_in::<32>(rest, count, k),
-        3 => divide_in::<48>(rest, count, k),
-        4 => divide_in::<64>(rest, count, k),
-        _ => divide_in::<CHECKS_ROOM>(rest, count, k),
+        1 => divide_in::<16>(front, k),
+        2 => divide_in::<32>(front, k),
+        3 => divide_in::<48>(front, k),
+        4 => divide_in::<64>(front, k),
+        _ => divide_in::<CHECKS_ROOM>(front, k),
     }
 }
 
-/// Does what [`divide`] does, with multiples that are `WIDTH` numbers wide: k, and what is missing to a multiple of 16.
-/// The compiler has a loop for each width, in which the generator's coefficients stay in lanes. Two places are taken at
-/// once, since each step waits for what the one before it wrote.
-fn divide_in<const WIDTH: usize>(rest: &mut [u8; DIVISION_ROOM], count: usize, k: usize)
+/// Does what [`divide`] does, in `WIDTH` numbers: k, and what is missing to a multiple of 16. The numbers are a
+/// register that takes in `front` from its first number on, and keeps what is left of what it has taken in. The
+/// compiler has a loop for each width, in which the register and the generator's coefficients stay in lanes. Two
+/// numbers are taken in at once, since each step waits for what the one before it left.
+fn divide_in<const WIDTH: usize>(front: &[u8], k: usize) -> [u8; LEFT_ROOM]
     requires lanes { WIDTH % 16 ≡ 0 }
     requires enough { k ≤ WIDTH }
     requires tight { WIDTH < k + 16 }
+    requires some { 1 ≤ k }
     requires most { k ≤ MOST_CHECKS }
-    requires room { count + k ≤ LONGEST_WORD }
-    ensures bytes { (i : ℕ) → get_or rest.new i 0 < 256 }
+    ensures bytes { (i : ℕ) → get_or result i 0 < 256 }
     ensures same { (i : ℕ) → i < k
-        → value (take k (drop count rest.new)) (power (suc i))
-        ≡ value (take (count + k) rest.old) (power (suc i)) }
+        → value front.now (power (1 + i)) ⊗ raise (power (1 + i)) k
+        ≡ value (take k result) (power (1 + i)) }
 {
-    let odd = count % 2;
+    let mut left = [0; LEFT_ROOM];
+    let odd = front.len() % 2;
     if odd == 1 {
-        take_one::<WIDTH>(rest, k);
+        take_one::<WIDTH>(&mut left, front[0], k);
     }
     let row = row_after::<WIDTH>(taps(k));
-    for pair in 0..count / 2 {
-        take_two::<WIDTH>(rest, odd + 2 * pair, k, &row);
+    for pair in 0..front.len() / 2 {
+        let place = odd + 2 * pair;
+        take_two::<WIDTH>(&mut left, front[place], front[place + 1], k, &row);
     }
+    left
 }
 
-/// Takes the multiple of the generator away that begins at the first place.
+/// Takes the first number into a register that holds zeros.
 #[inline]
-fn take_one<const WIDTH: usize>(rest: &mut [u8; DIVISION_ROOM], k: usize)
+fn take_one<const WIDTH: usize>(left: &mut [u8; LEFT_ROOM], first: u8, k: usize)
     requires lanes { WIDTH % 16 ≡ 0 }
     requires enough { k ≤ WIDTH }
     requires most { k ≤ MOST_CHECKS }
-    requires room { WIDTH ≤ CHECKS_ROOM }
-    ensures bytes { (i : ℕ) → get_or rest.new i 0 < 256 }
-    ensures same { (n i : ℕ) → k ≤ n → n < DIVISION_ROOM → i < k
-        → value (take n (drop 1 rest.new)) (power (suc i))
-        ≡ value (take (suc n) rest.old) (power (suc i)) }
+    requires narrow { WIDTH ≤ CHECKS_ROOM }
+    requires zeros { (i : ℕ) → get_or left.old i 0 ≡ 0 }
+    ensures long { length left.new ≡ LEFT_ROOM }
+    ensures each { (i : ℕ) → get_or left.new i 0 ≡ first ⊗ coefficient (generator k) (suc i) }
 {
-    let first = rest[0];
-    add_scaled(&mut rest[1..1 + WIDTH], first, taps(k));
+    add_scaled(&mut left[..WIDTH], first, taps(k));
 }
 
-/// Takes the multiples of the generator away that begin at a place and at the next one. What the first of them leaves
-/// there is taken into account by `row`, which is that of [`row_after`].
+/// Takes two numbers into a register, which holds zeros behind its k numbers: all move down by two places, and the
+/// multiples of the generator are added that take away what stood in front. What the first of them leaves of the second
+/// is taken into account by `row`, which is that of [`row_after`].
 #[inline]
 fn take_two<const WIDTH: usize>(
-    rest: &mut [u8; DIVISION_ROOM],
-    place: usize,
+    left: &mut [u8; LEFT_ROOM],
+    first: u8,
+    second: u8,
     k: usize,
     row: &[u8; CHECKS_ROOM],
 )
@@ -128,23 +130,20 @@ fn take_two<const WIDTH: usize>(
     requires enough { k ≤ WIDTH }
     requires narrow { WIDTH ≤ CHECKS_ROOM }
     requires most { k ≤ MOST_CHECKS }
-    requires room { place + 2 + WIDTH ≤ DIVISION_ROOM }
+    requires past { (i : ℕ) → k ≤ i → get_or left.old i 0 ≡ 0 }
     requires row { (i : ℕ) → i < WIDTH → get_or row.now i 0
         ≡ coefficient (generator k) (suc (suc i))
         ⊕ coefficient (generator k) 1 ⊗ coefficient (generator k) (suc i) }
-    ensures bytes { (i : ℕ) → get_or rest.new i 0 < 256 }
-    ensures same { (n i : ℕ) → k ≤ n → place + 2 + n ≤ DIVISION_ROOM → i < k
-        → value (take n (drop (place + 2) rest.new)) (power (suc i))
-        ≡ value (take (suc (suc n)) (drop place rest.old)) (power (suc i)) }
+    ensures long { length left.new ≡ LEFT_ROOM }
+    ensures each { (i : ℕ) → get_or left.new i 0
+        ≡ get_or left.old (suc (suc i)) 0
+        ⊕ ((first ⊕ get_or left.old 0 0) ⊗ (coefficient (generator k) (suc (suc i))
+        ⊕ coefficient (generator k) 1 ⊗ coefficient (generator k) (suc i))
+        ⊕ (second ⊕ get_or left.old 1 0) ⊗ coefficient (generator k) (suc i)) }
 {
-    let (first, second) = (rest[place], rest[place + 1]);
-    add_two(
-        &mut rest[place + 2..place + 2 + WIDTH],
-        first,
-        row,
-        second,
-        taps(k),
-    );
+    let first = first ^ left[0];
+    let second = second ^ left[1];
+    move_and_add::<WIDTH>(left, first, row, second, taps(k));
 }
 
 /// Gives what is left, in its first `WIDTH` numbers, of the power after that of the generator when it is divided by the
@@ -164,23 +163,34 @@ fn row_after<const WIDTH: usize>(taps: &[u8; CHECKS_ROOM]) -> [u8; CHECKS_ROOM]
     row
 }
 
-/// Adds to the numbers of a list the products of `first` with those of one row and of `second` with those of another,
-/// sixteen at a time. The list's length is a multiple of 16, and the rows are as long or longer.
+/// Moves the first `WIDTH` numbers and those behind them down by two places, and adds to them the products of `first`
+/// with those of one row and of `second` with those of another, sixteen at a time. Whole vectors are read and written
+/// at the places where they stand, so that the compiler keeps them in registers.
 #[inline]
-fn add_two(sum: &mut [u8], first: u8, row: &[u8], second: u8, other: &[u8])
-    requires row { length sum.old ≤ length row.now }
-    requires other { length sum.old ≤ length other.now }
-    requires lanes { length sum.old % 16 ≡ 0 }
-    ensures long { length sum.new ≡ length sum.old }
-    ensures each { (i : ℕ) → i < length sum.old
-        → get_or sum.new i 0 ≡ get_or sum.old i 0
+fn move_and_add<const WIDTH: usize>(
+    left: &mut [u8],
+    first: u8,
+    row: &[u8],
+    second: u8,
+    other: &[u8],
+)
+    requires lanes { WIDTH % 16 ≡ 0 }
+    requires room { WIDTH + 16 ≤ length left.old }
+    requires row { WIDTH ≤ length row.now }
+    requires other { WIDTH ≤ length other.now }
+    ensures long { length left.new ≡ length left.old }
+    ensures moved { (i : ℕ) → i < WIDTH
+        → get_or left.new i 0 ≡ get_or left.old (suc (suc i)) 0
         ⊕ (first ⊗ get_or row.now i 0 ⊕ second ⊗ get_or other.now i 0) }
+    ensures kept { (i : ℕ) → WIDTH ≤ i → get_or left.new i 0 ≡ get_or left.old i 0 }
 {
-    for group in 0..sum.len() / 16 {
+    for group in 0..WIDTH / 16 {
         let at = 16 * group;
+        let here = u8x16::from_slice(&left[at..]);
+        let behind = u8x16::from_slice(&left[at + 16..]);
         let some = scale(first, u8x16::from_slice(&row[at..]));
         let others = scale(second, u8x16::from_slice(&other[at..]));
-        let next = u8x16::from_slice(&sum[at..]) ^ (some ^ others);
-        next.copy_to_slice(&mut sum[at..]);
+        let next = here.shuffle(behind, MOVED_BY_TWO) ^ (some ^ others);
+        next.copy_to_slice(&mut left[at..]);
     }
 }

@@ -15,7 +15,7 @@
 //! [`correct_to`] leaves the codeword in memory of the caller's, and copies no word that is a codeword itself.
 //!
 //! Everything but [`Elimination`] works in lanes, on sixteen codewords, roots, places or coefficients at once: check
-//! codewords are what is left of a division in place, syndromes are sums over parts of a word, and wrong places are
+//! codewords are what a register has left of the data, syndromes are sums over parts of a word, and wrong places are
 //! looked for sixteen at a time.
 //!
 //! [`correct_erased`] does what [`correct`] does where some codewords are erased, that is, known to be unknown: an

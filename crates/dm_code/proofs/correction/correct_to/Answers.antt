@@ -1,7 +1,7 @@
-use Rattle.std.proofs.Common.{refl, subst, arith}
+use Rattle.std.proofs.Common.{take, refl, arith}
 use Rattle.dm_code.specs.Syndromes.{syndromes_of}
 use Rattle.dm_code.proofs.Bytes.{bytes_places}
-use Rattle.dm_code.proofs.CleanWords.{AreZero, codeword_from_syndromes, zeros_of_zeros}
+use Rattle.dm_code.proofs.CleanWords.{codeword_from_syndromes, zeros_of_zeros, zeros_of_first}
 use Rattle.dm_code.proofs.correction.correct_to.Goals as goal
 
 -- ---- a word that is a codeword
@@ -13,11 +13,11 @@ returns-then-are_zero-clause-changed g c none = absurd (none refl)
 
 pub returns-then-are_zero-clause-itself : goal.returns-then-are_zero-clause-itself
 returns-then-are_zero-clause-itself g c =
-    let w = c.args.word.now in (
-      λ e. codeword_from_syndromes c.args.k w (syndromes_of c.remainder-rest.result.items c.args.k) c.requires.most
-          c.requires.data c.requires.long (bytes_places w (λ i h. omega (arith, c.type_inv.word i)))
-          c.remainder-rest.ensures
-          (zeros_of_zeros c.args.k c.remainder-rest.result.items
-          (subst AreZero c.deref.ensures.0 (c.are_zero.ensures.0 c.if-are_zero.true))),
+    let w = c.args.word.now in
+    let k = c.args.k in
+    let r = c.remainder-rest.result in (
+      λ e. codeword_from_syndromes k w (syndromes_of (take k r) k) c.requires.most c.requires.data c.requires.long
+          (bytes_places w (λ i h. omega (arith, c.type_inv.word i))) c.remainder-rest.ensures
+          (zeros_of_zeros k (take k r) (zeros_of_first k r (c.are_zero.ensures.0 c.if-are_zero.true))),
       λ h. refl,
     )

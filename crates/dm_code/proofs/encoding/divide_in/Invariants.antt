@@ -1,12 +1,15 @@
-use Rattle.std.proofs.Common.{◌≡◌, ◌+◌, ◌-◌, ◌*◌, ◌<◌, ℕ, suc, get_or, take, drop}
-use Rattle.gf301.specs.Field.{power}
+use Rattle.std.proofs.Common.{◌≡◌, ◌+◌, ◌*◌, ◌<◌, ◌≤◌, ℕ, length, get_or, take}
+use Rattle.gf301.specs.Field.{◌⊗◌, power, raise}
 use Rattle.gf301.specs.Polynomial.{value}
 use Rattle.dm_code.proofs.encoding.divide_in.Given as goal
 
+-- The register has taken in the first numbers.
 abbrev pub invariant-loop-pair : goal.invariant-loop-pair
 invariant-loop-pair g l = record {
-  bytes : (i : ℕ) → get_or l.rest i 0 < 256;
+  long : length l.left ≡ 96;
+  bytes : (i : ℕ) → get_or l.left i 0 < 256;
+  past : (i : ℕ) → l.k ≤ i → get_or l.left i 0 ≡ 0;
   same : (i : ℕ) → i < l.k →
-      value (take (l.count + l.k - (l.odd + 2 * l.pair)) (drop (l.odd + 2 * l.pair) l.rest)) (power (suc i)) ≡
-      value (take (l.count + l.k) l.fn.rest) (power (suc i));
+      value (take (l.odd + 2 * l.pair) l.front) (power (1 + i)) ⊗ raise (power (1 + i)) l.k ≡
+      value (take l.k l.left) (power (1 + i));
 }

@@ -1,9 +1,10 @@
-use Rattle.std.proofs.Common.{◌≡◌, ◌-◌, ◌+◌, ◌≤◌, ◌++◌, suc, length, length-take, length-drop, take, drop, ap, ◌∙◌}
-use Rattle.std.proofs.Common.{arith, replicate}
-use Rattle.std.proofs.Math.Seq.{take-append_seam}
-use Rattle.gf301.specs.Field.{power}
+use Rattle.std.proofs.Common.{◌≡◌, ◌+◌, ◌-◌, suc, length, length-drop, take, drop, get_or, replicate, sym, ap}
+use Rattle.std.proofs.Common.{subst, ◌∙◌, arith}
+use Rattle.std.proofs.lemmas.List.{get_or_append_left}
+use Rattle.gf301.specs.Field.{◌⊕◌, ◌⊗◌, power, raise}
 use Rattle.gf301.specs.Polynomial.{value}
 use Rattle.dm_code.proofs.SyndromeLaws.{same_syndromes}
+use Rattle.dm_code.proofs.Division.{rest_value}
 use Rattle.dm_code.proofs.encoding.remainder.Goals as goal
 
 pub returns : goal.returns
@@ -11,20 +12,19 @@ returns c =
     let w = c.args.word.now in
     let k = c.args.k in
     let n = length w - k in
-    let r = c.divide.new.rest in
-    let s = take k (drop n r) in
-    let q : n + k - n ≡ k = omega arith in
-    let l : length (take (n + k - n) (drop n r)) ≡ k =
-    simp (length-take, length-drop) (omega (arith, c.divide.array_long)) in
-    let z : length c.new-left.result.items ≡ 0 = ap length c.new-left.ensures in
-    let room : length c.new-left.result.items + length (take (n + k - n) (drop n r)) ≤ 68 = omega (arith, l, z) in
-    let all : c.try_extend_from_slice-room.new.self.items ≡ c.new-left.result.items ++ take (n + k - n) (drop n r) =
-    grind (arith, room) in
-    let out : c.try_extend_from_slice-room.new.self.items ≡ s =
-    all ∙ ap (λ t. t ++ take (n + k - n) (drop n r)) c.new-left.ensures ∙ ap (λ m. take m (drop n r)) q in
-    let whole : take (n + k) (c.copy_from_slice.new.self ++ drop (length w) (replicate 270 0)) ≡ w =
-    ap (λ u. take (n + k) (u ++ drop (length w) (replicate 270 0))) c.copy_from_slice.ensures.after
-    ∙ ap (λ m. take m (w ++ drop (length w) (replicate 270 0))) (let e : n + k ≡ length w = omega arith in e)
-    ∙ take-append_seam w (drop (length w) (replicate 270 0)) in
-    same_syndromes c.try_extend_from_slice-room.new.self.items w k
-    (λ i h. ap (λ t. value t (power (suc i))) out ∙ c.divide.ensures.same i h ∙ ap (λ t. value t (power (suc i))) whole)
+    let l = c.divide-rest.result in
+    let r = c.loop-i.rest in
+    let back : length (drop n w) ≡ k = simp length-drop (omega arith) in
+    let ys = c.copy_from_slice.new.self in
+    let same : ys ≡ drop n w = c.copy_from_slice.ensures.after ∙ c.split_at.ensures.back in
+    same_syndromes (take k r) w k (λ i h.
+    rest_value k (power (suc i)) w l r (omega arith) (omega arith)
+    (omega (arith, c.loop-i.invariant.long))
+    (λ j o.
+    c.loop-i.invariant.done j (omega arith)
+    ∙ ap (λ y. get_or l j 0 ⊕ y) (get_or_append_left ys (drop k (replicate 96 0)) 0 j
+    (omega (arith, ap length same, back))
+    ∙ ap (λ u. get_or u j 0) same))
+    (ap (λ u. value u (power (suc i)) ⊗ raise (power (suc i)) k) (sym c.split_at.ensures.front)
+    ∙ subst (λ j. value c.split_at.result.0.now (power j) ⊗ raise (power j) k ≡ value (take k l) (power j))
+    (let q : 1 + i ≡ suc i = omega arith in q) (c.divide-rest.ensures.same i h)))
