@@ -10,7 +10,7 @@ ghost use Rattle.dm_code.specs.inner.Lessened.{AreOddParts, HasPlaces, IsAscendi
 use crate::correction::{BeyondLimit, Fixed, copy_of, correct};
 use crate::key::KeySolver;
 use crate::limits::LONGEST_WORD;
-use crate::syndrome::syndromes;
+use crate::syndrome::first_syndromes;
 use crate::weighing::{
     LOCATOR_ROOM, at_places, blank, divide_changed, evaluator_of, fill, fill_few, less_places,
     locator_of,
@@ -164,7 +164,9 @@ fn are_zero_at(word: &[u8], places: &[u8]) -> bool
 /// and `odd` has the sums of its terms of odd powers.
 fn give_back(word: &mut [u8], places: &[u8], locator: &[u8; LOCATOR_ROOM], odd: &[u8; 256])
     requires long { length word.old ≤ LONGEST_WORD }
+    requires some { 0 < length places.now }
     requires few { length places.now ≤ MOST_CHECKS }
+    requires whole { length places.now ≤ length word.old }
     requires within { All (λ p. p < length word.old) places.now }
     requires locator { (i : ℕ)
         → get_or locator.now i 0 ≡ coefficient (places_locator (length word.old) places.now) i }
@@ -175,7 +177,7 @@ fn give_back(word: &mut [u8], places: &[u8], locator: &[u8; LOCATOR_ROOM], odd: 
         → IsSameBut places.now word.old c → word.new ≡ c }
 {
     blank(word, places);
-    let syndromes = syndromes(word, places.len());
+    let syndromes = first_syndromes(word, places.len());
     let evaluator = evaluator_of(locator, &syndromes);
     let terms = &evaluator[..places.len()];
     if 8 * places.len() <= word.len() {

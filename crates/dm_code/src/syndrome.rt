@@ -1,11 +1,12 @@
 //! The syndromes of a block: its values at the roots of the generator polynomial. 16 roots at a time are taken together
 //! in the lanes of a vector, and the rest of the roots one by one, each with 16 codewords at a time in the lanes.
 
-ghost use Rattle.std.specs.Prelude.{◌≡◌, ◌≤◌, ◌*◌, ◌%◌, ℕ, length, map, take};
+ghost use Rattle.std.specs.Prelude.{◌≡◌, ◌<◌, ◌≤◌, ◌*◌, ◌%◌, ℕ, length, map, take};
 ghost use Rattle.gf301.specs.Field.{power};
 ghost use Rattle.gf301.specs.Polynomial.{Bytes, value, values_from};
 ghost use Rattle.dm_code.specs.Syndromes.{syndromes_of};
 
+use crate::encoding::remainder;
 use crate::polynomial::sums;
 use arrayvec::ArrayVec;
 use gf301::{Gf, MOST_CHECKS, lanes_mul, power_row, scale, value_at};
@@ -43,6 +44,21 @@ pub(crate) fn syndromes_of_short(word: &[u8], k: usize) -> ArrayVec<u8, MOST_CHE
         let _room = values.try_extend_from_slice(&of_group[..count]);
     }
     values
+}
+
+/// Gives what [`syndromes`] gives, for a word of k numbers or more: those of what a division leaves, which is short,
+/// or, where there are few of them for so long a word, those of the word itself.
+pub(crate) fn first_syndromes(word: &[u8], k: usize) -> ArrayVec<u8, MOST_CHECKS>
+    requires some { 0 < k }
+    requires most { k ≤ MOST_CHECKS }
+    requires whole { k ≤ length word.now }
+    ensures { result.items ≡ syndromes_of word.now k }
+{
+    if 8 * k <= word.len() {
+        return syndromes(word, k);
+    }
+    let rest = remainder(word, k);
+    syndromes_of_short(&rest[..k], k)
 }
 
 /// Gives the first syndromes of a word, 16 for each group: the values at the 16 roots of a group are computed at once.

@@ -19,7 +19,7 @@ returns-clause-restored c k w h l a =
     let s = syndromes_of known count in
     let t = c.deref.result.now in
     let kl : length known ≡ length w = c.blank.ensures.long ∙ sym l in
-    let se : t ≡ s = c.deref.ensures.0 ∙ c.syndromes-syndromes.ensures.values in
+    let se : t ≡ s = c.deref.ensures.0 ∙ c.first_syndromes-syndromes.ensures in
     let sl : length t ≡ count = ap length se ∙ syndromes_length known count in
     let ee : take count c.evaluator_of-evaluator.result ≡ first (convolution (coefficient p) (coefficient s)) count =
     ap (λ i. take i c.evaluator_of-evaluator.result) (sym sl) ∙ c.evaluator_of-evaluator.ensures
@@ -51,7 +51,7 @@ returns-then-places-word-clause-restored c k w h l a =
     let s = syndromes_of known count in
     let t = c.deref.result.now in
     let kl : length known ≡ length w = c.blank.ensures.long ∙ sym l in
-    let se : t ≡ s = c.deref.ensures.0 ∙ c.syndromes-syndromes.ensures.values in
+    let se : t ≡ s = c.deref.ensures.0 ∙ c.first_syndromes-syndromes.ensures in
     let sl : length t ≡ count = ap length se ∙ syndromes_length known count in
     let ee : take count c.evaluator_of-evaluator.result ≡ first (convolution (coefficient p) (coefficient s)) count =
     ap (λ i. take i c.evaluator_of-evaluator.result) (sym sl) ∙ c.evaluator_of-evaluator.ensures
