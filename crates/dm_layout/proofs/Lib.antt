@@ -5,7 +5,6 @@ mod PlacementRows
 mod BlockLemmas
 mod GridLemmas
 mod PackedRows
-mod CellLanes
 mod SymbolLines
 mod OneKind
 mod NoFaults

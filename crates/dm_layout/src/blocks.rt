@@ -1,7 +1,7 @@
 //! The Reed-Solomon blocks into which the codewords of a symbol are dealt: ISO/IEC 16022, error correction.
 
-ghost use Rattle.std.specs.Prelude.{◌≡◌, ◌≢◌, ℕ, ◌<◌, length, take};
-ghost use Rattle.dm_layout.specs.Sizes.{block_data, block_length};
+ghost use Rattle.std.specs.Prelude.{◌≡◌, ◌≢◌, ℕ, ◌<◌, ◌++◌, length, take};
+ghost use Rattle.dm_layout.specs.Sizes.{block_check, block_data, block_length};
 ghost use Rattle.dm_layout.specs.Words.{IsWords, data_of};
 ghost use Rattle.dm_layout.specs.Blocks.{block_of};
 
@@ -42,5 +42,27 @@ pub fn put_block(words: &mut Words, b: usize, list: &[u8])
     let blocks = words.size().blocks() as usize;
     for (i, word) in list.iter().enumerate() {
         words.put(i * blocks + b, *word);
+    }
+}
+
+/// Puts the check codewords of block `b` at its last places; its data codewords and the other blocks stay. `b` is below
+/// the number of blocks, and there are as many checks as a block has.
+pub fn put_block_checks(words: &mut Words, b: usize, checks: &[u8])
+    requires block { b < words.old.size.blocks }
+    requires length { length checks.now ≡ block_check words.old.size }
+    ensures size { words.new.size ≡ words.old.size }
+    ensures put { block_of words.old.size.blocks b words.new.list
+        ≡ take (block_data words.old.size) (block_of words.old.size.blocks b words.old.list)
+        ++ checks.now }
+    ensures others { (a : ℕ) → a < words.old.size.blocks → a ≢ b
+        → block_of words.old.size.blocks a words.new.list
+        ≡ block_of words.old.size.blocks a words.old.list }
+    ensures words { IsWords words.new }
+{
+    let size = words.size();
+    let blocks = usize::from(size.blocks());
+    let front = usize::from(size.block_data());
+    for (i, word) in checks.iter().enumerate() {
+        words.put((front + i) * blocks + b, *word);
     }
 }

@@ -181,8 +181,8 @@ impl Grid {
         self.rows[row as usize] |= cells;
     }
 
-    /// Gives the rows from the top, each as a number.
-    fn kept_rows(&self) -> &[u128]
+    /// Gives the rows from the top, each as a number, as [`Grid::row`] gives it.
+    pub fn kept_rows(&self) -> &[u128]
         ensures height { length result.now ≡ self.now.size.side }
         ensures width { All (λ row. row < 2 ^ self.now.size.side) result.now }
         ensures rows { self.now.rows ≡ square_of_rows self.now.size.side result.now }

@@ -10,10 +10,10 @@
 //! leave the same in a grid, or in codewords, of the caller's, whatever these were before and whatever their size, so
 //! that one of each serves any number of symbols; [`Words::zeros()`] gives codewords to lift into.
 //!
-//! [`block()`] reads one Reed-Solomon block of the codewords, and [`put_block()`] writes one. [`border_faults()`]
-//! counts the border cells of a grid that have the wrong colour. Cell by cell, [`border_colour()`] gives the colour
-//! that a border prescribes, [`symbol_line()`] leads from a row or column of the mapping square to that of the symbol,
-//! and [`Cells`] goes through the [`Place`]s of all bits of all codewords.
+//! [`block()`] reads one Reed-Solomon block of the codewords, [`put_block()`] writes one, and [`put_block_checks()`]
+//! its check codewords. [`border_faults()`] counts the border cells of a grid that have the wrong colour. Cell by cell,
+//! [`border_colour()`] gives the colour that a border prescribes, [`symbol_line()`] leads from a row or column of the
+//! mapping square to that of the symbol, and [`Cells`] goes through the [`Place`]s of all bits of all codewords.
 //!
 //! There are [`SIZE_COUNT`] sizes; limits: [`LARGEST_SIDE`], [`MOST_DATA`], [`MOST_CODEWORDS`], [`MOST_BLOCKS`] and
 //! [`LONGEST_BLOCK`]. What the contracts say is defined in `specs/`; [`laws`] states what holds of these definitions.
@@ -39,7 +39,7 @@ mod slots;
 mod widened;
 mod words;
 
-pub use blocks::{block, put_block};
+pub use blocks::{block, put_block, put_block_checks};
 pub use border::border_faults;
 pub use cells::{Cells, Place};
 pub use grid::{Grid, GridFault};

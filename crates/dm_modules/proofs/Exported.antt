@@ -1,8 +1,12 @@
 -- What the crates above cite of the proofs of this one: facts of its definitions.
+pub use Rattle.dm_modules.proofs.BlockChecks.{check_inside, check_put, finished, finished_front, finished_length}
+pub use Rattle.dm_modules.proofs.BlockChecks.{finished_parts}
+pub use Rattle.dm_modules.proofs.BitRows.{rest_more}
 pub use Rattle.dm_modules.proofs.BlockLemmas.{data_of_block, length_of_block, next_inside, others_stay, place_inside}
 pub use Rattle.dm_modules.proofs.BlockLemmas.{put_gives, put_one, same_by_blocks, same_data_by_blocks, stay_one}
 pub use Rattle.dm_modules.proofs.BlockLemmas.{steps_of_block, walk_of_block, word_of_block}
 pub use Rattle.dm_modules.proofs.BlockPlaces.{length-block_of}
+pub use Rattle.dm_modules.proofs.CellLanes.{cut_cell, sixteen_shown}
 pub use Rattle.dm_modules.proofs.DealtWords.{blocks_make_words}
 pub use Rattle.dm_modules.proofs.EqualityLaws.{equal_itself, told_modules}
 pub use Rattle.dm_modules.proofs.FaultCounts.{count_more, sum_more}

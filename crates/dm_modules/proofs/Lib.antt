@@ -4,12 +4,15 @@ mod SmallestSize
 mod KeptWords
 mod BlockPlaces
 mod BlockLemmas
+mod BlockChecks
 mod DealtWords
 mod ModulesLemmas
 mod EqualityLaws
 mod SymbolLines
 mod NoFaults
 mod Parts
+mod CellLanes
+mod BitRows
 mod RowColours
 mod Drawn
 mod LaidModules

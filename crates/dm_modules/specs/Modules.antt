@@ -1,5 +1,5 @@
 -- The modules of a symbol, each dark or light (ISO/IEC 16022, symbol structure).
-use Rattle.std.specs.Prelude.{◌≡◌, ℕ, ◌+◌, ◌*◌, Bool, false, not, nat_eq, List, [], map, length, get_or, All}
+use Rattle.std.specs.Prelude.{◌≡◌, ℕ, ◌+◌, ◌*◌, ◌/◌, ◌%◌, ◌^◌, Bool, false, not, nat_eq, List, [], map, length, get_or, All}
 use Rattle.std.specs.List.{range_with_len}
 use Rattle.dm_modules.specs.Sizes.{SizeEntry, IsSize}
 
@@ -30,3 +30,13 @@ rows_of rows columns list = rows_by rows columns (λ row column. get_or list (ro
 -- Where a number is given for each module, any number but 0 stands for a dark one.
 abbrev pub is_dark_number : ℕ → Bool
 is_dark_number number = not (nat_eq number 0)
+
+-- In a row that is written as a number, the module of a column, counted from 0 at the left, is the bit of weight
+-- 2^column; 1 is dark.
+abbrev pub is_dark_bit : ℕ → ℕ → Bool
+is_dark_bit row column = nat_eq (row / 2 ^ column % 2) 1
+
+-- These are the rows of modules that are written as numbers, from the top; only as many of the lowest bits of each
+-- count as there are columns.
+abbrev pub rows_of_numbers : ℕ → ℕ → List ℕ → List (List Bool)
+rows_of_numbers rows columns numbers = rows_by rows columns (λ row. is_dark_bit (get_or numbers row 0))

@@ -4,25 +4,28 @@
 //! A [`SymbolSize`] is an entry of the standards' tables of sizes, which are [`table()`] together; [`SymbolSize::of()`]
 //! finds one by its rows and columns, and [`SymbolSize::for_words()`] the smallest of a [`SizeChoice`] that holds so
 //! many data codewords. [`Modules`] are the dark and light modules of a symbol; [`Modules::new()`] and
-//! [`Modules::set()`] give a [`ModulesFault`] where colours make none. [`SymbolWords`] are the codewords of a symbol,
-//! given all at once ([`SymbolWords::new()`]), or the data codewords first ([`SymbolWords::with_data()`]) and the check
-//! codewords later ([`SymbolWords::put_checks()`]).
+//! [`Modules::set()`] give a [`ModulesFault`] where colours make none. [`Modules::set_rows()`] takes rows that are
+//! written as numbers. [`SymbolWords`] are the codewords of a symbol, given all at once ([`SymbolWords::new()`]), or
+//! the data codewords first ([`SymbolWords::with_data()`]) and the check codewords later
+//! ([`SymbolWords::put_checks()`]).
 //!
 //! [`lay()`] gives the only modules with correct borders and the fixed square that hold given codewords, and [`lift()`]
 //! the codewords that modules hold, whatever stands in their borders and their fixed square. [`lay_to()`] and
 //! [`lift_to()`] leave the same in modules, or in codewords, of the caller's, whatever these were before and whatever
 //! their size.
 //!
-//! [`block()`] reads one Reed-Solomon block of the codewords, and [`put_block()`] writes one; in 144 x 144 the blocks
-//! have two lengths. [`border_faults()`] counts the border modules that have the wrong colour, and
-//! [`border_faults_but()`] those of them that aren't doubtful. Module by module, [`border_colour()`] gives the colour
-//! that a border prescribes, and [`symbol_row()`] and [`symbol_column()`] lead from the mapping matrix to the symbol.
+//! [`block()`] reads one Reed-Solomon block of the codewords, [`put_block()`] writes one, and [`put_block_checks()`]
+//! its check codewords; in 144 x 144 the blocks have two lengths. [`border_faults()`] counts the border modules that
+//! have the wrong colour, and [`border_faults_but()`] those of them that aren't doubtful. Module by module,
+//! [`border_colour()`] gives the colour that a border prescribes, and [`symbol_row()`] and [`symbol_column()`] lead
+//! from the mapping matrix to the symbol.
 //!
 //! There are [`SIZE_COUNT`] sizes; limits: [`MOST_ROWS`], [`MOST_COLUMNS`], [`MOST_MODULES`], [`MOST_DATA`],
 //! [`MOST_CODEWORDS`], [`MOST_BLOCKS`] and [`LONGEST_BLOCK`]. What the contracts say is defined in `specs/`; [`laws`]
 //! states what holds of these definitions. No call allocates memory.
 #![tactic(auto)]
 
+mod bit_rows;
 mod blocks;
 mod border;
 mod doubt;
@@ -33,7 +36,7 @@ mod placing;
 mod size;
 mod words;
 
-pub use blocks::{block, put_block};
+pub use blocks::{block, put_block, put_block_checks};
 pub use border::{border_colour, border_faults, symbol_column, symbol_row};
 pub use doubt::border_faults_but;
 pub use modules::{Modules, ModulesFault};

@@ -3,8 +3,9 @@
 ghost use Rattle.std.specs.Prelude.{◌≡◌, ℕ, false, nat_eq, ◌&&◌, ◌≢◌, ◌+◌, ◌*◌, ◌<◌, ◌≤◌, ◌↔◌, if◌then◌else◌, IfOk};
 ghost use Rattle.std.specs.Prelude.{OnErr, OnOk, IsNone, ◌++◌, drop, get_or, length, map};
 ghost use Rattle.dm_modules.specs.Sizes.{entry_with, area};
-ghost use Rattle.dm_modules.specs.Modules.{IsModules, is_dark_number, module_at, rows_of};
+ghost use Rattle.dm_modules.specs.Modules.{IsModules, is_dark_number, module_at, rows_of, rows_of_numbers};
 
+use crate::bit_rows::put_lines;
 use crate::size::{MOST_MODULES, SymbolSize};
 use std::marker::Model;
 
@@ -110,6 +111,23 @@ impl Modules {
         let size = size_of_count(rows, columns, numbers.len())?;
         self.fill_numbers(size, numbers);
         Ok(())
+    }
+
+    /// Becomes the modules of a symbol of a size with these rows, from the top, each written as a number, in which the
+    /// module of column `c`, counted from 0 at the left, is the bit of weight 2^c, 1 for dark. The bits from the
+    /// columns on may be anything. There are as many numbers as the size has rows, and it has no more columns than such
+    /// a number has bits, as all sizes but two.
+    pub fn set_rows(&mut self, new_size: SymbolSize, numbers: &[u128])
+        requires count { length numbers.now ≡ new_size.rows }
+        requires columns { new_size.columns ≤ 128 }
+        ensures size { self.new.size ≡ new_size }
+        ensures rows { self.new.rows
+            ≡ rows_of_numbers new_size.rows new_size.columns numbers.now }
+    {
+        // For the proof alone: what `rows` ensures says that the modules fit.
+        let _rows = new_size.rows();
+        self.size = new_size;
+        put_lines(&mut self.kept, usize::from(new_size.columns()), numbers);
     }
 
     /// Becomes the modules of a size with the colours of these numbers, row by row.

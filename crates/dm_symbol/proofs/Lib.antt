@@ -21,6 +21,7 @@ mod LightDoubt
 mod SymbolReadings
 mod SymbolReadSteps
 mod SymbolWriteSteps
+mod LaidData
 mod SymbolNormals
 mod SmallestSymbols
 mod SymbolCompletions

@@ -10,7 +10,7 @@ ghost use Rattle.dm_symbol.specs.NormalGrid.{IsWritten};
 
 use arrayvec::ArrayVec;
 use dm_code::encode;
-use dm_layout::{Grid, Size, Words, block, lay_to, put_block};
+use dm_layout::{Grid, Size, Words, block, lay_to, put_block_checks};
 use dm_words::{Message, Profile, TooLong, add_pads, normal_words_to};
 
 /// Gives the normal grid of a message under [`Profile::Ascii`]: what [`write_as`] gives for that profile.
@@ -50,8 +50,7 @@ pub fn write_to(profile: Profile, message: &Message, grid: &mut Grid) -> Result<
     };
     add_pads(&mut list, size);
     let mut words = Words::zeros(size);
-    words.put_data(&list);
-    complete(&mut words);
+    complete_with(&mut words, &list);
     lay_to(&words, grid);
     Ok(())
 }
@@ -68,8 +67,19 @@ pub fn light_grid() -> Grid
     }
 }
 
-/// Puts the check codewords, which make each block a codeword of its Reed-Solomon code; the data codewords stay. The
-/// codewords are the caller's, since a list for the largest symbol would be copied to be given back.
+/// Puts these data codewords, and the check codewords that complete them. The codewords are the caller's, since a list
+/// for the largest symbol would be copied to be given back.
+pub(crate) fn complete_with(words: &mut Words, list: &[u8])
+    requires { length list.now ≡ words.old.size.data_count }
+    ensures size { words.new.size ≡ words.old.size }
+    ensures data_words { data_part words.old.size words.new.list ≡ list.now }
+    ensures checked { BlocksAreCodewords words.old.size words.new.list }
+{
+    words.put_data(list);
+    complete(words);
+}
+
+/// Puts the check codewords, which make each block a codeword of its Reed-Solomon code; the data codewords stay.
 fn complete(words: &mut Words)
     ensures size { words.new.size ≡ words.old.size }
     ensures data_words { data_part words.old.size words.new.list
@@ -115,6 +125,5 @@ fn complete_block(words: &mut Words, b: usize)
     let mut list = block(words, b);
     list.truncate(usize::from(size.block_data()));
     let checks = encode(&list, usize::from(size.block_check()));
-    let _room = list.try_extend_from_slice(checks.as_slice());
-    put_block(words, b, &list);
+    put_block_checks(words, b, &checks);
 }

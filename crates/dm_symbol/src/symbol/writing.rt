@@ -1,17 +1,21 @@
 //! Writing a message in a symbol: in the smallest size of a choice.
 
-ghost use Rattle.std.specs.Prelude.{◌≡◌, ◌≢◌, ◌<◌, ◌≤◌, ℕ, length, OnErr};
+ghost use Rattle.std.specs.Prelude.{◌≡◌, ◌≢◌, ◌<◌, ◌≤◌, ℕ, length, IfSome, OnErr};
 ghost use Rattle.dm_code.specs.Codeword.{IsCodeword};
+ghost use Rattle.dm_layout.specs.Sizes.{symbol_size};
 ghost use Rattle.dm_modules.specs.Sizes.{block_check};
 ghost use Rattle.dm_words.specs.Outcomes.{outcome};
 ghost use Rattle.dm_symbol.specs.SymbolBlocks.{AreOfSize, AreCodewordsOf, block_in, first_data};
 ghost use Rattle.dm_symbol.specs.NormalSymbol.{IsSymbolWritten};
 ghost use Rattle.dm_symbol.specs.SmallestSymbol.{IsSmallestWritten};
+ghost use Rattle.dm_symbol.specs.inner.LaidData.{HasData};
 
+use crate::writing::{complete_with, light_grid};
 use arrayvec::ArrayVec;
 use dm_code::encode;
+use dm_layout::{Size, Words};
 use dm_modules::{
-    MOST_DATA, Modules, SizeChoice, SymbolSize, SymbolWords, block, lay_to, put_block,
+    MOST_DATA, Modules, SizeChoice, SymbolSize, SymbolWords, block, lay_to, put_block_checks,
 };
 use dm_words::{
     Extent, LARGEST_ROOM, MessageIn, Profile, TooLong, normal_words_in, pad_to, smallest_words_to,
@@ -50,7 +54,7 @@ pub fn write_symbol_to<const ROOM: usize>(
         return Err(TooLong);
     };
     pad_to(&mut list, size.data_count() as usize);
-    lay_to(&with_checks(&list, size), modules);
+    lay_data(&list, size, modules);
     Ok(())
 }
 
@@ -74,11 +78,47 @@ pub fn write_smallest_to<const ROOM: usize>(
     let mut list = ArrayVec::<u8, MOST_DATA>::new();
     match smallest_words_to(extent, message, choice, &mut list) {
         Ok(size) => {
-            lay_to(&with_checks(&list, size), modules);
+            lay_data(&list, size, modules);
             Ok(())
         }
         Err(TooLong) => Err(TooLong),
     }
+}
+
+/// Turns `modules`, whatever they were, into the symbol of this size with these data codewords. A square that can be a
+/// grid is laid as one, by rows of bits, which is faster than module by module.
+fn lay_data(list: &[u8], size: SymbolSize, modules: &mut Modules)
+    requires { length list.now ≡ size.data_count }
+    ensures { HasData size list.now modules.new }
+{
+    match grid_size(size) {
+        Some(square) => lay_grid(list, size, square, modules),
+        None => lay_to(&with_checks(list, size), modules),
+    }
+}
+
+/// Gives the size of the grids that have the modules of a symbol of this size, if there are any.
+fn grid_size(size: SymbolSize) -> Option<Size>
+    ensures { IfSome result (λ square. symbol_size square ≡ size) }
+{
+    if size.rows() == size.columns() {
+        Size::of_side(size.rows())
+    } else {
+        None
+    }
+}
+
+/// Lays these data codewords in a grid, and turns `modules` into its cells.
+fn lay_grid(list: &[u8], size: SymbolSize, square: Size, modules: &mut Modules)
+    requires same { symbol_size square ≡ size }
+    requires count { length list.now ≡ size.data_count }
+    ensures { HasData size list.now modules.new }
+{
+    let mut words = Words::zeros(square);
+    complete_with(&mut words, list);
+    let mut grid = light_grid();
+    dm_layout::lay_to(&words, &mut grid);
+    modules.set_rows(size, grid.kept_rows());
 }
 
 /// Gives the codewords of a symbol of this size with these data codewords: the check codewords make each block a
@@ -90,10 +130,28 @@ fn with_checks(list: &[u8], size: SymbolSize) -> SymbolWords
     ensures checked { AreCodewordsOf size result.list }
 {
     let mut words = SymbolWords::with_data(size, list);
-    for b in 0..usize::from(size.blocks()) {
+    let blocks = size.blocks();
+    if blocks == 1 {
+        complete_only_block(&mut words);
+        return words;
+    }
+    for b in 0..usize::from(blocks) {
         complete_block(&mut words, b);
     }
     words
+}
+
+/// Puts the check codewords of a symbol that has one block.
+fn complete_only_block(words: &mut SymbolWords)
+    requires { words.old.size.blocks ≡ 1 }
+    ensures size { words.new.size ≡ words.old.size }
+    ensures data_words { first_data words.old.size words.new.list
+        ≡ first_data words.old.size words.old.list }
+    ensures checked { AreCodewordsOf words.old.size words.new.list }
+{
+    let size = words.size();
+    let checks = encode(words.data_part(), usize::from(size.block_check()));
+    words.put_checks(&checks);
 }
 
 /// Puts the check codewords of one block: its data codewords stay, and it becomes a codeword of its Reed-Solomon code.
@@ -112,6 +170,5 @@ fn complete_block(words: &mut SymbolWords, b: usize)
     let mut list = block(words, b);
     list.truncate(usize::from(size.block_data(b)));
     let checks = encode(&list, usize::from(size.block_check()));
-    let _room = list.try_extend_from_slice(checks.as_slice());
-    put_block(words, b, &list);
+    put_block_checks(words, b, &checks);
 }

@@ -1,5 +1,4 @@
-use Rattle.std.proofs.Common.{◌≡◌, ◌++◌, take, subst, arith}
-use Rattle.std.proofs.lemmas.Grind.{common_steps}
+use Rattle.std.proofs.Common.{◌∙◌, ◌++◌, ap, subst, take}
 use Rattle.dm_layout.specs.Sizes.{block_data}
 use Rattle.dm_symbol.specs.Blocks.{AreWordsOf, block_at}
 use Rattle.dm_symbol.proofs.Completion.{completion_keeps_data}
@@ -7,15 +6,16 @@ use Rattle.dm_symbol.proofs.writing.complete_block.Goals as goal
 
 pub returns-clause-words : goal.returns-clause-words
 returns-clause-words c =
-    subst (λ s. AreWordsOf s c.put_block.new.words.list) c.put_block.ensures.size c.put_block.ensures.words
+    subst (λ s. AreWordsOf s c.put_block_checks.new.words.list) c.put_block_checks.ensures.size
+    c.put_block_checks.ensures.words
 
 pub returns-clause-data_words : goal.returns-clause-data_words
 returns-clause-data_words c =
     let w = c.args.words.now in
-    let after : AreWordsOf w.size c.put_block.new.words.list =
-    subst (λ s. AreWordsOf s c.put_block.new.words.list) c.put_block.ensures.size c.put_block.ensures.words in
-    let put : block_at w.size c.put_block.new.words.list c.args.b
-    ≡ take (block_data w.size) (block_at w.size w.list c.args.b) ++ c.encode-checks.result.items =
-    grind (arith, common_steps) in
-    completion_keeps_data w.size w.list c.put_block.new.words.list c.encode-checks.result.items c.args.b
-    c.size-size.ensures.words after c.requires put c.put_block.ensures.others
+    let v = c.put_block_checks.new.words.list in
+    let after : AreWordsOf w.size v =
+    subst (λ s. AreWordsOf s v) c.put_block_checks.ensures.size c.put_block_checks.ensures.words in
+    completion_keeps_data w.size w.list v c.encode-checks.result.items c.args.b c.size-size.ensures.words after
+    c.requires (c.put_block_checks.ensures.put
+    ∙ ap (λ xs. take (block_data w.size) (block_at w.size w.list c.args.b) ++ xs) c.deref-2.ensures.0)
+    c.put_block_checks.ensures.others

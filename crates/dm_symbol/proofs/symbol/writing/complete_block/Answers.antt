@@ -1,5 +1,4 @@
-use Rattle.std.proofs.Common.{◌≡◌, ◌++◌, take, subst, arith}
-use Rattle.std.proofs.lemmas.Grind.{common_steps}
+use Rattle.std.proofs.Common.{◌∙◌, ◌++◌, ap, subst, take}
 use Rattle.dm_modules.specs.Sizes.{block_data}
 use Rattle.dm_symbol.specs.SymbolBlocks.{AreOfSize, block_in}
 use Rattle.dm_symbol.proofs.SymbolWriteSteps.{checks_keep_data}
@@ -7,14 +6,15 @@ use Rattle.dm_symbol.proofs.symbol.writing.complete_block.Goals as goal
 
 pub returns-clause-words : goal.returns-clause-words
 returns-clause-words c =
-    subst (λ s. AreOfSize s c.put_block.new.words.list) c.put_block.ensures.size c.put_block.ensures.words
+    subst (λ s. AreOfSize s c.put_block_checks.new.words.list) c.put_block_checks.ensures.size
+    c.put_block_checks.ensures.words
 
 pub returns-clause-data_words : goal.returns-clause-data_words
 returns-clause-data_words c =
     let w = c.args.words.now in
-    let v = c.put_block.new.words.list in
-    let after : AreOfSize w.size v = subst (λ s. AreOfSize s v) c.put_block.ensures.size c.put_block.ensures.words in
-    let put : block_in w.size v c.args.b ≡ take (block_data w.size c.args.b) (block_in w.size w.list c.args.b) ++
-    c.encode-checks.result.items = grind (arith, common_steps) in
+    let v = c.put_block_checks.new.words.list in
+    let after : AreOfSize w.size v =
+    subst (λ s. AreOfSize s v) c.put_block_checks.ensures.size c.put_block_checks.ensures.words in
     checks_keep_data w.size w.list v c.encode-checks.result.items c.args.b c.size-size.ensures.words after c.requires
-    put c.put_block.ensures.others
+    (c.put_block_checks.ensures.put ∙ ap (λ xs. take (block_data w.size c.args.b) (block_in w.size w.list c.args.b) ++ xs)
+    c.deref-2.ensures.0) c.put_block_checks.ensures.others

@@ -15,6 +15,6 @@ loop-b-preserved c =
       size = c.complete_block.ensures.size ∙ same;
       data_words = kept ∙ c.loop-b.invariant.data_words;
       checked = one_more_checked size c.loop-b.words.size c.loop-b.words.list after c.loop-b.b same
-          (omega (arith, c.loop-b-test.true, c.blocks-2.ensures.value, c.from-b-end.ensures))
+          (omega (arith, c.loop-b-test.true, c.blocks-blocks.ensures.value, c.from-b-end.ensures))
           c.loop-b.invariant.checked c.complete_block.ensures.checked c.complete_block.ensures.others;
     }

@@ -7,7 +7,7 @@ use Rattle.std.proofs.Math.Nat.{div-div-eq-div-mul}
 use Rattle.std.proofs.lemmas.Bool.{ne_eqb}
 use Rattle.std.proofs.lemmas.Nat.{pow-add, pow_pos}
 use Rattle.std.proofs.lemmas.Nat.Bits.{and_pow, bit_at_and, bit_at-lt, bit_at_ones}
-use Rattle.dm_layout.specs.Grid.{is_dark_in}
+use Rattle.dm_modules.specs.Modules.{is_dark_bit}
 
 -- A lane is `dark` where the bit of this weight is 1, and else `light`.
 abbrev pub lane : ℕ → ℕ → ℕ → ℕ → ℕ
@@ -15,7 +15,7 @@ lane dark light byte weight = cond (top 7 (cond (not (eqb (bit_and byte weight) 
 
 -- A cell is shown as `dark` or as `light`.
 abbrev pub shown : ℕ → ℕ → ℕ → ℕ → ℕ
-shown dark light cells column = if is_dark_in cells column then dark else light
+shown dark light cells column = if is_dark_bit cells column then dark else light
 
 -- A lane is `dark` where the bit times its weight isn't 0.
 lane_bit : (dark light b w : ℕ) → b < 2 → 0 < w →
@@ -32,7 +32,7 @@ lane_is dark light byte k =
     ∙ lane_bit dark light (byte / 2 ^ k % 2) (2 ^ k) (bit_at-lt byte k) (pow_pos k)
 
 -- A bit of the mask is kept as it is.
-kept_bit : (n mask k : ℕ) → mask / 2 ^ k % 2 ≡ 1 → is_dark_in (bit_and n mask) k ≡ is_dark_in n k
+kept_bit : (n mask k : ℕ) → mask / 2 ^ k % 2 ≡ 1 → is_dark_bit (bit_and n mask) k ≡ is_dark_bit n k
 kept_bit n mask k e =
     let same : min (n / 2 ^ k % 2) 1 ≡ n / 2 ^ k % 2 = omega (arith, bit_at-lt n k) in
     ap (λ (b : ℕ). nat_eq b 1) (bit_at_and n mask k ∙ ap (λ (b : ℕ). min (n / 2 ^ k % 2) b) e ∙ same)
@@ -73,8 +73,8 @@ sixteen_shown dark light cells =
     (both (high 7 refl) refl)))))))))))))))
 
 -- The cells that are cut out of a row are those of the row from that column on.
-pub cut_cell : (cells column k : ℕ) → k < 16 → is_dark_in (bit_and (cells / 2 ^ column) 65535) k ≡
-    is_dark_in cells (column + k)
+pub cut_cell : (cells column k : ℕ) → k < 16 → is_dark_bit (bit_and (cells / 2 ^ column) 65535) k ≡
+    is_dark_bit cells (column + k)
 cut_cell cells column k l =
     kept_bit (cells / 2 ^ column) 65535 k (bit_at_ones 16 k l)
     ∙ ap (λ (n : ℕ). nat_eq (n % 2) 1) (div-div-eq-div-mul cells (2 ^ column) (2 ^ k)
