@@ -1,43 +1,58 @@
 -- Rows of modules that are written one after the other.
-use Rattle.std.proofs.Common.{◌≡◌, ℕ, ◌+◌, ◌*◌, ◌<◌, ◌≤◌, Bool, List, [], ◌∷◌, ◌++◌, map, take, drop, length, get_or}
-use Rattle.std.proofs.Common.{sym, ◌∙◌, ap, arith, length-append}
+use Rattle.std.proofs.Common.{◌≡◌, ℕ, ◌+◌, ◌-◌, ◌*◌, ◌<◌, ◌≤◌, Bool, List, [], ◌∷◌, ◌++◌, map, take, drop, length, get_or}
+use Rattle.std.proofs.Common.{sym, ◌∙◌, ap, arith}
 use Rattle.std.specs.List.{flat_map}
-use Rattle.std.proofs.lemmas.List.{take_more, length-map, length-take-le, drop-drop, append-nil}
+use Rattle.std.proofs.lemmas.List.{take_more, take_all, take-append-drop, length-take-le, drop-drop, append-nil}
 use Rattle.std.proofs.lemmas.Grind.{flat_map-append}
-use Rattle.std.proofs.Math.Seq.{take-append_seam, drop-append_seam}
+use Rattle.std.proofs.Math.Nat.{mul-le-mul_right}
+use Rattle.dm_layout.specs.Sizes.{SizeRow, IsRow, regions_across}
+use Rattle.dm_layout.proofs.Exported.{row_facts}
+use Rattle.ecc200_calls.specs.Arrays.{over}
 use Rattle.ecc200_calls.specs.Modules.{module_of}
 
 -- What lies behind one place lies behind the next.
 pub behind_more : {X : Type 0} (xs ys : List X) (k n : ℕ) → drop k xs ≡ drop k ys → drop (k + n) xs ≡ drop (k + n) ys
 behind_more xs ys k n h = sym (drop-drop n k xs) ∙ ap (λ zs. drop n zs) h ∙ drop-drop n k ys
 
--- One more row of a grid is written, after the rows so far and before what lies behind them.
-pub rows_more : (init all new : List ℕ) (rows : List (List Bool)) (row side : ℕ)
-    → new ≡ take (row * side) all ++ map module_of (get_or rows row []) ++ drop ((row + 1) * side) all
-    → length (get_or rows row []) ≡ side → (row + 1) * side ≤ length all → row < length rows
-    → take (row * side) all ≡ flat_map (map module_of) (take row rows) → drop (row * side) all ≡ drop (row * side) init
-    → (take ((row + 1) * side) new ≡ flat_map (map module_of) (take (row + 1) rows))
-    × (drop ((row + 1) * side) new ≡ drop ((row + 1) * side) init)
-rows_more init all new rows row side e wide room lr prefix behind =
+-- One more row of a grid is written behind the rows so far.
+pub row_more : (all new : List ℕ) (rows : List (List Bool)) (row side : ℕ)
+    → take ((row + 1) * side) new ≡ take (row * side) all ++ map module_of (get_or rows row []) → row < length rows
+    → take (row * side) all ≡ flat_map (map module_of) (take row rows)
+    → take ((row + 1) * side) new ≡ flat_map (map module_of) (take (row + 1) rows)
+row_more all new rows row side e lr prefix =
     let line : List ℕ = map module_of (get_or rows row []) in
-    let done : List ℕ = take (row * side) all ++ line in
-    let rest : List ℕ = drop ((row + 1) * side) all in
-    let next : (row + 1) * side ≡ row * side + side = omega arith in
-    let long : length done ≡ (row + 1) * side =
-    omega (
-      arith,
-      length-append (take (row * side) all) line,
-      length-take-le (row * side) all (omega (arith, room, next)),
-      length-map (get_or rows row []) module_of,
-      wide,
-      next,
-    ) in
-    let written : done ≡ flat_map (map module_of) (take (row + 1) rows) =
-    ap (λ xs. xs ++ line) prefix ∙ ap (λ xs. flat_map (map module_of) (take row rows) ++ xs) (sym (append-nil line))
+    e ∙ ap (λ xs. xs ++ line) prefix ∙ ap (λ xs. flat_map (map module_of) (take row rows) ++ xs) (sym (append-nil line))
     ∙ sym (flat_map-append (map module_of) (take row rows) (get_or rows row [] ∷ []))
-    ∙ ap (flat_map (map module_of)) (sym (take_more rows row [] lr)) in (
-      ap (λ k. take k new) (sym long) ∙ ap (take (length done)) e ∙ take-append_seam done rest ∙ written,
-      ap (λ k. drop k new) (sym long) ∙ ap (drop (length done)) e ∙ drop-append_seam done rest
-          ∙ ap (λ k. drop k all) next ∙ behind_more all init (row * side) side behind
-          ∙ ap (λ k. drop k init) (sym next),
-    )
+    ∙ ap (flat_map (map module_of)) (sym (take_more rows row [] lr))
+
+-- Where all rows are written, and what lies behind them stays, they stand over the first numbers.
+pub all_rows : (init all : List ℕ) (rows : List (List Bool)) (side : ℕ) → length rows ≡ side
+    → side * side ≤ length all → take (side * side) all ≡ flat_map (map module_of) (take side rows)
+    → drop (side * side) all ≡ drop (side * side) init → all ≡ over (flat_map (map module_of) rows) init
+all_rows init all rows side high room written behind =
+    let modules = flat_map (map module_of) rows in
+    let is : take (side * side) all ≡ modules =
+    written ∙ ap (flat_map (map module_of)) (take_all side rows (omega (arith, high))) in
+    let count : side * side ≡ length modules = sym (length-take-le (side * side) all room) ∙ ap length is in
+    sym (take-append-drop (side * side) all) ∙ ap (λ xs. xs ++ drop (side * side) all) is
+    ∙ ap (λ xs. modules ++ xs) behind ∙ ap (λ n. modules ++ drop n init) count
+
+-- What lies behind one place, and further behind, is as before.
+pub behind_far : {X : Type 0} (xs ys : List X) (k n : ℕ) → k ≤ n → drop k xs ≡ drop k ys → drop n xs ≡ drop n ys
+behind_far xs ys k n le h =
+    let sum : k + (n - k) ≡ n = omega (arith, le) in
+    ap (λ m. drop m xs) (sym sum) ∙ behind_more xs ys k (n - k) h ∙ ap (λ m. drop m ys) sum
+
+-- A square has at least eight rows.
+pub side_least : (s : SizeRow) → IsRow s → 8 ≤ s.side
+side_least s row =
+    let f = row_facts s row in
+    let m : 1 * (s.region_side + 2) ≤ regions_across s * (s.region_side + 2) =
+    mul-le-mul_right (s.region_side + 2) f.across in
+    omega (arith, m, f.side, f.least)
+
+-- The last two rows of a square have at least sixteen modules together.
+pub rows_left : (row side : ℕ) → row + 2 < side → 8 ≤ side → row * side + side + 16 ≤ side * side
+rows_left row side l least =
+    let m : (row + 3) * side ≤ side * side = mul-le-mul_right side (omega (arith, l)) in
+    omega (arith, m, least)

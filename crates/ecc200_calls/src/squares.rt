@@ -25,7 +25,10 @@ const TOGETHER: usize = 16;
 const WIDE: usize = 64;
 
 /// The modules of a row of the largest side, and some more, so that the last ones can be unpacked together.
-const LINE: usize = LARGEST_SIDE / TOGETHER * TOGETHER + TOGETHER;
+const LINE: usize = LARGEST_SIDE + TOGETHER;
+
+/// Which byte of sixteen modules each of them stands in.
+const BYTES: [usize; TOGETHER] = [0, 0, 0, 0, 0, 0, 0, 0, 1, 1, 1, 1, 1, 1, 1, 1];
 
 /// The weight of each module in its byte.
 const WEIGHTS: [u8; TOGETHER] = [1, 2, 4, 8, 16, 32, 64, 128, 1, 2, 4, 8, 16, 32, 64, 128];
@@ -155,48 +158,56 @@ pub(crate) fn put_cells(all: &mut [u8], grid: &Grid)
     }
 }
 
-/// Writes the modules of a row over the numbers where it stands.
+/// Writes the modules of a row over the numbers where it stands. Of those below it in the square any may change; so all
+/// rows but the last two are unpacked in place, sixteen modules at a time.
 fn put_row(all: &mut [u8], grid: &Grid, row: u16)
     requires row { row < grid.now.size.side }
     requires room { grid.now.size.side * grid.now.size.side ≤ length all.old }
-    ensures { all.new ≡ take (row * grid.now.size.side) all.old
-        ++ map module_of (get_or grid.now.rows row [])
-        ++ drop ((row + 1) * grid.now.size.side) all.old }
+    ensures written { take ((row + 1) * grid.now.size.side) all.new
+        ≡ take (row * grid.now.size.side) all.old ++ map module_of (get_or grid.now.rows row []) }
+    ensures behind { drop (grid.now.size.side * grid.now.size.side) all.new
+        ≡ drop (grid.now.size.side * grid.now.size.side) all.old }
 {
     let width = grid.size().side();
     let side = usize::from(width);
     let start = usize::from(row) * side;
-    let line = unpack(grid.row(row), width);
-    all[start..start + side].copy_from_slice(&line[..side]);
+    if row + 2 < width {
+        put_line(all, start, side, grid.row(row));
+    } else {
+        let mut line = [0; LINE];
+        put_line(&mut line, 0, side, grid.row(row));
+        all[start..start + side].copy_from_slice(&line[..side]);
+    }
 }
 
-/// Unpacks the first cells of a row, of which the first is the lowest bit. What follows their modules is of no account.
-fn unpack(cells: u128, width: u16) -> [u8; LINE]
-    requires { width ≤ LARGEST_SIDE }
-    ensures modules { (column : ℕ) → column < width
-        → get_or result column 0 ≡ module_of (is_dark_in cells column) }
-    ensures room { length result ≡ LINE }
+/// Unpacks the first cells of a row, of which the first is the lowest bit, over the numbers from a place on. Fifteen
+/// numbers behind them may change.
+fn put_line(all: &mut [u8], start: usize, width: usize, cells: u128)
+    requires width { width ≤ LARGEST_SIDE }
+    requires room { start + width + TOGETHER ≤ length all.old }
+    ensures written { take (start + width) all.new
+        ≡ take start all.old ++ unpacked_cells width cells }
+    ensures behind { drop (start + width + TOGETHER) all.new
+        ≡ drop (start + width + TOGETHER) all.old }
 {
-    let mut line = [0; LINE];
+    let mut rest = cells;
     let mut column = 0;
     while column < width {
-        let together = unpack_together((cells >> column & 0xffff) as u16);
-        together.copy_to_slice(&mut line[usize::from(column)..]);
-        column += TOGETHER as u16;
+        unpack_together((rest & 0xffff) as u16).copy_to_slice(&mut all[start + column..]);
+        rest >>= TOGETHER;
+        column += TOGETHER;
     }
-    line
 }
 
-/// Unpacks sixteen cells, of which the first is the lowest bit.
+/// Unpacks sixteen cells, of which the first is the lowest bit. Each of their two bytes is put into eight lanes by one
+/// shuffle.
 #[inline]
 fn unpack_together(cells: u16) -> u8x16
     ensures { result ≡ unpacked_cells TOGETHER cells }
 {
     let low = (cells & 0xff) as u8;
     let high = (cells >> 8) as u8;
-    let spread = u8x16::from_array([
-        low, low, low, low, low, low, low, low, high, high, high, high, high, high, high, high,
-    ]);
-    let dark = (spread & u8x16::from_array(WEIGHTS)).simd_ne(u8x16::splat(0));
+    let bytes = u8x16::from_array([low, high, 0, 0, 0, 0, 0, 0, 0, 0, 0, 0, 0, 0, 0, 0]);
+    let dark = (bytes.swizzle(BYTES) & u8x16::from_array(WEIGHTS)).simd_ne(u8x16::splat(0));
     dark.select(u8x16::splat(1), u8x16::splat(0))
 }
