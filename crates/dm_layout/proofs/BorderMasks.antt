@@ -56,17 +56,24 @@ masked : (border there dark : Bool) → border && not (beq there (border && dark
 masked true there dark = refl
 masked false there dark = refl
 
+-- The masked difference between a row and its colours is 1 exactly at the wrong border cells of the row.
+pub wrong_border_cell : (d inner row dark mask c : ℕ) → is_dark_in mask c ≡ is_on_edge d inner (c % (d + 2)) →
+    is_dark_in dark c ≡ is_on_edge d inner (c % (d + 2)) && edge_is_dark d inner (c % (d + 2)) →
+    is_dark_in (bit_and (bit_xor row dark) mask) c ≡ is_wrong d inner row c
+wrong_border_cell d inner row dark mask c cell colour =
+    wrong_cell row dark mask c
+    ∙ ap (λ (b : Bool). b && not (beq (is_dark_in row c) (is_dark_in dark c))) cell
+    ∙ ap (λ (b : Bool). is_on_edge d inner (c % (d + 2)) && not (beq (is_dark_in row c) b)) colour
+    ∙ masked (is_on_edge d inner (c % (d + 2))) (is_dark_in row c) (edge_is_dark d inner (c % (d + 2)))
+
 -- The ones of the masked difference between a row and its colours count the wrong border cells of the row.
 pub wrong_cells : (d inner n row dark mask : ℕ) → bit_and (bit_xor row dark) mask < 2 ^ n →
     ((c : ℕ) → c < n → is_dark_in mask c ≡ is_on_edge d inner (c % (d + 2))) →
     ((c : ℕ) → c < n → is_dark_in dark c ≡ is_on_edge d inner (c % (d + 2)) && edge_is_dark d inner (c % (d + 2))) →
     count_ones (bit_and (bit_xor row dark) mask) ≡ count_by (is_wrong d inner row) (range_with_len 0 n)
 wrong_cells d inner n row dark mask narrow cells colours =
-    counted_ones n (bit_and (bit_xor row dark) mask) (is_wrong d inner row) narrow (λ c l.
-    wrong_cell row dark mask c
-    ∙ ap (λ (b : Bool). b && not (beq (is_dark_in row c) (is_dark_in dark c))) (cells c l)
-    ∙ ap (λ (b : Bool). is_on_edge d inner (c % (d + 2)) && not (beq (is_dark_in row c) b)) (colours c l)
-    ∙ masked (is_on_edge d inner (c % (d + 2))) (is_dark_in row c) (edge_is_dark d inner (c % (d + 2))))
+    counted_ones n (bit_and (bit_xor row dark) mask) (is_wrong d inner row) narrow
+    (λ c l. wrong_border_cell d inner row dark mask c (cells c l) (colours c l))
 
 -- The wrong border cells of a grid's row are the border faults of that row.
 pub faults_of_bits : (grid : GridView) (r row : ℕ) →

@@ -28,6 +28,7 @@ mod DrawnRows
 mod DarkCells
 mod BorderMasks
 mod BorderLemmas
+mod SureFaults
 mod EmptyGrid
 mod EqualityLaws
 pub mod Exported

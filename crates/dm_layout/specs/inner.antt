@@ -9,3 +9,4 @@ pub mod Slots
 pub mod BorderMasks
 pub mod Laying
 pub mod Drawing
+pub mod SureFaults

@@ -38,7 +38,7 @@ const NARROW_SIDE: u16 = 64;
 /// doesn't matter, but only its place inside the square of a region and its border, counted from 0 at the top;
 /// functions call this place `inner`.
 #[derive(Drop)]
-struct Borders {
+pub(crate) struct Borders {
     size: Size,
     /// The last row inside such a square.
     last: u16,
@@ -65,7 +65,7 @@ impl Model for Borders {
 
 impl Borders {
     /// Gives the borders of a symbol of this size.
-    fn new(size: Size) -> Borders
+    pub(crate) fn new(size: Size) -> Borders
         ensures { result ≡ size }
     {
         let side = size.side();
@@ -88,7 +88,7 @@ impl Borders {
     }
 
     /// Gives the border cells of a row.
-    fn cells(&self, inner: u16) -> u128
+    pub(crate) fn cells(&self, inner: u16) -> u128
         ensures cells { (column : ℕ) → column < self.now.side → is_dark_in result column
             ≡ is_on_edge self.now.region_side inner (column % (self.now.region_side + 2)) }
         ensures width { result < 2 ^ self.now.side }
@@ -101,7 +101,7 @@ impl Borders {
     }
 
     /// Gives the border cells of a row that are to be dark.
-    fn dark(&self, inner: u16) -> u128
+    pub(crate) fn dark(&self, inner: u16) -> u128
         ensures cells { (column : ℕ) → column < self.now.side → is_dark_in result column
             ≡ is_on_edge self.now.region_side inner (column % (self.now.region_side + 2))
             && edge_is_dark self.now.region_side inner (column % (self.now.region_side + 2)) }

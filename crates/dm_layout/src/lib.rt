@@ -11,9 +11,10 @@
 //! that one of each serves any number of symbols; [`Words::zeros()`] gives codewords to lift into.
 //!
 //! [`block()`] reads one Reed-Solomon block of the codewords, [`put_block()`] writes one, and [`put_block_checks()`]
-//! its check codewords. [`border_faults()`] counts the border cells of a grid that have the wrong colour. Cell by cell,
-//! [`border_colour()`] gives the colour that a border prescribes, [`symbol_line()`] leads from a row or column of the
-//! mapping square to that of the symbol, and [`Cells`] goes through the [`Place`]s of all bits of all codewords.
+//! its check codewords. [`border_faults()`] counts the border cells of a grid that have the wrong colour, and
+//! [`border_faults_but()`] those of them that aren't doubtful. Cell by cell, [`border_colour()`] gives the colour that a
+//! border prescribes, [`symbol_line()`] leads from a row or column of the mapping square to that of the symbol, and
+//! [`Cells`] goes through the [`Place`]s of all bits of all codewords.
 //!
 //! There are [`SIZE_COUNT`] sizes; limits: [`LARGEST_SIDE`], [`MOST_DATA`], [`MOST_CODEWORDS`], [`MOST_BLOCKS`] and
 //! [`LONGEST_BLOCK`]. What the contracts say is defined in `specs/`; [`laws`] states what holds of these definitions.
@@ -24,6 +25,7 @@ mod bit_rows;
 mod blocks;
 mod border;
 mod cells;
+mod doubt;
 mod grid;
 pub mod laws;
 mod laying;
@@ -42,6 +44,7 @@ mod words;
 pub use blocks::{block, put_block, put_block_checks};
 pub use border::border_faults;
 pub use cells::{Cells, Place};
+pub use doubt::border_faults_but;
 pub use grid::{Grid, GridFault};
 pub use module::{border_colour, symbol_line};
 pub use placing::{lay, lay_to, lift, lift_to};
