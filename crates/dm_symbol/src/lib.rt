@@ -13,6 +13,7 @@
 //! These calls are for squares of 10 to 104 rows. Symbols of every size, squares and rectangles, are [`Modules`] of a
 //! [`SymbolSize`]. [`read_symbol_to()`] leaves what they say in a [`SymbolReading`], with a [`BlockReading`] for each
 //! block; how they are read is said by [`ReadOptions`], among these which of their modules are doubtful.
+//! [`read_doubtful_to()`] does so for squares that are given as grids, and their doubtful modules as another grid.
 //! [`write_symbol_to()`] leaves in modules the symbol of a message, in the profile and the smallest size of the choice
 //! that [`WriteOptions`] say; [`write_smallest_to()`] one than which no smaller symbol says the message;
 //! [`normal_symbol_to()`] the one of what a symbol says in the smallest square.
@@ -49,6 +50,7 @@ pub use inspection::{Inspection, inspect};
 pub use limit::usual_limit;
 pub use normalising::{NormalFault, normal, normal_as, normal_to};
 pub use reading::{ReadFault, Reading, read, read_to};
+pub use symbol::grids::read_doubtful_to;
 pub use symbol::inspection::{SymbolInspection, inspect_symbol_to};
 pub use symbol::normalising::normal_symbol_to;
 pub use symbol::reading::{BlockReading, ReadOptions, SymbolReading, read_symbol_to};

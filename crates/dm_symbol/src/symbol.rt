@@ -2,6 +2,7 @@
 
 pub(crate) mod correction;
 pub(crate) mod doubt;
+pub mod grids;
 pub mod inspection;
 pub mod normalising;
 pub mod reading;

@@ -13,12 +13,14 @@
 //! Each function is total, takes no memory but its stack, and keeps nothing between calls. It writes nothing but `out`,
 //! and of the arrays in it only the elements that count. What they give is defined in `specs/`, on the definitions of
 //! `dm_symbol` for symbols of every size: `Readings`, `Symbols`, `Inspections`, `Places`, `Sizes`; `Laws` has the laws
-//! of these definitions, which the functions of [`laws`] prove. Squares of sides 10 to 104 without doubtful modules are
-//! read and written as grids, which is faster; a law of `dm_symbol` says that the results are the same.
+//! of these definitions, which the functions of [`laws`] prove. Squares of sides 10 to 104 are read and written as
+//! grids, which is faster, also where modules are doubtful; a law of `dm_symbol` says that without these the results are
+//! the same, and the contract of its call for grids says so where some are doubtful.
 #![tactic(auto)]
 
 mod arrays;
 mod choice;
+mod doubtful_squares;
 mod extent;
 mod fault;
 mod inspection;

@@ -11,11 +11,12 @@ ghost use Rattle.ecc200_calls.specs.Readings.{left_in, no_reading, reading_shown
 ghost use Rattle.ecc200_calls.specs.inner.SquareReadings.{square_reading_shown};
 
 use crate::arrays::put_bytes;
+use crate::doubtful_squares::read_doubtful_square;
 use crate::extent::extent_of;
 use crate::fault::{Fault, read_fault};
 use crate::message::put_message;
 use crate::modules::{light_modules, make_doubtful, make_modules, none_doubtful, told_doubt};
-use crate::squares::{is_plain_square, make_grid};
+use crate::squares::{is_doubtful_square, is_plain_square, make_grid};
 use dm_modules::{MOST_BLOCKS, Modules};
 use dm_symbol::{
     BlockReading, Extent, ReadOptions, Reading, SymbolReading, light_grid, read_symbol_to, read_to,
@@ -100,6 +101,8 @@ fn read_told(
 {
     if is_plain_square(rows, columns, doubtful) {
         read_square(extent, modules, rows, border_limit, out);
+    } else if is_doubtful_square(rows, columns, doubtful) {
+        read_doubtful_square(extent, modules, doubtful, rows, border_limit, out);
     } else {
         read_symbol(extent, modules, doubtful, rows, columns, border_limit, out);
     }
@@ -206,7 +209,7 @@ fn read_modules(
 }
 
 /// Shows a fault in place of a reading.
-fn show_fault(out: &mut ReadingOut, why: Fault)
+pub(crate) fn show_fault(out: &mut ReadingOut, why: Fault)
     ensures { out.new ≡ no_reading why out.old }
 {
     out.fault = why;
@@ -234,7 +237,7 @@ fn show_square_reading(out: &mut ReadingOut, side: u16, checks: u8, reading: &Re
 }
 
 /// Shows a reading of a symbol with these rows and columns.
-fn show_reading(out: &mut ReadingOut, rows: u16, columns: u16, reading: &SymbolReading)
+pub(crate) fn show_reading(out: &mut ReadingOut, rows: u16, columns: u16, reading: &SymbolReading)
     ensures { out.new ≡ reading_shown rows columns reading.now out.old }
 {
     out.fault = Fault::none();

@@ -3,7 +3,7 @@
 
 ghost use Rattle.std.specs.Prelude.{◌≡◌, ◌+◌, ◌*◌, ◌%◌, ◌^◌, ◌≤◌, ◌<◌, ◌≢◌, ◌++◌, ℕ, [], drop, get_or, length, map};
 ghost use Rattle.std.specs.Prelude.{take, IfErr};
-ghost use Rattle.std.specs.Prelude.{IsSome, IsTrue, OnOk};
+ghost use Rattle.std.specs.Prelude.{IsSome, IsTrue, OnOk, Some};
 ghost use Rattle.dm_symbol.specs.Sizes.{row_with_side};
 ghost use Rattle.dm_symbol.specs.Grid.{is_dark_in, symbol_modules};
 ghost use Rattle.dm_modules.specs.Modules.{is_dark_number};
@@ -40,11 +40,19 @@ pub(crate) fn is_plain_square(rows: u16, columns: u16, doubtful: &[u8]) -> bool
     rows == columns && none_doubtful(doubtful) && Size::of_side(rows).is_some()
 }
 
+/// Whether a symbol with these rows and columns can be read as a grid, and some numbers for doubtful modules are given.
+pub(crate) fn is_doubtful_square(rows: u16, columns: u16, doubtful: &[u8]) -> bool
+    ensures { IsTrue result → (rows ≡ columns) × (doubtful.now ≢ []) × IsSome (row_with_side rows) }
+{
+    rows == columns && !none_doubtful(doubtful) && Size::of_side(rows).is_some()
+}
+
 /// Turns `grid` into that of these modules, where some size of a grid has this side; or says that they aren't as many
 /// as its rows times its columns.
 pub(crate) fn make_grid(modules: &[u8], side: u16, grid: &mut Grid) -> Result<(), Fault>
     requires { IsSome (row_with_side side) }
     ensures grid { OnOk result (AreModulesOf side side modules.now (symbol_modules grid.new)) }
+    ensures size { OnOk result (row_with_side side ≡ Some grid.new.size) }
     ensures fault { IfErr result (λ why. (length modules.now ≢ side * side) × (why ≡ shape)) }
 {
     let across = usize::from(side);

@@ -155,7 +155,7 @@ fn restore_doubtful(
 
 /// Restores each block to the codeword that is near to it but for the places that have marks, and leaves in `blocks`
 /// what became of each; or gives the first block to which none is near.
-fn restore_each(
+pub(crate) fn restore_each(
     words: &mut SymbolWords,
     marks: Option<&SymbolWords>,
     blocks: &mut ArrayVec<BlockReading, MOST_BLOCKS>,

@@ -1,0 +1,58 @@
+//! Reading a grid of whose cells some are doubtful: the message that its symbol says.
+
+ghost use Rattle.std.specs.Prelude.{◌≡◌, ℕ, Some};
+ghost use Rattle.dm_layout.specs.Grid.{symbol_modules};
+ghost use Rattle.dm_modules.specs.Holding.{Holds};
+ghost use Rattle.dm_words.specs.Outcomes.{outcome};
+ghost use Rattle.dm_symbol.specs.SymbolReading.{IsSymbolRead};
+
+use crate::reading::ReadFault;
+use crate::symbol::reading::{SymbolReading, restore_each};
+use dm_layout::{Grid, border_faults_but, lift};
+use dm_modules::{SymbolSize, SymbolWords};
+use dm_words::{Extent, message_to_as};
+
+/// Reads a grid as [`read_symbol_to`](crate::read_symbol_to()) reads the symbol that has its cells, where some of them
+/// are doubtful: those that are dark in a grid of the same size. `reading` is left as that call leaves it. A grid keeps
+/// its cells as bits, which are lifted by the row.
+pub fn read_doubtful_to(
+    extent: Extent,
+    grid: &Grid,
+    doubtful: &Grid,
+    border_limit: u16,
+    reading: &mut SymbolReading,
+) -> Result<(), ReadFault>
+    requires { doubtful.now.size ≡ grid.now.size }
+    ensures read { IsSymbolRead extent (symbol_modules grid.now)
+        (Some (symbol_modules doubtful.now)) border_limit (outcome result reading.new) }
+    ensures same { (count : ℕ) → result ≡ Err (ReadFault.Border count)
+        → reading.new ≡ reading.old }
+{
+    let border_faults = border_faults_but(grid, doubtful);
+    if border_faults > border_limit {
+        return Err(ReadFault::Border(border_faults));
+    }
+    reading.border_faults = border_faults;
+    let mut words = words_held(grid);
+    let marks = words_held(doubtful);
+    match restore_each(&mut words, Some(&marks), &mut reading.blocks) {
+        Ok(()) => {}
+        Err(b) => return Err(ReadFault::Block(b)),
+    }
+    match message_to_as(extent, words.data_part(), &mut reading.message) {
+        Ok(()) => Ok(()),
+        Err(fault) => Err(ReadFault::Words(fault)),
+    }
+}
+
+/// Gives the codewords that a grid holds as those of its symbol.
+fn words_held(grid: &Grid) -> SymbolWords
+    ensures { Holds (symbol_modules grid.now) result }
+{
+    let words = lift(grid);
+    let side = words.size().side();
+    let Some(size) = SymbolSize::of(side, side) else {
+        unreachable!();
+    };
+    SymbolWords::new(size, words.list())
+}

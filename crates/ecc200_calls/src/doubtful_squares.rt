@@ -1,0 +1,59 @@
+//! Reading squares of whose modules some are doubtful, as grids.
+
+ghost use Rattle.std.specs.Prelude.{◌≡◌, ◌≢◌, [], Some, IsSome};
+ghost use Rattle.dm_symbol.specs.Sizes.{row_with_side};
+ghost use Rattle.dm_symbol.specs.Grid.{symbol_modules};
+ghost use Rattle.ecc200_calls.specs.Readings.{ExtentResult, IsDoubtfulGiven};
+
+use crate::fault::{Fault, read_fault};
+use crate::reading::{ReadingOut, show_fault, show_reading};
+use crate::squares::make_grid;
+use dm_symbol::{Extent, Grid, SymbolReading, light_grid, read_doubtful_to};
+
+/// Shows what the symbol of these modules says in an extent, or why it says nothing, for a square that can be read as a
+/// grid, and with some numbers for doubtful modules.
+#[inline(never)]
+pub(crate) fn read_doubtful_square(
+    extent: Extent,
+    modules: &[u8],
+    doubtful: &[u8],
+    side: u16,
+    border_limit: u16,
+    out: &mut ReadingOut,
+)
+    requires side { IsSome (row_with_side side) }
+    requires some { doubtful.now ≢ [] }
+    ensures { ExtentResult extent side side modules.now doubtful.now border_limit out.old out.new }
+{
+    let mut grid = light_grid();
+    match make_grid(modules, side, &mut grid) {
+        Ok(()) => read_with_doubt(extent, &grid, doubtful, side, border_limit, out),
+        Err(why) => show_fault(out, why),
+    }
+}
+
+/// Does so for the grid of the modules.
+fn read_with_doubt(
+    extent: Extent,
+    grid: &Grid,
+    numbers: &[u8],
+    side: u16,
+    border_limit: u16,
+    out: &mut ReadingOut,
+)
+    requires { row_with_side side ≡ Some grid.now.size }
+    ensures { IsDoubtfulGiven extent side side (symbol_modules grid.now) numbers.now border_limit
+        out.old out.new }
+{
+    let mut doubtful = light_grid();
+    match make_grid(numbers, side, &mut doubtful) {
+        Ok(()) => {
+            let mut reading = SymbolReading::new();
+            match read_doubtful_to(extent, grid, &doubtful, border_limit, &mut reading) {
+                Ok(()) => show_reading(out, side, side, &reading),
+                Err(why) => show_fault(out, read_fault(why)),
+            }
+        }
+        Err(_) => show_fault(out, Fault::wrong_doubt()),
+    }
+}
