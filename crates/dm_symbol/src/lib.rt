@@ -18,7 +18,7 @@
 //! that [`WriteOptions`] say; [`write_smallest_to()`] one than which no smaller symbol says the message;
 //! [`normal_symbol_to()`] the one of what a symbol says in the smallest square.
 //! [`inspect_symbol_to()`] leaves the codewords of a symbol, before and after they are restored, in a
-//! [`SymbolInspection`].
+//! [`SymbolInspection`]; so do [`inspect_grid_to()`] and [`inspect_doubtful_to()`] for squares that are given as grids.
 //!
 //! The types of the layers below are given on: [`Grid`] with [`GridFault`], [`Size`] with its [`table()`] of
 //! [`SIZE_COUNT`], [`Words`], and the limits [`LARGEST_SIDE`] and [`MOST_BLOCKS`]; [`Message`] of [`Item`]s,
@@ -50,7 +50,7 @@ pub use inspection::{Inspection, inspect};
 pub use limit::usual_limit;
 pub use normalising::{NormalFault, normal, normal_as, normal_to};
 pub use reading::{ReadFault, Reading, read, read_to};
-pub use symbol::grids::read_doubtful_to;
+pub use symbol::grids::{inspect_doubtful_to, inspect_grid_to, read_doubtful_to};
 pub use symbol::inspection::{SymbolInspection, inspect_symbol_to};
 pub use symbol::normalising::normal_symbol_to;
 pub use symbol::reading::{BlockReading, ReadOptions, SymbolReading, read_symbol_to};

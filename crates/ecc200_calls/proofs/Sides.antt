@@ -35,3 +35,7 @@ pub square_found : (side : ℕ) {row : SizeRow} → row_with_side side ≡ Some 
 square_found side {row} e =
     let found = found_row side row e in
     ap (λ n. entry_with n side) (sym found.0) ∙ ap (entry_with row.side) (sym found.0) ∙ is_size row found.1
+
+-- A side is that of one size at most.
+pub same_found : (a b : SizeRow) → Some a ≡ Some b → a ≡ b
+same_found a b e = cc

@@ -9,6 +9,8 @@ ghost use Rattle.ecc200_calls.specs.Inspections.{erased_shown, inspection_shown,
 use crate::arrays::put_bytes;
 use crate::fault::Fault;
 use crate::modules::{light_modules, make_doubtful, make_modules, none_doubtful, told_doubt};
+use crate::square_inspection::{inspect_doubtful_square, inspect_square};
+use crate::squares::{is_doubtful_square, is_plain_square};
 use dm_modules::{MOST_BLOCKS, MOST_CODEWORDS, Modules};
 use dm_symbol::{BlockReading, SymbolInspection, inspect_symbol_to};
 
@@ -60,6 +62,20 @@ fn inspect_given(modules: &[u8], doubtful: &[u8], rows: u16, columns: u16, out: 
 fn inspect_told(modules: &[u8], doubtful: &[u8], rows: u16, columns: u16, out: &mut InspectionOut)
     ensures { IsInspectResult rows columns modules.now doubtful.now out.old out.new }
 {
+    if is_plain_square(rows, columns, doubtful) {
+        inspect_square(modules, rows, out);
+    } else if is_doubtful_square(rows, columns, doubtful) {
+        inspect_doubtful_square(modules, doubtful, rows, out);
+    } else {
+        inspect_symbol(modules, doubtful, rows, columns, out);
+    }
+}
+
+/// Does so for a symbol of any size. It stands by itself, so that squares leave no room for its modules on the stack.
+#[inline(never)]
+fn inspect_symbol(modules: &[u8], doubtful: &[u8], rows: u16, columns: u16, out: &mut InspectionOut)
+    ensures { IsInspectResult rows columns modules.now doubtful.now out.old out.new }
+{
     let mut symbol = light_modules();
     match make_modules(modules, rows, columns, &mut symbol) {
         Ok(()) => {
@@ -109,7 +125,7 @@ fn inspect_modules(
 }
 
 /// Shows a fault in place of an inspection.
-fn show_fault(out: &mut InspectionOut, why: Fault)
+pub(crate) fn show_fault(out: &mut InspectionOut, why: Fault)
     ensures { out.new ≡ no_inspection why out.old }
 {
     out.fault = why;
@@ -121,7 +137,12 @@ fn show_fault(out: &mut InspectionOut, why: Fault)
 }
 
 /// Shows an inspection of a symbol with these rows and columns.
-fn show_inspection(out: &mut InspectionOut, rows: u16, columns: u16, inspection: &SymbolInspection)
+pub(crate) fn show_inspection(
+    out: &mut InspectionOut,
+    rows: u16,
+    columns: u16,
+    inspection: &SymbolInspection,
+)
     ensures { out.new ≡ inspection_shown rows columns inspection.now out.old }
 {
     out.fault = Fault::none();

@@ -33,6 +33,7 @@ mod place_table;
 mod profile;
 mod reading;
 mod size_table;
+mod square_inspection;
 mod squares;
 mod symbol;
 mod writing;

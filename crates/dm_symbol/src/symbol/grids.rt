@@ -1,14 +1,16 @@
-//! Reading a grid of whose cells some are doubtful: the message that its symbol says.
+//! Grids that are read and inspected as the symbols that have their cells.
 
-ghost use Rattle.std.specs.Prelude.{◌≡◌, ℕ, Some};
+ghost use Rattle.std.specs.Prelude.{◌≡◌, ℕ, None, Some};
 ghost use Rattle.dm_layout.specs.Grid.{symbol_modules};
 ghost use Rattle.dm_modules.specs.Holding.{Holds};
 ghost use Rattle.dm_words.specs.Outcomes.{outcome};
 ghost use Rattle.dm_symbol.specs.SymbolReading.{IsSymbolRead};
+ghost use Rattle.dm_symbol.specs.SymbolInspection.{IsSymbolInspection};
 
 use crate::reading::ReadFault;
+use crate::symbol::inspection::{SymbolInspection, mend_each};
 use crate::symbol::reading::{SymbolReading, restore_each};
-use dm_layout::{Grid, border_faults_but, lift};
+use dm_layout::{Grid, border_faults, border_faults_but, lift};
 use dm_modules::{SymbolSize, SymbolWords};
 use dm_words::{Extent, message_to_as};
 
@@ -43,6 +45,33 @@ pub fn read_doubtful_to(
         Ok(()) => Ok(()),
         Err(fault) => Err(ReadFault::Words(fault)),
     }
+}
+
+/// Inspects a grid as [`inspect_symbol_to`](crate::inspect_symbol_to()) inspects the symbol that has its cells, with
+/// none of them doubtful.
+pub fn inspect_grid_to(grid: &Grid, inspection: &mut SymbolInspection)
+    ensures { IsSymbolInspection (symbol_modules grid.now) None inspection.new }
+{
+    inspection.border_faults = border_faults(grid);
+    inspection.held = words_held(grid);
+    inspection.mended = SymbolWords::new(inspection.held.size(), inspection.held.list());
+    mend_each(&mut inspection.mended, None, &mut inspection.blocks);
+}
+
+/// Does so where some cells are doubtful: those that are dark in a grid of the same size.
+pub fn inspect_doubtful_to(grid: &Grid, doubtful: &Grid, inspection: &mut SymbolInspection)
+    requires { doubtful.now.size ≡ grid.now.size }
+    ensures { IsSymbolInspection (symbol_modules grid.now) (Some (symbol_modules doubtful.now))
+        inspection.new }
+{
+    inspection.border_faults = border_faults_but(grid, doubtful);
+    inspection.held = words_held(grid);
+    inspection.mended = SymbolWords::new(inspection.held.size(), inspection.held.list());
+    mend_each(
+        &mut inspection.mended,
+        Some(&words_held(doubtful)),
+        &mut inspection.blocks,
+    );
 }
 
 /// Gives the codewords that a grid holds as those of its symbol.

@@ -109,7 +109,7 @@ fn mend_doubtful(
 
 /// Restores each block to which a codeword is near but for the places that have marks, and leaves in `blocks` what
 /// became of each.
-fn mend_each(
+pub(crate) fn mend_each(
     words: &mut SymbolWords,
     marks: Option<&SymbolWords>,
     blocks: &mut ArrayVec<Option<BlockReading>, MOST_BLOCKS>,

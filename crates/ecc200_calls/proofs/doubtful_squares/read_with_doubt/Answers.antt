@@ -1,12 +1,8 @@
-use Rattle.std.proofs.Common.{◌≡◌, ◌∙◌, Some, Ok, Err, sym, ap}
-use Rattle.dm_symbol.specs.Sizes.{SizeRow}
+use Rattle.std.proofs.Common.{◌∙◌, Ok, Err, sym, ap}
 use Rattle.dm_symbol.specs.Grid.{symbol_modules}
 use Rattle.ecc200_calls.specs.Readings.{IsDoubtfulGiven, no_reading}
+use Rattle.ecc200_calls.proofs.Sides.{same_found}
 use Rattle.ecc200_calls.proofs.doubtful_squares.read_with_doubt.Goals as goal
-
--- What is found is one.
-same_found : (a b : SizeRow) → Some a ≡ Some b → a ≡ b
-same_found a b e = cc
 
 pub read_doubtful_to-requires : goal.read_doubtful_to-requires
 read_doubtful_to-requires c =

@@ -1,24 +1,17 @@
-use Rattle.std.proofs.Common.{None}
-use Rattle.ecc200_calls.specs.Modules.{IsGivenFault}
+use Rattle.std.proofs.Common.{sym, subst}
 use Rattle.ecc200_calls.specs.Inspections.{IsInspectResult}
-use Rattle.ecc200_calls.proofs.Given.{inspection_given, none_given}
 use Rattle.ecc200_calls.proofs.inspection.inspect_told.Goals as goal
 
-pub returns-then-none_doubtful : goal.returns-then-none_doubtful
-returns-then-none_doubtful c =
-    IsInspectResult.of_symbol c.make_modules.new.symbol None
-    (none_given c.args.rows c.args.columns c.args.modules.now c.args.doubtful.now c.make_modules.new.symbol
-    c.in-Ok.ensures.symbol
-    (c.none_doubtful.ensures.none c.if-none_doubtful.true))
-    c.inspect_modules.ensures
+pub returns-then-is_plain_square : goal.returns-then-is_plain_square
+returns-then-is_plain_square c =
+    let plain = c.is_plain_square.ensures c.if-is_plain_square.true in
+    subst (λ columns. IsInspectResult c.args.rows columns c.args.modules.now c.args.doubtful.now c.args.out.now
+    c.inspect_square.new.out) plain.0
+    (subst (λ doubt. IsInspectResult c.args.rows c.args.rows c.args.modules.now doubt c.args.out.now
+    c.inspect_square.new.out) (sym plain.1) c.inspect_square.ensures)
 
-pub returns-else-none_doubtful : goal.returns-else-none_doubtful
-returns-else-none_doubtful c =
-    inspection_given c.args.rows c.args.columns c.args.modules.now c.args.doubtful.now c.args.out.now
-    c.inspect_doubtful.new.out c.make_modules.new.symbol c.in-Ok.ensures.symbol
-    (c.none_doubtful.ensures.some c.if-none_doubtful.false)
-    c.inspect_doubtful.ensures
-
-pub returns-in-Err : goal.returns-in-Err
-returns-in-Err c =
-    IsInspectResult.not_given c.in-Err.why (IsGivenFault.of_modules c.in-Err.ensures.fault) c.show_fault.ensures
+pub returns-then-is_doubtful_square : goal.returns-then-is_doubtful_square
+returns-then-is_doubtful_square c =
+    let square = c.is_doubtful_square.ensures c.if-is_doubtful_square.true in
+    subst (λ columns. IsInspectResult c.args.rows columns c.args.modules.now c.args.doubtful.now c.args.out.now
+    c.inspect_doubtful_square.new.out) square.0 c.inspect_doubtful_square.ensures
