@@ -11,7 +11,8 @@ use crate::squares::make_grid;
 use dm_symbol::{Extent, Grid, SymbolReading, light_grid, read_doubtful_to};
 
 /// Shows what the symbol of these modules says in an extent, or why it says nothing, for a square that can be read as a
-/// grid, and with some numbers for doubtful modules.
+/// grid, and with some numbers for doubtful modules. It stands by itself, so that other symbols leave no room for its
+/// grids on the stack.
 #[inline(never)]
 pub(crate) fn read_doubtful_square(
     extent: Extent,
