@@ -1,6 +1,7 @@
 //! Grids that are read and inspected as the symbols that have their cells.
 
 ghost use Rattle.std.specs.Prelude.{◌≡◌, ℕ, None, Some};
+ghost use Rattle.dm_layout.specs.Sizes.{symbol_size};
 ghost use Rattle.dm_layout.specs.Grid.{symbol_modules};
 ghost use Rattle.dm_modules.specs.Holding.{Holds};
 ghost use Rattle.dm_words.specs.Outcomes.{outcome};
@@ -35,8 +36,9 @@ pub fn read_doubtful_to(
         return Err(ReadFault::Border(border_faults));
     }
     reading.border_faults = border_faults;
-    let mut words = words_held(grid);
-    let marks = words_held(doubtful);
+    let size = size_of_symbol(grid);
+    let mut words = words_held(grid, size);
+    let marks = words_held(doubtful, size);
     match restore_each(&mut words, Some(&marks), &mut reading.blocks) {
         Ok(()) => {}
         Err(b) => return Err(ReadFault::Block(b)),
@@ -53,7 +55,7 @@ pub fn inspect_grid_to(grid: &Grid, inspection: &mut SymbolInspection)
     ensures { IsSymbolInspection (symbol_modules grid.now) None inspection.new }
 {
     inspection.border_faults = border_faults(grid);
-    inspection.held = words_held(grid);
+    inspection.held = words_held(grid, size_of_symbol(grid));
     inspection.mended = SymbolWords::new(inspection.held.size(), inspection.held.list());
     mend_each(&mut inspection.mended, None, &mut inspection.blocks);
 }
@@ -64,24 +66,32 @@ pub fn inspect_doubtful_to(grid: &Grid, doubtful: &Grid, inspection: &mut Symbol
     ensures { IsSymbolInspection (symbol_modules grid.now) (Some (symbol_modules doubtful.now))
         inspection.new }
 {
+    let size = size_of_symbol(grid);
     inspection.border_faults = border_faults_but(grid, doubtful);
-    inspection.held = words_held(grid);
+    inspection.held = words_held(grid, size);
     inspection.mended = SymbolWords::new(inspection.held.size(), inspection.held.list());
     mend_each(
         &mut inspection.mended,
-        Some(&words_held(doubtful)),
+        Some(&words_held(doubtful, size)),
         &mut inspection.blocks,
     );
 }
 
-/// Gives the codewords that a grid holds as those of its symbol.
-fn words_held(grid: &Grid) -> SymbolWords
+/// Gives the size of the symbol that has the cells of a grid.
+fn size_of_symbol(grid: &Grid) -> SymbolSize
+    ensures { result ≡ symbol_size grid.now.size }
+{
+    let side = grid.size().side();
+    match SymbolSize::of(side, side) {
+        Some(size) => size,
+        None => unreachable!(),
+    }
+}
+
+/// Gives the codewords that a grid holds as those of its symbol, whose size this is.
+fn words_held(grid: &Grid, size: SymbolSize) -> SymbolWords
+    requires { size ≡ symbol_size grid.now.size }
     ensures { Holds (symbol_modules grid.now) result }
 {
-    let words = lift(grid);
-    let side = words.size().side();
-    let Some(size) = SymbolSize::of(side, side) else {
-        unreachable!();
-    };
-    SymbolWords::new(size, words.list())
+    SymbolWords::new(size, lift(grid).list())
 }
