@@ -69,7 +69,8 @@ def function_at(lines, at, file):
     while lines[above - 1].strip() and not lines[above - 1].endswith("{"):
         above -= 1
     module = [it for it in file.removeprefix("src/").removesuffix(".rt").split("/") if it not in ("lib", "main", "mod")]
-    owner = [it[3] + (it[2] or "").split("::")[-1] for _, _, it in impls]
+    # (an impl for a type of the language, such as u8, is called U8 and the trait)
+    owner = [it[3][0].upper() + it[3][1:] + (it[2] or "").split("::")[-1] for _, _, it in impls]
     return Function("::".join([*module, *owner, match[2]]), file, above, start, end, any(it[2] for _, _, it in impls))
 
 

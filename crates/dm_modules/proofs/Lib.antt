@@ -7,6 +7,7 @@ mod BlockLemmas
 mod BlockChecks
 mod DealtWords
 mod ModulesLemmas
+mod ListedModules
 mod EqualityLaws
 mod SymbolLines
 mod NoFaults

@@ -2,7 +2,7 @@
 //! 16022, symbol structure.
 
 ghost use Rattle.std.specs.Prelude.{◌≡◌, ℕ, false, ◌+◌, ◌%◌, ◌<◌, ◌≤◌, Some, cond, count_by, get_or, length, nat_eq};
-ghost use Rattle.std.specs.Prelude.{not};
+ghost use Rattle.std.specs.Prelude.{map, not};
 ghost use Rattle.std.specs.Bool.{beq};
 ghost use Rattle.std.specs.List.{range_with_len};
 ghost use Rattle.dm_modules.specs.Sizes.{mapping_rows, mapping_columns};
@@ -10,6 +10,7 @@ ghost use Rattle.dm_place.specs.Border.{symbol_line};
 ghost use Rattle.dm_modules.specs.Border.{border_colour as border_colour_by, is_fault, border_fault_count};
 ghost use Rattle.dm_modules.specs.inner.Drawing.{edge_colour, IsBetween};
 
+use crate::borrowed::{BorrowedModules, Colour};
 use crate::modules::Modules;
 use crate::size::SymbolSize;
 
@@ -68,17 +69,17 @@ pub(crate) fn edge_is_dark(solid: bool, column: usize) -> bool
 
 /// Gives 1 if a module of a row has another colour than this one, and else 0.
 #[inline(always)]
-fn fault(line: &[bool], column: usize, dark: bool) -> u16
+fn fault<C: Colour>(line: &[C], column: usize, dark: bool) -> u16
     requires { column < length line.now }
-    ensures value { result ≡ cond (not (beq (get_or line.now column false) dark)) 1 0 }
+    ensures value { result ≡ cond (not (beq (get_or (map C.dark line.now) column false) dark)) 1 0 }
     ensures most { result ≤ 1 }
 {
-    if line[column] == dark { 0 } else { 1 }
+    if line[column].is_dark() == dark { 0 } else { 1 }
 }
 
 /// Gives how many modules of a row that lies at the top of its regions, or at the bottom, where it is solid, have the
 /// wrong colour.
-fn edge_faults(modules: &Modules, row: u16, solid: bool) -> u16
+fn edge_faults<C: Colour>(modules: &BorrowedModules<C>, row: u16, solid: bool) -> u16
     requires row { row < modules.now.size.rows }
     requires edge { (c : ℕ) → border_colour_by modules.now.size row c ≡ Some (edge_colour solid c) }
     ensures count { result
@@ -97,7 +98,7 @@ fn edge_faults(modules: &Modules, row: u16, solid: bool) -> u16
 
 /// Gives how many modules of a row that lies between the top and the bottom of its regions have the wrong colour: those
 /// at the left of a region, which are to be dark, and those at the right, which are to have this colour.
-fn side_faults(modules: &Modules, row: u16, end: bool) -> u16
+fn side_faults<C: Colour>(modules: &BorrowedModules<C>, row: u16, end: bool) -> u16
     requires row { row < modules.now.size.rows }
     requires between { IsBetween modules.now.size row }
     requires end { end ≡ nat_eq (row % (modules.now.size.region_rows + 2) % 2) 1 }
@@ -119,7 +120,7 @@ fn side_faults(modules: &Modules, row: u16, end: bool) -> u16
 }
 
 /// Gives how many border modules of a row have the wrong colour.
-fn row_faults(modules: &Modules, row: u16) -> u16
+fn row_faults<C: Colour>(modules: &BorrowedModules<C>, row: u16) -> u16
     requires { row < modules.now.size.rows }
     ensures count { result
         ≡ count_by (is_fault modules.now row) (range_with_len 0 modules.now.size.columns) }
@@ -138,6 +139,13 @@ fn row_faults(modules: &Modules, row: u16) -> u16
 
 /// Gives how many border modules have another colour than [`border_colour`] prescribes.
 pub fn border_faults(modules: &Modules) -> u16
+    ensures { result ≡ border_fault_count modules.now }
+{
+    borrowed_border_faults(&modules.as_borrowed())
+}
+
+/// Gives the same as [`border_faults`] of modules where a caller keeps them.
+pub fn borrowed_border_faults<C: Colour>(modules: &BorrowedModules<C>) -> u16
     ensures { result ≡ border_fault_count modules.now }
 {
     let mut faults = 0;

@@ -9,12 +9,24 @@ ghost use Rattle.dm_modules.specs.SureFaults.{is_fault_but, fault_count_but};
 ghost use Rattle.dm_modules.specs.inner.Drawing.{edge_colour, IsBetween};
 
 use crate::border::edge_is_dark;
+use crate::borrowed::{BorrowedModules, Colour};
 use crate::modules::Modules;
 
 /// Gives how many border modules have another colour than [`border_colour`](crate::border_colour()) prescribes, those
 /// not counted that are doubtful. The doubtful ones are given as modules of the same size, dark where a module is
 /// doubtful. None but border modules are looked at.
 pub fn border_faults_but(modules: &Modules, doubtful: &Modules) -> u16
+    requires { doubtful.now.size ≡ modules.now.size }
+    ensures { result ≡ fault_count_but modules.now doubtful.now }
+{
+    borrowed_border_faults_but(&modules.as_borrowed(), &doubtful.as_borrowed())
+}
+
+/// Gives the same as [`border_faults_but`] of modules where a caller keeps them.
+pub fn borrowed_border_faults_but<C: Colour>(
+    modules: &BorrowedModules<C>,
+    doubtful: &BorrowedModules<C>,
+) -> u16
     requires { doubtful.now.size ≡ modules.now.size }
     ensures { result ≡ fault_count_but modules.now doubtful.now }
 {
@@ -26,7 +38,11 @@ pub fn border_faults_but(modules: &Modules, doubtful: &Modules) -> u16
 }
 
 /// Gives how many border modules of a row have the wrong colour and aren't doubtful.
-fn row_faults_but(modules: &Modules, doubtful: &Modules, row: u16) -> u16
+fn row_faults_but<C: Colour>(
+    modules: &BorrowedModules<C>,
+    doubtful: &BorrowedModules<C>,
+    row: u16,
+) -> u16
     requires size { doubtful.now.size ≡ modules.now.size }
     requires row { row < modules.now.size.rows }
     ensures count { result ≡ count_by (is_fault_but modules.now doubtful.now row)
@@ -46,7 +62,12 @@ fn row_faults_but(modules: &Modules, doubtful: &Modules, row: u16) -> u16
 
 /// Gives how many modules of a row that lies at the top of its regions, or at the bottom, where it is solid, have the
 /// wrong colour and aren't doubtful.
-fn edge_faults_but(modules: &Modules, doubtful: &Modules, row: u16, solid: bool) -> u16
+fn edge_faults_but<C: Colour>(
+    modules: &BorrowedModules<C>,
+    doubtful: &BorrowedModules<C>,
+    row: u16,
+    solid: bool,
+) -> u16
     requires size { doubtful.now.size ≡ modules.now.size }
     requires row { row < modules.now.size.rows }
     requires edge { (c : ℕ) → border_colour modules.now.size row c ≡ Some (edge_colour solid c) }
@@ -65,7 +86,12 @@ fn edge_faults_but(modules: &Modules, doubtful: &Modules, row: u16, solid: bool)
 /// Gives how many modules of a row that lies between the top and the bottom of its regions have the wrong colour and
 /// aren't doubtful, of those at the left of a region, which are to be dark, and those at the right, which are to have
 /// this colour.
-fn side_faults_but(modules: &Modules, doubtful: &Modules, row: u16, end: bool) -> u16
+fn side_faults_but<C: Colour>(
+    modules: &BorrowedModules<C>,
+    doubtful: &BorrowedModules<C>,
+    row: u16,
+    end: bool,
+) -> u16
     requires size { doubtful.now.size ≡ modules.now.size }
     requires row { row < modules.now.size.rows }
     requires between { IsBetween modules.now.size row }
@@ -87,7 +113,13 @@ fn side_faults_but(modules: &Modules, doubtful: &Modules, row: u16, end: bool) -
 }
 
 /// Gives 1 if a module has another colour than this one and isn't doubtful, and else 0.
-fn fault_but(modules: &Modules, doubtful: &Modules, row: u16, column: u16, dark: bool) -> u16
+fn fault_but<C: Colour>(
+    modules: &BorrowedModules<C>,
+    doubtful: &BorrowedModules<C>,
+    row: u16,
+    column: u16,
+    dark: bool,
+) -> u16
     requires size { doubtful.now.size ≡ modules.now.size }
     requires row { row < modules.now.size.rows }
     requires column { column < modules.now.size.columns }

@@ -1,7 +1,7 @@
 //! Modules of a symbol drawn from the cells of its mapping matrix, and these cells read back, row by row: ISO/IEC
 //! 16022, symbol structure.
 
-ghost use Rattle.std.specs.Prelude.{◌≡◌, ℕ, false, ◌+◌, ◌-◌, ◌*◌, ◌/◌, ◌%◌, ◌<◌, ◌≤◌, get_or, length, nat_eq};
+ghost use Rattle.std.specs.Prelude.{◌≡◌, ℕ, false, ◌+◌, ◌-◌, ◌*◌, ◌/◌, ◌%◌, ◌<◌, ◌≤◌, get_or, length, map, nat_eq};
 ghost use Rattle.dm_place.specs.Border.{HasFixedSquare};
 ghost use Rattle.dm_place.specs.Holding.{look_at};
 ghost use Rattle.dm_modules.specs.Sizes.{mapping_rows, mapping_columns, most_columns};
@@ -11,6 +11,7 @@ ghost use Rattle.dm_modules.specs.inner.Drawing.{mapping_line as mapping_line_by
 ghost use Rattle.dm_modules.specs.inner.Drawing.{region_colour, IsBetween};
 
 use crate::border::{edge_is_dark, symbol_row};
+use crate::borrowed::{BorrowedModules, Colour};
 use crate::modules::Modules;
 use crate::size::{MOST_COLUMNS, SymbolSize};
 use dm_place::has_fixed_square;
@@ -142,15 +143,15 @@ pub(crate) fn draw(size: SymbolSize, mapping: &[bool], modules: &mut Modules)
 /// Copies the colours of a part of a row. It stands by itself since the loop of its caller is slower with a copy's
 /// tests in it.
 #[inline(never)]
-fn copy_part(part: &[bool], target: &mut [bool])
+fn copy_part<C: Colour>(part: &[C], target: &mut [bool])
     requires { length target.old ≡ length part.now }
-    ensures { target.new ≡ part.now }
+    ensures { target.new ≡ map C.dark part.now }
 {
-    target.copy_from_slice(part);
+    C::put_each(part, target);
 }
 
 /// Reads a row of the mapping matrix out of the modules of a symbol.
-fn read_row(modules: &Modules, row: u16, line: &mut [bool])
+fn read_row<C: Colour>(modules: &BorrowedModules<C>, row: u16, line: &mut [bool])
     requires row { row < mapping_rows modules.now.size }
     requires line { length line.old ≡ mapping_columns modules.now.size }
     ensures count { length line.new ≡ length line.old }
@@ -169,7 +170,7 @@ fn read_row(modules: &Modules, row: u16, line: &mut [bool])
 }
 
 /// Reads the cells of the mapping matrix out of the modules of a symbol, row by row.
-pub(crate) fn read_cells(modules: &Modules, mapping: &mut [bool])
+pub(crate) fn read_cells<C: Colour>(modules: &BorrowedModules<C>, mapping: &mut [bool])
     requires { length mapping.old
         ≡ mapping_rows modules.now.size * mapping_columns modules.now.size }
     ensures { (r c : ℕ) → r < mapping_rows modules.now.size → c < mapping_columns modules.now.size

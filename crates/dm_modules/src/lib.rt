@@ -20,6 +20,10 @@
 //! [`border_colour()`] gives the colour that a border prescribes, and [`symbol_row()`] and [`symbol_column()`] lead
 //! from the mapping matrix to the symbol.
 //!
+//! [`BorrowedModules`] are modules in a list of a caller's, of any [`Colour`], such as numbers of which 0 is light. What
+//! is read out of modules is read out of these where they stand: [`lift_borrowed()`], [`lift_borrowed_to()`],
+//! [`borrowed_border_faults()`] and [`borrowed_border_faults_but()`].
+//!
 //! There are [`SIZE_COUNT`] sizes; limits: [`MOST_ROWS`], [`MOST_COLUMNS`], [`MOST_MODULES`], [`MOST_DATA`],
 //! [`MOST_CODEWORDS`], [`MOST_BLOCKS`] and [`LONGEST_BLOCK`]. What the contracts say is defined in `specs/`; [`laws`]
 //! states what holds of these definitions. No call allocates memory.
@@ -28,6 +32,7 @@
 mod bit_rows;
 mod blocks;
 mod border;
+mod borrowed;
 mod doubt;
 mod drawing;
 pub mod laws;
@@ -37,10 +42,11 @@ mod size;
 mod words;
 
 pub use blocks::{block, put_block, put_block_checks};
-pub use border::{border_colour, border_faults, symbol_column, symbol_row};
-pub use doubt::border_faults_but;
+pub use border::{border_colour, border_faults, borrowed_border_faults, symbol_column, symbol_row};
+pub use borrowed::{BorrowedModules, Colour};
+pub use doubt::{border_faults_but, borrowed_border_faults_but};
 pub use modules::{Modules, ModulesFault};
-pub use placing::{lay, lay_to, lift, lift_to};
+pub use placing::{lay, lay_to, lift, lift_borrowed, lift_borrowed_to, lift_to};
 pub use size::{
     LONGEST_BLOCK, MOST_BLOCKS, MOST_CODEWORDS, MOST_COLUMNS, MOST_DATA, MOST_MODULES, MOST_ROWS,
     SIZE_COUNT, SizeChoice, SymbolSize, table,

@@ -42,7 +42,11 @@ impl Model for Modules {
 }
 
 /// Gives the size of a symbol with these rows and columns, or why it has none with `count` modules.
-fn size_of_count(rows: u16, columns: u16, count: usize) -> Result<SymbolSize, ModulesFault>
+pub(crate) fn size_of_count(
+    rows: u16,
+    columns: u16,
+    count: usize,
+) -> Result<SymbolSize, ModulesFault>
     ensures wrong_count { (result ≡ Err ModulesFault.WrongCount) ↔ (count ≢ rows * columns) }
     ensures no_such_size { (result ≡ Err ModulesFault.NoSuchSize)
         ↔ ((count ≡ rows * columns) × IsNone (entry_with rows columns)) }

@@ -7,6 +7,7 @@ ghost use Rattle.dm_modules.specs.Modules.{ModulesView};
 ghost use Rattle.dm_modules.specs.Words.{WordsView};
 ghost use Rattle.dm_modules.specs.Holding.{Holds, IsLaid};
 
+use crate::borrowed::{BorrowedModules, Colour};
 use crate::drawing::{draw, put_fixed_square, read_cells};
 use crate::modules::Modules;
 use crate::size::{FEW_CELLS, MOST_CELLS, SymbolSize};
@@ -93,11 +94,29 @@ pub fn lift_to(modules: &Modules, words: &mut SymbolWords)
     ensures holds { Holds modules.now words.new }
     ensures no_other_words { (other : WordsView) → Holds modules.now other → other ≡ words.new }
 {
+    lift_borrowed_to(&modules.as_borrowed(), words);
+}
+
+/// Gives the same as [`lift()`] of modules where a caller keeps them.
+pub fn lift_borrowed<C: Colour>(modules: &BorrowedModules<C>) -> SymbolWords
+    ensures holds { Holds modules.now result }
+    ensures no_other_words { (other : WordsView) → Holds modules.now other → other ≡ result }
+{
+    let mut words = SymbolWords::any(modules.size());
+    lift_borrowed_to(modules, &mut words);
+    words
+}
+
+/// Turns `words` into the same as [`lift_to()`] does, of modules where a caller keeps them.
+pub fn lift_borrowed_to<C: Colour>(modules: &BorrowedModules<C>, words: &mut SymbolWords)
+    ensures holds { Holds modules.now words.new }
+    ensures no_other_words { (other : WordsView) → Holds modules.now other → other ≡ words.new }
+{
     lift_by_size(modules, words);
 }
 
 /// Lifts codewords, by way of a mapping matrix that has no more room than it takes for small sizes.
-fn lift_by_size(modules: &Modules, words: &mut SymbolWords)
+fn lift_by_size<C: Colour>(modules: &BorrowedModules<C>, words: &mut SymbolWords)
     ensures { Holds modules.now words.new }
 {
     let cells = cell_count(modules.size());
@@ -111,7 +130,11 @@ fn lift_by_size(modules: &Modules, words: &mut SymbolWords)
 }
 
 /// Lifts codewords, by way of a mapping matrix whose cells stand row by row and may have any colours before.
-fn lift_cells(modules: &Modules, mapping: &mut [bool], words: &mut SymbolWords)
+fn lift_cells<C: Colour>(
+    modules: &BorrowedModules<C>,
+    mapping: &mut [bool],
+    words: &mut SymbolWords,
+)
     requires { length mapping.old
         ≡ mapping_rows modules.now.size * mapping_columns modules.now.size }
     ensures { Holds modules.now words.new }

@@ -19,6 +19,8 @@
 //! [`normal_symbol_to()`] the one of what a symbol says in the smallest square.
 //! [`inspect_symbol_to()`] leaves the codewords of a symbol, before and after they are restored, in a
 //! [`SymbolInspection`]; so do [`inspect_grid_to()`] and [`inspect_doubtful_to()`] for squares that are given as grids.
+//! [`read_borrowed_to()`] and [`inspect_borrowed_to()`] do as those for symbols do with [`BorrowedModules`], a caller's
+//! list of each module's [`Colour`].
 //!
 //! The types of the layers below are given on: [`Grid`] with [`GridFault`], [`Size`] with its [`table()`] of
 //! [`SIZE_COUNT`], [`Words`], and the limits [`LARGEST_SIDE`] and [`MOST_BLOCKS`]; [`Message`] of [`Item`]s,
@@ -41,7 +43,9 @@ mod symbol;
 mod writing;
 
 pub use dm_layout::{Grid, GridFault, LARGEST_SIDE, MOST_BLOCKS, SIZE_COUNT, Size, Words, table};
-pub use dm_modules::{Modules, ModulesFault, SizeChoice, SymbolSize, SymbolWords};
+pub use dm_modules::{
+    BorrowedModules, Colour, Modules, ModulesFault, SizeChoice, SymbolSize, SymbolWords,
+};
 pub use dm_words::{
     Extent, Item, LARGEST_ROOM, MESSAGE_ROOM, MOST_ITEMS, Message, MessageIn, Profile, TooLong,
     WordFault,
@@ -51,8 +55,10 @@ pub use limit::usual_limit;
 pub use normalising::{NormalFault, normal, normal_as, normal_to};
 pub use reading::{ReadFault, Reading, read, read_to};
 pub use symbol::grids::{inspect_doubtful_to, inspect_grid_to, read_doubtful_to};
-pub use symbol::inspection::{SymbolInspection, inspect_symbol_to};
+pub use symbol::inspection::{SymbolInspection, inspect_borrowed_to, inspect_symbol_to};
 pub use symbol::normalising::normal_symbol_to;
-pub use symbol::reading::{BlockReading, ReadOptions, SymbolReading, read_symbol_to};
+pub use symbol::reading::{
+    BlockReading, ReadOptions, SymbolReading, read_borrowed_to, read_symbol_to,
+};
 pub use symbol::writing::{WriteOptions, write_smallest_to, write_symbol_to};
 pub use writing::{light_grid, write, write_as, write_to};

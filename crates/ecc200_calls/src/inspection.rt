@@ -8,11 +8,11 @@ ghost use Rattle.ecc200_calls.specs.Inspections.{erased_shown, inspection_shown,
 
 use crate::arrays::put_bytes;
 use crate::fault::Fault;
-use crate::modules::{light_modules, make_doubtful, make_modules, none_doubtful, told_doubt};
+use crate::modules::{make_doubtful, make_modules, none_doubtful, told_doubt};
 use crate::square_inspection::{inspect_doubtful_square, inspect_square};
 use crate::squares::{is_doubtful_square, is_plain_square};
-use dm_modules::{MOST_BLOCKS, MOST_CODEWORDS, Modules};
-use dm_symbol::{BlockReading, SymbolInspection, inspect_symbol_to};
+use dm_modules::{BorrowedModules, MOST_BLOCKS, MOST_CODEWORDS};
+use dm_symbol::{BlockReading, SymbolInspection, inspect_borrowed_to};
 
 /// This is shown instead of the number of corrected codewords where a block is beyond correction.
 const BEYOND: u8 = 255;
@@ -71,14 +71,14 @@ fn inspect_told(modules: &[u8], doubtful: &[u8], rows: u16, columns: u16, out: &
     }
 }
 
-/// Does so for a symbol of any size. It stands by itself, so that squares leave no room for its modules on the stack.
+/// Does so for a symbol of any size. It stands by itself, so that squares leave no room for its
+/// inspection on the stack.
 #[inline(never)]
 fn inspect_symbol(modules: &[u8], doubtful: &[u8], rows: u16, columns: u16, out: &mut InspectionOut)
     ensures { IsInspectResult rows columns modules.now doubtful.now out.old out.new }
 {
-    let mut symbol = light_modules();
-    match make_modules(modules, rows, columns, &mut symbol) {
-        Ok(()) => {
+    match make_modules(modules, rows, columns) {
+        Ok(symbol) => {
             if none_doubtful(doubtful) {
                 inspect_modules(&symbol, None, rows, columns, out);
             } else {
@@ -91,7 +91,7 @@ fn inspect_symbol(modules: &[u8], doubtful: &[u8], rows: u16, columns: u16, out:
 
 /// Does so where these of the modules are doubtful, whose numbers aren't 0.
 fn inspect_doubtful(
-    symbol: &Modules,
+    symbol: &BorrowedModules<u8>,
     numbers: &[u8],
     rows: u16,
     columns: u16,
@@ -100,17 +100,16 @@ fn inspect_doubtful(
     requires { entry_with rows columns ≡ Some symbol.now.size }
     ensures { IsDoubtfulGiven rows columns symbol.now numbers.now out.old out.new }
 {
-    let mut doubtful = Modules::light(symbol.size());
-    match make_doubtful(numbers, rows, columns, &mut doubtful) {
-        Ok(()) => inspect_modules(symbol, Some(&doubtful), rows, columns, out),
+    match make_doubtful(numbers, rows, columns) {
+        Ok(doubtful) => inspect_modules(symbol, Some(&doubtful), rows, columns, out),
         Err(why) => show_fault(out, why),
     }
 }
 
 /// Shows the inspection of a symbol of whose modules these are doubtful.
 fn inspect_modules(
-    symbol: &Modules,
-    doubtful: Option<&Modules>,
+    symbol: &BorrowedModules<u8>,
+    doubtful: Option<&BorrowedModules<u8>>,
     rows: u16,
     columns: u16,
     out: &mut InspectionOut,
@@ -120,7 +119,7 @@ fn inspect_modules(
         out.old out.new }
 {
     let mut inspection = SymbolInspection::new();
-    inspect_symbol_to(symbol, doubtful, &mut inspection);
+    inspect_borrowed_to(symbol, doubtful, &mut inspection);
     show_inspection(out, rows, columns, &inspection);
 }
 

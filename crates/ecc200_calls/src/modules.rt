@@ -1,6 +1,6 @@
 //! Symbols of every size, with their modules as bytes, one for each, row by row from the top.
 
-ghost use Rattle.std.specs.Prelude.{◌≡◌, ◌≢◌, ◌*◌, ◌≤◌, [], false, IfErr, IsSome, IsTrue, OnOk};
+ghost use Rattle.std.specs.Prelude.{◌≡◌, ◌≢◌, ◌*◌, ◌≤◌, [], false, IfErr, IfOk, IsSome, IsTrue};
 ghost use Rattle.std.specs.Prelude.{length, map};
 ghost use Rattle.dm_modules.specs.Sizes.{area, entry_with};
 ghost use Rattle.ecc200_calls.specs.Arrays.{over};
@@ -9,25 +9,24 @@ ghost use Rattle.ecc200_calls.specs.Modules.{AreModulesOf, IsModulesFault, modul
 ghost use Rattle.ecc200_calls.specs.inner.ToldDoubt.{AreZero, IsTold};
 
 use crate::fault::Fault;
-use dm_modules::{MOST_MODULES, Modules, ModulesFault, table};
+use dm_modules::{BorrowedModules, MOST_MODULES, Modules, ModulesFault, table};
 
 /// Gives modules into which those of any symbol can be put.
 pub(crate) fn light_modules() -> Modules {
     Modules::light(table()[0])
 }
 
-/// Turns `symbol` into that of these modules, or says why they make none.
+/// Gives the symbol of these modules, or says why they make none.
 pub(crate) fn make_modules(
     modules: &[u8],
     rows: u16,
     columns: u16,
-    symbol: &mut Modules,
-) -> Result<(), Fault>
-    ensures symbol { OnOk result (AreModulesOf rows columns modules.now symbol.new) }
+) -> Result<BorrowedModules<'_, u8>, Fault>
+    ensures symbol { IfOk result (λ symbol. AreModulesOf rows columns modules.now symbol) }
     ensures fault { IfErr result (λ why. IsModulesFault rows columns modules.now why) }
 {
-    match symbol.set_numbers(rows, columns, modules) {
-        Ok(()) => Ok(()),
+    match BorrowedModules::new(rows, columns, modules) {
+        Ok(symbol) => Ok(symbol),
         Err(ModulesFault::WrongCount) => Err(Fault::shape()),
         Err(ModulesFault::NoSuchSize) => Err(Fault::no_such_size(rows, columns)),
     }
@@ -67,20 +66,19 @@ fn are_zero(numbers: &[u8]) -> bool
     !other
 }
 
-/// Turns `doubtful` into these modules, where some size has these rows and columns; or says that they aren't as many.
+/// Gives these doubtful modules, where some size has these rows and columns; or says that they aren't as many.
 pub(crate) fn make_doubtful(
     numbers: &[u8],
     rows: u16,
     columns: u16,
-    doubtful: &mut Modules,
-) -> Result<(), Fault>
+) -> Result<BorrowedModules<'_, u8>, Fault>
     requires { IsSome (entry_with rows columns) }
-    ensures doubtful { OnOk result (AreModulesOf rows columns numbers.now doubtful.new) }
+    ensures doubtful { IfOk result (λ doubtful. AreModulesOf rows columns numbers.now doubtful) }
     ensures fault { IfErr result (λ why. (length numbers.now ≢ rows * columns)
         × (why ≡ wrong_doubt)) }
 {
-    match doubtful.set_numbers(rows, columns, numbers) {
-        Ok(()) => Ok(()),
+    match BorrowedModules::new(rows, columns, numbers) {
+        Ok(doubtful) => Ok(doubtful),
         Err(_) => Err(Fault::wrong_doubt()),
     }
 }

@@ -8,15 +8,15 @@ ghost use Rattle.ecc200_calls.specs.Symbols.{ProfileResult};
 
 use crate::extent::extent_of;
 use crate::fault::{Fault, read_fault};
-use crate::modules::{light_modules, make_doubtful, make_modules, none_doubtful, told_doubt};
+use crate::modules::{make_doubtful, make_modules, none_doubtful, told_doubt};
 use crate::profile::profile_of;
 use crate::squares::{is_plain_square, make_grid};
 use crate::symbol::{SymbolOut, show_fault};
 use crate::writing::{write_square, write_symbol};
-use dm_modules::Modules;
+use dm_modules::BorrowedModules;
 use dm_symbol::{
-    Extent, Profile, ReadOptions, Reading, SizeChoice, SymbolReading, WriteOptions, light_grid,
-    read_symbol_to, read_to,
+    Extent, Profile, Reading, SizeChoice, SymbolReading, WriteOptions, light_grid,
+    read_borrowed_to, read_to,
 };
 
 /// Writes the normal symbol of what the symbol of these modules, of which these are doubtful, says in an extent.
@@ -179,9 +179,8 @@ fn normal_symbol(
     ensures { NormalisedResult extent profile rows columns modules.now doubtful.now border_limit
         out.old out.new }
 {
-    let mut symbol = light_modules();
-    match make_modules(modules, rows, columns, &mut symbol) {
-        Ok(()) => {
+    match make_modules(modules, rows, columns) {
+        Ok(symbol) => {
             if none_doubtful(doubtful) {
                 normal_modules(extent, profile, &symbol, None, border_limit, out);
             } else {
@@ -205,7 +204,7 @@ fn normal_symbol(
 fn normal_doubtful(
     extent: Extent,
     profile: Profile,
-    symbol: &Modules,
+    symbol: &BorrowedModules<u8>,
     numbers: &[u8],
     rows: u16,
     columns: u16,
@@ -216,9 +215,8 @@ fn normal_doubtful(
     ensures { IsDoubtfulGiven extent profile rows columns symbol.now numbers.now border_limit
         out.old out.new }
 {
-    let mut doubtful = Modules::light(symbol.size());
-    match make_doubtful(numbers, rows, columns, &mut doubtful) {
-        Ok(()) => normal_modules(extent, profile, symbol, Some(&doubtful), border_limit, out),
+    match make_doubtful(numbers, rows, columns) {
+        Ok(doubtful) => normal_modules(extent, profile, symbol, Some(&doubtful), border_limit, out),
         Err(why) => show_fault(out, why),
     }
 }
@@ -227,8 +225,8 @@ fn normal_doubtful(
 fn normal_modules(
     extent: Extent,
     profile: Profile,
-    symbol: &Modules,
-    doubtful: Option<&Modules>,
+    symbol: &BorrowedModules<u8>,
+    doubtful: Option<&BorrowedModules<u8>>,
     border_limit: u16,
     out: &mut SymbolOut,
 )
@@ -237,12 +235,7 @@ fn normal_modules(
         border_limit out.old out.new }
 {
     let mut reading = SymbolReading::new();
-    let how = ReadOptions {
-        extent,
-        border_limit,
-        doubtful,
-    };
-    match read_symbol_to(symbol, how, &mut reading) {
+    match read_borrowed_to(extent, symbol, doubtful, border_limit, &mut reading) {
         Ok(()) => {
             let size = SizeChoice::Square;
             write_symbol(&reading.message, WriteOptions { profile, size }, out);

@@ -15,11 +15,11 @@ use crate::doubtful_squares::read_doubtful_square;
 use crate::extent::extent_of;
 use crate::fault::{Fault, read_fault};
 use crate::message::put_message;
-use crate::modules::{light_modules, make_doubtful, make_modules, none_doubtful, told_doubt};
+use crate::modules::{make_doubtful, make_modules, none_doubtful, told_doubt};
 use crate::squares::{is_doubtful_square, is_plain_square, make_grid};
-use dm_modules::{MOST_BLOCKS, Modules};
+use dm_modules::{BorrowedModules, MOST_BLOCKS};
 use dm_symbol::{
-    BlockReading, Extent, ReadOptions, Reading, SymbolReading, light_grid, read_symbol_to, read_to,
+    BlockReading, Extent, Reading, SymbolReading, light_grid, read_borrowed_to, read_to,
 };
 use dm_words::LARGEST_ROOM;
 
@@ -127,7 +127,8 @@ fn read_square(extent: Extent, modules: &[u8], side: u16, border_limit: u16, out
     }
 }
 
-/// Does so for a symbol of any size. It stands by itself, so that squares leave no room for its modules on the stack.
+/// Does so for a symbol of any size. It stands by itself, so that squares leave no room for its
+/// reading on the stack.
 #[inline(never)]
 fn read_symbol(
     extent: Extent,
@@ -141,9 +142,8 @@ fn read_symbol(
     ensures { ExtentResult extent rows columns modules.now doubtful.now border_limit out.old
         out.new }
 {
-    let mut symbol = light_modules();
-    match make_modules(modules, rows, columns, &mut symbol) {
-        Ok(()) => {
+    match make_modules(modules, rows, columns) {
+        Ok(symbol) => {
             if none_doubtful(doubtful) {
                 read_modules(extent, &symbol, None, rows, columns, border_limit, out);
             } else {
@@ -157,7 +157,7 @@ fn read_symbol(
 /// Does so where these of the modules are doubtful, whose numbers aren't 0.
 fn read_doubtful(
     extent: Extent,
-    symbol: &Modules,
+    symbol: &BorrowedModules<u8>,
     numbers: &[u8],
     rows: u16,
     columns: u16,
@@ -168,9 +168,8 @@ fn read_doubtful(
     ensures { IsDoubtfulGiven extent rows columns symbol.now numbers.now border_limit out.old
         out.new }
 {
-    let mut doubtful = Modules::light(symbol.size());
-    match make_doubtful(numbers, rows, columns, &mut doubtful) {
-        Ok(()) => read_modules(
+    match make_doubtful(numbers, rows, columns) {
+        Ok(doubtful) => read_modules(
             extent,
             symbol,
             Some(&doubtful),
@@ -186,8 +185,8 @@ fn read_doubtful(
 /// Shows what a symbol says in an extent, of whose modules these are doubtful, or why it says nothing.
 fn read_modules(
     extent: Extent,
-    symbol: &Modules,
-    doubtful: Option<&Modules>,
+    symbol: &BorrowedModules<u8>,
+    doubtful: Option<&BorrowedModules<u8>>,
     rows: u16,
     columns: u16,
     border_limit: u16,
@@ -198,12 +197,7 @@ fn read_modules(
         (option_map (λ d. d.now) doubtful.entry) border_limit out.old out.new }
 {
     let mut reading = SymbolReading::new();
-    let how = ReadOptions {
-        extent,
-        border_limit,
-        doubtful,
-    };
-    match read_symbol_to(symbol, how, &mut reading) {
+    match read_borrowed_to(extent, symbol, doubtful, border_limit, &mut reading) {
         Ok(()) => show_reading(out, rows, columns, &reading),
         Err(why) => show_fault(out, read_fault(why)),
     }

@@ -30,3 +30,8 @@ pub record HasRoom (size : SizeEntry) (kept : List Bool) : Type 0 where
   pub entry : IsSize size
   pub fits : area size ≤ most_modules
   pub count : length kept ≡ most_modules
+
+-- So many modules are as many as the size has, which stands in the table.
+pub record IsCountOf (size : SizeEntry) (count : ℕ) : Type 0 where
+  pub entry : IsSize size
+  pub all : count ≡ area size

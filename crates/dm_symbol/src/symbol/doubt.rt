@@ -8,27 +8,33 @@ ghost use Rattle.dm_symbol.specs.SymbolLaws.{AreLight};
 ghost use Rattle.dm_symbol.specs.inner.Marks.{is_mark};
 
 use arrayvec::ArrayVec;
-use dm_modules::{LONGEST_BLOCK, Modules, SymbolWords, block, border_faults, border_faults_but};
+use dm_modules::{
+    BorrowedModules, Colour, LONGEST_BLOCK, SymbolWords, block, borrowed_border_faults,
+    borrowed_border_faults_but,
+};
 
 /// Gives how many border modules have the wrong colour and aren't doubtful.
-pub(crate) fn sure_faults(modules: &Modules, doubtful: Option<&Modules>) -> u16
+pub(crate) fn sure_faults<C: Colour>(
+    modules: &BorrowedModules<C>,
+    doubtful: Option<&BorrowedModules<C>>,
+) -> u16
     requires { IfSome doubtful (λ doubtful. doubtful.now.size ≡ modules.now.size) }
     ensures { result ≡ sure_fault_count modules.now (option_map (λ d. d.now) doubtful.entry) }
 {
     match doubtful {
-        None => border_faults(modules),
-        Some(doubtful) => border_faults_but(modules, doubtful),
+        None => borrowed_border_faults(modules),
+        Some(doubtful) => borrowed_border_faults_but(modules, doubtful),
     }
 }
 
 /// Whether some of these modules may be dark. All are looked at, without a jump, so that the compiler takes many at
 /// once.
-pub(crate) fn may_have_dark(modules: &Modules) -> bool
+pub(crate) fn may_have_dark<C: Colour>(modules: &BorrowedModules<C>) -> bool
     ensures { result ≡ false → AreLight modules.now }
 {
     let mut dark = false;
     for colour in modules.list() {
-        dark = dark | *colour;
+        dark = dark | colour.is_dark();
     }
     dark
 }

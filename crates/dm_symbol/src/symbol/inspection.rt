@@ -11,7 +11,10 @@ use crate::symbol::correction::restore_block;
 use crate::symbol::doubt::{may_have_dark, sure_faults};
 use crate::symbol::reading::BlockReading;
 use arrayvec::ArrayVec;
-use dm_modules::{MOST_BLOCKS, MOST_DATA, Modules, SymbolWords, lift, lift_to, table};
+use dm_modules::{
+    BorrowedModules, Colour, MOST_BLOCKS, MOST_DATA, Modules, SymbolWords, lift_borrowed,
+    lift_borrowed_to, table,
+};
 
 /// The codewords of a symbol, and the same restored as far as they can be.
 #[derive(Clone, Debug, Drop, PartialEq, Eq)]
@@ -59,17 +62,35 @@ pub fn inspect_symbol_to(
     ensures { IsSymbolInspection modules.now (option_map (λ d. d.now) doubtful.entry)
         inspection.new }
 {
+    let borrowed = modules.as_borrowed();
+    match doubtful {
+        None => inspect_borrowed_to(&borrowed, None, inspection),
+        Some(doubtful) => inspect_borrowed_to(&borrowed, Some(&doubtful.as_borrowed()), inspection),
+    }
+}
+
+/// Does the same as [`inspect_symbol_to`] with modules where a caller keeps them. Doubtful modules, where there are
+/// any, are modules of the symbol's size.
+pub fn inspect_borrowed_to<C: Colour>(
+    modules: &BorrowedModules<C>,
+    doubtful: Option<&BorrowedModules<C>>,
+    inspection: &mut SymbolInspection,
+)
+    requires { IfSome doubtful (λ doubtful. doubtful.now.size ≡ modules.now.size) }
+    ensures { IsSymbolInspection modules.now (option_map (λ d. d.now) doubtful.entry)
+        inspection.new }
+{
     inspection.border_faults = sure_faults(modules, doubtful);
-    lift_to(modules, &mut inspection.held);
+    lift_borrowed_to(modules, &mut inspection.held);
     inspection.mended = SymbolWords::new(inspection.held.size(), inspection.held.list());
     mend_blocks(&mut inspection.mended, doubtful, &mut inspection.blocks);
 }
 
 /// Restores each block to which a codeword is near but for what is doubtful, and leaves in `blocks` what became of
 /// each.
-fn mend_blocks(
+fn mend_blocks<C: Colour>(
     words: &mut SymbolWords,
-    doubtful: Option<&Modules>,
+    doubtful: Option<&BorrowedModules<C>>,
     blocks: &mut ArrayVec<Option<BlockReading>, MOST_BLOCKS>,
 )
     requires { IfSome doubtful (λ doubtful. doubtful.now.size ≡ words.old.size) }
@@ -87,9 +108,9 @@ fn mend_blocks(
 }
 
 /// Does so where these modules are doubtful. If none of them is dark, none is, and there are no marks to be lifted.
-fn mend_doubtful(
+fn mend_doubtful<C: Colour>(
     words: &mut SymbolWords,
-    doubtful: &Modules,
+    doubtful: &BorrowedModules<C>,
     blocks: &mut ArrayVec<Option<BlockReading>, MOST_BLOCKS>,
 )
     requires { doubtful.now.size ≡ words.old.size }
@@ -101,7 +122,7 @@ fn mend_doubtful(
         blocks.new.items }
 {
     if may_have_dark(doubtful) {
-        mend_each(words, Some(&lift(doubtful)), blocks);
+        mend_each(words, Some(&lift_borrowed(doubtful)), blocks);
     } else {
         mend_each(words, None, blocks);
     }

@@ -12,7 +12,7 @@ use crate::reading::ReadFault;
 use crate::symbol::correction::restore_block;
 use crate::symbol::doubt::{may_have_dark, sure_faults};
 use arrayvec::ArrayVec;
-use dm_modules::{MOST_BLOCKS, Modules, SymbolWords, lift};
+use dm_modules::{BorrowedModules, Colour, MOST_BLOCKS, Modules, SymbolWords, lift_borrowed};
 use dm_words::{Extent, LARGEST_ROOM, MessageIn, message_to_as};
 
 /// How a symbol is read.
@@ -91,17 +91,49 @@ pub fn read_symbol_to(
     ensures same { (count : ℕ) → result ≡ Err (ReadFault.Border count)
         → reading.new ≡ reading.old }
 {
-    let border_faults = sure_faults(modules, how.doubtful);
-    if border_faults > how.border_limit {
+    let borrowed = modules.as_borrowed();
+    match how.doubtful {
+        None => read_borrowed_to(how.extent, &borrowed, None, how.border_limit, reading),
+        Some(doubtful) => {
+            let doubtful = doubtful.as_borrowed();
+            read_borrowed_to(
+                how.extent,
+                &borrowed,
+                Some(&doubtful),
+                how.border_limit,
+                reading,
+            )
+        }
+    }
+}
+
+/// Does the same as [`read_symbol_to`] with modules where a caller keeps them. They are read in an extent, with at most
+/// so many wrong modules of the borders that aren't doubtful. Doubtful modules, where there are any, are modules of the
+/// symbol's size.
+pub fn read_borrowed_to<C: Colour>(
+    extent: Extent,
+    modules: &BorrowedModules<C>,
+    doubtful: Option<&BorrowedModules<C>>,
+    border_limit: u16,
+    reading: &mut SymbolReading,
+) -> Result<(), ReadFault>
+    requires { IfSome doubtful (λ doubtful. doubtful.now.size ≡ modules.now.size) }
+    ensures read { IsSymbolRead extent modules.now (option_map (λ d. d.now) doubtful.entry)
+        border_limit (outcome result reading.new) }
+    ensures same { (count : ℕ) → result ≡ Err (ReadFault.Border count)
+        → reading.new ≡ reading.old }
+{
+    let border_faults = sure_faults(modules, doubtful);
+    if border_faults > border_limit {
         return Err(ReadFault::Border(border_faults));
     }
     reading.border_faults = border_faults;
-    let mut words = lift(modules);
-    match restore_blocks(&mut words, how.doubtful, &mut reading.blocks) {
+    let mut words = lift_borrowed(modules);
+    match restore_blocks(&mut words, doubtful, &mut reading.blocks) {
         Ok(()) => {}
         Err(b) => return Err(ReadFault::Block(b)),
     }
-    match message_to_as(how.extent, words.data_part(), &mut reading.message) {
+    match message_to_as(extent, words.data_part(), &mut reading.message) {
         Ok(()) => Ok(()),
         Err(fault) => Err(ReadFault::Words(fault)),
     }
@@ -109,9 +141,9 @@ pub fn read_symbol_to(
 
 /// Restores each block to the codeword that is near to it but for what is doubtful, and leaves in `blocks` what became
 /// of each; or gives the first block to which none is near.
-fn restore_blocks(
+fn restore_blocks<C: Colour>(
     words: &mut SymbolWords,
-    doubtful: Option<&Modules>,
+    doubtful: Option<&BorrowedModules<C>>,
     blocks: &mut ArrayVec<BlockReading, MOST_BLOCKS>,
 ) -> Result<(), u8>
     requires { IfSome doubtful (λ doubtful. doubtful.now.size ≡ words.old.size) }
@@ -131,9 +163,9 @@ fn restore_blocks(
 }
 
 /// Does so where these modules are doubtful. If none of them is dark, none is, and there are no marks to be lifted.
-fn restore_doubtful(
+fn restore_doubtful<C: Colour>(
     words: &mut SymbolWords,
-    doubtful: &Modules,
+    doubtful: &BorrowedModules<C>,
     blocks: &mut ArrayVec<BlockReading, MOST_BLOCKS>,
 ) -> Result<(), u8>
     requires { doubtful.now.size ≡ words.old.size }
@@ -147,7 +179,7 @@ fn restore_doubtful(
         (erased_in words.old.size (Some doubtful.now)) words.old.list b) }
 {
     if may_have_dark(doubtful) {
-        restore_each(words, Some(&lift(doubtful)), blocks)
+        restore_each(words, Some(&lift_borrowed(doubtful)), blocks)
     } else {
         restore_each(words, None, blocks)
     }

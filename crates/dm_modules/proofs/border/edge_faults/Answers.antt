@@ -7,7 +7,7 @@ use Rattle.dm_modules.proofs.RowColours.{fault_counts}
 use Rattle.dm_modules.proofs.border.edge_faults.Goals as goal
 
 pub loop-column-preserved : goal.loop-column-preserved
-loop-column-preserved c =
+loop-column-preserved g c =
     let n : ℕ = c.loop-column.column in
     let m = c.args.modules.now in
     let at : 0 + n ≡ n = omega arith in

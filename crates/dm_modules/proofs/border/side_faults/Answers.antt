@@ -1,5 +1,5 @@
 use Rattle.std.proofs.Common.{◌≡◌, ℕ, ◌+◌, ◌-◌, ◌*◌, ◌<◌, ◌≤◌, ◌∙◌, sym, ap, arith, Bool, true, false, Some, get_or}
-use Rattle.std.proofs.Common.{not}
+use Rattle.std.proofs.Common.{map, not}
 use Rattle.std.proofs.Math.Nat.{mul-le-mul_right}
 use Rattle.std.specs.Bool.{beq}
 use Rattle.dm_modules.specs.Modules.{module_at}
@@ -10,7 +10,7 @@ use Rattle.dm_modules.proofs.RowColours.{fault_counts, no_fault, left_colour, ri
 use Rattle.dm_modules.proofs.border.side_faults.Goals as goal
 
 pub loop-region-preserved : goal.loop-region-preserved
-loop-region-preserved c =
+loop-region-preserved g c =
     let m = c.args.modules.now in
     let row : ℕ = c.args.row in
     let k : ℕ = c.loop-region.region in
@@ -23,7 +23,7 @@ loop-region-preserved c =
     no_fault m row (k * (w + 2) + j) (between_edges m.size row k j c.requires.between low high)) in
     let at : (c : ℕ) → 0 + c ≡ c = λ c. omega arith in
     let seen : (x : ℕ) (d : Bool) → x < c.columns.result →
-    one_if (not (beq (get_or c.part-line.result.now x false) d)) ≡ one_if (not (beq (module_at m row x) d)) =
+    one_if (not (beq (get_or (map g.C.Colour.dark c.part-line.result.now) x false) d)) ≡ one_if (not (beq (module_at m row x) d)) =
     λ x d l. ap (λ (v : Bool). one_if (not (beq v d)))
     (c.part-line.ensures.colours x l ∙ ap (module_at m row) (at x)) in
     let across : ℕ = c.regions_across-region-end.result in

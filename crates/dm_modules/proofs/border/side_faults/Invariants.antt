@@ -5,7 +5,7 @@ use Rattle.dm_modules.specs.Border.{is_fault}
 use Rattle.dm_modules.proofs.border.side_faults.Given as goal
 
 abbrev pub invariant-loop-region : goal.invariant-loop-region
-invariant-loop-region l = record {
+invariant-loop-region g l = record {
   so_far : l.faults ≡ count_by (is_fault l.modules l.row)
       (range_with_len 0 (l.region * (l.modules.size.region_columns + 2)));
   most : l.faults ≤ l.region * (l.modules.size.region_columns + 2);

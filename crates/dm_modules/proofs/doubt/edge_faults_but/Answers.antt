@@ -5,7 +5,7 @@ use Rattle.dm_modules.proofs.RowColours.{sure_fault_counts}
 use Rattle.dm_modules.proofs.doubt.edge_faults_but.Goals as goal
 
 pub loop-column-preserved : goal.loop-column-preserved
-loop-column-preserved c =
+loop-column-preserved g c =
     let n : ℕ = c.loop-column.column in
     let m = c.args.modules.now in
     let d = c.args.doubtful.now in

@@ -5,7 +5,7 @@ use Rattle.dm_modules.specs.SureFaults.{is_fault_but}
 use Rattle.dm_modules.proofs.doubt.edge_faults_but.Given as goal
 
 abbrev pub invariant-loop-column : goal.invariant-loop-column
-invariant-loop-column l = record {
+invariant-loop-column g l = record {
   so_far : l.faults ≡ count_by (is_fault_but l.modules l.doubtful l.row) (range_with_len 0 l.column);
   most : l.faults ≤ l.column;
 }

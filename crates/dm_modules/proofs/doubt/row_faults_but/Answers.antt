@@ -4,7 +4,7 @@ use Rattle.dm_modules.proofs.RowColours.{top_colour}
 use Rattle.dm_modules.proofs.doubt.row_faults_but.Goals as goal
 
 pub edge_faults_but-requires-clause-edge : goal.edge_faults_but-requires-clause-edge
-edge_faults_but-requires-clause-edge c = λ column.
+edge_faults_but-requires-clause-edge g c = λ column.
     let m = c.args.modules.now in
     let same : c.region_rows-bottom.result ≡ m.size.region_rows =
     c.region_rows-bottom.ensures.value ∙ ap (λ (s : SizeEntry). s.region_rows) c.size.ensures.value in

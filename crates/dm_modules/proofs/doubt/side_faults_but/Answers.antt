@@ -6,7 +6,7 @@ use Rattle.dm_modules.proofs.RowColours.{sure_fault_counts, no_sure_fault, left_
 use Rattle.dm_modules.proofs.doubt.side_faults_but.Goals as goal
 
 pub loop-region-preserved : goal.loop-region-preserved
-loop-region-preserved c =
+loop-region-preserved g c =
     let m = c.args.modules.now in
     let d = c.args.doubtful.now in
     let row : ℕ = c.args.row in

@@ -5,7 +5,7 @@ use Rattle.dm_modules.specs.SureFaults.{is_fault_but}
 use Rattle.dm_modules.proofs.doubt.side_faults_but.Given as goal
 
 abbrev pub invariant-loop-region : goal.invariant-loop-region
-invariant-loop-region l = record {
+invariant-loop-region g l = record {
   so_far : l.faults ≡ count_by (is_fault_but l.modules l.doubtful l.row)
       (range_with_len 0 (l.region * (l.modules.size.region_columns + 2)));
   most : l.faults ≤ l.region * (l.modules.size.region_columns + 2);

@@ -6,7 +6,7 @@ use Rattle.dm_modules.proofs.Drawn.{row_read}
 use Rattle.dm_modules.proofs.drawing.read_cells.Goals as goal
 
 pub loop-row-preserved : goal.loop-row-preserved
-loop-row-preserved c =
+loop-row-preserved g c =
     let m = c.args.modules.now in
     let n : ℕ = c.mapping_columns-columns.result in
     let row : ℕ = c.loop-row.row in

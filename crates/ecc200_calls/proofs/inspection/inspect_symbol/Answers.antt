@@ -6,8 +6,8 @@ use Rattle.ecc200_calls.proofs.inspection.inspect_symbol.Goals as goal
 
 pub returns-then-none_doubtful : goal.returns-then-none_doubtful
 returns-then-none_doubtful c =
-    IsInspectResult.of_symbol c.make_modules.new.symbol None
-    (none_given c.args.rows c.args.columns c.args.modules.now c.args.doubtful.now c.make_modules.new.symbol
+    IsInspectResult.of_symbol c.in-Ok.symbol None
+    (none_given c.args.rows c.args.columns c.args.modules.now c.args.doubtful.now c.in-Ok.symbol
     c.in-Ok.ensures.symbol
     (c.none_doubtful.ensures.none c.if-none_doubtful.true))
     c.inspect_modules.ensures
@@ -15,7 +15,7 @@ returns-then-none_doubtful c =
 pub returns-else-none_doubtful : goal.returns-else-none_doubtful
 returns-else-none_doubtful c =
     inspection_given c.args.rows c.args.columns c.args.modules.now c.args.doubtful.now c.args.out.now
-    c.inspect_doubtful.new.out c.make_modules.new.symbol c.in-Ok.ensures.symbol
+    c.inspect_doubtful.new.out c.in-Ok.symbol c.in-Ok.ensures.symbol
     (c.none_doubtful.ensures.some c.if-none_doubtful.false)
     c.inspect_doubtful.ensures
 

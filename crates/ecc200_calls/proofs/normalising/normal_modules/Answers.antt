@@ -7,7 +7,7 @@ use Rattle.ecc200_calls.proofs.normalising.normal_modules.Goals as goal
 
 pub returns-in-Ok : goal.returns-in-Ok
 returns-in-Ok c =
-    let message = c.read_symbol_to.new.reading.message in
+    let message = c.read_borrowed_to.new.reading.message in
     normal_of_message c.args.extent c.args.profile c.args.symbol.now (option_map (λ d. d.now) c.args.doubtful)
     c.args.border_limit message c.args.out.now c.write_symbol.new.out ((c.in-Ok.ensures.read.message message).0 refl)
     c.write_symbol.ensures

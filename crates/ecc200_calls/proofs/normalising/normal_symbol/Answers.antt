@@ -6,8 +6,8 @@ use Rattle.ecc200_calls.proofs.normalising.normal_symbol.Goals as goal
 
 pub returns-then-none_doubtful : goal.returns-then-none_doubtful
 returns-then-none_doubtful c =
-    NormalisedResult.of_symbol c.make_modules.new.symbol None
-    (none_given c.args.rows c.args.columns c.args.modules.now c.args.doubtful.now c.make_modules.new.symbol
+    NormalisedResult.of_symbol c.in-Ok.symbol None
+    (none_given c.args.rows c.args.columns c.args.modules.now c.args.doubtful.now c.in-Ok.symbol
     c.in-Ok.ensures.symbol
     (c.none_doubtful.ensures.none c.if-none_doubtful.true))
     c.normal_modules.ensures
@@ -15,7 +15,7 @@ returns-then-none_doubtful c =
 pub returns-else-none_doubtful : goal.returns-else-none_doubtful
 returns-else-none_doubtful c =
     normal_given c.args.extent c.args.profile c.args.rows c.args.columns c.args.modules.now c.args.doubtful.now
-    c.args.border_limit c.args.out.now c.normal_doubtful.new.out c.make_modules.new.symbol c.in-Ok.ensures.symbol
+    c.args.border_limit c.args.out.now c.normal_doubtful.new.out c.in-Ok.symbol c.in-Ok.ensures.symbol
     (c.none_doubtful.ensures.some c.if-none_doubtful.false)
     c.normal_doubtful.ensures
 

@@ -8,7 +8,7 @@ use Rattle.dm_symbol.proofs.SymbolSteps.{mended_moves}
 use Rattle.dm_symbol.proofs.symbol.inspection.mend_blocks.Goals as goal
 
 pub returns-in-None-clause-mended : goal.returns-in-None-clause-mended
-returns-in-None-clause-mended c =
+returns-in-None-clause-mended g c =
     let w = c.args.words.now in
     let s = w.size in
     let doubt = option_map (λ d. d.now) c.args.doubtful in
@@ -18,7 +18,7 @@ returns-in-None-clause-mended c =
     c.mend_each.new.blocks.items c.mend_each.ensures.mended
 
 pub returns-in-Some-clause-mended : goal.returns-in-Some-clause-mended
-returns-in-Some-clause-mended c =
+returns-in-Some-clause-mended g c =
     let s = c.args.words.now.size in
     subst (λ x. AreBlocksMended s (erased_in s (option_map (λ d. d.now) x)) c.args.words.now.list
     c.mend_doubtful.new.words.list c.mend_doubtful.new.blocks.items) (sym c.in-Some.is) c.mend_doubtful.ensures.mended

@@ -7,18 +7,18 @@ use Rattle.dm_symbol.proofs.SymbolSteps.{mended_moves}
 use Rattle.dm_symbol.proofs.symbol.inspection.mend_doubtful.Goals as goal
 
 pub returns-then-may_have_dark-clause-mended : goal.returns-then-may_have_dark-clause-mended
-returns-then-may_have_dark-clause-mended c =
+returns-then-may_have_dark-clause-mended g c =
     let w = c.args.words.now in
     let s = w.size in
     let d = c.args.doubtful.now in
-    let marks = c.lift.result in
+    let marks = c.lift_borrowed.result in
     let same : (b : ℕ) → b < s.blocks → marked_in s (Some marks) b ≡ erased_in s (Some d) b =
-    λ b hb. sym (erased_by_held s d marks b c.requires c.lift.ensures.holds) in
+    λ b hb. sym (erased_by_held s d marks b c.requires c.lift_borrowed.ensures.holds) in
     mended_moves s (marked_in s (Some marks)) (erased_in s (Some d)) same w.list c.mend_each.new.words.list
     c.mend_each.new.blocks.items c.mend_each.ensures.mended
 
 pub returns-else-may_have_dark-clause-mended : goal.returns-else-may_have_dark-clause-mended
-returns-else-may_have_dark-clause-mended c =
+returns-else-may_have_dark-clause-mended g c =
     let w = c.args.words.now in
     let s = w.size in
     let d = c.args.doubtful.now in

@@ -9,7 +9,7 @@ use Rattle.dm_symbol.proofs.SymbolSteps.{near_moves, lost_moves, readings_move, 
 use Rattle.dm_symbol.proofs.symbol.reading.restore_blocks.Goals as goal
 
 pub returns-in-None-clause-near : goal.returns-in-None-clause-near
-returns-in-None-clause-near c =
+returns-in-None-clause-near g c =
     let w = c.args.words.now in
     let s = w.size in
     let doubt = option_map (λ d. d.now) c.args.doubtful in
@@ -20,7 +20,7 @@ returns-in-None-clause-near c =
     c.restore_each.ensures.near
 
 pub returns-in-None-clause-readings : goal.returns-in-None-clause-readings
-returns-in-None-clause-readings c =
+returns-in-None-clause-readings g c =
     let w = c.args.words.now in
     let s = w.size in
     let doubt = option_map (λ d. d.now) c.args.doubtful in
@@ -31,7 +31,7 @@ returns-in-None-clause-readings c =
     c.restore_each.ensures.readings
 
 pub returns-in-None-clause-lost : goal.returns-in-None-clause-lost
-returns-in-None-clause-lost c =
+returns-in-None-clause-lost g c =
     let w = c.args.words.now in
     let s = w.size in
     let doubt = option_map (λ d. d.now) c.args.doubtful in
@@ -42,20 +42,20 @@ returns-in-None-clause-lost c =
 
 -- What is known with some modules doubtful is known with these.
 pub returns-in-Some-clause-near : goal.returns-in-Some-clause-near
-returns-in-Some-clause-near c =
+returns-in-Some-clause-near g c =
     let s = c.args.words.now.size in
     subst (λ x. OnOk c.restore_doubtful.result (AreBlocksNear s (erased_in s (option_map (λ d. d.now) x))
     c.args.words.now.list c.restore_doubtful.new.words.list)) (sym c.in-Some.is) c.restore_doubtful.ensures.near
 
 pub returns-in-Some-clause-readings : goal.returns-in-Some-clause-readings
-returns-in-Some-clause-readings c =
+returns-in-Some-clause-readings g c =
     let s = c.args.words.now.size in
     subst (λ x. OnOk c.restore_doubtful.result (c.restore_doubtful.new.blocks.items
     ≡ block_readings s (erased_in s (option_map (λ d. d.now) x)) c.args.words.now.list
     c.restore_doubtful.new.words.list)) (sym c.in-Some.is) c.restore_doubtful.ensures.readings
 
 pub returns-in-Some-clause-lost : goal.returns-in-Some-clause-lost
-returns-in-Some-clause-lost c =
+returns-in-Some-clause-lost g c =
     let s = c.args.words.now.size in
     subst (λ x. IfErr c.restore_doubtful.result (λ b. IsFirstLost s (erased_in s (option_map (λ d. d.now) x))
     c.args.words.now.list b)) (sym c.in-Some.is) c.restore_doubtful.ensures.lost

@@ -7,43 +7,43 @@ use Rattle.dm_symbol.proofs.SymbolSteps.{near_moves, lost_moves, readings_move, 
 use Rattle.dm_symbol.proofs.symbol.reading.restore_doubtful.Goals as goal
 
 pub returns-then-may_have_dark-clause-near : goal.returns-then-may_have_dark-clause-near
-returns-then-may_have_dark-clause-near c =
+returns-then-may_have_dark-clause-near g c =
     let w = c.args.words.now in
     let s = w.size in
     let d = c.args.doubtful.now in
-    let marks = c.lift.result in
+    let marks = c.lift_borrowed.result in
     let same : (b : ℕ) → b < s.blocks → marked_in s (Some marks) b ≡ erased_in s (Some d) b =
-    λ b hb. sym (erased_by_held s d marks b c.requires c.lift.ensures.holds) in
+    λ b hb. sym (erased_by_held s d marks b c.requires c.lift_borrowed.ensures.holds) in
     on_ok c.restore_each.result
     (near_moves s (marked_in s (Some marks)) (erased_in s (Some d)) same w.list c.restore_each.new.words.list)
     c.restore_each.ensures.near
 
 pub returns-then-may_have_dark-clause-readings : goal.returns-then-may_have_dark-clause-readings
-returns-then-may_have_dark-clause-readings c =
+returns-then-may_have_dark-clause-readings g c =
     let w = c.args.words.now in
     let s = w.size in
     let d = c.args.doubtful.now in
-    let marks = c.lift.result in
+    let marks = c.lift_borrowed.result in
     let same : (b : ℕ) → b < s.blocks → marked_in s (Some marks) b ≡ erased_in s (Some d) b =
-    λ b hb. sym (erased_by_held s d marks b c.requires c.lift.ensures.holds) in
+    λ b hb. sym (erased_by_held s d marks b c.requires c.lift_borrowed.ensures.holds) in
     on_ok c.restore_each.result (λ e. e
     ∙ readings_move s (marked_in s (Some marks)) (erased_in s (Some d)) same w.list c.restore_each.new.words.list)
     c.restore_each.ensures.readings
 
 pub returns-then-may_have_dark-clause-lost : goal.returns-then-may_have_dark-clause-lost
-returns-then-may_have_dark-clause-lost c =
+returns-then-may_have_dark-clause-lost g c =
     let w = c.args.words.now in
     let s = w.size in
     let d = c.args.doubtful.now in
-    let marks = c.lift.result in
+    let marks = c.lift_borrowed.result in
     let same : (b : ℕ) → b < s.blocks → marked_in s (Some marks) b ≡ erased_in s (Some d) b =
-    λ b hb. sym (erased_by_held s d marks b c.requires c.lift.ensures.holds) in
+    λ b hb. sym (erased_by_held s d marks b c.requires c.lift_borrowed.ensures.holds) in
     if_err c.restore_each.result
     (λ b h. lost_moves s (marked_in s (Some marks)) (erased_in s (Some d)) same w.list b h)
     c.restore_each.ensures.lost
 
 pub returns-else-may_have_dark-clause-near : goal.returns-else-may_have_dark-clause-near
-returns-else-may_have_dark-clause-near c =
+returns-else-may_have_dark-clause-near g c =
     let w = c.args.words.now in
     let s = w.size in
     let d = c.args.doubtful.now in
@@ -55,7 +55,7 @@ returns-else-may_have_dark-clause-near c =
     c.restore_each-else-may_have_dark.ensures.near
 
 pub returns-else-may_have_dark-clause-readings : goal.returns-else-may_have_dark-clause-readings
-returns-else-may_have_dark-clause-readings c =
+returns-else-may_have_dark-clause-readings g c =
     let w = c.args.words.now in
     let s = w.size in
     let d = c.args.doubtful.now in
@@ -67,7 +67,7 @@ returns-else-may_have_dark-clause-readings c =
     c.restore_each-else-may_have_dark.ensures.readings
 
 pub returns-else-may_have_dark-clause-lost : goal.returns-else-may_have_dark-clause-lost
-returns-else-may_have_dark-clause-lost c =
+returns-else-may_have_dark-clause-lost g c =
     let w = c.args.words.now in
     let s = w.size in
     let d = c.args.doubtful.now in

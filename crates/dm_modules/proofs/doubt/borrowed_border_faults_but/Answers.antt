@@ -4,10 +4,10 @@ use Rattle.std.specs.List.{range_with_len}
 use Rattle.dm_modules.specs.SureFaults.{is_fault_but}
 use Rattle.dm_modules.proofs.FaultCounts.{sum_more}
 use Rattle.dm_modules.proofs.TableEntries.{size_facts}
-use Rattle.dm_modules.proofs.doubt.border_faults_but.Goals as goal
+use Rattle.dm_modules.proofs.doubt.borrowed_border_faults_but.Goals as goal
 
 pub loop-row-preserved : goal.loop-row-preserved
-loop-row-preserved c =
+loop-row-preserved g c =
     let m = c.args.modules.now in
     let d = c.args.doubtful.now in
     let more = sum_more (λ r. count_by (is_fault_but m d r) (range_with_len 0 m.size.columns)) c.loop-row.row in

@@ -4,10 +4,10 @@ use Rattle.std.specs.List.{range_with_len}
 use Rattle.dm_modules.specs.Border.{is_fault}
 use Rattle.dm_modules.proofs.FaultCounts.{sum_more}
 use Rattle.dm_modules.proofs.TableEntries.{size_facts}
-use Rattle.dm_modules.proofs.border.border_faults.Goals as goal
+use Rattle.dm_modules.proofs.border.borrowed_border_faults.Goals as goal
 
 pub loop-row-preserved : goal.loop-row-preserved
-loop-row-preserved c =
+loop-row-preserved g c =
     let m = c.args.modules.now in
     let more = sum_more (λ r. count_by (is_fault m r) (range_with_len 0 m.size.columns)) c.loop-row.row in
     let facts = size_facts m.size c.size.ensures.modules.size in
