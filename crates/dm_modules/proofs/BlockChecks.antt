@@ -1,8 +1,8 @@
 -- A block whose check codewords are put: its data codewords, and behind them the checks.
-use Rattle.std.proofs.Common.{◌≡◌, ◌∙◌, ℕ, ◌+◌, ◌-◌, ◌*◌, ◌<◌, ◌≤◌, List, ◌++◌, length, get_or, set, take, sym, ap, subst}
+use Rattle.std.proofs.Common.{◌≡◌, ◌∙◌, ℕ, ◌+◌, ◌-◌, ◌*◌, ◌<◌, List, ◌++◌, length, get_or, set, take, sym, ap}
 use Rattle.std.proofs.Common.{arith}
 use Rattle.std.proofs.lemmas.List.{get_or_append_left, get_or-append_right, get_or-take, length-append, length-take-le}
-use Rattle.dm_modules.specs.Sizes.{SizeEntry, block_check, block_data, block_length}
+use Rattle.dm_modules.specs.Sizes.{block_check, block_data, block_length}
 use Rattle.dm_modules.specs.Words.{WordsView, IsWords}
 use Rattle.dm_modules.specs.Blocks.{block_of}
 use Rattle.dm_modules.proofs.TableEntries.{block_parts}

@@ -1,5 +1,5 @@
 -- How many items a grid is read as, and that they are a message.
-use Rattle.std.proofs.Common.{ℕ, zero, suc, ◌+◌, ◌*◌, ◌≤◌, List, length, take, arith}
+use Rattle.std.proofs.Common.{ℕ, zero, suc, ◌≤◌, List, length, arith}
 use Rattle.std.proofs.lemmas.List.{length-take}
 use Rattle.dm_words.specs.declared.extent.Extent.{Extent}
 use Rattle.dm_words.specs.declared.extent.Extent.TheVariants.{Usual, Wide}

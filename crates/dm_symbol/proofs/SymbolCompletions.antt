@@ -1,5 +1,5 @@
 -- A message that fits a size of a choice is written in some symbol.
-use Rattle.std.proofs.Common.{◌≡◌, ℕ, ◌+◌, ◌<◌, ◌≤◌, List, ◌++◌, length, get_or, take, replicate, Option, Some, None}
+use Rattle.std.proofs.Common.{◌≡◌, ℕ, ◌<◌, List, ◌++◌, length, take, replicate, Option, Some, None}
 use Rattle.std.proofs.Common.{IsSome, refl, sym, ap, subst, ◌∙◌, arith}
 use Rattle.std.specs.Prelude.{nat_le, ◌&&◌, find}
 use Rattle.std.proofs.Common.{Bool, true, false, not, cond, nat_eq, [], ◌∷◌}

@@ -1,11 +1,10 @@
 -- A grid and the modules of a symbol that has its cells are read the same.
-use Rattle.std.proofs.Common.{◌≡◌, ◌↔◌, ℕ, ◌+◌, ◌*◌, ◌/◌, ◌%◌, ◌<◌, ◌≤◌, Bool, true, false, not, ◌&&◌, nat_eq, List, []}
-use Rattle.std.proofs.Common.{length, get_or, take, Option, Some, None, Result, Ok, Err, refl, sym, ap, subst, ◌∙◌}
-use Rattle.std.proofs.Common.{arith}
+use Rattle.std.proofs.Common.{◌≡◌, ◌↔◌, ℕ, ◌+◌, ◌/◌, ◌%◌, ◌<◌, ◌≤◌, Bool, true, false, not, ◌&&◌, nat_eq, List, []}
+use Rattle.std.proofs.Common.{get_or, take, Option, Some, None, refl, sym, ap, subst, ◌∙◌}
 use Rattle.std.specs.Prelude.{sum_by, count_by}
 use Rattle.std.specs.Bool.{beq}
 use Rattle.std.specs.List.{range_with_len, list_all}
-use Rattle.std.proofs.lemmas.Bool.{and_parts, eqb-true, false≢true}
+use Rattle.std.proofs.lemmas.Bool.{and_parts, eqb-true}
 use Rattle.std.proofs.lemmas.List.Elements.{recursion_from_All}
 use Rattle.std.proofs.lemmas.List.Sums.{AllPass-from_list_all}
 use Rattle.dm_words.specs.declared.extent.Extent.{Extent}
@@ -16,20 +15,19 @@ use Rattle.dm_code.specs.Erased.{IsNearBut}
 use Rattle.dm_place.specs.Border.{is_on_edge, edge_is_dark, symbol_line}
 use Rattle.dm_place.specs.Holding.{HoldsBits}
 use Rattle.dm_layout.specs.Sizes.{SizeRow, IsRow, size_table, codeword_count, block_check}
-use Rattle.dm_layout.specs.Grid.{GridView, IsGrid}
+use Rattle.dm_layout.specs.Grid.{GridView}
 use Rattle.dm_layout.specs.Border.{border_fault_count}
 use Rattle.dm_layout.specs.Blocks.{block_of}
 use Rattle.dm_modules.specs.Sizes.{SizeEntry, IsSize, entry_with, mapping_rows, mapping_columns}
 use Rattle.dm_modules.specs.Sizes.{size_table as all_sizes}
 use Rattle.dm_modules.specs.Sizes as sizes
-use Rattle.dm_modules.specs.Modules.{ModulesView, IsModules}
-use Rattle.dm_modules.specs.Border as border
+use Rattle.dm_modules.specs.Modules.{ModulesView}
 use Rattle.dm_modules.proofs.Exported.{at_found}
-use Rattle.dm_symbol.specs.Blocks.{symbol, AreWordsOf, AreHeld, BlocksAreNear, block_at, data_part}
-use Rattle.dm_symbol.specs.Reading.{IsCorrected, Reads}
+use Rattle.dm_symbol.specs.Blocks.{AreWordsOf, AreHeld, BlocksAreNear, block_at}
+use Rattle.dm_symbol.specs.Reading.{Reads}
 use Rattle.dm_symbol.specs.Doubt.{sure_fault_count, erased_in}
-use Rattle.dm_symbol.specs.SymbolBlocks.{AreOfSize, AreHeldBy, AreBlocksNear, block_in, first_data}
-use Rattle.dm_symbol.specs.SymbolReading.{AreRestored, ReadsSymbol}
+use Rattle.dm_symbol.specs.SymbolBlocks.{AreOfSize, AreHeldBy, AreBlocksNear, block_in}
+use Rattle.dm_symbol.specs.SymbolReading.{ReadsSymbol}
 use Rattle.dm_symbol.specs.SymbolLaws.{AreModulesOf}
 use Rattle.dm_symbol.proofs.SymbolBelow.{near_plain, plain_near}
 use Rattle.dm_symbol.proofs.SymbolDoubt.{erased_by_none, faults_by_none}

@@ -6,7 +6,6 @@ use Rattle.dm_words.specs.declared.item.Item.{Item}
 use Rattle.dm_words.specs.declared.fault.WordFault.{WordFault}
 use Rattle.dm_words.specs.Spells.{Spells}
 use Rattle.dm_words.specs.Refused.{Refused}
-use Rattle.dm_modules.specs.Sizes.{SizeEntry}
 use Rattle.dm_modules.specs.Modules.{ModulesView}
 use Rattle.dm_modules.specs.Words.{WordsView, data_of}
 use Rattle.dm_modules.specs.Holding.{Holds}
@@ -16,7 +15,7 @@ use Rattle.dm_symbol.specs.declared.reading.ReadFault.{ReadFault}
 use Rattle.dm_symbol.specs.declared.reading.ReadFault.TheVariants as fault
 use Rattle.dm_symbol.specs.Doubt.{sure_fault_count, erased_in}
 use Rattle.dm_symbol.specs.SymbolBlocks.{words_with, AreOfSize, AreHeldBy, AreBlocksNear, first_data}
-use Rattle.dm_symbol.specs.SymbolReading.{AreRestored, ReadsSymbol, IsFirstLost, SymbolReadResult, IsSymbolReadAs}
+use Rattle.dm_symbol.specs.SymbolReading.{AreRestored, IsFirstLost, SymbolReadResult}
 use Rattle.dm_symbol.specs.SymbolReading.{block_readings, symbol_reading_of, IsSymbolRead}
 use Rattle.dm_symbol.proofs.SymbolReadings.{one_symbol_result, symbol_read_by_result, reads_symbol_by_result}
 

@@ -1,18 +1,17 @@
 -- A symbol of any size is read as at most one message.
-use Rattle.std.proofs.Common.{◌≡◌, ℕ, ◌+◌, ◌*◌, ◌/◌, ◌%◌, ◌<◌, ◌≤◌, List, length, get_or, Option, Result, Ok, Err, inl}
+use Rattle.std.proofs.Common.{◌≡◌, ℕ, ◌+◌, ◌*◌, ◌<◌, List, Option, Result, Ok, Err, inl}
 use Rattle.std.proofs.Common.{inr}
 use Rattle.std.proofs.Common.{refl, sym, ap, subst, ◌∙◌, arith}
 use Rattle.std.specs.List.{All}
 use Rattle.std.proofs.lemmas.Bool.{cases_order}
 use Rattle.std.proofs.lemmas.List.Elements.{All-from_get_or, All-get_or, All-take}
 use Rattle.dm_words.specs.declared.extent.Extent.{Extent}
-use Rattle.dm_words.specs.declared.extent.Extent.TheVariants.{Usual, Wide}
+use Rattle.dm_words.specs.declared.extent.Extent.TheVariants.{Wide}
 use Rattle.dm_words.specs.declared.item.Item.{Item}
 use Rattle.dm_words.specs.declared.fault.WordFault.{WordFault}
 use Rattle.dm_words.specs.Spells.{Spells}
 use Rattle.dm_words.specs.Refused.{Refused}
 use Rattle.dm_words.specs.Messages.{IsMessage}
-use Rattle.dm_code.specs.Erased.{IsNearBut}
 use Rattle.dm_modules.specs.Sizes.{SizeEntry, block_check, block_length}
 use Rattle.dm_modules.specs.Modules.{ModulesView}
 use Rattle.dm_modules.proofs.Exported.{place_inside, same_by_blocks}

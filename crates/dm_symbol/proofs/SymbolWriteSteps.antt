@@ -1,5 +1,5 @@
 -- The steps of writing a message in a symbol lead to the only one in which it is written so.
-use Rattle.std.proofs.Common.{◌≡◌, ◌≢◌, ℕ, ◌+◌, ◌*◌, ◌<◌, ◌≤◌, List, ◌++◌, length, get_or, take, Option, Some, None}
+use Rattle.std.proofs.Common.{◌≡◌, ◌≢◌, ℕ, ◌+◌, ◌<◌, ◌≤◌, List, ◌++◌, length, get_or, take, Option, Some, None}
 use Rattle.std.proofs.Common.{IsSome}
 use Rattle.std.proofs.Common.{Result, Ok, Err, IsErr, inl, inr, refl, sym, ap, subst, ◌∙◌, arith}
 use Rattle.std.specs.Prelude.{true, nat_le, ◌&&◌}
@@ -21,7 +21,7 @@ use Rattle.dm_words.specs.Messages.{IsMessage}
 use Rattle.dm_words.proofs.Exported.{normal_form_spells}
 use Rattle.dm_code.specs.Codeword.{IsCodeword, distance}
 use Rattle.dm_modules.specs.declared.size.SizeChoice.{SizeChoice}
-use Rattle.dm_modules.specs.Sizes.{SizeEntry, IsSize, entry_for, takes, size_table, block_data, block_check, most_data}
+use Rattle.dm_modules.specs.Sizes.{SizeEntry, entry_for, takes, size_table, block_data, block_check, most_data}
 use Rattle.dm_modules.specs.Modules.{ModulesView}
 use Rattle.dm_modules.specs.Words.{WordsView}
 use Rattle.dm_modules.specs.Blocks.{block_of}

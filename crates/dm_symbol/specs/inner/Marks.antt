@@ -1,13 +1,10 @@
 -- The marks of a symbol: the codewords that its doubtful modules hold. One isn't 0 where the codeword at its place is
 -- erased.
-use Rattle.std.specs.Prelude.{◌≡◌, ℕ, Bool, not, nat_eq, List, [], map, Option, Some, None}
-use Rattle.dm_code.specs.Erased.{IsNearBut, erased_places}
+use Rattle.std.specs.Prelude.{ℕ, Bool, not, nat_eq, List, [], map, Option, Some, None}
+use Rattle.dm_code.specs.Erased.{erased_places}
 use Rattle.dm_modules.specs.Sizes.{SizeEntry}
 use Rattle.dm_modules.specs.Words.{WordsView}
 use Rattle.dm_modules.specs.Blocks.{block_of}
-use Rattle.dm_symbol.specs.declared.symbol.reading.BlockReading.{BlockReading}
-use Rattle.dm_symbol.specs.SymbolBlocks.{HasNearBut}
-use Rattle.dm_symbol.specs.SymbolReading.{block_reading}
 
 -- A mark says that its codeword is erased.
 abbrev pub is_mark : ℕ → Bool

@@ -1,4 +1,4 @@
-use Rattle.std.proofs.Common.{◌≡◌, ◌<◌, ◌≤◌, ◌+◌, ◌-◌, ◌/◌, ◌^◌, ◌∙◌, ℕ, Bool, List, false, bit_and, get_or, length, sym, ap, subst, arith}
+use Rattle.std.proofs.Common.{◌≡◌, ◌≤◌, ◌+◌, ◌-◌, ◌∙◌, ℕ, Bool, List, false, bit_and, get_or, length, ap, arith}
 use borrow.Rule.Slice.PartMut.{same_len_mid}
 use Rattle.dm_modules.specs.Modules.{is_dark_bit}
 use Rattle.dm_modules.proofs.BitRows.{line_more, rest_more}

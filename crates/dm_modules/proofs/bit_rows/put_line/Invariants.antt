@@ -1,4 +1,4 @@
-use Rattle.std.proofs.Common.{◌≡◌, ℕ, ◌+◌, ◌-◌, ◌%◌, ◌/◌, ◌^◌, ◌<◌, false, get_or, length}
+use Rattle.std.proofs.Common.{◌≡◌, ℕ, ◌+◌, ◌-◌, ◌/◌, ◌^◌, ◌<◌, false, get_or, length}
 use Rattle.dm_modules.specs.Modules.{is_dark_bit}
 use Rattle.dm_modules.proofs.bit_rows.put_line.Given as goal
 

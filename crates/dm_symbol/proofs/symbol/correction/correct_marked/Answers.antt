@@ -1,10 +1,9 @@
-use Rattle.std.proofs.Common.{◌≡◌, ◌∙◌, List, Bool, length, map, refl, sym, ap, arith}
-use Rattle.dm_code.specs.Erased.{erased_places}
+use Rattle.std.proofs.Common.{◌≡◌, ◌∙◌, length, map, refl, sym, ap, arith}
 use Rattle.dm_modules.specs.Sizes.{SizeEntry, block_check, block_length}
 use Rattle.dm_modules.specs.Blocks.{block_of}
 use Rattle.dm_symbol.specs.SymbolBlocks.{block_in}
 use Rattle.dm_symbol.specs.inner.Marks.{is_mark}
-use Rattle.dm_symbol.proofs.SymbolBelow.{block_facts, block_lengths}
+use Rattle.dm_symbol.proofs.SymbolBelow.{block_facts}
 use Rattle.dm_symbol.proofs.SymbolSteps.{near_but_moves, marked_restored}
 use Rattle.dm_symbol.proofs.symbol.correction.correct_marked.Goals as goal
 

@@ -1,4 +1,4 @@
-use Rattle.std.proofs.Common.{◌≡◌, ◌∙◌, ◌++◌, ◌∷◌, [], length, get_or, map, take, ap, arith, lit<}
+use Rattle.std.proofs.Common.{◌∙◌, ◌++◌, ◌∷◌, [], length, get_or, map, take, ap, arith, lit<}
 use Rattle.std.proofs.lemmas.List.{length-map, length-take, take_all}
 use Rattle.dm_symbol.specs.inner.Marks.{is_mark}
 use Rattle.dm_symbol.proofs.SymbolSteps.{marks_more}

@@ -1,4 +1,4 @@
-use Rattle.std.proofs.Common.{◌≡◌, ◌∙◌, List, ℕ, sym, ap, subst}
+use Rattle.std.proofs.Common.{◌≡◌, ◌∙◌, sym, ap, subst}
 use Rattle.std.specs.Prelude.{IfSome, option_map}
 use Rattle.dm_modules.specs.Words.{WordsView}
 use Rattle.dm_symbol.specs.Doubt.{erased_in}

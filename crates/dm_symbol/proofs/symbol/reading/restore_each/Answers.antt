@@ -1,4 +1,4 @@
-use Rattle.std.proofs.Common.{◌≡◌, ◌≢◌, ◌+◌, ◌<◌, ◌∙◌, ◌++◌, ◌∷◌, [], ℕ, List, length, get_or, sym, ap, subst}
+use Rattle.std.proofs.Common.{◌≡◌, ◌≢◌, ◌+◌, ◌<◌, ◌∙◌, ℕ, List, length, get_or, sym, ap, subst}
 use Rattle.std.proofs.Common.{below_more, arith}
 use Rattle.std.specs.Prelude.{Some, IfSome, option_map}
 use Rattle.std.proofs.lemmas.List.{length_push}

@@ -1,4 +1,4 @@
-use Rattle.std.proofs.Common.{◌≡◌, ◌∙◌, sym, arith}
+use Rattle.std.proofs.Common.{◌≡◌, ◌∙◌, sym}
 use Rattle.dm_symbol.proofs.LaidData.{square_found}
 use Rattle.dm_symbol.proofs.symbol.writing.grid_size.Goals as goal
 
