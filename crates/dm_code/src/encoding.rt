@@ -13,7 +13,7 @@ use gf301::{CHECKS_ROOM, MOST_CHECKS, add_scaled, scale, taps};
 use std::simd::prelude::*;
 
 /// Room for what a division leaves, and behind it for the sixteen zeros that move down into its last lanes.
-pub(crate) const LEFT_ROOM: usize = CHECKS_ROOM + 16;
+const LEFT_ROOM: usize = CHECKS_ROOM + 16;
 
 /// The lanes of two vectors, one behind the other, that are the first one's when all move down by two.
 const MOVED_BY_TWO: [usize; 16] = [2, 3, 4, 5, 6, 7, 8, 9, 10, 11, 12, 13, 14, 15, 16, 17];

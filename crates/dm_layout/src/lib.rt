@@ -8,12 +8,13 @@
 //! [`lay()`] gives the one grid with correct borders and the fixed square that holds given codewords, and [`lift()`]
 //! the codewords that a grid holds, whatever stands in its borders and its fixed square. [`lay_to()`] and [`lift_to()`]
 //! leave the same in a grid, or in codewords, of the caller's, whatever these were before and whatever their size, so
-//! that one of each serves any number of symbols; [`Words::zeros()`] gives codewords to lift into.
+//! that one of each serves any number of symbols. [`Words::zeros()`] gives codewords to lift into, or into which
+//! [`Words::put_data()`] and [`Words::put_checks()`] put others.
 //!
 //! [`block()`] reads one Reed-Solomon block of the codewords, [`put_block()`] writes one, and [`put_block_checks()`]
 //! its check codewords. [`border_faults()`] counts the border cells of a grid that have the wrong colour, and
-//! [`border_faults_but()`] those of them that aren't doubtful. Cell by cell, [`border_colour()`] gives the colour that a
-//! border prescribes, [`symbol_line()`] leads from a row or column of the mapping square to that of the symbol, and
+//! [`border_faults_but()`] those of them that aren't doubtful. Cell by cell, [`border_colour()`] gives the colour that
+//! a border prescribes, [`symbol_line()`] leads from a row or column of the mapping square to that of the symbol, and
 //! [`Cells`] goes through the [`Place`]s of all bits of all codewords.
 //!
 //! There are [`SIZE_COUNT`] sizes; limits: [`LARGEST_SIDE`], [`MOST_DATA`], [`MOST_CODEWORDS`], [`MOST_BLOCKS`] and

@@ -60,10 +60,8 @@ impl Words {
     /// Puts the data codewords, as many as the size has. The check codewords stay.
     pub fn put_data(&mut self, prefix: &[u8])
         requires { length prefix.now ≡ self.old.size.data_count }
-        ensures value { self.new ≡ record {
-          size = self.old.size;
-          list = prefix.now ++ drop self.old.size.data_count self.old.list;
-        } }
+        ensures value { let rest = drop self.old.size.data_count self.old.list in
+            self.new ≡ record { size = self.old.size; list = prefix.now ++ rest } }
         ensures words { IsWords self.new }
     {
         let end = usize::from(self.size.data_count());

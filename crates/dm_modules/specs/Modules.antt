@@ -1,5 +1,6 @@
 -- The modules of a symbol, each dark or light (ISO/IEC 16022, symbol structure).
-use Rattle.std.specs.Prelude.{◌≡◌, ℕ, ◌+◌, ◌*◌, ◌/◌, ◌%◌, ◌^◌, Bool, false, not, nat_eq, List, [], map, length, get_or, All}
+use Rattle.std.specs.Prelude.{◌≡◌, ℕ, ◌+◌, ◌*◌, ◌/◌, ◌%◌, ◌^◌, Bool, false, not, nat_eq, List, [], map, length, get_or}
+use Rattle.std.specs.Prelude.{All}
 use Rattle.std.specs.List.{range_with_len}
 use Rattle.dm_modules.specs.Sizes.{SizeEntry, IsSize}
 

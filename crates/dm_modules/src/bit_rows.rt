@@ -1,7 +1,7 @@
 //! Modules of rows that are written as numbers: the lowest bit is the module at the left, 1 for dark. They are unpacked
 //! sixteen at once.
 
-ghost use Rattle.std.specs.Prelude.{◌≡◌, ℕ, ◌+◌, ◌*◌, ◌<◌, ◌≤◌, false, get_or, length, map};
+ghost use Rattle.std.specs.Prelude.{◌≡◌, ℕ, ◌+◌, ◌*◌, ◌<◌, ◌≤◌, false, get_or, length};
 ghost use Rattle.dm_modules.specs.Modules.{is_dark_bit, is_dark_number};
 
 use std::simd::prelude::*;

@@ -20,9 +20,9 @@
 //! [`border_colour()`] gives the colour that a border prescribes, and [`symbol_row()`] and [`symbol_column()`] lead
 //! from the mapping matrix to the symbol.
 //!
-//! [`BorrowedModules`] are modules in a list of a caller's, of any [`Colour`], such as numbers of which 0 is light. What
-//! is read out of modules is read out of these where they stand: [`lift_borrowed()`], [`lift_borrowed_to()`],
-//! [`borrowed_border_faults()`] and [`borrowed_border_faults_but()`].
+//! [`BorrowedModules`] are modules in a list of a caller's, of any [`Colour`], such as numbers of which 0 is light.
+//! What is read out of modules is read out of these where they stand: [`lift_borrowed()`], [`lift_borrowed_to()`],
+//! [`borrowed_border_faults()`] and [`borrowed_border_faults_but()`]. [`Modules::as_borrowed()`] gives modules as such.
 //!
 //! There are [`SIZE_COUNT`] sizes; limits: [`MOST_ROWS`], [`MOST_COLUMNS`], [`MOST_MODULES`], [`MOST_DATA`],
 //! [`MOST_CODEWORDS`], [`MOST_BLOCKS`] and [`LONGEST_BLOCK`]. What the contracts say is defined in `specs/`; [`laws`]

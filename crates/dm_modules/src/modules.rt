@@ -120,7 +120,7 @@ impl Modules {
     /// Becomes the modules of a symbol of a size with these rows, from the top, each written as a number, in which the
     /// module of column `c`, counted from 0 at the left, is the bit of weight 2^c, 1 for dark. The bits from the
     /// columns on may be anything. There are as many numbers as the size has rows, and it has no more columns than such
-    /// a number has bits, as all sizes but two.
+    /// a number has bits, as all sizes but three.
     pub fn set_rows(&mut self, new_size: SymbolSize, numbers: &[u128])
         requires count { length numbers.now ≡ new_size.rows }
         requires columns { new_size.columns ≤ 128 }

@@ -71,8 +71,8 @@ fn inspect_told(modules: &[u8], doubtful: &[u8], rows: u16, columns: u16, out: &
     }
 }
 
-/// Does so for a symbol of any size. It stands by itself, so that squares leave no room for its
-/// inspection on the stack.
+/// Does so for a symbol of any size. It stands by itself, so that squares leave no room for its inspection
+/// on the stack.
 #[inline(never)]
 fn inspect_symbol(modules: &[u8], doubtful: &[u8], rows: u16, columns: u16, out: &mut InspectionOut)
     ensures { IsInspectResult rows columns modules.now doubtful.now out.old out.new }

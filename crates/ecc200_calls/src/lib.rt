@@ -13,9 +13,9 @@
 //! Each function is total, takes no memory but its stack, and keeps nothing between calls. It writes nothing but `out`,
 //! and of the arrays in it only the elements that count. What they give is defined in `specs/`, on the definitions of
 //! `dm_symbol` for symbols of every size: `Readings`, `Symbols`, `Inspections`, `Places`, `Sizes`; `Laws` has the laws
-//! of these definitions, which the functions of [`laws`] prove. Squares of sides 10 to 104 are read and written as
-//! grids, which is faster, also where modules are doubtful; a law of `dm_symbol` says that without these the results are
-//! the same, and the contract of its call for grids says so where some are doubtful.
+//! of these definitions, which the functions of [`laws`] prove. Squares of sides 10 to 104 are read,
+//! normalised and written as grids, which is faster; a law of `dm_symbol` says that the results are the same. They are
+//! read as grids also where modules are doubtful, and inspected so, by calls of `dm_symbol` whose contracts say so.
 #![tactic(auto)]
 
 mod arrays;

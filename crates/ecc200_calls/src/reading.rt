@@ -127,8 +127,8 @@ fn read_square(extent: Extent, modules: &[u8], side: u16, border_limit: u16, out
     }
 }
 
-/// Does so for a symbol of any size. It stands by itself, so that squares leave no room for its
-/// reading on the stack.
+/// Does so for a symbol of any size. It stands by itself, so that squares leave no room for its reading on the
+/// stack.
 #[inline(never)]
 fn read_symbol(
     extent: Extent,

@@ -11,8 +11,8 @@ use crate::squares::make_grid;
 use dm_symbol::{Grid, SymbolInspection, inspect_doubtful_to, inspect_grid_to, light_grid};
 
 /// Shows the inspection of the symbol of these modules, or why they make none, for a square that can be read as a grid,
-/// and with no numbers for doubtful modules. It stands by itself, so that other symbols leave no room for its grid on the
-/// stack.
+/// and with no numbers for doubtful modules. It stands by itself, so that other symbols leave no room for its grid on
+/// the stack.
 #[inline(never)]
 pub(crate) fn inspect_square(modules: &[u8], side: u16, out: &mut InspectionOut)
     requires { IsSome (row_with_side side) }

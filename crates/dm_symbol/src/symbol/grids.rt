@@ -11,7 +11,7 @@ ghost use Rattle.dm_symbol.specs.SymbolInspection.{IsSymbolInspection};
 use crate::reading::ReadFault;
 use crate::symbol::inspection::{SymbolInspection, mend_each};
 use crate::symbol::reading::{SymbolReading, restore_each};
-use dm_layout::{Grid, border_faults, border_faults_but, lift};
+use dm_layout::{Grid, Words, border_faults, border_faults_but, lift_to};
 use dm_modules::{SymbolSize, SymbolWords};
 use dm_words::{Extent, message_to_as};
 
@@ -60,7 +60,8 @@ pub fn inspect_grid_to(grid: &Grid, inspection: &mut SymbolInspection)
     mend_each(&mut inspection.mended, None, &mut inspection.blocks);
 }
 
-/// Does so where some cells are doubtful: those that are dark in a grid of the same size.
+/// Inspects a grid as [`inspect_grid_to`] does, where some cells are doubtful: those that are dark in a grid of the
+/// same size.
 pub fn inspect_doubtful_to(grid: &Grid, doubtful: &Grid, inspection: &mut SymbolInspection)
     requires { doubtful.now.size ≡ grid.now.size }
     ensures { IsSymbolInspection (symbol_modules grid.now) (Some (symbol_modules doubtful.now))
@@ -93,5 +94,7 @@ fn words_held(grid: &Grid, size: SymbolSize) -> SymbolWords
     requires { size ≡ symbol_size grid.now.size }
     ensures { Holds (symbol_modules grid.now) result }
 {
-    SymbolWords::new(size, lift(grid).list())
+    let mut words = Words::zeros(grid.size());
+    lift_to(grid, &mut words);
+    SymbolWords::new(size, words.list())
 }

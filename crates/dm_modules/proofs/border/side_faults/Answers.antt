@@ -23,7 +23,8 @@ loop-region-preserved g c =
     no_fault m row (k * (w + 2) + j) (between_edges m.size row k j c.requires.between low high)) in
     let at : (c : ℕ) → 0 + c ≡ c = λ c. omega arith in
     let seen : (x : ℕ) (d : Bool) → x < c.columns.result →
-    one_if (not (beq (get_or (map g.C.Colour.dark c.part-line.result.now) x false) d)) ≡ one_if (not (beq (module_at m row x) d)) =
+    one_if (not (beq (get_or (map g.C.Colour.dark c.part-line.result.now) x false) d))
+    ≡ one_if (not (beq (module_at m row x) d)) =
     λ x d l. ap (λ (v : Bool). one_if (not (beq v d)))
     (c.part-line.ensures.colours x l ∙ ap (module_at m row) (at x)) in
     let across : ℕ = c.regions_across-region-end.result in

@@ -1,4 +1,5 @@
-use Rattle.std.proofs.Common.{◌≡◌, ◌≤◌, ◌<◌, ◌+◌, ◌-◌, ◌/◌, ◌^◌, ◌∙◌, ◌++◌, ℕ, List, ap, arith, bit_and, drop, length, sym}
+use Rattle.std.proofs.Common.{◌≡◌, ◌≤◌, ◌<◌, ◌+◌, ◌-◌, ◌/◌, ◌^◌, ◌∙◌, ◌++◌, ℕ, List, ap, arith, bit_and, drop, length}
+use Rattle.std.proofs.Common.{sym}
 use Rattle.std.proofs.Common.{take}
 use Rattle.std.proofs.lemmas.Simd.{length-put_chunk}
 use Rattle.std.specs.Simd.Lanes.{put_chunk}

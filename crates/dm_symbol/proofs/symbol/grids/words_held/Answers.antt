@@ -9,10 +9,10 @@ use Rattle.dm_symbol.proofs.symbol.grids.words_held.Goals as goal
 
 pub returns : goal.returns
 returns c =
-    let w = c.lift.result in
-    let same : c.args.size ≡ symbol_size w.size = c.requires ∙ sym (ap symbol_size c.lift.ensures.holds.same_size) in
+    let w = c.lift_to.new.words in
+    let same : c.args.size ≡ symbol_size w.size = c.requires ∙ sym (ap symbol_size c.lift_to.ensures.holds.same_size) in
     let given : c.new.result ≡ symbol_words w =
     c.new.ensures.value ∙ ap (λ s. words_with s c.list.result.now) same
     ∙ ap (words_with (symbol_size w.size)) c.list.ensures.value in
     subst (Holds (symbol_modules c.args.grid.now)) (sym given)
-    (modules_hold c.args.grid.now w c.lift.ensures.holds)
+    (modules_hold c.args.grid.now w c.lift_to.ensures.holds)

@@ -51,10 +51,9 @@ returns-in-Ok-message_to_as-clause-read g c =
     subst (λ words. Spells e words message) c.data_part.ensures.value
     ((c.in-Ok-message_to_as.ensures.message message).0 refl) in
     is_symbol_read e m doubt limit _
-    (spelled_result e m doubt limit c.lift_borrowed-words.result v few c.lift_borrowed-words.ensures.holds c.in-Ok.ensures.size
-    c.in-Ok.ensures.words
-    c.in-Ok.ensures.near message c.restore_blocks.new.blocks c.sure_faults-border_faults.result
-    c.in-Ok.ensures.readings c.sure_faults-border_faults.ensures spelled)
+    (spelled_result e m doubt limit c.lift_borrowed-words.result v few c.lift_borrowed-words.ensures.holds
+    c.in-Ok.ensures.size c.in-Ok.ensures.words c.in-Ok.ensures.near message c.restore_blocks.new.blocks
+    c.sure_faults-border_faults.result c.in-Ok.ensures.readings c.sure_faults-border_faults.ensures spelled)
 
 pub returns-in-Err-message_to_as-clause-read : goal.returns-in-Err-message_to_as-clause-read
 returns-in-Err-message_to_as-clause-read g c =
@@ -70,6 +69,5 @@ returns-in-Err-message_to_as-clause-read g c =
     subst (λ words. Refused e words why) c.data_part.ensures.value
     ((c.in-Err-message_to_as.ensures.fault why).0 refl) in
     is_symbol_read e m doubt limit _
-    (refused_result e m doubt limit c.lift_borrowed-words.result v few c.lift_borrowed-words.ensures.holds c.in-Ok.ensures.size
-    c.in-Ok.ensures.words
-    c.in-Ok.ensures.near why refused)
+    (refused_result e m doubt limit c.lift_borrowed-words.result v few c.lift_borrowed-words.ensures.holds
+    c.in-Ok.ensures.size c.in-Ok.ensures.words c.in-Ok.ensures.near why refused)
