@@ -1,7 +1,12 @@
 -- The costs that lie in lanes are those of the definition.
 use Rattle.std.proofs.Common.{◌≡◌, ℕ, zero, suc, ◌+◌, ◌-◌, ◌^◌, ◌<◌, ◌≤◌, get_or, List, refl, sym, ap, subst}
-use Rattle.std.proofs.Common.{◌∙◌, arith, Bool, true, false, cond, ltb}
-use Rattle.std.specs.Prelude.{nat_le, ◌&&◌}
+use Rattle.std.proofs.Common.{◌∙◌, arith, Bool, true, false, cond, eqb, length, ltb, replicate, w16}
+use Rattle.std.specs.Prelude.{[], ◌∷◌, ◌&&◌, bit_and, map, nat_eq, nat_le, not}
+use Rattle.std.specs.List.{range_with_len}
+use lib.Lanes.{sel_l, top, zip2}
+use Rattle.std.proofs.lemmas.List.{length-map}
+use Rattle.std.proofs.lemmas.List.FromFn.{get_or-map-range_with_len}
+use Rattle.std.proofs.lemmas.Simd.{map-map, tops_compared, zip2_splat, zip2_splat_left}
 use Prim.Native.Nat.{min}
 use Rattle.std.proofs.lemmas.Bool.Decides.{nat_tests}
 use Rattle.dm_words.specs.declared.extent.Extent.{Extent}
@@ -9,8 +14,7 @@ use Rattle.dm_words.specs.declared.extent.Extent.TheVariants.{Usual, Wide}
 use Rattle.dm_words.specs.declared.item.Item.{Item}
 use Rattle.dm_words.specs.declared.item.Item.TheVariants.{Byte, Fnc1}
 use Rattle.dm_words.specs.declared.c40.set.CodeSet.TheVariants.{C40, Text, X12}
-use Rattle.dm_words.specs.declared.smallest.row.Class.{Class}
-use Rattle.dm_words.specs.declared.smallest.row.Class.TheVariants as class
+use Rattle.dm_words.specs.declared.smallest.sets.TheConstants.{SETS}
 use Rattle.dm_words.specs.declared.smallest.row.Costs.{Costs}
 use Rattle.dm_words.specs.declared.smallest.row.GoingCosts.{GoingCosts}
 use Rattle.dm_words.specs.inner.Costs.{Pairs, Groups, Going, Row, is_basic, low_values, set_values, has_edifact, stay}
@@ -18,7 +22,7 @@ use Rattle.dm_words.specs.inner.Costs.{stay_edifact, values_before, going_over, 
 use Rattle.dm_words.specs.inner.Costs.{no_pairs, no_groups, leave}
 use Rattle.dm_words.specs.inner.Costs.{has_bit, step_in, step_of, begin_at, cost_of}
 use Rattle.dm_words.specs.declared.smallest.plan.StepBits.{StepBits}
-use Rattle.dm_words.specs.inner.CostLanes.{is_upper, is_lower, in_x12, in_edifact, read_edifact, one_or_two}
+use Rattle.dm_words.specs.inner.CostLanes.{byte_sets, read_bits, read_edifact, one_or_two, set_bits}
 use Rattle.dm_words.specs.inner.CostLanes.{first_lanes}
 use Rattle.dm_words.specs.inner.CostLanes.{second_lanes, AreFirst, AreNext, AreSecond, HasRow, HasGoing, end_lanes}
 use Rattle.dm_words.specs.inner.CostLanes.{cost_lanes}
@@ -34,42 +38,39 @@ stay_raised true p = refl
 stay_raised false p = refl
 
 -- The lanes of a byte below 128.
-pub first_low : (byte : ℕ) (class : Class) (c t : Pairs) (bytes rest : ℕ) (lanes : List ℕ) → byte < 128
-    → is_basic C40 byte ≡ is_upper class → is_basic Text byte ≡ is_lower class
-    → lanes ≡ first_lanes (values_before (one_or_two (is_upper class)) c)
-    (values_before (one_or_two (is_lower class)) t) bytes rest
+pub first_low : (byte : ℕ) (c t : Pairs) (bytes rest : ℕ) (lanes : List ℕ) → byte < 128
+    → lanes ≡ first_lanes (values_before (one_or_two (is_basic C40 byte)) c)
+    (values_before (one_or_two (is_basic Text byte)) t) bytes rest
     → lanes ≡ first_lanes (stay (set_values C40 (Byte byte)) c) (stay (set_values Text (Byte byte)) t) bytes rest
-first_low byte class c t bytes rest lanes low upper lower is =
+first_low byte c t bytes rest lanes low is =
     let test : ltb byte 128 ≡ true = grind (arith, nat_tests) in
-    let c40 : set_values C40 (Byte byte) ≡ one_or_two (is_upper class) =
-    ap (λ (b : Bool). cond b (low_values C40 byte) (2 + low_values C40 (byte - 128))) test ∙ ap one_or_two upper in
-    let text : set_values Text (Byte byte) ≡ one_or_two (is_lower class) =
-    ap (λ (b : Bool). cond b (low_values Text byte) (2 + low_values Text (byte - 128))) test ∙ ap one_or_two lower in
+    let c40 : set_values C40 (Byte byte) ≡ one_or_two (is_basic C40 byte) =
+    ap (λ (b : Bool). cond b (low_values C40 byte) (2 + low_values C40 (byte - 128))) test in
+    let text : set_values Text (Byte byte) ≡ one_or_two (is_basic Text byte) =
+    ap (λ (b : Bool). cond b (low_values Text byte) (2 + low_values Text (byte - 128))) test in
     is
-    ∙ ap (λ (p : Pairs). first_lanes p (values_before (one_or_two (is_lower class)) t) bytes rest)
-    (stay_low (is_upper class) c ∙ ap (λ (n : ℕ). stay n c) (sym c40))
+    ∙ ap (λ (p : Pairs). first_lanes p (values_before (one_or_two (is_basic Text byte)) t) bytes rest)
+    (stay_low (is_basic C40 byte) c ∙ ap (λ (n : ℕ). stay n c) (sym c40))
     ∙ ap (λ (p : Pairs). first_lanes (stay (set_values C40 (Byte byte)) c) p bytes rest)
-    (stay_low (is_lower class) t ∙ ap (λ (n : ℕ). stay n t) (sym text))
+    (stay_low (is_basic Text byte) t ∙ ap (λ (n : ℕ). stay n t) (sym text))
 
 -- The lanes of a byte from 128 on.
-pub first_high : (byte : ℕ) (class : Class) (c t : Pairs) (bytes rest : ℕ) (lanes : List ℕ) → 128 ≤ byte
-    → is_basic C40 (byte - 128) ≡ is_upper class → is_basic Text (byte - 128) ≡ is_lower class
-    → lanes ≡ first_lanes (values_before (one_or_two (is_upper class)) (values_before 2 c))
-    (values_before (one_or_two (is_lower class)) (values_before 2 t)) bytes rest
+pub first_high : (byte : ℕ) (c t : Pairs) (bytes rest : ℕ) (lanes : List ℕ) → 128 ≤ byte
+    → lanes ≡ first_lanes (values_before (one_or_two (is_basic C40 (byte - 128))) (values_before 2 c))
+    (values_before (one_or_two (is_basic Text (byte - 128))) (values_before 2 t)) bytes rest
     → lanes ≡ first_lanes (stay (set_values C40 (Byte byte)) c) (stay (set_values Text (Byte byte)) t) bytes rest
-first_high byte class c t bytes rest lanes high upper lower is =
+first_high byte c t bytes rest lanes high is =
+    let low : ℕ = byte - 128 in
     let test : ltb byte 128 ≡ false = grind (arith, nat_tests) in
-    let c40 : set_values C40 (Byte byte) ≡ 2 + one_or_two (is_upper class) =
-    ap (λ (b : Bool). cond b (low_values C40 byte) (2 + low_values C40 (byte - 128))) test
-    ∙ ap (λ (b : Bool). 2 + one_or_two b) upper in
-    let text : set_values Text (Byte byte) ≡ 2 + one_or_two (is_lower class) =
-    ap (λ (b : Bool). cond b (low_values Text byte) (2 + low_values Text (byte - 128))) test
-    ∙ ap (λ (b : Bool). 2 + one_or_two b) lower in
+    let c40 : set_values C40 (Byte byte) ≡ 2 + one_or_two (is_basic C40 low) =
+    ap (λ (b : Bool). cond b (low_values C40 byte) (2 + low_values C40 low)) test in
+    let text : set_values Text (Byte byte) ≡ 2 + one_or_two (is_basic Text low) =
+    ap (λ (b : Bool). cond b (low_values Text byte) (2 + low_values Text low)) test in
     is
-    ∙ ap (λ (p : Pairs). first_lanes p (values_before (one_or_two (is_lower class)) (values_before 2 t)) bytes rest)
-    (stay_raised (is_upper class) c ∙ ap (λ (n : ℕ). stay n c) (sym c40))
+    ∙ ap (λ (p : Pairs). first_lanes p (values_before (one_or_two (is_basic Text low)) (values_before 2 t)) bytes rest)
+    (stay_raised (is_basic C40 low) c ∙ ap (λ (n : ℕ). stay n c) (sym c40))
     ∙ ap (λ (p : Pairs). first_lanes (stay (set_values C40 (Byte byte)) c) p bytes rest)
-    (stay_raised (is_lower class) t ∙ ap (λ (n : ℕ). stay n t) (sym text))
+    (stay_raised (is_basic Text low) t ∙ ap (λ (n : ℕ). stay n t) (sym text))
 
 -- Two values more leave the costs below what they may be.
 pub raised_next : (c t : Pairs) (bytes rest : ℕ) (lanes raised : List ℕ) → AreNext c t bytes rest lanes
@@ -94,16 +95,12 @@ next_first c t bytes rest lanes h = record {
 }
 
 -- The second lanes of a byte.
-pub second_byte : (extent : Extent) (byte : ℕ) (class : Class) (x : Pairs) (e : Groups) (lanes : List ℕ)
-    → is_basic X12 byte ≡ in_x12 class → (nat_le 32 byte && nat_le byte 94) ≡ in_edifact class
-    → lanes ≡ second_lanes (stay (cond (in_x12 class) 1 0) x) (stay_edifact (read_edifact extent class) e)
+pub second_byte : (extent : Extent) (byte : ℕ) (x : Pairs) (e : Groups) (lanes : List ℕ)
+    → lanes ≡ second_lanes (stay (cond (is_basic X12 byte) 1 0) x)
+    (stay_edifact (read_edifact extent (nat_le 32 byte && nat_le byte 94)) e)
     → lanes ≡ second_lanes (stay (set_values X12 (Byte byte)) x) (stay_edifact (has_edifact extent (Byte byte)) e)
-second_byte extent byte class x e lanes x12 edifact is =
-    is ∙ ap (λ (b : Bool). second_lanes (stay (cond b 1 0) x) (stay_edifact (read_edifact extent class) e)) (sym x12)
-    ∙ ap (λ (b : Bool). second_lanes (stay (set_values X12 (Byte byte)) x) (stay_edifact b e)) (read extent) where
-      read : (extent : Extent) → read_edifact extent class ≡ has_edifact extent (Byte byte)
-      read Wide = sym edifact
-      read Usual = refl
+second_byte Wide byte x e lanes is = is
+second_byte Usual byte x e lanes is = is
 
 -- ---- a row
 
@@ -163,16 +160,145 @@ over_byte extent item byte r next going is h first others near =
       near = near ∙ ap (λ (n : ℕ). 1 + n) h.near ∙ near_more (nat_le r.ascii r.segment.bytes) r.segment.near;
     })
 
--- What X12 has but the carriage return is read in EDIFACT wherever digits are.
-pub same_read : (extent : Extent) (c : Class) → in_edifact c ≡ true → read_edifact extent class.Both
-    ≡ read_edifact extent c
-same_read Wide c is = sym is
-same_read Usual c is = refl
+-- ---- lanes by sets
 
--- What EDIFACT doesn't have isn't read in any extent.
-pub not_read : (extent : Extent) (c : Class) → in_edifact c ≡ false → false ≡ read_edifact extent c
-not_read Wide c is = sym is
-not_read Usual c is = refl
+-- The lanes of these bits are inside, where one of the sets has the bit.
+abbrev pub in_sets : ℕ → List ℕ → List Bool
+in_sets sets bits = map (λ bit. not (nat_eq (bit_and sets bit) 0)) bits
+
+-- A comparison with 0 tells the lanes that aren't 0.
+told_lanes : (xs : List ℕ) → length xs ≡ 8
+    → map (top 15) (zip2 (λ a b. cond (not (eqb a b)) 65535 0) xs (replicate 8 0)) ≡ map (λ n. not (eqb n 0)) xs
+told_lanes xs long =
+    let ne : ℕ → ℕ → Bool = λ a b. not (eqb a b) in
+    tops_compared w16 ne xs (replicate 8 0) ∙ zip2_splat ne xs 8 0 long
+
+-- A number is put into the lanes that are told by such a comparison.
+pub with_lane_is : (lane lanes : List ℕ) (number : ℕ) → length lane ≡ 8
+    → sel_l (map (top 15) (zip2 (λ a b. cond (not (eqb a b)) 65535 0) lane (replicate 8 0))) (replicate 8 number) lanes
+    ≡ sel_l (map (λ n. not (eqb n 0)) lane) (replicate 8 number) lanes
+with_lane_is lane lanes number long =
+    ap (λ (ms : List Bool). sel_l ms (replicate 8 number) lanes) (told_lanes lane long)
+
+-- A comparison of the bits that are shared with 0 tells these lanes.
+pub by_sets_is : (sets : ℕ) (bits inside outside : List ℕ) → length bits ≡ 8
+    → sel_l (map (top 15) (zip2 (λ a b. cond (not (eqb a b)) 65535 0)
+    (zip2 (λ a b. bit_and a b) (replicate 8 sets) bits) (replicate 8 0))) inside outside
+    ≡ sel_l (in_sets sets bits) inside outside
+by_sets_is sets bits inside outside long =
+    let shared : zip2 (λ a b. bit_and a b) (replicate 8 sets) bits ≡ map (λ bit. bit_and sets bit) bits =
+    zip2_splat_left (λ a b. bit_and a b) sets 8 bits long in
+    ap (λ (xs : List ℕ). sel_l (map (top 15) (zip2 (λ a b. cond (not (eqb a b)) 65535 0) xs (replicate 8 0))) inside
+    outside) shared
+    ∙ ap (λ (ms : List Bool). sel_l ms inside outside)
+    (told_lanes (map (λ bit. bit_and sets bit) bits) (length-map bits (λ bit. bit_and sets bit) ∙ long)
+    ∙ map-map (λ n. not (eqb n 0)) (λ bit. bit_and sets bit) bits)
+
+-- A byte is one value or two of C40, and one or two of Text.
+first_by_sets : (in_c40 in_text in_x12 in_edifact : Bool) (c t : Pairs) (bytes rest : ℕ)
+    → sel_l (in_sets (set_bits in_c40 in_text in_x12 in_edifact) (1 ∷ 1 ∷ 1 ∷ 2 ∷ 2 ∷ 2 ∷ 0 ∷ 0 ∷ []))
+    (first_lanes (values_before 1 c) (values_before 1 t) bytes rest)
+    (first_lanes (values_before 2 c) (values_before 2 t) bytes rest)
+    ≡ first_lanes (values_before (one_or_two in_c40) c) (values_before (one_or_two in_text) t) bytes rest
+first_by_sets true true true true c t bytes rest = refl
+first_by_sets true true true false c t bytes rest = refl
+first_by_sets true true false true c t bytes rest = refl
+first_by_sets true true false false c t bytes rest = refl
+first_by_sets true false true true c t bytes rest = refl
+first_by_sets true false true false c t bytes rest = refl
+first_by_sets true false false true c t bytes rest = refl
+first_by_sets true false false false c t bytes rest = refl
+first_by_sets false true true true c t bytes rest = refl
+first_by_sets false true true false c t bytes rest = refl
+first_by_sets false true false true c t bytes rest = refl
+first_by_sets false true false false c t bytes rest = refl
+first_by_sets false false true true c t bytes rest = refl
+first_by_sets false false true false c t bytes rest = refl
+first_by_sets false false false true c t bytes rest = refl
+first_by_sets false false false false c t bytes rest = refl
+
+-- A byte goes on in X12, in EDIFACT where that is read, in both or in none.
+second_by_sets : (extent : Extent) (in_c40 in_text in_x12 in_edifact : Bool) (x : Pairs) (e : Groups)
+    → sel_l (in_sets (bit_and (set_bits in_c40 in_text in_x12 in_edifact) (read_bits extent))
+    (4 ∷ 4 ∷ 4 ∷ 8 ∷ 8 ∷ 8 ∷ 8 ∷ 0 ∷ []))
+    (second_lanes (stay 1 x) (stay_edifact true e)) (second_lanes no_pairs no_groups)
+    ≡ second_lanes (stay (cond in_x12 1 0) x) (stay_edifact (read_edifact extent in_edifact) e)
+second_by_sets Wide true true true true x e = refl
+second_by_sets Wide true true true false x e = refl
+second_by_sets Wide true true false true x e = refl
+second_by_sets Wide true true false false x e = refl
+second_by_sets Wide true false true true x e = refl
+second_by_sets Wide true false true false x e = refl
+second_by_sets Wide true false false true x e = refl
+second_by_sets Wide true false false false x e = refl
+second_by_sets Wide false true true true x e = refl
+second_by_sets Wide false true true false x e = refl
+second_by_sets Wide false true false true x e = refl
+second_by_sets Wide false true false false x e = refl
+second_by_sets Wide false false true true x e = refl
+second_by_sets Wide false false true false x e = refl
+second_by_sets Wide false false false true x e = refl
+second_by_sets Wide false false false false x e = refl
+second_by_sets Usual true true true true x e = refl
+second_by_sets Usual true true true false x e = refl
+second_by_sets Usual true true false true x e = refl
+second_by_sets Usual true true false false x e = refl
+second_by_sets Usual true false true true x e = refl
+second_by_sets Usual true false true false x e = refl
+second_by_sets Usual true false false true x e = refl
+second_by_sets Usual true false false false x e = refl
+second_by_sets Usual false true true true x e = refl
+second_by_sets Usual false true true false x e = refl
+second_by_sets Usual false true false true x e = refl
+second_by_sets Usual false true false false x e = refl
+second_by_sets Usual false false true true x e = refl
+second_by_sets Usual false false true false x e = refl
+second_by_sets Usual false false false true x e = refl
+second_by_sets Usual false false false false x e = refl
+
+-- So are the lanes that are taken by the sets.
+pub first_chosen : (in_c40 in_text in_x12 in_edifact : Bool) (c t : Pairs) (bytes rest sets : ℕ)
+    (one two lanes : List ℕ)
+    → sets ≡ set_bits in_c40 in_text in_x12 in_edifact
+    → one ≡ first_lanes (values_before 1 c) (values_before 1 t) bytes rest
+    → two ≡ first_lanes (values_before 2 c) (values_before 2 t) bytes rest
+    → lanes ≡ sel_l (in_sets sets (1 ∷ 1 ∷ 1 ∷ 2 ∷ 2 ∷ 2 ∷ 0 ∷ 0 ∷ [])) one two
+    → lanes ≡ first_lanes (values_before (one_or_two in_c40) c) (values_before (one_or_two in_text) t) bytes rest
+first_chosen in_c40 in_text in_x12 in_edifact c t bytes rest sets one two lanes is_sets is_one is_two is =
+    let bits = set_bits in_c40 in_text in_x12 in_edifact in
+    is
+    ∙ ap (λ (n : ℕ). sel_l (in_sets n (1 ∷ 1 ∷ 1 ∷ 2 ∷ 2 ∷ 2 ∷ 0 ∷ 0 ∷ [])) one two) is_sets
+    ∙ ap (λ (xs : List ℕ). sel_l (in_sets bits (1 ∷ 1 ∷ 1 ∷ 2 ∷ 2 ∷ 2 ∷ 0 ∷ 0 ∷ [])) xs two) is_one
+    ∙ ap (sel_l (in_sets bits (1 ∷ 1 ∷ 1 ∷ 2 ∷ 2 ∷ 2 ∷ 0 ∷ 0 ∷ []))
+    (first_lanes (values_before 1 c) (values_before 1 t) bytes rest)) is_two
+    ∙ first_by_sets in_c40 in_text in_x12 in_edifact c t bytes rest
+
+-- Likewise the others.
+pub second_chosen : (extent : Extent) (in_c40 in_text in_x12 in_edifact : Bool) (x : Pairs) (e : Groups)
+    (sets read : ℕ) (inside outside lanes : List ℕ)
+    → sets ≡ set_bits in_c40 in_text in_x12 in_edifact → read ≡ read_bits extent
+    → inside ≡ second_lanes (stay 1 x) (stay_edifact true e) → outside ≡ second_lanes no_pairs no_groups
+    → lanes ≡ sel_l (in_sets (bit_and sets read) (4 ∷ 4 ∷ 4 ∷ 8 ∷ 8 ∷ 8 ∷ 8 ∷ 0 ∷ [])) inside outside
+    → lanes ≡ second_lanes (stay (cond in_x12 1 0) x) (stay_edifact (read_edifact extent in_edifact) e)
+second_chosen extent in_c40 in_text in_x12 in_edifact x e sets read inside outside lanes is_sets is_read is_inside
+    is_outside is =
+    let bits = set_bits in_c40 in_text in_x12 in_edifact in
+    is
+    ∙ ap (λ (n : ℕ). sel_l (in_sets (bit_and n read) (4 ∷ 4 ∷ 4 ∷ 8 ∷ 8 ∷ 8 ∷ 8 ∷ 0 ∷ [])) inside outside) is_sets
+    ∙ ap (λ (n : ℕ). sel_l (in_sets (bit_and bits n) (4 ∷ 4 ∷ 4 ∷ 8 ∷ 8 ∷ 8 ∷ 8 ∷ 0 ∷ [])) inside outside) is_read
+    ∙ ap (λ (xs : List ℕ). sel_l (in_sets (bit_and bits (read_bits extent)) (4 ∷ 4 ∷ 4 ∷ 8 ∷ 8 ∷ 8 ∷ 8 ∷ 0 ∷ [])) xs outside) is_inside
+    ∙ ap (sel_l (in_sets (bit_and bits (read_bits extent)) (4 ∷ 4 ∷ 4 ∷ 8 ∷ 8 ∷ 8 ∷ 8 ∷ 0 ∷ []))
+    (second_lanes (stay 1 x) (stay_edifact true e))) is_outside
+    ∙ second_by_sets extent in_c40 in_text in_x12 in_edifact x e
+
+-- The table has the sets of each byte: this is computed.
+pub sets_at : (byte : ℕ) → byte < 256 → get_or SETS byte 0 ≡ byte_sets byte
+sets_at byte small =
+    ap (λ (xs : List ℕ). get_or xs byte 0) sets_are
+    ∙ get_or-map-range_with_len byte_sets 0 256 byte byte 0 small (omega arith)
+  where
+    sets_are : SETS ≡ map byte_sets (range_with_len 0 256)
+    sets_are = refl
 
 -- ---- a step
 

@@ -5,7 +5,7 @@ use Rattle.std.specs.Prelude.{nat_le}
 use Rattle.std.proofs.lemmas.Bool.{cases_lt}
 use Rattle.std.proofs.lemmas.List.{at_drop_all, get_or-set_same, get_or-set_other}
 use Rattle.std.proofs.Math.ListN.{set}
-use Rattle.std.proofs.Math.Seq.{drop-cons}
+use Rattle.std.proofs.Math.Seq.{drop-cons, drop-length}
 use Rattle.dm_words.specs.declared.extent.Extent.{Extent}
 use Rattle.dm_words.specs.declared.item.Item.{Item}
 use Rattle.dm_words.specs.declared.item.Item.TheVariants.{Byte, Fnc1}
@@ -25,6 +25,7 @@ use Rattle.dm_words.specs.declared.smallest.row.Costs.{Costs}
 use Rattle.dm_words.specs.inner.CostLanes.{HasRow}
 use Rattle.dm_words.specs.inner.Costs.{AreSmall, step_in}
 use Rattle.dm_words.specs.inner.Costs.{none_going, row, parts_cost, pair_first, IsWithin, IsRightStep, step_of}
+use Rattle.dm_words.specs.inner.Costs.{digit_first, is_digit_item}
 use Rattle.dm_words.proofs.CostsMet.{least_is, is_least}
 use Rattle.dm_words.proofs.SpellingCounts.{unit_few}
 
@@ -178,11 +179,22 @@ turn_here extent x rest next new pair going begins cost step is_next is_pair is_
     (rw (is_cost, is_going, is_next, is_pair) at is_step) in
     (rw (is_new, is_cost, is_going, is_next, is_pair) refl, right_here extent x rest begins step right steps)
 
+-- No digit stands behind the last item.
+pub digit_last : (m : List Item) → digit_first (drop (length m) m) ≡ false
+digit_last m = ap digit_first (drop-length m)
+
+-- Whether the items from one before a place on begin with a digit is said by that one.
+pub digit_here : (m : List Item) (at : ℕ) (x d : Item) → 0 < at → at ≤ length m → x ≡ get_or m (at - 1) d
+    → is_digit_item x ≡ digit_first (drop (at - 1) m)
+digit_here m at x d some within is_x =
+    ap is_digit_item is_x
+    ∙ sym (ap digit_first (drop-cons m (at - 1) d (omega (arith, some, within))))
+
 -- A turn of the loop.
 pub turn : (extent : Extent) (m : List Item) (at : ℕ) (x d : Item) (next new : Row) (pair : Bool) (going : Going)
     (begins : Begin) (cost : ℕ) (step : Step)
     → 0 < at → at ≤ length m → x ≡ get_or m (at - 1) d
-    → next ≡ row extent (drop at m) → pair ≡ pair_first (drop (at - 1) m) → going ≡ going_over extent x next → cost
+    → next ≡ row extent (drop at m) → pair ≡ pair_first (x ∷ drop at m) → going ≡ going_over extent x next → cost
     ≡ least x pair next going → cost_of x pair next going begins ≡ cost
     → step ≡ step_of cost begins going → new ≡ with_ascii cost next.ascii going
     → (new ≡ row extent (drop (at - 1) m)) × IsRightStep extent (drop (at - 1) m) step
@@ -191,10 +203,9 @@ turn extent m at x d next new pair going begins cost step some within is_x is_ne
     let k : suc (at - 1) ≡ at = omega (arith, some) in
     let cons : drop (at - 1) m ≡ x ∷ drop at m = drop-cons m (at - 1) d (omega (arith, some, within))
     ∙ ap (λ (i : ℕ). get_or m (at - 1) d ∷ drop i m) k ∙ ap (λ (y : Item). y ∷ drop at m) (sym is_x) in
-    let pairs : pair ≡ pair_first (x ∷ drop at m) = is_pair ∙ ap pair_first cons in
     let P : List Item → Type 0 = λ r. (new ≡ row extent r) × IsRightStep extent r step in
     subst P (sym cons)
-    (turn_here extent x (drop at m) next new pair going begins cost step is_next pairs is_going is_cost chosen
+    (turn_here extent x (drop at m) next new pair going begins cost step is_next is_pair is_going is_cost chosen
     is_step is_new)
 
 -- One more step of the plan is written.

@@ -16,6 +16,7 @@ mod plan;
 mod row;
 mod run;
 mod segment;
+mod sets;
 mod values;
 
 use crate::ascii::{ascii_form, write_ascii};

@@ -1,51 +1,36 @@
 -- The costs of runs and segments as they lie in lanes.
-use Rattle.std.specs.Prelude.{◌≡◌, ℕ, ◌≤◌, List, [], ◌∷◌, Bool, true, false, nat_le, if◌then◌else◌}
+use Rattle.std.specs.Prelude.{◌≡◌, ℕ, ◌+◌, ◌≤◌, List, [], ◌∷◌, Bool, false, ◌&&◌, nat_le, if◌then◌else◌}
 use Prim.Native.Nat.{min}
 use Rattle.dm_words.specs.declared.extent.Extent.{Extent}
 use Rattle.dm_words.specs.declared.extent.Extent.TheVariants.{Usual, Wide}
-use Rattle.dm_words.specs.declared.smallest.row.Class.{Class}
-use Rattle.dm_words.specs.declared.smallest.row.Class.TheVariants as class
 use Rattle.dm_words.specs.declared.smallest.row.Costs.{Costs}
 use Rattle.dm_words.specs.declared.smallest.row.GoingCosts.{GoingCosts}
-use Rattle.dm_words.specs.inner.Costs.{Pairs, Groups, Going, Row, ArePaid, ArePaidGroups, cost_of}
+use Rattle.dm_words.specs.inner.Costs.{Pairs, Groups, Going, Row, ArePaid, ArePaidGroups, cost_of, is_basic}
 use Rattle.dm_words.specs.declared.item.Item.{Item}
 use Rattle.dm_words.specs.declared.c40.set.CodeSet.TheVariants.{C40, Text, X12}
 use Rattle.dm_words.specs.declared.smallest.plan.Begin.TheVariants.{One, Two, Run, Edifact, Segment, Rest}
 
--- ---- classes of bytes below 128
+-- ---- the sets that have a byte
 
--- A byte of a class has one value in C40.
-abbrev pub is_upper : Class → Bool
-is_upper class.Both = true
-is_upper class.Upper = true
-is_upper _ = false
+-- The sets that have a byte as one value, as bits: C40 has weight 1, Text 2, X12 4 and EDIFACT 8.
+abbrev pub set_bits : Bool → Bool → Bool → Bool → ℕ
+set_bits in_c40 in_text in_x12 in_edifact =
+    (if in_c40 then 1 else 0) + (if in_text then 2 else 0) + (if in_x12 then 4 else 0) + (if in_edifact then 8 else 0)
 
--- A byte of a class has one value in Text.
-abbrev pub is_lower : Class → Bool
-is_lower class.Both = true
-is_lower class.Lower = true
-is_lower _ = false
+-- These are the sets of a byte.
+abbrev pub byte_sets : ℕ → ℕ
+byte_sets byte =
+    set_bits (is_basic C40 byte) (is_basic Text byte) (is_basic X12 byte) (nat_le 32 byte && nat_le byte 94)
 
--- A byte of a class has a value in X12.
-abbrev pub in_x12 : Class → Bool
-in_x12 class.Both = true
-in_x12 class.Upper = true
-in_x12 class.Mark = true
-in_x12 class.Return = true
-in_x12 _ = false
+-- A byte has a value in EDIFACT, where an extent reads that.
+abbrev pub read_edifact : Extent → Bool → Bool
+read_edifact Wide has = has
+read_edifact Usual has = false
 
--- A byte of a class has a value in EDIFACT.
-abbrev pub in_edifact : Class → Bool
-in_edifact class.Both = true
-in_edifact class.Upper = true
-in_edifact class.Mark = true
-in_edifact class.Printed = true
-in_edifact _ = false
-
--- A byte of a class has a value in EDIFACT, where an extent reads that.
-abbrev pub read_edifact : Extent → Class → Bool
-read_edifact Wide c = in_edifact c
-read_edifact Usual c = false
+-- An extent reads runs of these sets, as bits.
+abbrev pub read_bits : Extent → ℕ
+read_bits Wide = 15
+read_bits Usual = 7
 
 -- A byte has so many values in a set, one where it is in the basic set.
 abbrev pub one_or_two : Bool → ℕ
@@ -100,6 +85,11 @@ pub record HasGoing (g : Going) (costs : GoingCosts) : Type 0 where
 -- A run or a segment ends in one lane of each three, with one of these costs; the others hold more than any cost.
 abbrev pub end_lanes : ℕ → ℕ → ℕ → List ℕ
 end_lanes run group cost = run ∷ 65535 ∷ 65535 ∷ group ∷ 65535 ∷ 65535 ∷ cost ∷ 65535 ∷ []
+
+-- A run ends without an unlatch before what costs at most this much, in the lanes in which it ends. A segment never has
+-- one.
+abbrev pub limit_lanes : ℕ → ℕ → List ℕ
+limit_lanes run group = run ∷ 0 ∷ 0 ∷ group ∷ 0 ∷ 0 ∷ 65535 ∷ 0 ∷ []
 
 -- Each way to begin costs so much.
 abbrev pub cost_lanes : Item → Bool → Row → Going → List ℕ

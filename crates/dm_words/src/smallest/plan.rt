@@ -2,7 +2,8 @@
 
 ghost use Rattle.std.specs.Prelude.{◌≡◌, ◌+◌, ◌^◌, ◌≤◌, ◌<◌, if◌then◌else◌, ℕ, nat_le, get_or, drop, length};
 ghost use Prim.Native.Nat.{min};
-ghost use Rattle.std.specs.Simd.Lanes.{zip2};
+ghost use Rattle.std.specs.Prelude.{map, nat_eq, not, replicate};
+ghost use Rattle.std.specs.Simd.Lanes.{sel_l, zip2};
 ghost use Rattle.dm_words.specs.inner.Costs.{Row, Going, cost_of, least, segment_cost, step_of, IsWithin, AreSmall};
 ghost use Rattle.dm_words.specs.inner.Costs.{row, parts_cost, is_digit_item, pair_first, never, begin_at, step_in};
 ghost use Rattle.dm_words.specs.inner.Costs.{has_bit};
@@ -130,12 +131,20 @@ fn pair_cost(pair: bool, after: u16) -> u16
     if pair { 1 + after } else { NEVER }
 }
 
-/// Whether two digits begin at an index.
-fn is_pair(items: &[Item], at: usize) -> bool
-    requires { at < length items.now }
-    ensures { result ≡ pair_first (drop at items.now) }
+/// What is added to the costs where runs and segments go on: the latch, and for a segment its length field, which is
+/// longer where the bytes are more than 249. The lanes of two items and of one are filled by themselves.
+const BEGINNINGS: [u16; 8] = [0, 0, 1, 1, 1, 1, 2, 2];
+
+const LONG_BEGINNINGS: [u16; 8] = [0, 0, 1, 1, 1, 1, 3, 2];
+
+/// Puts a number into the lane whose number is 1 here.
+#[inline]
+fn with_lane(lanes: Simd<u16, 8>, lane: [u16; 8], number: u16) -> Simd<u16, 8>
+    ensures { result ≡ sel_l (map (λ n. not (nat_eq n 0)) lane) (replicate 8 number) lanes }
 {
-    is_digit_item(items[at]) && at + 1 < items.len() && is_digit_item(items[at + 1])
+    u16x8::from_array(lane)
+        .simd_ne(u16x8::splat(0))
+        .select(u16x8::splat(number), lanes)
 }
 
 /// Gives the costs of each way to begin.
@@ -148,11 +157,21 @@ fn costs_of(item: Item, pair: bool, next: &Costs, going: &GoingCosts) -> Simd<u1
 {
     let two = pair_cost(pair, next.after);
     let one = unit_cost(item) + next.ascii;
-    let length = if going.near <= 249 { 2 } else { 3 };
+    let beginnings = if going.near <= 249 {
+        u16x8::from_array(BEGINNINGS)
+    } else {
+        u16x8::from_array(LONG_BEGINNINGS)
+    };
+    // What is added is made while the costs are still waited for.
+    let more = with_lane(
+        with_lane(beginnings, [1, 0, 0, 0, 0, 0, 0, 0], two),
+        [0, 1, 0, 0, 0, 0, 0, 0],
+        one,
+    );
     going
         .first
         .shuffle(going.second, [15, 15, 0, 3, 8, 11, 6, 7])
-        + u16x8::from_array([two, one, 1, 1, 1, 1, length, 2])
+        + more
 }
 
 /// Gives the lesser number of each lane.
@@ -246,13 +265,16 @@ pub(crate) fn plan_to(extent: Extent, items: &[Item], plan: &mut [StepBits]) -> 
 {
     let none = none_going();
     let mut costs = with_ascii(0, NEVER, &none);
+    let mut digit_behind = false;
     plan[items.len()] = step_of(0, 0, &none);
     for at in (0..items.len()).rev() {
         let item = items[at];
+        let digit = is_digit_item(item);
         let going = going_over(extent, item, &costs);
-        let choice = choose(item, is_pair(items, at), &costs, &going);
+        let choice = choose(item, digit & digit_behind, &costs, &going);
         plan[at] = step_of(choice.cost, choice.begins, &going);
         costs = with_ascii(choice.cost, costs.ascii, &going);
+        digit_behind = digit;
     }
     costs.ascii
 }

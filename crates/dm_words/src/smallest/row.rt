@@ -1,18 +1,20 @@
 //! What it costs to write all that follows an item, for each state of writing, in lanes.
 
 ghost use Rattle.std.specs.Prelude.{◌≡◌, ℕ, ◌+◌, ◌≤◌, ◌<◌, ◌&&◌, nat_le, if◌then◌else◌, false};
+ghost use Rattle.std.specs.Prelude.{Bool, true};
 ghost use Rattle.dm_words.specs.inner.Costs.{Pairs, Groups, Going, Row, no_pairs, no_groups, values_before, never};
 ghost use Rattle.dm_words.specs.inner.Costs.{stay, stay_edifact};
 ghost use Rattle.dm_words.specs.inner.Costs.{is_basic, unit_cost, set_values, has_edifact, leave, going_over};
 ghost use Rattle.dm_words.specs.inner.Costs.{with_ascii, last_row, none_going};
 ghost use Rattle.dm_words.specs.inner.Costs.{IsWithin, AreSmall};
-ghost use Rattle.dm_words.specs.inner.CostLanes.{is_upper, is_lower, in_x12, in_edifact, read_edifact, one_or_two};
-ghost use Rattle.dm_words.specs.inner.CostLanes.{AreNext, end_lanes};
+ghost use Rattle.dm_words.specs.inner.CostLanes.{read_edifact, one_or_two};
+ghost use Rattle.dm_words.specs.inner.CostLanes.{AreNext, end_lanes, limit_lanes, set_bits};
 ghost use Rattle.dm_words.specs.inner.CostLanes.{first_lanes, second_lanes, AreFirst, AreSecond, HasRow, HasGoing};
 
 use crate::c40::set::CodeSet;
 use crate::extent::Extent;
 use crate::item::Item;
+use crate::smallest::sets::{by_sets, sets_of, sets_read};
 use std::simd::prelude::*;
 
 /// More than any cost. What can't be written costs this much, or more.
@@ -45,25 +47,6 @@ pub struct GoingCosts {
     pub near: u16,
 }
 
-/// Which sets have a byte below 128 as one value.
-#[derive(Clone, Copy)]
-pub enum Class {
-    /// A space or a digit: each.
-    Both,
-    /// C40, X12 and EDIFACT.
-    Upper,
-    /// Text.
-    Lower,
-    /// X12.
-    Return,
-    /// X12 and EDIFACT.
-    Mark,
-    /// EDIFACT.
-    Printed,
-    /// None.
-    Other,
-}
-
 /// Whether the byte is one value of a set.
 pub(crate) fn is_basic(set: CodeSet, byte: u8) -> bool
     ensures { result ≡ is_basic set byte }
@@ -79,43 +62,39 @@ pub(crate) fn is_basic(set: CodeSet, byte: u8) -> bool
         }
 }
 
-/// Gives the class of a byte.
-fn class_of(byte: u8) -> Class
-    ensures c40 { is_basic CodeSet.C40 byte ≡ is_upper result }
-    ensures text { is_basic CodeSet.Text byte ≡ is_lower result }
-    ensures x12 { is_basic CodeSet.X12 byte ≡ in_x12 result }
-    ensures edifact { (nat_le 32 byte && nat_le byte 94) ≡ in_edifact result }
+/// The bit of the set to whose runs each of the first costs belongs; segments have none.
+const FIRST_SETS: [u16; 8] = [1, 1, 1, 2, 2, 2, 0, 0];
+
+/// The bit of the set to whose runs each of the second costs belongs.
+const SECOND_SETS: [u16; 8] = [4, 4, 4, 8, 8, 8, 8, 0];
+
+/// Gives the first costs before a byte that is one value in C40 and in Text, from those behind it.
+#[inline]
+fn first_over_one(next: Simd<u16, 8>) -> Simd<u16, 8>
+    ensures { (c t : Pairs) (bytes rest : ℕ) → AreFirst c t bytes rest next
+        → result ≡ first_lanes (values_before 1 c) (values_before 1 t) (1 + bytes) (1 + rest) }
 {
-    match byte {
-        b' ' | b'0'..=b'9' => Class::Both,
-        b'A'..=b'Z' => Class::Upper,
-        b'a'..=b'z' => Class::Lower,
-        b'\r' => Class::Return,
-        b'*' | b'>' => Class::Mark,
-        b'!'..=b'^' => Class::Printed,
-        _ => Class::Other,
-    }
+    next.swizzle([1, 2, 0, 4, 5, 3, 6, 7]) + u16x8::from_array([2, 0, 0, 2, 0, 0, 1, 1])
 }
 
-/// Gives the first costs before a byte of a class, from those behind it.
+/// Gives the first costs before a byte that is two values in C40 and in Text, from those behind it.
 #[inline]
-fn first_over(class: Class, next: Simd<u16, 8>) -> Simd<u16, 8>
+fn first_over_two(next: Simd<u16, 8>) -> Simd<u16, 8>
     ensures { (c t : Pairs) (bytes rest : ℕ) → AreFirst c t bytes rest next
-        → result ≡ first_lanes (values_before (one_or_two (is_upper class)) c)
-        (values_before (one_or_two (is_lower class)) t) (1 + bytes) (1 + rest) }
+        → result ≡ first_lanes (values_before 2 c) (values_before 2 t) (1 + bytes) (1 + rest) }
 {
-    match class {
-        Class::Both => {
-            next.swizzle([1, 2, 0, 4, 5, 3, 6, 7]) + u16x8::from_array([2, 0, 0, 2, 0, 0, 1, 1])
-        }
-        Class::Upper => {
-            next.swizzle([1, 2, 0, 5, 3, 4, 6, 7]) + u16x8::from_array([2, 0, 0, 2, 0, 2, 1, 1])
-        }
-        Class::Lower => {
-            next.swizzle([2, 0, 1, 4, 5, 3, 6, 7]) + u16x8::from_array([2, 0, 2, 2, 0, 0, 1, 1])
-        }
-        _ => next.swizzle([2, 0, 1, 5, 3, 4, 6, 7]) + u16x8::from_array([2, 0, 2, 2, 0, 2, 1, 1]),
-    }
+    next.swizzle([2, 0, 1, 5, 3, 4, 6, 7]) + u16x8::from_array([2, 0, 2, 2, 0, 2, 1, 1])
+}
+
+/// Gives the first costs before a byte that these sets have as one value, from those behind it.
+#[inline]
+fn first_over(sets: u16, next: Simd<u16, 8>) -> Simd<u16, 8>
+    ensures { (c t : Pairs) (bytes rest : ℕ) (in_c40 in_text in_x12 in_edifact : Bool)
+        → sets ≡ set_bits in_c40 in_text in_x12 in_edifact → AreFirst c t bytes rest next
+        → result ≡ first_lanes (values_before (one_or_two in_c40) c)
+        (values_before (one_or_two in_text) t) (1 + bytes) (1 + rest) }
+{
+    by_sets(sets, FIRST_SETS, first_over_one(next), first_over_two(next))
 }
 
 /// Gives the first costs before an Upper Shift, from those behind it.
@@ -145,61 +124,29 @@ fn no_second() -> Simd<u16, 8>
     u16x8::from_array([NEVER, NEVER, NEVER, NEVER, NEVER, NEVER, NEVER, 0])
 }
 
-/// Gives the second costs before a byte that X12 has and EDIFACT, where it is read, from those behind it.
+/// Gives the second costs before a byte that X12 has and EDIFACT, from those behind it.
 #[inline]
-fn second_over_both(extent: Extent, next: Simd<u16, 8>) -> Simd<u16, 8>
-    ensures { (x : Pairs) (e : Groups) → AreSecond x e next → result ≡ second_lanes (stay 1 x)
-        (stay_edifact (read_edifact extent Class.Both) e) }
-{
-    match extent {
-        Extent::Wide => {
-            next.swizzle([1, 2, 0, 4, 5, 6, 3, 7]) + u16x8::from_array([2, 0, 0, 1, 1, 1, 0, 0])
-        }
-        Extent::Usual => second_over_x12(next),
-    }
-}
-
-/// Gives the second costs before a byte that X12 has alone, from those behind it.
-#[inline]
-fn second_over_x12(next: Simd<u16, 8>) -> Simd<u16, 8>
+fn second_over_each(next: Simd<u16, 8>) -> Simd<u16, 8>
     ensures { (x : Pairs) (e : Groups) → AreSecond x e next
-        → result ≡ second_lanes (stay 1 x) (stay_edifact false e) }
+        → result ≡ second_lanes (stay 1 x) (stay_edifact true e) }
 {
-    next.shuffle(no_second(), [1, 2, 0, 8, 8, 8, 8, 7])
-        + u16x8::from_array([2, 0, 0, 0, 0, 0, 0, 0])
+    next.swizzle([1, 2, 0, 4, 5, 6, 3, 7]) + u16x8::from_array([2, 0, 0, 1, 1, 1, 0, 0])
 }
 
-/// Gives the second costs before a byte that EDIFACT has alone, where it is read, from those behind it.
+/// Gives the second costs before a byte that these sets have as one value, from those behind it.
 #[inline]
-fn second_over_edifact(extent: Extent, next: Simd<u16, 8>) -> Simd<u16, 8>
-    ensures { (x : Pairs) (e : Groups) → AreSecond x e next → result ≡ second_lanes (stay 0 x)
-        (stay_edifact (read_edifact extent Class.Printed) e) }
+fn second_over(extent: Extent, sets: u16, next: Simd<u16, 8>) -> Simd<u16, 8>
+    ensures { (x : Pairs) (e : Groups) (in_c40 in_text in_x12 in_edifact : Bool)
+        → sets ≡ set_bits in_c40 in_text in_x12 in_edifact → AreSecond x e next
+        → result ≡ second_lanes (stay (if in_x12 then 1 else 0) x)
+        (stay_edifact (read_edifact extent in_edifact) e) }
 {
-    match extent {
-        Extent::Wide => {
-            next.shuffle(no_second(), [8, 8, 8, 4, 5, 6, 3, 7])
-                + u16x8::from_array([0, 0, 0, 1, 1, 1, 0, 0])
-        }
-        Extent::Usual => no_second(),
-    }
-}
-
-/// Gives the second costs before a byte of a class, from those behind it.
-#[inline]
-fn second_over(extent: Extent, class: Class, next: Simd<u16, 8>) -> Simd<u16, 8>
-    ensures { (x : Pairs) (e : Groups) → AreSecond x e next
-        → result ≡ second_lanes (stay (if in_x12 class then 1 else 0) x)
-        (stay_edifact (read_edifact extent class) e) }
-{
-    match class {
-        Class::Both => second_over_both(extent, next),
-        Class::Upper => second_over_both(extent, next),
-        Class::Mark => second_over_both(extent, next),
-        Class::Return => second_over_x12(next),
-        Class::Printed => second_over_edifact(extent, next),
-        Class::Lower => no_second(),
-        Class::Other => no_second(),
-    }
+    by_sets(
+        sets & sets_read(extent),
+        SECOND_SETS,
+        second_over_each(next),
+        no_second(),
+    )
 }
 
 /// Gives the first costs before a byte, from those behind it.
@@ -210,9 +157,9 @@ fn first_over_byte(byte: u8, next: Simd<u16, 8>) -> Simd<u16, 8>
         (stay (set_values CodeSet.Text (Item.Byte byte)) t) (1 + bytes) (1 + rest) }
 {
     if byte < 128 {
-        return first_over(class_of(byte), next);
+        return first_over(sets_of(byte), next);
     }
-    first_over(class_of(byte - 128), first_raised(next))
+    first_over(sets_of(byte - 128), first_raised(next))
 }
 
 /// Gives the second costs before a byte, from those behind it.
@@ -222,7 +169,7 @@ fn second_over_byte(extent: Extent, byte: u8, next: Simd<u16, 8>) -> Simd<u16, 8
         → result ≡ second_lanes (stay (set_values CodeSet.X12 (Item.Byte byte)) x)
         (stay_edifact (has_edifact extent (Item.Byte byte)) e) }
 {
-    second_over(extent, class_of(byte), next)
+    second_over(extent, sets_of(byte), next)
 }
 
 /// Gives the costs where runs and segments go on over an item, from those behind it.
@@ -246,16 +193,28 @@ pub(crate) fn going_over(extent: Extent, item: Item, next: &Costs) -> GoingCosts
     }
 }
 
-/// Gives the cost of ending a run before what costs this much.
-pub(crate) fn leave(limit: u16, cost: u16) -> u16
-    requires { cost ≤ 16384 }
-    ensures { result ≡ leave limit cost }
-{
-    if cost <= limit { cost } else { 1 + cost }
-}
-
 /// What a lane holds that is no end, which is more than any cost.
 const NO_END: u16 = u16::MAX;
+
+/// In which lanes a run or a segment ends.
+const ENDS: [u16; 8] = [1, 0, 0, 1, 0, 0, 1, 0];
+
+/// Gives the costs of ending where what follows costs this much: an unlatch is added to those that are more than the
+/// limit of the lane.
+#[inline]
+fn ends_by(limits: [u16; 8], cost: u16) -> Simd<u16, 8>
+    requires { cost ≤ 16384 }
+    ensures { (run group : ℕ) → limits ≡ limit_lanes run group
+        → result ≡ end_lanes (leave run cost) (leave group cost) cost }
+{
+    let all = u16x8::splat(cost);
+    let left = all
+        .simd_gt(u16x8::from_array(limits))
+        .select(all + u16x8::splat(1), all);
+    u16x8::from_array(ENDS)
+        .simd_ne(u16x8::splat(0))
+        .select(left, u16x8::splat(NO_END))
+}
 
 /// Gives the first costs where a run or a segment ends before what costs this much.
 #[inline]
@@ -263,8 +222,7 @@ pub(crate) fn first_ends(cost: u16) -> Simd<u16, 8>
     requires { cost ≤ 16384 }
     ensures { result ≡ end_lanes (leave 1 cost) (leave 1 cost) cost }
 {
-    let run = leave(1, cost);
-    u16x8::from_array([run, NO_END, NO_END, run, NO_END, NO_END, cost, NO_END])
+    ends_by([1, 0, 0, 1, 0, 0, NO_END, 0], cost)
 }
 
 /// Gives the second costs where a run ends before what costs this much.
@@ -273,8 +231,7 @@ pub(crate) fn second_ends(cost: u16) -> Simd<u16, 8>
     requires { cost ≤ 16384 }
     ensures { result ≡ end_lanes (leave 1 cost) (leave 2 cost) cost }
 {
-    let (run, group) = (leave(1, cost), leave(2, cost));
-    u16x8::from_array([run, NO_END, NO_END, group, NO_END, NO_END, cost, NO_END])
+    ends_by([1, 0, 0, 2, 0, 0, NO_END, 0], cost)
 }
 
 /// Gives the costs from an item on, from the cost in ASCII, that from the next item on, and those where runs go on.

@@ -1,17 +1,18 @@
-use Rattle.std.proofs.Common.{◌≡◌, ◌∙◌, ◌-◌, ℕ, drop, get_or, rules, ap, subst, arith, refl}
+use Rattle.std.proofs.Common.{◌≡◌, ◌∙◌, ◌-◌, ◌&&◌, Bool, sym, ℕ, drop, get_or, rules, ap, subst, arith, refl}
 use Rattle.std.proofs.lemmas.List.{length-drop}
 use Rattle.dm_words.specs.declared.smallest.plan.Begin.TheVariants.{Two}
 use Rattle.dm_words.specs.declared.item.Item.TheVariants.{Byte}
-use Rattle.dm_words.specs.inner.Costs.{Row, row, going_over, with_ascii, begin_at, step_in, none_going}
+use Rattle.dm_words.specs.inner.Costs.{Row, row, going_over, is_digit_item, with_ascii, begin_at, step_in, none_going}
 use Rattle.dm_words.specs.inner.CostLanes.{HasRow}
 use Rattle.dm_words.proofs.Plans.{within, turn, plan_more, plan_first, row_within, last_costs, none_small, going_small}
-use Rattle.dm_words.proofs.Plans.{least_small, kept_small}
+use Rattle.dm_words.proofs.Plans.{digit_here, digit_last, least_small, kept_small}
 use Rattle.dm_words.proofs.smallest.plan.plan_to.Goals as goal
 
 pub loop-at-init : goal.loop-at-init
 loop-at-init c = record {
   in_range = omega arith;
   room = search rules;
+  digit = sym (digit_last c.args.items.now);
   row = last_costs c.args.extent c.args.items.now c.with_ascii-costs.result
       (c.with_ascii-costs.ensures none_going none_small c.none_going-none.ensures);
   plan = plan_first c.args.extent c.args.items.now c.args.plan.now Two c.step_of.result c.requires.steps
@@ -45,7 +46,7 @@ step_of-requires-in-loop-at c =
     let g = going_over c.args.extent x next in
     let cost = c.choose-choice.ensures.cost next g c.loop-at.invariant.row (going_small c.args.extent x next w)
     (c.going_over-going.ensures next w c.loop-at.invariant.row) in
-    omega (arith, cost, least_small x c.is_pair.result next g w)
+    omega (arith, cost, least_small x (c.is_digit_item-digit.result && c.loop-at.digit_behind) next g w)
 
 pub with_ascii-costs-requires-in-loop-at : goal.with_ascii-costs-requires-in-loop-at
 with_ascii-costs-requires-in-loop-at c =
@@ -56,7 +57,7 @@ with_ascii-costs-requires-in-loop-at c =
     let g = going_over c.args.extent x next in
     let cost = c.choose-choice.ensures.cost next g c.loop-at.invariant.row (going_small c.args.extent x next w)
     (c.going_over-going.ensures next w c.loop-at.invariant.row) in
-    omega (arith, cost, least_small x c.is_pair.result next g w)
+    omega (arith, cost, least_small x (c.is_digit_item-digit.result && c.loop-at.digit_behind) next g w)
 
 pub loop-at-preserved : goal.loop-at-preserved
 loop-at-preserved c =
@@ -73,13 +74,15 @@ loop-at-preserved c =
     let going = c.going_over-going.ensures next w v.row in
     let choice = c.choose-choice.result in
     let new = with_ascii choice.cost next.ascii g in
-    let t = turn extent m at x (Byte 0) next new c.is_pair.result g (begin_at choice.begins) choice.cost
-    (step_in c.step_of-in-loop-at.result) (omega (arith, c.loop-at-test.true)) v.in_range refl refl c.is_pair.ensures
+    let t = turn extent m at x (Byte 0) next new (c.is_digit_item-digit.result && c.loop-at.digit_behind) g (begin_at choice.begins) choice.cost
+    (step_in c.step_of-in-loop-at.result) (omega (arith, c.loop-at-test.true)) v.in_range refl refl
+    (ap (λ (b : Bool). b && c.loop-at.digit_behind) c.is_digit_item-digit.ensures ∙ ap (λ (b : Bool). is_digit_item x && b) v.digit)
     refl (c.choose-choice.ensures.cost next g v.row small going)
     (c.choose-choice.ensures.begins next g v.row small going) (c.step_of-in-loop-at.ensures g going) refl in
     record {
       in_range = omega (arith, v.in_range);
       room = search rules;
+      digit = c.is_digit_item-digit.ensures ∙ digit_here m at x (Byte 0) (omega (arith, c.loop-at-test.true)) v.in_range refl;
       row = subst (λ (r : Row). HasRow r c.with_ascii-costs-in-loop-at.result)
           (ap (λ (n : ℕ). with_ascii choice.cost n g) v.row.ascii ∙ t.0)
           (c.with_ascii-costs-in-loop-at.ensures g small going);

@@ -1,6 +1,6 @@
-use Rattle.std.proofs.Common.{◌<◌, ◌≤◌, ℕ, length, drop, get_or}
+use Rattle.std.proofs.Common.{◌≡◌, ◌<◌, ◌≤◌, ℕ, length, drop, get_or}
 use Rattle.dm_words.specs.declared.smallest.plan.StepBits.{StepBits}
-use Rattle.dm_words.specs.inner.Costs.{row, step_in, IsRightStep}
+use Rattle.dm_words.specs.inner.Costs.{digit_first, row, step_in, IsRightStep}
 use Rattle.dm_words.specs.inner.CostLanes.{HasRow}
 use Rattle.dm_words.proofs.smallest.plan.plan_to.Given as goal
 
@@ -8,6 +8,7 @@ abbrev pub invariant-loop-at : goal.invariant-loop-at
 invariant-loop-at l = record {
   in_range : l.at ≤ length l.items;
   room : length l.items < length l.plan;
+  digit : l.digit_behind ≡ digit_first (drop l.at l.items);
   row : HasRow (row l.extent (drop l.at l.items)) l.costs;
   plan : (i : ℕ) (other : StepBits) → l.at ≤ i → i ≤ length l.items
       → IsRightStep l.extent (drop i l.items) (step_in (get_or l.plan i other));

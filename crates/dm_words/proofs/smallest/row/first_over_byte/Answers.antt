@@ -4,13 +4,12 @@ use Rattle.dm_words.proofs.smallest.row.first_over_byte.Goals as goal
 
 pub returns-then-byte-lt128 : goal.returns-then-byte-lt128
 returns-then-byte-lt128 c first second bytes rest h =
-    first_low c.args.byte c.class_of.result first second _ _ _ c.if-byte-lt128.true c.class_of.ensures.c40
-    c.class_of.ensures.text (c.first_over.ensures first second bytes rest (next_first _ _ _ _ _ h))
+    first_low c.args.byte first second _ _ _ c.if-byte-lt128.true
+    (c.first_over.ensures first second bytes rest _ _ _ _ c.sets_of.ensures (next_first _ _ _ _ _ h))
 
 pub returns : goal.returns
 returns c first second bytes rest h =
-    first_high c.args.byte c.class_of-2.result first second _ _ _ c.if-byte-lt128.false c.class_of-2.ensures.c40
-    c.class_of-2.ensures.text
-    (c.first_over-2.ensures (values_before 2 first) (values_before 2 second) bytes rest
+    first_high c.args.byte first second _ _ _ c.if-byte-lt128.false
+    (c.first_over-2.ensures (values_before 2 first) (values_before 2 second) bytes rest _ _ _ _ c.sets_of-2.ensures
     (raised_next first second bytes rest c.args.next c.first_raised.result h
     (c.first_raised.ensures first second bytes rest (next_first _ _ _ _ _ h))))
