@@ -1,6 +1,6 @@
 //! The smallest symbol of a message: data codewords that spell it, of the smallest size of a choice that has any.
 
-ghost use Rattle.std.specs.Prelude.{◌≡◌, ◌<◌, ◌≤◌, OnErr, IsTrue, length};
+ghost use Rattle.std.specs.Prelude.{◌≡◌, ◌<◌, ◌≤◌, OnErr, IsTrue, false, length};
 ghost use Rattle.dm_words.specs.declared.extent.Extent.TheVariants.{Usual};
 ghost use Rattle.dm_words.specs.Ascii.{ascii};
 ghost use Rattle.dm_words.specs.Messages.{IsMessage};
@@ -19,7 +19,7 @@ mod segment;
 mod sets;
 mod values;
 
-use crate::ascii::{ascii_form, write_ascii};
+use crate::ascii::{ascii_form, surely_fits, write_ascii};
 use crate::extent::Extent;
 use crate::fault::TooLong;
 use crate::item::Item;
@@ -177,14 +177,36 @@ fn write_plainest<const N: usize>(
     ensures fits { length words.new.items ≤ count }
     ensures plainest { IsPlainest (padded words.new.items count) items.now }
 {
-    if ascii_form(items).length <= usize::from(count) {
-        let _form = write_ascii(items, words);
+    if write_ascii_if_fits(items, words, usize::from(count)) {
         return;
     }
     let is_usual = write_way(extent, items, way, plan, words, count);
     if !is_usual {
         write_usual_if_fits(extent, items, plan, words, count);
     }
+}
+
+/// Writes the items in ASCII, where that takes at most `count` codewords, and says whether it does. The words may be
+/// any where it doesn't. Where there is room for them in any case they are written at once, and not counted before.
+fn write_ascii_if_fits<const N: usize>(
+    items: &[Item],
+    words: &mut ArrayVec<u8, N>,
+    count: usize,
+) -> bool
+    requires few { length items.now ≤ LARGEST_ROOM }
+    requires count { count ≤ N }
+    ensures fits { IsTrue result → (words.new.items ≡ ascii items.now)
+        × (length (ascii items.now) ≤ count) }
+    ensures long { result ≡ false → count < length (ascii items.now) }
+{
+    if surely_fits(items, N) {
+        return write_ascii(items, words).length <= count;
+    }
+    let fits = ascii_form(items).length <= count;
+    if fits {
+        let _form = write_ascii(items, words);
+    }
+    fits
 }
 
 /// Writes the items, without pads, as the usual extent has it, in place of the words that stand there, where a symbol
