@@ -53,12 +53,15 @@ pub use dm_words::{
 pub use inspection::{Inspection, inspect};
 pub use limit::usual_limit;
 pub use normalising::{NormalFault, normal, normal_as, normal_to};
-pub use reading::{ReadFault, Reading, read, read_to};
-pub use symbol::grids::{inspect_doubtful_to, inspect_grid_to, read_doubtful_to};
+pub use reading::{ReadFault, Reading, read, read_message_to, read_to};
+pub use symbol::grids::{
+    inspect_doubtful_to, inspect_grid_to, read_doubtful_message_to, read_doubtful_to,
+};
 pub use symbol::inspection::{SymbolInspection, inspect_borrowed_to, inspect_symbol_to};
 pub use symbol::normalising::normal_symbol_to;
 pub use symbol::reading::{
-    BlockReading, ReadOptions, SymbolReading, read_borrowed_to, read_symbol_to,
+    BlockReading, ReadOptions, SymbolReading, read_borrowed_message_to, read_borrowed_to,
+    read_symbol_to,
 };
 pub use symbol::writing::{WriteOptions, write_smallest_to, write_symbol_to};
-pub use writing::{light_grid, write, write_as, write_to};
+pub use writing::{light_grid, write, write_as, write_message_to, write_to};

@@ -1,6 +1,6 @@
 //! Writing: the normal grid of a message.
 
-ghost use Rattle.std.specs.Prelude.{◌≡◌, ◌≢◌, ◌<◌, ℕ, Some, length, replicate, OnErr};
+ghost use Rattle.std.specs.Prelude.{◌≡◌, ◌≢◌, ◌≤◌, ◌<◌, ℕ, Some, length, replicate, OnErr};
 ghost use Rattle.dm_code.specs.Codeword.{IsCodeword};
 ghost use Rattle.dm_layout.specs.Sizes.{block_check, row_with_side};
 ghost use Rattle.dm_layout.specs.Grid.{square_of_rows};
@@ -11,7 +11,9 @@ ghost use Rattle.dm_symbol.specs.NormalGrid.{IsWritten};
 use arrayvec::ArrayVec;
 use dm_code::encode;
 use dm_layout::{Grid, Size, Words, block, lay_to, put_block_checks};
-use dm_words::{Message, Profile, TooLong, add_pads, normal_words_to};
+use dm_words::{
+    LARGEST_ROOM, MOST_DATA, Message, MessageIn, Profile, TooLong, add_pads, normal_words_in,
+};
 
 /// Gives the normal grid of a message under [`Profile::Ascii`]: what [`write_as`] gives for that profile.
 pub fn write(message: &Message) -> Result<Grid, TooLong>
@@ -40,8 +42,21 @@ pub fn write_to(profile: Profile, message: &Message, grid: &mut Grid) -> Result<
     ensures written { IsWritten profile message.now (outcome result grid.new) }
     ensures same { OnErr result (grid.new ≡ grid.old) }
 {
-    let mut list = ArrayVec::new();
-    match normal_words_to(profile, message, &mut list) {
+    write_message_to(profile, message, grid)
+}
+
+/// Does the same as [`write_to`] with a message of any room up to [`LARGEST_ROOM`].
+pub fn write_message_to<const ROOM: usize>(
+    profile: Profile,
+    message: &MessageIn<ROOM>,
+    grid: &mut Grid,
+) -> Result<(), TooLong>
+    requires { ROOM ≤ LARGEST_ROOM }
+    ensures written { IsWritten profile message.now (outcome result grid.new) }
+    ensures same { OnErr result (grid.new ≡ grid.old) }
+{
+    let mut list = ArrayVec::<u8, MOST_DATA>::new();
+    match normal_words_in(profile, message, &mut list) {
         Ok(()) => {}
         Err(TooLong) => return Err(TooLong),
     }

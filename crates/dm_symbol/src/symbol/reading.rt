@@ -2,6 +2,7 @@
 
 ghost use Rattle.std.specs.Prelude.{◌≡◌, ◌≤◌, ◌<◌, ℕ, [], None, Some, OnOk, IfErr, IfSome};
 ghost use Rattle.std.specs.Prelude.{option_map};
+ghost use Rattle.dm_words.specs.Messages.{most_spelled};
 ghost use Rattle.dm_words.specs.Outcomes.{outcome};
 ghost use Rattle.dm_symbol.specs.Doubt.{erased_in};
 ghost use Rattle.dm_symbol.specs.inner.Marks.{marked_in};
@@ -123,17 +124,50 @@ pub fn read_borrowed_to<C: Colour>(
     ensures same { (count : ℕ) → result ≡ Err (ReadFault.Border count)
         → reading.new ≡ reading.old }
 {
+    // For the proof alone: what `size` ensures says that the message has room.
+    let _size = modules.size();
+    read_borrowed_message_to(
+        extent,
+        modules,
+        doubtful,
+        border_limit,
+        &mut reading.message,
+        &mut reading.blocks,
+        &mut reading.border_faults,
+    )
+}
+
+/// Does the same as [`read_borrowed_to`] with the parts of a reading in targets of their own: the message, what became
+/// of each block, and the number of wrong modules of the borders. The message may have any room that is enough for what
+/// the data codewords of the symbol's size can spell in the extent: two items for each, and at [`Extent::Wide`] seven
+/// more. A small one is made faster than one that serves every symbol.
+pub fn read_borrowed_message_to<C: Colour, const ROOM: usize>(
+    extent: Extent,
+    modules: &BorrowedModules<C>,
+    doubtful: Option<&BorrowedModules<C>>,
+    border_limit: u16,
+    message: &mut MessageIn<ROOM>,
+    blocks: &mut ArrayVec<BlockReading, MOST_BLOCKS>,
+    faults: &mut u16,
+) -> Result<(), ReadFault>
+    requires doubtful { IfSome doubtful (λ doubtful. doubtful.now.size ≡ modules.now.size) }
+    requires room { most_spelled extent modules.now.size.data_count ≤ ROOM }
+    ensures read { IsSymbolRead extent modules.now (option_map (λ d. d.now) doubtful.entry)
+        border_limit (outcome result (symbol_reading_of message.new blocks.new.items faults.new)) }
+    ensures same { (count : ℕ) → result ≡ Err (ReadFault.Border count)
+        → (message.new ≡ message.old) × (blocks.new ≡ blocks.old) × (faults.new ≡ faults.old) }
+{
     let border_faults = sure_faults(modules, doubtful);
     if border_faults > border_limit {
         return Err(ReadFault::Border(border_faults));
     }
-    reading.border_faults = border_faults;
+    *faults = border_faults;
     let mut words = lift_borrowed(modules);
-    match restore_blocks(&mut words, doubtful, &mut reading.blocks) {
+    match restore_blocks(&mut words, doubtful, blocks) {
         Ok(()) => {}
         Err(b) => return Err(ReadFault::Block(b)),
     }
-    match message_to_as(extent, words.data_part(), &mut reading.message) {
+    match message_to_as(extent, words.data_part(), message) {
         Ok(()) => Ok(()),
         Err(fault) => Err(ReadFault::Words(fault)),
     }

@@ -1,6 +1,5 @@
 use Rattle.std.proofs.Common.{◌≡◌, ◌∙◌, ◌++◌, ℕ, ap, drop, subst, sym, take}
 use Rattle.std.proofs.Math.Seq.{take-append_seam}
-use Rattle.dm_layout.specs.Sizes.{SizeRow}
 use Rattle.dm_layout.specs.Words.{WordsView}
 use Rattle.dm_symbol.specs.Blocks.{BlocksAreCodewords, data_part}
 use Rattle.dm_symbol.proofs.writing.complete_with.Goals as goal
