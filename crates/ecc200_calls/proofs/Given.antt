@@ -1,5 +1,5 @@
 -- What is given to a call: modules, doubtful ones, and what the results are that its parts give.
-use Rattle.std.proofs.Common.{◌≡◌, ◌≢◌, ℕ, List, [], Option, Some, None, refl}
+use Rattle.std.proofs.Common.{◌≡◌, ◌≢◌, ℕ, List, [], Some, None, refl}
 use Rattle.dm_symbol.specs.declared.Extent.{Extent}
 use Rattle.dm_symbol.specs.declared.Profile.{Profile}
 use Rattle.dm_modules.specs.Modules.{ModulesView}

@@ -1,10 +1,9 @@
 -- A reading of a square is given as that of its symbol.
-use Rattle.std.proofs.Common.{◌≡◌, ℕ, List, [], ◌∷◌, length, map, Ok, refl, sym, ◌∙◌, ap}
+use Rattle.std.proofs.Common.{◌≡◌, ℕ, List, [], ◌∷◌, map, Ok, refl, ap}
 use Rattle.std.proofs.lemmas.List.{length-map}
 use Rattle.dm_symbol.specs.declared.Reading.{Reading}
 use Rattle.dm_symbol.specs.SymbolLaws.{none_erased, symbol_result}
 use Rattle.ecc200_calls.specs.declared.reading.ReadingOut.{ReadingOut}
-use Rattle.ecc200_calls.specs.Arrays.{over}
 use Rattle.ecc200_calls.specs.Readings.{corrected_in, result_shown}
 use Rattle.ecc200_calls.specs.inner.SquareReadings.{square_reading_shown}
 

@@ -1,17 +1,16 @@
 -- Cells of a row that are unpacked together into modules.
-use Rattle.std.proofs.Common.{◌≡◌, ◌∙◌, ℕ, ◌+◌, ◌-◌, ◌/◌, ◌^◌, ◌<◌, ◌≤◌, Bool, false, bit_and, List, [], ◌++◌, length}
-use Rattle.std.proofs.Common.{map, take, drop, get_or, append-nil, sym, ap, arith, inl, inr}
+use Rattle.std.proofs.Common.{◌≡◌, ◌∙◌, ℕ, ◌+◌, ◌-◌, ◌/◌, ◌^◌, ◌<◌, ◌≤◌, Bool, false, bit_and, List, ◌++◌, length}
+use Rattle.std.proofs.Common.{map, take, drop, get_or, sym, ap, arith, inl, inr}
 use Rattle.std.specs.Simd.Lanes.{put_chunk}
 use Rattle.std.proofs.lemmas.Bool.{cases_lt}
-use Rattle.std.proofs.lemmas.List.{append_assoc, drop_all, drop-drop, get_or-append_right, get_or-map}
+use Rattle.std.proofs.lemmas.List.{append_assoc, drop-drop, get_or-append_right, get_or-map}
 use Rattle.std.proofs.lemmas.List.{get_or_append_left}
-use Rattle.std.proofs.lemmas.List.{length-append, length-drop, length-map, length-take-le, take_all, take-take}
+use Rattle.std.proofs.lemmas.List.{length-append, length-map, length-take-le, take-take}
 use Rattle.std.proofs.lemmas.Slice.{drop-append-drop}
 use Rattle.std.proofs.Math.Seq.{take-append_seam}
 use Rattle.std.specs.List.{range_with_len}
 use Rattle.std.proofs.lemmas.List.FromFn.{fill_by_all, get_or-map-range_with_len, length-map-range_with_len}
 use Rattle.std.proofs.lemmas.Simd.{put_chunk_is, take_more_put_chunk}
-use borrow.Rule.Slice.PartMut.{put_mid}
 use Rattle.dm_symbol.specs.Grid.{is_dark_in}
 use Rattle.dm_layout.proofs.Exported.{cut_cell}
 use Rattle.ecc200_calls.specs.Modules.{module_of}

@@ -1,9 +1,5 @@
 -- Messages that are written, and symbols that are normalised.
-use Rattle.std.proofs.Common.{◌≡◌, ℕ, ◌*◌, ◌<◌, ◌≤◌, List, length, Option, Some, None, IsSome, Result, Ok, Err, refl}
-use Rattle.std.proofs.Common.{sym}
-use Rattle.std.proofs.Common.{◌∙◌, ap, arith}
-use Rattle.std.proofs.lemmas.List.{length-map}
-use Rattle.std.proofs.lemmas.Bool.{false≢true}
+use Rattle.std.proofs.Common.{◌≡◌, ℕ, List, Option, Ok, Err, refl}
 use Rattle.dm_symbol.specs.declared.Extent.{Extent}
 use Rattle.dm_symbol.specs.declared.Item.{Item}
 use Rattle.dm_symbol.specs.declared.Profile.{Profile}
@@ -12,12 +8,11 @@ use Rattle.dm_symbol.specs.declared.SizeChoice.TheVariants.{Square}
 use Rattle.dm_symbol.specs.declared.NormalFault.TheVariants.{TooLong}
 use Rattle.dm_modules.specs.Modules.{ModulesView}
 use Rattle.dm_symbol.specs.Messages.{IsMessage}
-use Rattle.dm_symbol.specs.NormalSymbol.{FitsChoice}
 use Rattle.dm_symbol.specs.SymbolReading.{ReadsSymbol}
 use Rattle.dm_symbol.specs.SymbolNormal.{NormalSymbolResult}
 use Rattle.ecc200_calls.specs.declared.symbol.SymbolOut.{SymbolOut}
 use Rattle.ecc200_calls.specs.Faults.{too_long}
-use Rattle.ecc200_calls.specs.Items.{number_of, numbers_of}
+use Rattle.ecc200_calls.specs.Items.{numbers_of}
 use Rattle.ecc200_calls.specs.Symbols.{IsMessageGiven, IsNormalGiven, IsWritingGiven, WrittenResult}
 
 -- What is given for a message is given for its numbers.

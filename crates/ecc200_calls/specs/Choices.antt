@@ -1,5 +1,5 @@
 -- Choices of sizes as numbers.
-use Rattle.std.specs.Prelude.{ℕ, nat_eq, if◌then◌else◌, Option, Some, None}
+use Rattle.std.specs.Prelude.{nat_eq, if◌then◌else◌, Option, Some, None}
 use Rattle.dm_symbol.specs.declared.SizeChoice.{SizeChoice}
 use Rattle.dm_symbol.specs.declared.SizeChoice.TheVariants.{Square, Rectangle, AnyRectangle, Any, Exact}
 use Rattle.ecc200_calls.specs.declared.choice.How.{How}

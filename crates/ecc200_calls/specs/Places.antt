@@ -1,5 +1,5 @@
 -- What each module of a symbol is (ISO/IEC 16022 and ISO/IEC 21471, symbol structure and module placement).
-use Rattle.std.specs.Prelude.{◌≡◌, ℕ, ◌+◌, ◌*◌, ◌<◌, ◌≤◌, Bool, true, if◌then◌else◌, List, drop, get_or, Some, IsNone}
+use Rattle.std.specs.Prelude.{◌≡◌, ℕ, ◌+◌, ◌*◌, ◌<◌, ◌≤◌, Bool, true, if◌then◌else◌, List, get_or, Some, IsNone}
 use Rattle.dm_place.specs.declared.shape.Cell.{Cell}
 use Rattle.dm_place.specs.Border.{is_fixed, fixed_is_dark, symbol_line}
 use Rattle.dm_place.specs.Placement.{IsPlace}

@@ -1,14 +1,40 @@
 //! Messages as numbers: a byte is itself, FNC1 is 256.
 
-ghost use Rattle.std.specs.Prelude.{◌≡◌, ◌≤◌, length, All, IfSome, IfNone};
+ghost use Rattle.std.specs.Prelude.{◌≡◌, ◌≤◌, length, All, IfSome, IfNone, IsTrue};
+ghost use Rattle.dm_symbol.specs.declared.Extent.{Extent};
+ghost use Rattle.dm_words.specs.Messages.{most_spelled};
 ghost use Rattle.dm_symbol.specs.Messages.{IsMessage};
 ghost use Rattle.ecc200_calls.specs.Arrays.{over};
 ghost use Rattle.ecc200_calls.specs.Items.{IsFirstForeign, number_of, numbers_of};
 
-use dm_symbol::{Item, MessageIn};
+use dm_symbol::{Item, MESSAGE_ROOM, MessageIn};
+use dm_words::MOST_DATA;
 
 /// The number of FNC1.
 const FNC1: u16 = 256;
+
+/// A symbol with at most this many data codewords says few items: squares up to side 32 and most rectangles.
+const FEW_WORDS: u16 = 62;
+
+/// The items for which a message of few has room: two for each of so many data codewords, and seven more, as the
+/// message of a macro can have. To clear a small room takes less time than to clear one for any message.
+pub(crate) const FEW_ITEMS: usize = 131;
+
+/// Whether so many data codewords spell few items, in any extent.
+#[inline]
+pub(crate) fn spell_few(words: u16) -> bool
+    ensures { IsTrue result → (extent : Extent) → most_spelled extent words ≤ FEW_ITEMS }
+{
+    words <= FEW_WORDS
+}
+
+/// Whether so many data codewords spell no more than those of the largest grid, in any extent.
+#[inline]
+pub(crate) fn spell_as_grids(words: u16) -> bool
+    ensures { IsTrue result → (extent : Extent) → most_spelled extent words ≤ MESSAGE_ROOM }
+{
+    usize::from(words) <= MOST_DATA
+}
 
 /// Gives the place of the first of these numbers that stands for no item.
 pub(crate) fn first_foreign(numbers: &[u16]) -> Option<usize>

@@ -1,22 +1,28 @@
 //! Normalising.
 
-ghost use Rattle.std.specs.Prelude.{◌≡◌, [], IfSome, IsSome, Some, option_map};
+ghost use Rattle.std.specs.Prelude.{◌≡◌, ◌≤◌, [], IfSome, IsSome, None, Some, option_map};
+ghost use Rattle.dm_words.specs.Messages.{most_spelled};
+ghost use Rattle.dm_symbol.specs.Grid.{symbol_modules};
 ghost use Rattle.dm_symbol.specs.Sizes.{row_with_side};
 ghost use Rattle.dm_modules.specs.Sizes.{entry_with};
-ghost use Rattle.ecc200_calls.specs.Symbols.{IsDoubtfulGiven, IsNormalGiven, IsNormalResult, NormalisedResult};
+ghost use Rattle.dm_symbol.specs.declared.SizeChoice.TheVariants.{Square};
+ghost use Rattle.ecc200_calls.specs.Symbols.{IsDoubtfulGiven, IsMessageGiven, IsNormalGiven, IsNormalResult};
+ghost use Rattle.ecc200_calls.specs.Symbols.{NormalisedResult};
 ghost use Rattle.ecc200_calls.specs.Symbols.{ProfileResult};
 
 use crate::extent::extent_of;
 use crate::fault::{Fault, read_fault};
+use crate::message::{FEW_ITEMS, spell_as_grids, spell_few};
 use crate::modules::{make_doubtful, make_modules, none_doubtful, told_doubt};
 use crate::profile::profile_of;
 use crate::squares::{is_plain_square, make_grid};
 use crate::symbol::{SymbolOut, show_fault};
 use crate::writing::{write_square, write_symbol};
+use arrayvec::ArrayVec;
 use dm_modules::BorrowedModules;
 use dm_symbol::{
-    Extent, Profile, Reading, SizeChoice, SymbolReading, WriteOptions, light_grid,
-    read_borrowed_to, read_to,
+    Extent, Grid, LARGEST_ROOM, MESSAGE_ROOM, MessageIn, Profile, SizeChoice, WriteOptions,
+    light_grid, read_borrowed_message_to, read_message_to,
 };
 
 /// Writes the normal symbol of what the symbol of these modules, of which these are doubtful, says in an extent.
@@ -153,15 +159,44 @@ fn normal_square(
     let mut grid = light_grid();
     match make_grid(modules, side, &mut grid) {
         Ok(()) => {
-            // For the proof alone: what `size` ensures says that it is a grid.
-            let _size = grid.size();
-            let mut reading = Reading::new();
-            match read_to(extent, &grid, border_limit, &mut reading) {
-                Ok(()) => write_square(&reading.message, profile, out),
-                Err(why) => show_fault(out, read_fault(why)),
+            if spell_few(grid.size().data_count()) {
+                normal_grid::<FEW_ITEMS>(extent, profile, &grid, border_limit, out);
+            } else {
+                normal_grid::<MESSAGE_ROOM>(extent, profile, &grid, border_limit, out);
             }
         }
         Err(why) => show_fault(out, why),
+    }
+}
+
+/// Shows the normal symbol of what a grid says, or why there is none, by way of a message with room for that.
+fn normal_grid<const ROOM: usize>(
+    extent: Extent,
+    profile: Profile,
+    grid: &Grid,
+    border_limit: u16,
+    out: &mut SymbolOut,
+)
+    requires spelled { most_spelled extent grid.now.size.data_count ≤ ROOM }
+    requires most { ROOM ≤ LARGEST_ROOM }
+    ensures { IsNormalGiven extent profile (symbol_modules grid.now) None border_limit out.old
+        out.new }
+{
+    // For the proof alone: what `size` ensures says that it is a grid.
+    let _size = grid.size();
+    let mut message = MessageIn::<ROOM>::new();
+    let mut corrected = ArrayVec::new();
+    let mut faults = 0;
+    match read_message_to(
+        extent,
+        grid,
+        border_limit,
+        &mut message,
+        &mut corrected,
+        &mut faults,
+    ) {
+        Ok(()) => write_square(&message, profile, out),
+        Err(why) => show_fault(out, read_fault(why)),
     }
 }
 
@@ -234,12 +269,58 @@ fn normal_modules(
     ensures { IsNormalGiven extent profile symbol.now (option_map (λ d. d.now) doubtful.entry)
         border_limit out.old out.new }
 {
-    let mut reading = SymbolReading::new();
-    match read_borrowed_to(extent, symbol, doubtful, border_limit, &mut reading) {
-        Ok(()) => {
-            let size = SizeChoice::Square;
-            write_symbol(&reading.message, WriteOptions { profile, size }, out);
-        }
+    let words = symbol.size().data_count();
+    if spell_few(words) {
+        normal_modules_in::<FEW_ITEMS>(extent, profile, symbol, doubtful, border_limit, out);
+    } else if spell_as_grids(words) {
+        normal_modules_in::<MESSAGE_ROOM>(extent, profile, symbol, doubtful, border_limit, out);
+    } else {
+        normal_modules_in::<LARGEST_ROOM>(extent, profile, symbol, doubtful, border_limit, out);
+    }
+}
+
+/// Does so by way of a message with room for what the symbol says.
+fn normal_modules_in<const ROOM: usize>(
+    extent: Extent,
+    profile: Profile,
+    symbol: &BorrowedModules<u8>,
+    doubtful: Option<&BorrowedModules<u8>>,
+    border_limit: u16,
+    out: &mut SymbolOut,
+)
+    requires doubtful { IfSome doubtful (λ doubtful. doubtful.now.size ≡ symbol.now.size) }
+    requires spelled { most_spelled extent symbol.now.size.data_count ≤ ROOM }
+    requires most { ROOM ≤ LARGEST_ROOM }
+    ensures { IsNormalGiven extent profile symbol.now (option_map (λ d. d.now) doubtful.entry)
+        border_limit out.old out.new }
+{
+    let mut message = MessageIn::<ROOM>::new();
+    let mut blocks = ArrayVec::new();
+    let mut faults = 0;
+    match read_borrowed_message_to(
+        extent,
+        symbol,
+        doubtful,
+        border_limit,
+        &mut message,
+        &mut blocks,
+        &mut faults,
+    ) {
+        Ok(()) => write_normal(&message, profile, out),
         Err(why) => show_fault(out, read_fault(why)),
+    }
+}
+
+/// Shows the normal symbol of a message, or that it fits no square. What only the largest squares say is for the most
+/// part too long for a grid, and isn't tried as one.
+fn write_normal<const ROOM: usize>(message: &MessageIn<ROOM>, profile: Profile, out: &mut SymbolOut)
+    requires { ROOM ≤ LARGEST_ROOM }
+    ensures { IsMessageGiven Square profile message.now out.old out.new }
+{
+    if ROOM > MESSAGE_ROOM {
+        let size = SizeChoice::Square;
+        write_symbol(message, WriteOptions { profile, size }, out);
+    } else {
+        write_square(message, profile, out);
     }
 }

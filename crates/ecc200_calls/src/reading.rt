@@ -1,7 +1,11 @@
 //! Reading.
 
-ghost use Rattle.std.specs.Prelude.{◌≡◌, ◌≤◌, ◌/◌, [], IfSome, IsSome, Some, length, map, option_map};
+ghost use Rattle.std.specs.Prelude.{◌≡◌, ◌≤◌, ◌/◌, [], IfSome, IsSome, None, Some, length, map, option_map};
+ghost use Rattle.dm_words.specs.Messages.{most_spelled};
 ghost use Rattle.dm_symbol.specs.Sizes.{row_with_side};
+ghost use Rattle.dm_symbol.specs.Grid.{symbol_modules};
+ghost use Rattle.dm_symbol.specs.Reading.{reading_of};
+ghost use Rattle.dm_symbol.specs.SymbolReading.{symbol_reading_of};
 ghost use Rattle.dm_symbol.specs.SymbolLaws.{none_erased};
 ghost use Rattle.dm_modules.specs.Sizes.{entry_with};
 ghost use Rattle.ecc200_calls.specs.Arrays.{over};
@@ -14,12 +18,14 @@ use crate::arrays::put_bytes;
 use crate::doubtful_squares::read_doubtful_square;
 use crate::extent::extent_of;
 use crate::fault::{Fault, read_fault};
-use crate::message::put_message;
+use crate::message::{FEW_ITEMS, put_message, spell_few};
 use crate::modules::{make_doubtful, make_modules, none_doubtful, told_doubt};
 use crate::squares::{is_doubtful_square, is_plain_square, make_grid};
+use arrayvec::ArrayVec;
 use dm_modules::{BorrowedModules, MOST_BLOCKS};
 use dm_symbol::{
-    BlockReading, Extent, Reading, SymbolReading, light_grid, read_borrowed_to, read_to,
+    BlockReading, Extent, Grid, MESSAGE_ROOM, MessageIn, light_grid, read_borrowed_message_to,
+    read_message_to,
 };
 use dm_words::LARGEST_ROOM;
 
@@ -116,14 +122,43 @@ fn read_square(extent: Extent, modules: &[u8], side: u16, border_limit: u16, out
     let mut grid = light_grid();
     match make_grid(modules, side, &mut grid) {
         Ok(()) => {
-            let checks = grid.size().block_check() as u8;
-            let mut reading = Reading::new();
-            match read_to(extent, &grid, border_limit, &mut reading) {
-                Ok(()) => show_square_reading(out, side, checks, &reading),
-                Err(why) => show_fault(out, read_fault(why)),
+            if spell_few(grid.size().data_count()) {
+                read_grid::<FEW_ITEMS>(extent, &grid, side, border_limit, out);
+            } else {
+                read_grid::<MESSAGE_ROOM>(extent, &grid, side, border_limit, out);
             }
         }
         Err(why) => show_fault(out, why),
+    }
+}
+
+/// Shows what a grid of this side says in an extent, or why it says nothing, by way of a message with room for that.
+fn read_grid<const ROOM: usize>(
+    extent: Extent,
+    grid: &Grid,
+    side: u16,
+    border_limit: u16,
+    out: &mut ReadingOut,
+)
+    requires spelled { most_spelled extent grid.now.size.data_count ≤ ROOM }
+    requires most { ROOM ≤ LARGEST_ROOM }
+    ensures { IsReadingGiven extent side side (symbol_modules grid.now) None border_limit out.old
+        out.new }
+{
+    let checks = grid.size().block_check() as u8;
+    let mut message = MessageIn::<ROOM>::new();
+    let mut corrected = ArrayVec::new();
+    let mut faults = 0;
+    match read_message_to(
+        extent,
+        grid,
+        border_limit,
+        &mut message,
+        &mut corrected,
+        &mut faults,
+    ) {
+        Ok(()) => show_square_reading(out, side, checks, &message, &corrected, faults),
+        Err(why) => show_fault(out, read_fault(why)),
     }
 }
 
@@ -196,9 +231,42 @@ fn read_modules(
     ensures { IsReadingGiven extent rows columns symbol.now
         (option_map (λ d. d.now) doubtful.entry) border_limit out.old out.new }
 {
-    let mut reading = SymbolReading::new();
-    match read_borrowed_to(extent, symbol, doubtful, border_limit, &mut reading) {
-        Ok(()) => show_reading(out, rows, columns, &reading),
+    if spell_few(symbol.size().data_count()) {
+        read_modules_in::<FEW_ITEMS>(extent, symbol, doubtful, rows, columns, border_limit, out);
+    } else {
+        read_modules_in::<LARGEST_ROOM>(extent, symbol, doubtful, rows, columns, border_limit, out);
+    }
+}
+
+/// Does so by way of a message with room for what the symbol says.
+fn read_modules_in<const ROOM: usize>(
+    extent: Extent,
+    symbol: &BorrowedModules<u8>,
+    doubtful: Option<&BorrowedModules<u8>>,
+    rows: u16,
+    columns: u16,
+    border_limit: u16,
+    out: &mut ReadingOut,
+)
+    requires doubtful { IfSome doubtful (λ doubtful. doubtful.now.size ≡ symbol.now.size) }
+    requires spelled { most_spelled extent symbol.now.size.data_count ≤ ROOM }
+    requires most { ROOM ≤ LARGEST_ROOM }
+    ensures { IsReadingGiven extent rows columns symbol.now
+        (option_map (λ d. d.now) doubtful.entry) border_limit out.old out.new }
+{
+    let mut message = MessageIn::<ROOM>::new();
+    let mut blocks = ArrayVec::new();
+    let mut faults = 0;
+    match read_borrowed_message_to(
+        extent,
+        symbol,
+        doubtful,
+        border_limit,
+        &mut message,
+        &mut blocks,
+        &mut faults,
+    ) {
+        Ok(()) => show_reading(out, rows, columns, &message, &blocks, faults),
         Err(why) => show_fault(out, read_fault(why)),
     }
 }
@@ -215,36 +283,56 @@ pub(crate) fn show_fault(out: &mut ReadingOut, why: Fault)
     out.item_count = 0;
 }
 
-/// Shows a reading of a grid of this side, whose blocks have so many check codewords each.
-fn show_square_reading(out: &mut ReadingOut, side: u16, checks: u8, reading: &Reading)
-    ensures { out.new ≡ square_reading_shown side checks reading.now out.old }
+/// Shows a reading of a grid of this side, whose blocks have so many check codewords each: its message, the number of
+/// corrected codewords of each block, and the number of border faults.
+fn show_square_reading<const ROOM: usize>(
+    out: &mut ReadingOut,
+    side: u16,
+    checks: u8,
+    message: &MessageIn<ROOM>,
+    corrected: &ArrayVec<u8, { dm_symbol::MOST_BLOCKS }>,
+    faults: u16,
+)
+    requires { ROOM ≤ LARGEST_ROOM }
+    ensures { out.new ≡ square_reading_shown side checks
+        (reading_of message.now corrected.now.items faults) out.old }
 {
     out.fault = Fault::none();
     out.rows = side;
     out.columns = side;
-    out.border_faults = reading.border_faults;
-    out.block_count = reading.corrected.len() as u16;
-    put_bytes(&mut out.corrected, reading.corrected.as_slice());
-    put_none_erased(&mut out.erased, reading.corrected.as_slice(), checks);
-    put_left_by_errors(&mut out.left, reading.corrected.as_slice(), checks);
-    out.item_count = reading.message.items().len() as u16;
-    put_message(&mut out.items, &reading.message);
+    out.border_faults = faults;
+    out.block_count = corrected.len() as u16;
+    put_bytes(&mut out.corrected, corrected.as_slice());
+    put_none_erased(&mut out.erased, corrected.as_slice(), checks);
+    put_left_by_errors(&mut out.left, corrected.as_slice(), checks);
+    out.item_count = message.items().len() as u16;
+    put_message(&mut out.items, message);
 }
 
-/// Shows a reading of a symbol with these rows and columns.
-pub(crate) fn show_reading(out: &mut ReadingOut, rows: u16, columns: u16, reading: &SymbolReading)
-    ensures { out.new ≡ reading_shown rows columns reading.now out.old }
+/// Shows a reading of a symbol with these rows and columns: its message, what became of each block, and the number of
+/// border faults.
+pub(crate) fn show_reading<const ROOM: usize>(
+    out: &mut ReadingOut,
+    rows: u16,
+    columns: u16,
+    message: &MessageIn<ROOM>,
+    blocks: &ArrayVec<BlockReading, MOST_BLOCKS>,
+    faults: u16,
+)
+    requires { ROOM ≤ LARGEST_ROOM }
+    ensures { out.new ≡ reading_shown rows columns
+        (symbol_reading_of message.now blocks.now.items faults) out.old }
 {
     out.fault = Fault::none();
     out.rows = rows;
     out.columns = columns;
-    out.border_faults = reading.border_faults;
-    out.block_count = reading.blocks.len() as u16;
-    put_corrected(&mut out.corrected, reading.blocks.as_slice());
-    put_erased(&mut out.erased, reading.blocks.as_slice());
-    put_left(&mut out.left, reading.blocks.as_slice());
-    out.item_count = reading.message.items().len() as u16;
-    put_message(&mut out.items, &reading.message);
+    out.border_faults = faults;
+    out.block_count = blocks.len() as u16;
+    put_corrected(&mut out.corrected, blocks.as_slice());
+    put_erased(&mut out.erased, blocks.as_slice());
+    put_left(&mut out.left, blocks.as_slice());
+    out.item_count = message.items().len() as u16;
+    put_message(&mut out.items, message);
 }
 
 /// Gives what is said of a block of so many check codewords in which so many codewords were wrong, and none is erased.

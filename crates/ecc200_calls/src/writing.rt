@@ -6,14 +6,14 @@ ghost use Rattle.ecc200_calls.specs.Symbols.{ChoiceResult, IsMessageGiven, IsWri
 
 use crate::choice::{How, choice_of};
 use crate::fault::Fault;
-use crate::message::{first_foreign, message_of_bytes, message_of_numbers};
+use crate::message::{FEW_ITEMS, first_foreign, message_of_bytes, message_of_numbers};
 use crate::modules::light_modules;
 use crate::profile::profile_of;
 use crate::symbol::{SymbolOut, show_fault, show_grid, show_modules};
 use dm_modules::MOST_DATA;
 use dm_symbol::{
-    LARGEST_ROOM, MESSAGE_ROOM, MOST_ITEMS, Message, MessageIn, Profile, SizeChoice, TooLong,
-    WriteOptions, light_grid, write_symbol_to, write_to,
+    LARGEST_ROOM, MESSAGE_ROOM, MOST_ITEMS, MessageIn, Profile, SizeChoice, TooLong, WriteOptions,
+    light_grid, write_message_to, write_symbol_to,
 };
 
 /// The most items that any symbol holds in a normal form: two for each data codeword.
@@ -86,8 +86,10 @@ fn write_numbers(items: &[u16], how: WriteOptions, out: &mut SymbolOut)
         show_fault(out, Fault::too_long());
     } else if items.len() > MOST_ITEMS {
         write_symbol(&message_of_numbers::<LARGEST_ROOM>(items), how, out);
-    } else {
+    } else if items.len() > FEW_ITEMS {
         write_message(&message_of_numbers::<MESSAGE_ROOM>(items), how, out);
+    } else {
+        write_message(&message_of_numbers::<FEW_ITEMS>(items), how, out);
     }
 }
 
@@ -99,14 +101,21 @@ fn write_these_bytes(bytes: &[u8], how: WriteOptions, out: &mut SymbolOut)
         show_fault(out, Fault::too_long());
     } else if bytes.len() > MOST_ITEMS {
         write_symbol(&message_of_bytes::<LARGEST_ROOM>(bytes), how, out);
-    } else {
+    } else if bytes.len() > FEW_ITEMS {
         write_message(&message_of_bytes::<MESSAGE_ROOM>(bytes), how, out);
+    } else {
+        write_message(&message_of_bytes::<FEW_ITEMS>(bytes), how, out);
     }
 }
 
 /// Shows the symbol in which a message is written, or that it fits no size of the choice. A square is written as a grid
 /// if it fits one, which is faster.
-fn write_message(message: &Message, how: WriteOptions, out: &mut SymbolOut)
+fn write_message<const ROOM: usize>(
+    message: &MessageIn<ROOM>,
+    how: WriteOptions,
+    out: &mut SymbolOut,
+)
+    requires { ROOM ≤ LARGEST_ROOM }
     ensures { IsMessageGiven how.size how.profile message.now out.old out.new }
 {
     match how.size {
@@ -116,11 +125,16 @@ fn write_message(message: &Message, how: WriteOptions, out: &mut SymbolOut)
 }
 
 /// Shows the normal symbol of a message, or that it fits no square.
-pub(crate) fn write_square(message: &Message, profile: Profile, out: &mut SymbolOut)
+pub(crate) fn write_square<const ROOM: usize>(
+    message: &MessageIn<ROOM>,
+    profile: Profile,
+    out: &mut SymbolOut,
+)
+    requires { ROOM ≤ LARGEST_ROOM }
     ensures { IsMessageGiven Square profile message.now out.old out.new }
 {
     let mut grid = light_grid();
-    match write_to(profile, message, &mut grid) {
+    match write_message_to(profile, message, &mut grid) {
         Ok(()) => show_grid(out, &grid),
         Err(TooLong) => {
             let size = SizeChoice::Square;

@@ -1,4 +1,4 @@
-use Rattle.std.proofs.Common.{◌≡◌, ◌<◌, ◌∙◌, ◌*◌, ap, length, subst, take, map, arith}
+use Rattle.std.proofs.Common.{◌≡◌, ◌<◌, ◌∙◌, ◌*◌, length, subst, take, map, arith}
 use Rattle.std.specs.List.{flat_map}
 use Rattle.ecc200_calls.specs.Modules.{module_of}
 use Rattle.ecc200_calls.proofs.Rows.{all_rows, row_more}

@@ -1,8 +1,5 @@
-use Rattle.std.proofs.Common.{◌≡◌, ◌≤◌, ◌<◌, ◌+◌, ◌-◌, ◌/◌, ◌^◌, ◌∙◌, ◌++◌, ℕ, List, ap, arith, bit_and, drop, length}
-use Rattle.std.proofs.Common.{sym}
-use Rattle.std.proofs.Common.{take}
+use Rattle.std.proofs.Common.{◌≡◌, ◌≤◌, ◌+◌, ◌/◌, ◌^◌, ◌∙◌, ℕ, ap, arith, bit_and, length}
 use Rattle.std.proofs.lemmas.Simd.{length-put_chunk}
-use Rattle.std.specs.Simd.Lanes.{put_chunk}
 use Rattle.dm_modules.proofs.Exported.{rest_more}
 use Rattle.ecc200_calls.specs.inner.UnpackedCells.{unpacked_cells}
 use Rattle.ecc200_calls.proofs.Unpacking.{behind_chunk, sixteen, unpacked_front, written_more}

@@ -1,4 +1,4 @@
-use Rattle.std.proofs.Common.{◌≤◌, ◌∙◌, Err, refl, ap, arith}
+use Rattle.std.proofs.Common.{◌∙◌, Err, refl, ap}
 use Rattle.ecc200_calls.specs.Faults.{too_long}
 use Rattle.ecc200_calls.specs.Symbols.{WrittenResult, no_symbol}
 use Rattle.ecc200_calls.proofs.Messages.{message_there, too_many}
@@ -22,8 +22,15 @@ returns-then-items-gt-MOST_ITEMS c =
     c.write_symbol.new.out c.message_of_numbers.ensures.message c.message_of_numbers.ensures.numbers
     c.write_symbol.ensures
 
-pub returns-else-items-gt-MOST_ITEMS : goal.returns-else-items-gt-MOST_ITEMS
-returns-else-items-gt-MOST_ITEMS c =
-    let made = c.message_of_numbers-else-items-gt-MOST_ITEMS in
+pub returns-then-items-gt-FEW_ITEMS : goal.returns-then-items-gt-FEW_ITEMS
+returns-then-items-gt-FEW_ITEMS c =
+    let made = c.message_of_numbers-then-items-gt-FEW_ITEMS in
     writing_given c.args.how.size c.args.how.profile c.args.items.now made.result c.args.out.now
     c.write_message.new.out made.ensures.message made.ensures.numbers c.write_message.ensures
+
+pub returns-else-items-gt-FEW_ITEMS : goal.returns-else-items-gt-FEW_ITEMS
+returns-else-items-gt-FEW_ITEMS c =
+    let made = c.message_of_numbers-else-items-gt-FEW_ITEMS in
+    writing_given c.args.how.size c.args.how.profile c.args.items.now made.result c.args.out.now
+    c.write_message-else-items-gt-FEW_ITEMS.new.out made.ensures.message made.ensures.numbers
+    c.write_message-else-items-gt-FEW_ITEMS.ensures

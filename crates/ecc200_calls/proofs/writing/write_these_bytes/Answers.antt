@@ -23,8 +23,15 @@ returns-then-bytes-gt-MOST_ITEMS c =
     writing_given c.args.how.size c.args.how.profile c.args.bytes.now c.message_of_bytes.result c.args.out.now
     c.write_symbol.new.out c.message_of_bytes.ensures.message c.message_of_bytes.ensures.numbers c.write_symbol.ensures
 
-pub returns-else-bytes-gt-MOST_ITEMS : goal.returns-else-bytes-gt-MOST_ITEMS
-returns-else-bytes-gt-MOST_ITEMS c =
-    let made = c.message_of_bytes-else-bytes-gt-MOST_ITEMS in
+pub returns-then-bytes-gt-FEW_ITEMS : goal.returns-then-bytes-gt-FEW_ITEMS
+returns-then-bytes-gt-FEW_ITEMS c =
+    let made = c.message_of_bytes-then-bytes-gt-FEW_ITEMS in
     writing_given c.args.how.size c.args.how.profile c.args.bytes.now made.result c.args.out.now
     c.write_message.new.out made.ensures.message made.ensures.numbers c.write_message.ensures
+
+pub returns-else-bytes-gt-FEW_ITEMS : goal.returns-else-bytes-gt-FEW_ITEMS
+returns-else-bytes-gt-FEW_ITEMS c =
+    let made = c.message_of_bytes-else-bytes-gt-FEW_ITEMS in
+    writing_given c.args.how.size c.args.how.profile c.args.bytes.now made.result c.args.out.now
+    c.write_message-else-bytes-gt-FEW_ITEMS.new.out made.ensures.message made.ensures.numbers
+    c.write_message-else-bytes-gt-FEW_ITEMS.ensures
