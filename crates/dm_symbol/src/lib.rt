@@ -20,7 +20,9 @@
 //! [`inspect_symbol_to()`] leaves the codewords of a symbol, before and after they are restored, in a
 //! [`SymbolInspection`]; so do [`inspect_grid_to()`] and [`inspect_doubtful_to()`] for squares that are given as grids.
 //! [`read_borrowed_to()`] and [`inspect_borrowed_to()`] do as those for symbols do with [`BorrowedModules`], a caller's
-//! list of each module's [`Colour`].
+//! list of each module's [`Colour`]. [`read_message_to()`], [`write_message_to()`], [`read_borrowed_message_to()`] and
+//! [`read_doubtful_message_to()`] do what the calls without `message` in their names do, with a [`MessageIn`] of any
+//! room; those that read leave the parts of a reading in targets of their own.
 //!
 //! The types of the layers below are given on: [`Grid`] with [`GridFault`], [`Size`] with its [`table()`] of
 //! [`SIZE_COUNT`], [`Words`], and the limits [`LARGEST_SIDE`] and [`MOST_BLOCKS`]; [`Message`] of [`Item`]s,

@@ -273,7 +273,7 @@ first_chosen in_c40 in_text in_x12 in_edifact c t bytes rest sets one two lanes 
     (first_lanes (values_before 1 c) (values_before 1 t) bytes rest)) is_two
     ∙ first_by_sets in_c40 in_text in_x12 in_edifact c t bytes rest
 
--- Likewise the others.
+-- In the second vector, so are those of X12 and of EDIFACT that are in the sets of the byte and read in the extent.
 pub second_chosen : (extent : Extent) (in_c40 in_text in_x12 in_edifact : Bool) (x : Pairs) (e : Groups)
     (sets read : ℕ) (inside outside lanes : List ℕ)
     → sets ≡ set_bits in_c40 in_text in_x12 in_edifact → read ≡ read_bits extent
@@ -283,11 +283,12 @@ pub second_chosen : (extent : Extent) (in_c40 in_text in_x12 in_edifact : Bool) 
 second_chosen extent in_c40 in_text in_x12 in_edifact x e sets read inside outside lanes is_sets is_read is_inside
     is_outside is =
     let bits = set_bits in_c40 in_text in_x12 in_edifact in
+    let lane_bits = 4 ∷ 4 ∷ 4 ∷ 8 ∷ 8 ∷ 8 ∷ 8 ∷ 0 ∷ [] in
     is
-    ∙ ap (λ (n : ℕ). sel_l (in_sets (bit_and n read) (4 ∷ 4 ∷ 4 ∷ 8 ∷ 8 ∷ 8 ∷ 8 ∷ 0 ∷ [])) inside outside) is_sets
-    ∙ ap (λ (n : ℕ). sel_l (in_sets (bit_and bits n) (4 ∷ 4 ∷ 4 ∷ 8 ∷ 8 ∷ 8 ∷ 8 ∷ 0 ∷ [])) inside outside) is_read
-    ∙ ap (λ (xs : List ℕ). sel_l (in_sets (bit_and bits (read_bits extent)) (4 ∷ 4 ∷ 4 ∷ 8 ∷ 8 ∷ 8 ∷ 8 ∷ 0 ∷ [])) xs outside) is_inside
-    ∙ ap (sel_l (in_sets (bit_and bits (read_bits extent)) (4 ∷ 4 ∷ 4 ∷ 8 ∷ 8 ∷ 8 ∷ 8 ∷ 0 ∷ []))
+    ∙ ap (λ (n : ℕ). sel_l (in_sets (bit_and n read) lane_bits) inside outside) is_sets
+    ∙ ap (λ (n : ℕ). sel_l (in_sets (bit_and bits n) lane_bits) inside outside) is_read
+    ∙ ap (λ (xs : List ℕ). sel_l (in_sets (bit_and bits (read_bits extent)) lane_bits) xs outside) is_inside
+    ∙ ap (sel_l (in_sets (bit_and bits (read_bits extent)) lane_bits)
     (second_lanes (stay 1 x) (stay_edifact true e))) is_outside
     ∙ second_by_sets extent in_c40 in_text in_x12 in_edifact x e
 

@@ -1,21 +1,15 @@
 -- The loops that count and write items with marks.
-use Rattle.std.proofs.Common.{Bool, true, false, Option, Some, None}
-use Rattle.std.proofs.Common.{◌≡◌, ℕ, ◌+◌, ◌-◌, ◌*◌, ◌<◌, ◌≤◌, List, [], ◌∷◌, ◌++◌, length, take, drop, get_or}
+use Rattle.std.proofs.Common.{◌≡◌, ℕ, ◌+◌, ◌-◌, ◌*◌, ◌<◌, ◌≤◌, List, ◌∷◌, ◌++◌, length, take, drop, get_or}
 use Rattle.std.proofs.Common.{refl, sym, ap, subst, ◌∙◌, append_assoc, arith, length-append}
 use Rattle.std.proofs.lemmas.List.{append-nil, at_drop_more, at_drop_all, drop-drop, take_rest, length-take}
 use Rattle.std.proofs.lemmas.List.{length-drop}
 use Rattle.dm_words.specs.declared.item.Item.{Item}
 use Rattle.dm_words.specs.declared.ascii.Unit.{Unit}
-use Rattle.dm_words.specs.declared.letters.head.Head.{Head}
 use Rattle.dm_words.specs.declared.letters.mark.Mark.{Mark}
-use Rattle.dm_words.specs.declared.profile.Profile.{Profile}
-use Rattle.dm_words.specs.Heads.{head_words}
-use Rattle.dm_words.specs.NormalForm.{normal_form}
-use Rattle.dm_words.specs.inner.MarkedForms.{is_plain}
 use Rattle.dm_words.specs.Ascii.{ascii}
 use Rattle.dm_words.specs.Designators.{most_assigned, eci_word, designator}
-use Rattle.dm_words.specs.Letters.{LetterView, AreMarks}
-use Rattle.dm_words.specs.LetterForm.{mark_words, marked_ascii, letter_form}
+use Rattle.dm_words.specs.Letters.{AreMarks}
+use Rattle.dm_words.specs.LetterForm.{mark_words, marked_ascii}
 use Rattle.dm_words.specs.inner.Scan.Results.{unit_words, unit_items}
 use Rattle.dm_words.proofs.LetterForms.{marks_within}
 use Rattle.dm_words.proofs.NormalForms.{two_words}
@@ -176,21 +170,3 @@ pub units_end : (items : List Item) (at : ℕ) (total words : List ℕ) → leng
     ++ ascii (drop at items) → words ≡ total
 units_end items at total words le so_far =
     sym (so_far ∙ at_drop_all (λ (r : List Item). words ++ ascii r) items at le ∙ append-nil words)
-
--- ---- the whole form
-
--- Without a head and marks, the normal form is that of the items.
-pub plain_form : (profile : Profile) (l : LetterView) (head : Option Head) (items : List Item) (marks : List Mark)
-    (b : Bool) → head ≡ l.head → items ≡ l.items → marks ≡ l.marks → b ≡ is_plain head marks → b ≡ true
-    → letter_form profile l ≡ normal_form profile items
-plain_form profile l None items [] b h i m test t = rw (← h, ← i, ← m) refl
-plain_form profile l None items (k ∷ marks) b h i m test t = absurd cc
-plain_form profile l (Some head) items marks b h i m test t = absurd cc
-
--- With a head or marks, it is the codewords of the head, and the items with their marks.
-pub marked_form : (profile : Profile) (l : LetterView) (head : Option Head) (items : List Item) (marks : List Mark)
-    (b : Bool) → head ≡ l.head → items ≡ l.items → marks ≡ l.marks → b ≡ is_plain head marks → b ≡ false
-    → letter_form profile l ≡ head_words head ++ marked_ascii 0 items marks
-marked_form profile l None items [] b h i m test t = absurd cc
-marked_form profile l None items (k ∷ marks) b h i m test t = rw (← h, ← i, ← m) refl
-marked_form profile l (Some head) items marks b h i m test t = rw (← h, ← i, ← m) refl

@@ -200,7 +200,7 @@ fn normal_grid<const ROOM: usize>(
     }
 }
 
-/// Does so for a symbol of any size.
+/// Shows the normal symbol of what the symbol of these modules says, or why there is none, for a symbol of any size.
 fn normal_symbol(
     extent: Extent,
     profile: Profile,

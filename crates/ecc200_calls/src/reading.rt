@@ -18,7 +18,7 @@ use crate::arrays::put_bytes;
 use crate::doubtful_squares::read_doubtful_square;
 use crate::extent::extent_of;
 use crate::fault::{Fault, read_fault};
-use crate::message::{FEW_ITEMS, put_message, spell_few};
+use crate::message::{FEW_ITEMS, put_message, spell_as_grids, spell_few};
 use crate::modules::{make_doubtful, make_modules, none_doubtful, told_doubt};
 use crate::squares::{is_doubtful_square, is_plain_square, make_grid};
 use arrayvec::ArrayVec;
@@ -162,8 +162,8 @@ fn read_grid<const ROOM: usize>(
     }
 }
 
-/// Does so for a symbol of any size. It stands by itself, so that squares leave no room for its reading on the
-/// stack.
+/// Shows what the symbol of these modules says in an extent, or why it says nothing, for a symbol of any size. It
+/// stands by itself, so that squares leave no room for its reading on the stack.
 #[inline(never)]
 fn read_symbol(
     extent: Extent,
@@ -231,8 +231,11 @@ fn read_modules(
     ensures { IsReadingGiven extent rows columns symbol.now
         (option_map (λ d. d.now) doubtful.entry) border_limit out.old out.new }
 {
-    if spell_few(symbol.size().data_count()) {
+    let words = symbol.size().data_count();
+    if spell_few(words) {
         read_modules_in::<FEW_ITEMS>(extent, symbol, doubtful, rows, columns, border_limit, out);
+    } else if spell_as_grids(words) {
+        read_modules_in::<MESSAGE_ROOM>(extent, symbol, doubtful, rows, columns, border_limit, out);
     } else {
         read_modules_in::<LARGEST_ROOM>(extent, symbol, doubtful, rows, columns, border_limit, out);
     }

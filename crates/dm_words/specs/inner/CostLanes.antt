@@ -17,7 +17,7 @@ abbrev pub set_bits : Bool → Bool → Bool → Bool → ℕ
 set_bits in_c40 in_text in_x12 in_edifact =
     (if in_c40 then 1 else 0) + (if in_text then 2 else 0) + (if in_x12 then 4 else 0) + (if in_edifact then 8 else 0)
 
--- These are the sets of a byte.
+-- The bits of the sets that have this byte as one value.
 abbrev pub byte_sets : ℕ → ℕ
 byte_sets byte =
     set_bits (is_basic C40 byte) (is_basic Text byte) (is_basic X12 byte) (nat_le 32 byte && nat_le byte 94)

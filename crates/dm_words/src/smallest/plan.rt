@@ -1,11 +1,11 @@
 //! What to do at each item, so that the message takes the fewest codewords.
 
-ghost use Rattle.std.specs.Prelude.{◌≡◌, ◌+◌, ◌^◌, ◌≤◌, ◌<◌, if◌then◌else◌, ℕ, nat_le, get_or, drop, length};
+ghost use Rattle.std.specs.Prelude.{◌≡◌, ◌+◌, ◌^◌, ◌≤◌, ◌<◌, if◌then◌else◌, ℕ, nat_le, get_or, length};
 ghost use Prim.Native.Nat.{min};
 ghost use Rattle.std.specs.Prelude.{map, nat_eq, not, replicate};
 ghost use Rattle.std.specs.Simd.Lanes.{sel_l, zip2};
-ghost use Rattle.dm_words.specs.inner.Costs.{Row, Going, cost_of, least, segment_cost, step_of, IsWithin, AreSmall};
-ghost use Rattle.dm_words.specs.inner.Costs.{row, parts_cost, is_digit_item, pair_first, never, begin_at, step_in};
+ghost use Rattle.dm_words.specs.inner.Costs.{Row, Going, cost_of, least, step_of, AreSmall};
+ghost use Rattle.dm_words.specs.inner.Costs.{parts_cost, is_digit_item, never, begin_at, step_in};
 ghost use Rattle.dm_words.specs.inner.Costs.{has_bit};
 ghost use Rattle.dm_words.specs.inner.Costs.{IsRightPlan};
 ghost use Rattle.dm_words.specs.inner.Written.{run_ends};
@@ -137,7 +137,7 @@ const BEGINNINGS: [u16; 8] = [0, 0, 1, 1, 1, 1, 2, 2];
 
 const LONG_BEGINNINGS: [u16; 8] = [0, 0, 1, 1, 1, 1, 3, 2];
 
-/// Puts a number into the lane whose number is 1 here.
+/// Puts a number into each lane whose number here isn't 0.
 #[inline]
 fn with_lane(lanes: Simd<u16, 8>, lane: [u16; 8], number: u16) -> Simd<u16, 8>
     ensures { result ≡ sel_l (map (λ n. not (nat_eq n 0)) lane) (replicate 8 number) lanes }

@@ -1,11 +1,11 @@
 //! What it costs to write all that follows an item, for each state of writing, in lanes.
 
-ghost use Rattle.std.specs.Prelude.{◌≡◌, ℕ, ◌+◌, ◌≤◌, ◌<◌, ◌&&◌, nat_le, if◌then◌else◌, false};
+ghost use Rattle.std.specs.Prelude.{◌≡◌, ℕ, ◌+◌, ◌≤◌, ◌<◌, if◌then◌else◌};
 ghost use Rattle.std.specs.Prelude.{Bool, true};
 ghost use Rattle.dm_words.specs.inner.Costs.{Pairs, Groups, Going, Row, no_pairs, no_groups, values_before, never};
 ghost use Rattle.dm_words.specs.inner.Costs.{stay, stay_edifact};
 ghost use Rattle.dm_words.specs.inner.Costs.{is_basic, unit_cost, set_values, has_edifact, leave, going_over};
-ghost use Rattle.dm_words.specs.inner.Costs.{with_ascii, last_row, none_going};
+ghost use Rattle.dm_words.specs.inner.Costs.{with_ascii, none_going};
 ghost use Rattle.dm_words.specs.inner.Costs.{IsWithin, AreSmall};
 ghost use Rattle.dm_words.specs.inner.CostLanes.{read_edifact, one_or_two};
 ghost use Rattle.dm_words.specs.inner.CostLanes.{AreNext, end_lanes, limit_lanes, set_bits};

@@ -74,15 +74,18 @@ loop-at-preserved c =
     let going = c.going_over-going.ensures next w v.row in
     let choice = c.choose-choice.result in
     let new = with_ascii choice.cost next.ascii g in
-    let t = turn extent m at x (Byte 0) next new (c.is_digit_item-digit.result && c.loop-at.digit_behind) g (begin_at choice.begins) choice.cost
+    let behind = c.loop-at.digit_behind in
+    let pair = c.is_digit_item-digit.result && behind in
+    let t = turn extent m at x (Byte 0) next new pair g (begin_at choice.begins) choice.cost
     (step_in c.step_of-in-loop-at.result) (omega (arith, c.loop-at-test.true)) v.in_range refl refl
-    (ap (λ (b : Bool). b && c.loop-at.digit_behind) c.is_digit_item-digit.ensures ∙ ap (λ (b : Bool). is_digit_item x && b) v.digit)
+    (ap (λ (b : Bool). b && behind) c.is_digit_item-digit.ensures ∙ ap (λ (b : Bool). is_digit_item x && b) v.digit)
     refl (c.choose-choice.ensures.cost next g v.row small going)
     (c.choose-choice.ensures.begins next g v.row small going) (c.step_of-in-loop-at.ensures g going) refl in
     record {
       in_range = omega (arith, v.in_range);
       room = search rules;
-      digit = c.is_digit_item-digit.ensures ∙ digit_here m at x (Byte 0) (omega (arith, c.loop-at-test.true)) v.in_range refl;
+      digit = c.is_digit_item-digit.ensures
+          ∙ digit_here m at x (Byte 0) (omega (arith, c.loop-at-test.true)) v.in_range refl;
       row = subst (λ (r : Row). HasRow r c.with_ascii-costs-in-loop-at.result)
           (ap (λ (n : ℕ). with_ascii choice.cost n g) v.row.ascii ∙ t.0)
           (c.with_ascii-costs-in-loop-at.ensures g small going);
