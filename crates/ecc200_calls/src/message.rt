@@ -1,6 +1,6 @@
 //! Messages as numbers: a byte is itself, FNC1 is 256.
 
-ghost use Rattle.std.specs.Prelude.{◌≡◌, ◌≤◌, length, All, IfSome, IfNone, IsTrue};
+ghost use Rattle.std.specs.Prelude.{◌≡◌, ◌≤◌, ◌<◌, length, All, IfSome, IfNone, IsTrue, false};
 ghost use Rattle.dm_symbol.specs.declared.Extent.{Extent};
 ghost use Rattle.dm_words.specs.Messages.{most_spelled};
 ghost use Rattle.dm_symbol.specs.Messages.{IsMessage};
@@ -23,7 +23,8 @@ pub(crate) const FEW_ITEMS: usize = 131;
 /// Whether so many data codewords spell few items, in any extent.
 #[inline]
 pub(crate) fn spell_few(words: u16) -> bool
-    ensures { IsTrue result → (extent : Extent) → most_spelled extent words ≤ FEW_ITEMS }
+    ensures few { IsTrue result → (extent : Extent) → most_spelled extent words ≤ FEW_ITEMS }
+    ensures more { result ≡ false → FEW_WORDS < words }
 {
     words <= FEW_WORDS
 }
@@ -31,7 +32,8 @@ pub(crate) fn spell_few(words: u16) -> bool
 /// Whether so many data codewords spell no more than those of the largest grid, in any extent.
 #[inline]
 pub(crate) fn spell_as_grids(words: u16) -> bool
-    ensures { IsTrue result → (extent : Extent) → most_spelled extent words ≤ MESSAGE_ROOM }
+    ensures fit { IsTrue result → (extent : Extent) → most_spelled extent words ≤ MESSAGE_ROOM }
+    ensures more { result ≡ false → MOST_DATA < words }
 {
     usize::from(words) <= MOST_DATA
 }
