@@ -6,7 +6,9 @@
 use arrayvec::ArrayVec;
 use dm_code::{encode, syndromes};
 use dm_layout::{Grid, LARGEST_SIDE, MOST_CODEWORDS, Size, Words, table};
-use dm_symbol::{Extent, Message, NormalFault, Profile, ReadFault, Reading, TooLong, light_grid};
+use dm_symbol::{
+    Extent, Message, NormalFault, Profile, ReadFault, Reading, SymbolReading, TooLong, light_grid,
+};
 use gf301::{Poly, generator};
 
 /// The check codewords of these data codewords, and none where there is no such block.
@@ -147,6 +149,20 @@ pub(crate) fn read_as(extent: Extent, grid: &Grid, limit: u16) -> Result<Reading
     match dm_symbol::read_to(extent, grid, limit, &mut reading) {
         Ok(()) => Ok(reading),
         Err(fault) => Err(fault),
+    }
+}
+
+/// Reads a grid into `reading`, of whose cells these are doubtful, and nothing where they are those of another size.
+pub(crate) fn read_doubtful(
+    grid: &Grid,
+    doubtful: &Grid,
+    limit: u16,
+    reading: &mut SymbolReading,
+) -> Option<Result<(), ReadFault>> {
+    if doubtful.size() == grid.size() {
+        Some(dm_symbol::read_doubtful_to(Extent::Usual, grid, doubtful, limit, reading))
+    } else {
+        None
     }
 }
 

@@ -64,7 +64,7 @@ pub(crate) fn has_items(message: &Message, items: &[Item]) -> bool {
 }
 
 /// Whether the items are these bytes.
-fn are_bytes(items: &[Item], bytes: &[u8]) -> bool {
+pub(crate) fn are_bytes(items: &[Item], bytes: &[u8]) -> bool {
     if items.len() != bytes.len() {
         return false;
     }

@@ -3,8 +3,8 @@
 use crate::calls::*;
 use crate::claims::holds;
 use crate::messages::{
-    Codewords, MARKED, add_word, add_words, are_all, has_bytes, has_items, of_bytes, of_items,
-    of_many, randomised, segment,
+    Codewords, MARKED, add_word, add_words, are_all, are_bytes, has_bytes, has_items, of_bytes,
+    of_items, of_many, randomised, segment,
 };
 use arrayvec::ArrayVec;
 use dm_layout::{Grid, LARGEST_SIDE, MOST_DATA, Size, Words, table};
@@ -12,6 +12,7 @@ use dm_symbol::{
     Item, Message, NormalFault, Profile, ReadFault, Reading, TooLong, WordFault, usual_limit,
 };
 
+mod doubt;
 mod extents;
 mod hostile;
 mod larger;
