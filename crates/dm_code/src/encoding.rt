@@ -37,12 +37,13 @@ pub fn encode(front: &[u8], k: usize) -> ArrayVec<u8, MOST_CHECKS>
 }
 
 /// Gives what is left of a word when it is divided by the generator for k check codewords, k of 1 to [`MOST_CHECKS`]: k
-/// numbers, with the same syndromes as the word, and zeros behind them. All are 0 where the word is a codeword.
+/// numbers, with the same syndromes as the word, and zeros behind them.
 pub(crate) fn remainder(word: &[u8], k: usize) -> [u8; LEFT_ROOM]
     requires some { 1 ≤ k }
     requires most { k ≤ MOST_CHECKS }
     requires whole { k ≤ length word.now }
-    ensures { syndromes_of (take k result) k ≡ syndromes_of word.now k }
+    ensures same { syndromes_of (take k result) k ≡ syndromes_of word.now k }
+    ensures past { (i : ℕ) → k ≤ i → get_or result i 0 ≡ 0 }
 {
     let (front, checks) = word.split_at(word.len() - k);
     let mut rest = divide(front, k);
@@ -63,6 +64,7 @@ fn divide(front: &[u8], k: usize) -> [u8; LEFT_ROOM]
     ensures same { (i : ℕ) → i < k
         → value front.now (power (1 + i)) ⊗ raise (power (1 + i)) k
         ≡ value (take k result) (power (1 + i)) }
+    ensures past { (i : ℕ) → k ≤ i → get_or result i 0 ≡ 0 }
 {
     match k.div_ceil(16) {
         1 => divide_in::<16>(front, k),
@@ -87,6 +89,7 @@ fn divide_in<const WIDTH: usize>(front: &[u8], k: usize) -> [u8; LEFT_ROOM]
     ensures same { (i : ℕ) → i < k
         → value front.now (power (1 + i)) ⊗ raise (power (1 + i)) k
         ≡ value (take k result) (power (1 + i)) }
+    ensures past { (i : ℕ) → k ≤ i → get_or result i 0 ≡ 0 }
 {
     let mut left = [0; LEFT_ROOM];
     let odd = front.len() % 2;

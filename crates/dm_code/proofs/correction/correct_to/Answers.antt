@@ -17,7 +17,7 @@ returns-then-are_zero-clause-itself g c =
     let k = c.args.k in
     let r = c.remainder-rest.result in (
       λ e. codeword_from_syndromes k w (syndromes_of (take k r) k) c.requires.most c.requires.data c.requires.long
-          (bytes_places w (λ i h. omega (arith, c.type_inv.word i))) c.remainder-rest.ensures
+          (bytes_places w (λ i h. omega (arith, c.type_inv.word i))) c.remainder-rest.ensures.same
           (zeros_of_zeros k (take k r) (zeros_of_first k r (c.are_zero.ensures.0 c.if-are_zero.true))),
       λ h. refl,
     )
