@@ -1,5 +1,6 @@
 -- The products of the two locators of a search with the values: how a correction changes them.
 use Rattle.std.proofs.Common.{◌≡◌, ℕ, zero, suc, ◌+◌, ◌-◌, ◌<◌, ◌≤◌, List, ◌++◌, length, take, drop, sym, ap, ◌∙◌}
+use Rattle.std.proofs.Common.{length-take, min}
 use Rattle.std.proofs.Common.{arith, bit_xor}
 use Rattle.std.proofs.Common.{inl, inr, refl}
 use Rattle.std.proofs.lemmas.Bool.{cases_lt}
@@ -61,12 +62,16 @@ corrected_product k s l e m p q r x y gap h pl qe low high = λ i b.
           (λ n c. sym (corrected_at l e m x y gap h n))
     ]
 
--- The product of the same polynomial, by other lists.
-pub same_product : (k n : ℕ) (l m s p q : List ℕ) → k ≤ n → HasProduct k l s p →
-    ((i : ℕ) → coefficient l i ≡ coefficient m i) → q ≡ take n p → HasProduct k m s q
-same_product k n l m s p q h pl e t = λ i b.
-    ap (λ u. coefficient u i) t ∙ get_or-take n p i 0 (omega arith) ∙ pl i b
+-- The product of the same polynomial, by other lists, of which one has the first coefficients of the other.
+pub same_product : (k : ℕ) (l m s p q : List ℕ) → HasProduct k l s p → ((i : ℕ) → coefficient l i ≡ coefficient m i)
+    → ((i : ℕ) → coefficient q i ≡ coefficient (take k p) i) → HasProduct k m s q
+same_product k l m s p q h e t = λ i b.
+    t i ∙ get_or-take k p i 0 b ∙ h i b
     ∙ conv_same_left (coefficient l) (coefficient m) (coefficient s) i (λ j c. e j)
+
+-- The first k coefficients have zeros behind them.
+pub zeros_past : (k : ℕ) (p : List ℕ) (i : ℕ) → k ≤ i → coefficient (take k p) i ≡ 0
+zeros_past k p i h = get_or_past (take k p) i 0 (let l : length (take k p) ≡ min k (length p) = simp length-take refl in omega arith)
 
 -- The same product under other names.
 pub renamed_product : (k : ℕ) (l m s p q : List ℕ) → HasProduct k l s p → l ≡ m → q ≡ p → HasProduct k m s q

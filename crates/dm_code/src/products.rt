@@ -5,7 +5,7 @@ ghost use Rattle.gf301.specs.Field.{◌⊕◌, ◌⊗◌};
 ghost use Rattle.gf301.specs.Polynomial.{coefficient};
 
 use crate::quick::COEFFICIENTS_ROOM;
-use gf301::{CHECKS_ROOM, Gf, MOST_CHECKS, Meter, add_scaled};
+use gf301::{CHECKS_ROOM, Gf, MOST_CHECKS, Meter};
 
 /// Room for the coefficients of a product that is moved up by up to [`COEFFICIENTS_ROOM`] places.
 const PRODUCT_ROOM: usize = CHECKS_ROOM + COEFFICIENTS_ROOM;
@@ -17,7 +17,7 @@ const PRODUCT_ROOM: usize = CHECKS_ROOM + COEFFICIENTS_ROOM;
 pub(crate) struct Products {
     /// The product of the locator.
     pub(crate) product: [u8; PRODUCT_ROOM],
-    /// The product of the earlier locator.
+    /// The product of the earlier locator, and zeros behind the coefficients that count.
     pub(crate) earlier: [u8; CHECKS_ROOM],
 }
 
@@ -44,8 +44,8 @@ impl Products {
     }
 
     /// Adds `factor` times the earlier product, moved up by the gap, to the product, for its first `count`
-    /// coefficients: so many products, which the meter counts. Up to 15 more, for coefficients that don't count, fill
-    /// the last sixteen lanes. Where the degree grows, what the product was before is the earlier one from now on.
+    /// coefficients, behind which the earlier one has zeros: so many products, which the meter counts. Where the degree
+    /// grows, the first `count` coefficients of what the product was before are the earlier one from now on.
     pub(crate) fn adjust(
         &mut self,
         factor: Gf,
@@ -56,21 +56,26 @@ impl Products {
     )
         requires near { gap ≤ COEFFICIENTS_ROOM }
         requires few { count ≤ MOST_CHECKS }
+        requires zeros { (i : ℕ) → count ≤ i → coefficient self.old.earlier i ≡ 0 }
         requires room { meter.old.products + count < 2 ^ 32 }
         ensures low { (i : ℕ) → i < gap
             → coefficient self.new.product i ≡ coefficient self.old.product i }
         ensures high { (i : ℕ) → i < count → coefficient self.new.product (gap + i)
             ≡ coefficient self.old.product (gap + i) ⊕ factor.0 ⊗ coefficient self.old.earlier i }
-        ensures grown { IsTrue grows → self.new.earlier ≡ take CHECKS_ROOM self.old.product }
+        ensures grown { IsTrue grows → (i : ℕ)
+            → coefficient self.new.earlier i ≡ coefficient (take count self.old.product) i }
         ensures kept { IsTrue (not grows) → self.new.earlier ≡ self.old.earlier }
         ensures products { meter.new.products ≡ meter.old.products + count }
         ensures inversions { meter.new.inversions ≡ meter.old.inversions }
     {
-        let mut before = [0; CHECKS_ROOM];
-        before.copy_from_slice(&self.product[..CHECKS_ROOM]);
+        let before = padded(&self.product[..count]);
         let width = count.div_ceil(16) * 16;
-        meter.products += count as u32;
-        add_scaled(&mut self.product[gap..gap + width], factor.0, &self.earlier);
+        meter.add_scaled(
+            &mut self.product[gap..gap + width],
+            factor,
+            &self.earlier,
+            count as u32,
+        );
         if grows {
             self.earlier = before;
         }

@@ -66,10 +66,10 @@ impl Quick {
     }
 
     /// Gives what [`KeySolver::solve`] gives, and the products and inversions that were made for it: for k syndromes at
-    /// most 4 k^2 products and k inversions, as for [`Quick::solve_counted`]. A discrepancy is a number of the
-    /// locator's product and takes none; where it isn't 0, both the locator and its product are corrected. Products
-    /// that only fill lanes aren't counted: those with the zeros behind a locator, and those for coefficients of its
-    /// product behind the last syndrome.
+    /// most 4 k^2 products and k inversions, as for [`Quick::solve_counted`], and for a locator of more than one
+    /// coefficient at least k + 3 products and an inversion. A discrepancy is a number of the locator's product and
+    /// takes none; where it isn't 0, both the locator and its product are corrected. Products with the zeros behind a
+    /// locator or a product, which only fill lanes, aren't counted.
     fn solve_by_products(s: &[u8], t: usize) -> (Option<Key>, Meter)
         requires few { length s.now ≤ MOST_CHECKS }
         requires half { 2 * t ≤ length s.now }
@@ -79,6 +79,10 @@ impl Quick {
         ensures exact { IfSome result.0 (λ key. IsExact key.locator.items key.evaluator.items) }
         ensures products { result.1.products ≤ 4 * length s.now * length s.now }
         ensures inversions { result.1.inversions ≤ length s.now }
+        ensures some_products { IfSome result.0
+            (λ key. 1 < length key.locator.items → length s.now + 3 ≤ result.1.products) }
+        ensures some_inversion { IfSome result.0
+            (λ key. 1 < length key.locator.items → 0 < result.1.inversions) }
     {
         let mut counts = Meter::default();
         let mut state = Search::new();
@@ -109,7 +113,8 @@ impl KeySolver for Quick {
     /// Gives what [`Quick::solve_counted`] gives, without the counts: the lists of both are those of the least pair
     /// with no number too many, and so the same ([`crate::laws::exact_least_pair_is_one`]). The [`Products`] of the
     /// locators stand in place of the product that each discrepancy is there. For k syndromes there are at most 4 k^2
-    /// products and k inversions here too.
+    /// products and k inversions here too, and for a locator of more than one coefficient at least k + 3 products and an
+    /// inversion.
     fn solve(&self, s: &[u8], t: usize) -> Option<Key>
         requires few { length s.now ≤ MOST_CHECKS }
         requires half { 2 * t ≤ length s.now }

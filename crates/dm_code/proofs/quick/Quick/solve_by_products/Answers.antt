@@ -1,7 +1,7 @@
 use Rattle.std.proofs.Common.{◌≡◌, ℕ, ◌+◌, ◌-◌, ◌<◌, ◌≤◌, length, refl, sym, ap, subst, ◌∙◌, arith, inl}
 use Rattle.std.proofs.Common.{inr, not, get_or, take}
 use Rattle.std.proofs.lemmas.Bool.{cases_lt, lt-ltb, le-ltb}
-use Rattle.std.proofs.lemmas.List.{get_or-take}
+use Rattle.std.proofs.lemmas.List.{get_or-take, get_or_past}
 use Rattle.gf301.specs.Field.{◌⊕◌, ◌⊗◌}
 use Rattle.gf301.specs.Polynomial.{coefficient, convolution}
 use Rattle.gf301.specs.declared.meter.Meter.{Meter}
@@ -13,7 +13,7 @@ use Rattle.dm_code.proofs.BerlekampMassey.{IsCorrected, restated, coefficients_t
 use Rattle.dm_code.proofs.BerlekampMassey.{search_taken, taken_product, search_kept, search_same, search_grown}
 use Rattle.dm_code.proofs.BerlekampMassey.{search_refuses, search_results, search_exact}
 use Rattle.dm_code.proofs.LocatorProducts.{HasProduct, one_product, corrected_product, same_product}
-use Rattle.dm_code.proofs.LocatorProducts.{renamed_product}
+use Rattle.dm_code.proofs.LocatorProducts.{zeros_past, renamed_product}
 use Rattle.dm_code.proofs.Counts.{step_with_products, products_by_steps}
 use Rattle.dm_code.proofs.quick.Quick.solve_by_products.Goals as goal
 use Rattle.dm_code.proofs.quick.Quick.solve_by_products.Goals.{then-discrepancy-ne0+else-degree-t, else-discrepancy-ne0}
@@ -31,12 +31,15 @@ loop-n-init c =
       products = omega (arith, c.default-counts.ensures.0);
       room = omega (arith, c.default-counts.ensures.0);
       inversions = omega (arith, c.default-counts.ensures.1);
+      some_products = λ g. omega (arith, e.degree, g);
+      some_inversion = λ g. omega (arith, e.degree, g);
       product =
           one_product (length s) c.new-state.result.locator s c.new-products.result.product e.locator
           (λ i. omega (arith, c.type_inv.s i)) p.product;
       earlier =
           one_product (length s) c.new-state.result.earlier s c.new-products.result.earlier e.earlier
           (λ i. omega (arith, c.type_inv.s i)) p.earlier;
+      zeros = λ i h. p.earlier i ∙ get_or_past s i 0 h;
     }
 
 pub returns-then-degree-t-clause-none : goal.returns-then-degree-t-clause-none
@@ -108,6 +111,33 @@ loop-n-preserved c =
                 step_with_products n k c.args.t c.loop-n.counts.products c.if-discrepancy-ne0.counts.products
                 c.requires.half (omega (arith, c.loop-n-test.true)) c.loop-n.invariant.products made;
             room = omega (arith, made, c.loop-n.invariant.room, c.requires.half, c.requires.few);
+            some_products = λ g.
+                omega (
+                  arith,
+                  r.products,
+                  q.products,
+                  w.mul-factor.ensures.counted,
+                  h.room,
+                  next,
+                  ap (λ (q : Meter). q.products) w.counts-is,
+                );
+            some_inversion = λ g. elim (cases_lt n (d + d)) [
+              | inl b ↦
+                  let o = r.kept (omega (arith, next)) in
+                  let i : 0 < c.loop-n.counts.inversions =
+                  c.loop-n.invariant.some_inversion
+                  (omega (arith, r.degree, next, ap (λ (q : Search). q.degree) u)) in
+                  omega (
+                    arith,
+                    o.3,
+                    q.inversions,
+                    w.mul-factor.ensures.kept,
+                    ap (λ (q : Meter). q.inversions) w.counts-is,
+                  )
+              | inr b ↦
+                  let o = r.grown (omega (arith, next)) in
+                  omega (arith, o.3, ap (λ (q : Meter). q.inversions) w.counts-is)
+            ];
             inversions = elim (cases_lt n (d + d)) [
               | inl b ↦
                   let o = r.kept (omega (arith, next)) in
@@ -143,14 +173,23 @@ loop-n-preserved c =
               | inr b ↦
                   let o = r.grown (omega (arith, next)) in
                   let e = q.grown (lt-ltb d w.max-degree.result (omega (arith, next))) in
-                  same_product k 80 l new.earlier s ps.product c.if-discrepancy-ne0.products.earlier (omega arith)
+                  same_product k l new.earlier s ps.product c.if-discrepancy-ne0.products.earlier
                   c.loop-n.invariant.product
                   (λ i. coefficients_taken l 48
                   (λ j q. h.connects.degree j
                   (omega (arith, c.loop-n.invariant.within, c.requires.few, c.requires.half))) i
                   ∙ ap (λ t. coefficient t i) (sym o.0 ∙ ap (λ (q : Search). q.earlier) u))
-                  (ap (λ (q : Products). q.earlier) w.products-is ∙ e)
+                  (λ i. ap (λ (q : Products). coefficient q.earlier i) w.products-is ∙ e i)
             ];
+            zeros = λ i o. ap (λ (q : Products). coefficient q.earlier i) w.products-is
+                ∙ elim (cases_lt n (d + d)) [
+                  | inl b ↦
+                      ap (λ t. coefficient t i) (q.kept (ap not (le-ltb d w.max-degree.result (omega (arith, next)))))
+                      ∙ c.loop-n.invariant.zeros i o
+                  | inr b ↦
+                      q.grown (lt-ltb d w.max-degree.result (omega (arith, next))) i
+                      ∙ zeros_past k ps.product i o
+                ];
           }
       | else-discrepancy-ne0 w ↦
           let u : old ≡ new = sym w.state-is in
@@ -167,6 +206,14 @@ loop-n-preserved c =
                 (omega (arith, ap (λ (q : Meter). q.products) w.counts-is));
             room = omega (arith, c.loop-n.invariant.room, ap (λ (q : Meter). q.products) w.counts-is);
             inversions = omega (arith, c.loop-n.invariant.inversions, ap (λ (q : Meter). q.inversions) w.counts-is);
+            some_products = λ g.
+                let i : k + 3 ≤ c.loop-n.counts.products =
+                c.loop-n.invariant.some_products (omega (arith, ap (λ (q : Search). q.degree) u)) in
+                omega (arith, ap (λ (q : Meter). q.products) w.counts-is);
+            some_inversion = λ g.
+                let i : 0 < c.loop-n.counts.inversions =
+                c.loop-n.invariant.some_inversion (omega (arith, ap (λ (q : Search). q.degree) u)) in
+                omega (arith, ap (λ (q : Meter). q.inversions) w.counts-is);
             product =
                 renamed_product k l new.locator s ps.product c.if-discrepancy-ne0.products.product
                 c.loop-n.invariant.product (ap (λ (q : Search). q.locator) u)
@@ -175,6 +222,7 @@ loop-n-preserved c =
                 renamed_product k old.earlier new.earlier s ps.earlier c.if-discrepancy-ne0.products.earlier
                 c.loop-n.invariant.earlier (ap (λ (q : Search). q.earlier) u)
                 (ap (λ (q : Products). q.earlier) w.products-is);
+            zeros = λ i o. ap (λ (q : Products). coefficient q.earlier i) w.products-is ∙ c.loop-n.invariant.zeros i o;
           }
     ]
 
