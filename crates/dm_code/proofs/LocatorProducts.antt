@@ -71,7 +71,9 @@ same_product k l m s p q h e t = λ i b.
 
 -- The first k coefficients have zeros behind them.
 pub zeros_past : (k : ℕ) (p : List ℕ) (i : ℕ) → k ≤ i → coefficient (take k p) i ≡ 0
-zeros_past k p i h = get_or_past (take k p) i 0 (let l : length (take k p) ≡ min k (length p) = simp length-take refl in omega arith)
+zeros_past k p i h =
+    let l : length (take k p) ≡ min k (length p) = simp length-take refl in
+    get_or_past (take k p) i 0 (omega arith)
 
 -- The same product under other names.
 pub renamed_product : (k : ℕ) (l m s p q : List ℕ) → HasProduct k l s p → l ≡ m → q ≡ p → HasProduct k m s q

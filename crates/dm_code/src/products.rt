@@ -68,7 +68,11 @@ impl Products {
         ensures products { meter.new.products ≡ meter.old.products + count }
         ensures inversions { meter.new.inversions ≡ meter.old.inversions }
     {
-        let before = padded(&self.product[..count]);
+        let next = if grows {
+            padded(&self.product[..count])
+        } else {
+            self.earlier
+        };
         let width = count.div_ceil(16) * 16;
         meter.add_scaled(
             &mut self.product[gap..gap + width],
@@ -76,9 +80,7 @@ impl Products {
             &self.earlier,
             count as u32,
         );
-        if grows {
-            self.earlier = before;
-        }
+        self.earlier = next;
     }
 }
 

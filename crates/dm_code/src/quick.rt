@@ -113,8 +113,8 @@ impl KeySolver for Quick {
     /// Gives what [`Quick::solve_counted`] gives, without the counts: the lists of both are those of the least pair
     /// with no number too many, and so the same ([`crate::laws::exact_least_pair_is_one`]). The [`Products`] of the
     /// locators stand in place of the product that each discrepancy is there. For k syndromes there are at most 4 k^2
-    /// products and k inversions here too, and for a locator of more than one coefficient at least k + 3 products and an
-    /// inversion.
+    /// products and k inversions here too; for a locator of more than one coefficient there are at least k + 3 products
+    /// and an inversion.
     fn solve(&self, s: &[u8], t: usize) -> Option<Key>
         requires few { length s.now ≤ MOST_CHECKS }
         requires half { 2 * t ≤ length s.now }
