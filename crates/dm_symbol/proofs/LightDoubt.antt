@@ -91,14 +91,6 @@ light_rows rows columns list h row column =
     light_by (λ r c. get_or list (r * columns + c) false) rows columns
     (λ r c. light_list list h (r * columns + c)) 0 row column
 
--- Modules whose colours, as they are listed, are all light are light.
-pub light_modules : (modules : ModulesView) (list : List Bool)
-    → modules.rows ≡ rows_of modules.size.rows modules.size.columns list
-    → ((k : ℕ) → k < length list → get_or list k false ≡ false) → AreLight modules
-light_modules modules list e h row column =
-    ap (λ rows. get_or (get_or rows row []) column false) e
-    ∙ light_rows modules.size.rows modules.size.columns list h row column
-
 module _ (doubtful : ModulesView) (light : AreLight doubtful) where
   -- No codeword is erased.
   none_is_erased : (size : SizeEntry) (word : ℕ) → is_erased size (Some doubtful) word ≡ false

@@ -1,8 +1,10 @@
 -- What is given to a call: modules, doubtful ones, and what the results are that its parts give.
-use Rattle.std.proofs.Common.{◌≡◌, ◌≢◌, ℕ, List, [], Some, None, refl}
+use Rattle.std.proofs.Common.{◌≡◌, ◌≢◌, ◌*◌, ℕ, List, [], Option, Some, None, IsSome, length, map, refl}
+use Rattle.std.proofs.lemmas.Bool.{false≢true}
 use Rattle.dm_symbol.specs.declared.Extent.{Extent}
 use Rattle.dm_symbol.specs.declared.Profile.{Profile}
-use Rattle.dm_modules.specs.Modules.{ModulesView}
+use Rattle.dm_symbol.specs.Sizes.{SizeRow, row_with_side, symbol_size}
+use Rattle.dm_modules.specs.Modules.{ModulesView, is_dark_number, rows_of}
 use Rattle.ecc200_calls.specs.declared.inspection.InspectionOut.{InspectionOut}
 use Rattle.ecc200_calls.specs.declared.reading.ReadingOut.{ReadingOut}
 use Rattle.ecc200_calls.specs.declared.symbol.SymbolOut.{SymbolOut}
@@ -14,6 +16,7 @@ use Rattle.ecc200_calls.specs.Symbols.{IsNormalGiven, NormalisedResult}
 use Rattle.ecc200_calls.specs.Symbols as symbols
 use Rattle.ecc200_calls.specs.Inspections.{IsInspectResult, IsInspectionGiven}
 use Rattle.ecc200_calls.specs.Inspections as inspections
+use Rattle.ecc200_calls.proofs.Sides.{square_found}
 
 -- With no numbers for doubtful modules, none is doubtful.
 pub none_given : (rows columns : ℕ) (modules doubt : List ℕ) (symbol : ModulesView)
@@ -64,3 +67,17 @@ inspection_given rows columns modules doubt before after symbol are some
     (inspections.IsDoubtfulGiven.inspected doubtful those given) =
     IsInspectResult.of_symbol symbol (Some doubtful)
     (some_given rows columns modules doubt symbol doubtful are some those) given
+
+-- Where numbers for doubtful modules of a square are given that aren't as many as its modules, that is the fault.
+square_doubt_in : (side : ℕ) (modules doubt : List ℕ) (found : Option SizeRow) → row_with_side side ≡ found
+    → IsSome found → length modules ≡ side * side → doubt ≢ [] → length doubt ≢ side * side
+    → IsGivenFault side side modules doubt wrong_doubt
+square_doubt_in side modules doubt None e some count given other = absurd (false≢true some)
+square_doubt_in side modules doubt (Some row) e some count given other =
+    IsGivenFault.of_doubt
+    (record { size = symbol_size row; rows = rows_of side side (map is_dark_number modules) })
+    (record { count = count; size = square_found side e; colours = refl }) given other refl
+
+pub square_doubt : (side : ℕ) (modules doubt : List ℕ) → IsSome (row_with_side side) → length modules ≡ side * side
+    → doubt ≢ [] → length doubt ≢ side * side → IsGivenFault side side modules doubt wrong_doubt
+square_doubt side modules doubt = square_doubt_in side modules doubt (row_with_side side) refl

@@ -4,7 +4,7 @@ pub mod Rows
 pub mod MadeSymbols
 pub mod Sides
 pub mod Given
-pub mod ToldDoubt
+pub mod NoDoubt
 pub mod SquareReadings
 pub mod Written
 pub mod Structure

@@ -1,4 +1,4 @@
 pub mod PlaceSteps
 pub mod UnpackedCells
 pub mod SquareReadings
-pub mod ToldDoubt
+pub mod NoDoubt

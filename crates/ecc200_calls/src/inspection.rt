@@ -8,9 +8,9 @@ ghost use Rattle.ecc200_calls.specs.Inspections.{erased_shown, inspection_shown,
 
 use crate::arrays::put_bytes;
 use crate::fault::Fault;
-use crate::modules::{make_doubtful, make_modules, none_doubtful, told_doubt};
-use crate::square_inspection::{inspect_doubtful_square, inspect_square};
-use crate::squares::{is_doubtful_square, is_plain_square};
+use crate::modules::{make_doubtful, make_modules, none_doubtful};
+use crate::square_inspection::inspect_square;
+use crate::squares::is_grid_square;
 use dm_modules::{BorrowedModules, MOST_BLOCKS, MOST_CODEWORDS};
 use dm_symbol::{BlockReading, SymbolInspection, inspect_borrowed_to};
 
@@ -49,23 +49,12 @@ pub fn inspect(
     out.fault.code
 }
 
-/// Shows the inspection of the symbol of these modules, or why they make none. Numbers for doubtful modules that are
-/// all 0 are passed over.
+/// Shows the inspection of the symbol of these modules, or why they make none.
 fn inspect_given(modules: &[u8], doubtful: &[u8], rows: u16, columns: u16, out: &mut InspectionOut)
     ensures { IsInspectResult rows columns modules.now doubtful.now out.old out.new }
 {
-    let told = told_doubt(doubtful, rows, columns);
-    inspect_told(modules, told, rows, columns, out);
-}
-
-/// Does so with no look at whether the numbers for doubtful modules are all 0.
-fn inspect_told(modules: &[u8], doubtful: &[u8], rows: u16, columns: u16, out: &mut InspectionOut)
-    ensures { IsInspectResult rows columns modules.now doubtful.now out.old out.new }
-{
-    if is_plain_square(rows, columns, doubtful) {
-        inspect_square(modules, rows, out);
-    } else if is_doubtful_square(rows, columns, doubtful) {
-        inspect_doubtful_square(modules, doubtful, rows, out);
+    if is_grid_square(rows, columns) {
+        inspect_square(modules, doubtful, rows, out);
     } else {
         inspect_symbol(modules, doubtful, rows, columns, out);
     }
@@ -79,7 +68,7 @@ fn inspect_symbol(modules: &[u8], doubtful: &[u8], rows: u16, columns: u16, out:
 {
     match make_modules(modules, rows, columns) {
         Ok(symbol) => {
-            if none_doubtful(doubtful) {
+            if none_doubtful(doubtful, rows, columns) {
                 inspect_modules(&symbol, None, rows, columns, out);
             } else {
                 inspect_doubtful(&symbol, doubtful, rows, columns, out);

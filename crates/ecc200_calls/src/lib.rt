@@ -20,7 +20,6 @@
 
 mod arrays;
 mod choice;
-mod doubtful_squares;
 mod extent;
 mod fault;
 mod inspection;
@@ -34,6 +33,7 @@ mod profile;
 mod reading;
 mod size_table;
 mod square_inspection;
+mod square_reading;
 mod squares;
 mod symbol;
 mod writing;

@@ -6,10 +6,10 @@ ghost use Rattle.dm_modules.specs.Sizes.{area, entry_with};
 ghost use Rattle.ecc200_calls.specs.Arrays.{over};
 ghost use Rattle.ecc200_calls.specs.Faults.{wrong_doubt};
 ghost use Rattle.ecc200_calls.specs.Modules.{AreModulesOf, IsModulesFault, module_of, modules_of};
-ghost use Rattle.ecc200_calls.specs.inner.ToldDoubt.{AreZero, IsTold};
+ghost use Rattle.ecc200_calls.specs.inner.NoDoubt.{AreZero, TellsNone};
 
 use crate::fault::Fault;
-use dm_modules::{BorrowedModules, MOST_MODULES, Modules, ModulesFault, table};
+use dm_modules::{BorrowedModules, Modules, ModulesFault, table};
 
 /// Gives modules into which those of any symbol can be put.
 pub(crate) fn light_modules() -> Modules {
@@ -32,27 +32,14 @@ pub(crate) fn make_modules(
     }
 }
 
-/// Whether no numbers for doubtful modules are given.
-pub(crate) fn none_doubtful(doubtful: &[u8]) -> bool
-    ensures none { IsTrue result → doubtful.now ≡ [] }
-    ensures some { result ≡ false → doubtful.now ≢ [] }
+/// Whether no module of a symbol with these rows and columns is doubtful by these numbers: there are none of them, or
+/// as many as the symbol has modules, and all are 0.
+pub(crate) fn none_doubtful(numbers: &[u8], rows: u16, columns: u16) -> bool
+    ensures none { IsTrue result → TellsNone rows columns numbers.now }
+    ensures some { result ≡ false → numbers.now ≢ [] }
 {
-    doubtful.is_empty()
-}
-
-/// Gives the numbers for doubtful modules, or none of them if they are as many as the modules and all 0: no module is
-/// doubtful then.
-pub(crate) fn told_doubt(doubtful: &[u8], rows: u16, columns: u16) -> &[u8]
-    ensures { IsTold rows columns doubtful.now result.now }
-{
-    // No symbol has more modules than this, and what is refused for their number isn't looked at before.
-    if doubtful.len() <= MOST_MODULES
-        && doubtful.len() == usize::from(rows) * usize::from(columns)
-        && are_zero(doubtful)
-    {
-        return &doubtful[..0];
-    }
-    doubtful
+    numbers.is_empty()
+        || numbers.len() == usize::from(rows) * usize::from(columns) && are_zero(numbers)
 }
 
 /// Whether these numbers are all 0. All are looked at, without a jump, so that the compiler takes many at once.

@@ -1,6 +1,6 @@
 //! Normalising.
 
-ghost use Rattle.std.specs.Prelude.{◌≡◌, ◌≤◌, [], IfSome, IsSome, None, Some, option_map};
+ghost use Rattle.std.specs.Prelude.{◌≡◌, ◌*◌, ◌≤◌, IfSome, IsSome, None, Some, length, option_map};
 ghost use Rattle.dm_words.specs.Messages.{most_spelled};
 ghost use Rattle.dm_symbol.specs.Grid.{symbol_modules};
 ghost use Rattle.dm_symbol.specs.Sizes.{row_with_side};
@@ -13,16 +13,16 @@ ghost use Rattle.ecc200_calls.specs.Symbols.{ProfileResult};
 use crate::extent::extent_of;
 use crate::fault::{Fault, read_fault};
 use crate::message::{FEW_ITEMS, spell_as_grids, spell_few};
-use crate::modules::{make_doubtful, make_modules, none_doubtful, told_doubt};
+use crate::modules::{make_doubtful, make_modules, none_doubtful};
 use crate::profile::profile_of;
-use crate::squares::{is_plain_square, make_grid};
+use crate::squares::{check_counts, is_grid_square, make_grid};
 use crate::symbol::{SymbolOut, show_fault};
 use crate::writing::{write_square, write_symbol};
 use arrayvec::ArrayVec;
 use dm_modules::BorrowedModules;
 use dm_symbol::{
     Extent, Grid, LARGEST_ROOM, MESSAGE_ROOM, MessageIn, Profile, SizeChoice, WriteOptions,
-    light_grid, read_borrowed_message_to, read_message_to,
+    light_grid, read_borrowed_message_to, read_doubtful_message_to, read_message_to,
 };
 
 /// Writes the normal symbol of what the symbol of these modules, of which these are doubtful, says in an extent.
@@ -85,8 +85,7 @@ fn normal_in_extent(
     }
 }
 
-/// Shows the normal symbol of what the symbol of these modules says, or why there is none. Numbers for doubtful modules
-/// that are all 0 are passed over.
+/// Shows the normal symbol of what the symbol of these modules says, or why there is none.
 fn normal_given(
     extent: Extent,
     profile: Profile,
@@ -100,35 +99,8 @@ fn normal_given(
     ensures { NormalisedResult extent profile rows columns modules.now doubtful.now border_limit
         out.old out.new }
 {
-    let told = told_doubt(doubtful, rows, columns);
-    normal_told(
-        extent,
-        profile,
-        modules,
-        told,
-        rows,
-        columns,
-        border_limit,
-        out,
-    );
-}
-
-/// Does so with no look at whether the numbers for doubtful modules are all 0.
-fn normal_told(
-    extent: Extent,
-    profile: Profile,
-    modules: &[u8],
-    doubtful: &[u8],
-    rows: u16,
-    columns: u16,
-    border_limit: u16,
-    out: &mut SymbolOut,
-)
-    ensures { NormalisedResult extent profile rows columns modules.now doubtful.now border_limit
-        out.old out.new }
-{
-    if is_plain_square(rows, columns, doubtful) {
-        normal_square(extent, profile, modules, rows, border_limit, out);
+    if is_grid_square(rows, columns) {
+        normal_square(extent, profile, modules, doubtful, rows, border_limit, out);
     } else {
         normal_symbol(
             extent,
@@ -143,33 +115,53 @@ fn normal_told(
     }
 }
 
-/// Does so for a square that can be read as a grid, of whose modules none is doubtful.
+/// Does so for a square that can be read as a grid.
 fn normal_square(
     extent: Extent,
     profile: Profile,
     modules: &[u8],
+    doubtful: &[u8],
     side: u16,
     border_limit: u16,
     out: &mut SymbolOut,
 )
     requires { IsSome (row_with_side side) }
-    ensures { NormalisedResult extent profile side side modules.now [] border_limit out.old
-        out.new }
+    ensures { NormalisedResult extent profile side side modules.now doubtful.now border_limit
+        out.old out.new }
 {
-    let mut grid = light_grid();
-    match make_grid(modules, side, &mut grid) {
+    match check_counts(modules, doubtful, side) {
         Ok(()) => {
-            if spell_few(grid.size().data_count()) {
-                normal_grid::<FEW_ITEMS>(extent, profile, &grid, border_limit, out);
+            let mut grid = light_grid();
+            make_grid(modules, side, &mut grid);
+            if none_doubtful(doubtful, side, side) {
+                normal_sure_grid(extent, profile, &grid, border_limit, out);
             } else {
-                normal_grid::<MESSAGE_ROOM>(extent, profile, &grid, border_limit, out);
+                normal_doubtful_grid(extent, profile, &grid, doubtful, side, border_limit, out);
             }
         }
         Err(why) => show_fault(out, why),
     }
 }
 
-/// Shows the normal symbol of what a grid says, or why there is none, by way of a message with room for that.
+/// Shows the normal symbol of what a grid, of whose cells none is doubtful, says, or why there is none.
+fn normal_sure_grid(
+    extent: Extent,
+    profile: Profile,
+    grid: &Grid,
+    border_limit: u16,
+    out: &mut SymbolOut,
+)
+    ensures { IsNormalGiven extent profile (symbol_modules grid.now) None border_limit out.old
+        out.new }
+{
+    if spell_few(grid.size().data_count()) {
+        normal_grid::<FEW_ITEMS>(extent, profile, grid, border_limit, out);
+    } else {
+        normal_grid::<MESSAGE_ROOM>(extent, profile, grid, border_limit, out);
+    }
+}
+
+/// Does so by way of a message with room for what the grid says.
 fn normal_grid<const ROOM: usize>(
     extent: Extent,
     profile: Profile,
@@ -200,6 +192,64 @@ fn normal_grid<const ROOM: usize>(
     }
 }
 
+/// Does so where these of the modules are doubtful. It stands by itself, so that other symbols leave no room for its
+/// grids on the stack.
+#[inline(never)]
+fn normal_doubtful_grid(
+    extent: Extent,
+    profile: Profile,
+    grid: &Grid,
+    numbers: &[u8],
+    side: u16,
+    border_limit: u16,
+    out: &mut SymbolOut,
+)
+    requires side { row_with_side side ≡ Some grid.now.size }
+    requires count { length numbers.now ≡ side * side }
+    ensures { IsDoubtfulGiven extent profile side side (symbol_modules grid.now)
+        numbers.now border_limit out.old out.new }
+{
+    let mut doubtful = light_grid();
+    make_grid(numbers, side, &mut doubtful);
+    if spell_few(grid.size().data_count()) {
+        normal_grids::<FEW_ITEMS>(extent, profile, grid, &doubtful, border_limit, out);
+    } else {
+        normal_grids::<MESSAGE_ROOM>(extent, profile, grid, &doubtful, border_limit, out);
+    }
+}
+
+/// Does so for the grid of the doubtful ones, by way of a message with room for what the grid says.
+fn normal_grids<const ROOM: usize>(
+    extent: Extent,
+    profile: Profile,
+    grid: &Grid,
+    doubtful: &Grid,
+    border_limit: u16,
+    out: &mut SymbolOut,
+)
+    requires doubtful { doubtful.now.size ≡ grid.now.size }
+    requires spelled { most_spelled extent grid.now.size.data_count ≤ ROOM }
+    requires most { ROOM ≤ LARGEST_ROOM }
+    ensures { IsNormalGiven extent profile (symbol_modules grid.now)
+        (Some (symbol_modules doubtful.now)) border_limit out.old out.new }
+{
+    let mut message = MessageIn::<ROOM>::new();
+    let mut blocks = ArrayVec::new();
+    let mut faults = 0;
+    match read_doubtful_message_to(
+        extent,
+        grid,
+        doubtful,
+        border_limit,
+        &mut message,
+        &mut blocks,
+        &mut faults,
+    ) {
+        Ok(()) => write_square(&message, profile, out),
+        Err(why) => show_fault(out, read_fault(why)),
+    }
+}
+
 /// Shows the normal symbol of what the symbol of these modules says, or why there is none, for a symbol of any size.
 fn normal_symbol(
     extent: Extent,
@@ -216,7 +266,7 @@ fn normal_symbol(
 {
     match make_modules(modules, rows, columns) {
         Ok(symbol) => {
-            if none_doubtful(doubtful) {
+            if none_doubtful(doubtful, rows, columns) {
                 normal_modules(extent, profile, &symbol, None, border_limit, out);
             } else {
                 normal_doubtful(

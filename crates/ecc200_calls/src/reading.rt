@@ -1,32 +1,23 @@
 //! Reading.
 
-ghost use Rattle.std.specs.Prelude.{◌≡◌, ◌≤◌, ◌/◌, [], IfSome, IsSome, None, Some, length, map, option_map};
+ghost use Rattle.std.specs.Prelude.{◌≡◌, ◌≤◌, ◌/◌, IfSome, None, Some, length, map, option_map};
 ghost use Rattle.dm_words.specs.Messages.{most_spelled};
-ghost use Rattle.dm_symbol.specs.Sizes.{row_with_side};
-ghost use Rattle.dm_symbol.specs.Grid.{symbol_modules};
-ghost use Rattle.dm_symbol.specs.Reading.{reading_of};
 ghost use Rattle.dm_symbol.specs.SymbolReading.{symbol_reading_of};
-ghost use Rattle.dm_symbol.specs.SymbolLaws.{none_erased};
 ghost use Rattle.dm_modules.specs.Sizes.{entry_with};
 ghost use Rattle.ecc200_calls.specs.Arrays.{over};
 ghost use Rattle.ecc200_calls.specs.Readings.{ExtentResult, IsDoubtfulGiven, IsReadResult, IsReadingGiven};
 ghost use Rattle.ecc200_calls.specs.Readings.{corrected_in, erased_in};
 ghost use Rattle.ecc200_calls.specs.Readings.{left_in, no_reading, reading_shown, usual_limit};
-ghost use Rattle.ecc200_calls.specs.inner.SquareReadings.{square_reading_shown};
 
-use crate::arrays::put_bytes;
-use crate::doubtful_squares::read_doubtful_square;
 use crate::extent::extent_of;
 use crate::fault::{Fault, read_fault};
 use crate::message::{FEW_ITEMS, put_message, spell_as_grids, spell_few};
-use crate::modules::{make_doubtful, make_modules, none_doubtful, told_doubt};
-use crate::squares::{is_doubtful_square, is_plain_square, make_grid};
+use crate::modules::{make_doubtful, make_modules, none_doubtful};
+use crate::square_reading::read_square;
+use crate::squares::is_grid_square;
 use arrayvec::ArrayVec;
 use dm_modules::{BorrowedModules, MOST_BLOCKS};
-use dm_symbol::{
-    BlockReading, Extent, Grid, MESSAGE_ROOM, MessageIn, light_grid, read_borrowed_message_to,
-    read_message_to,
-};
+use dm_symbol::{BlockReading, Extent, MESSAGE_ROOM, MessageIn, read_borrowed_message_to};
 use dm_words::LARGEST_ROOM;
 
 /// What a symbol says, and how much of it was wrong. After a fault all but the fault and the arrays is 0.
@@ -74,8 +65,7 @@ pub fn usual_limit(rows: u16, columns: u16) -> u16
     ((u32::from(rows) + u32::from(columns)) / 8) as u16
 }
 
-/// Shows what the symbol of these modules says in an extent, or why it says nothing. Numbers for doubtful modules that
-/// are all 0 are passed over.
+/// Shows what the symbol of these modules says in an extent, or why it says nothing.
 fn read_given(
     extent: Extent,
     modules: &[u8],
@@ -88,77 +78,10 @@ fn read_given(
     ensures { ExtentResult extent rows columns modules.now doubtful.now border_limit out.old
         out.new }
 {
-    let told = told_doubt(doubtful, rows, columns);
-    read_told(extent, modules, told, rows, columns, border_limit, out);
-}
-
-/// Does so with no look at whether the numbers for doubtful modules are all 0.
-fn read_told(
-    extent: Extent,
-    modules: &[u8],
-    doubtful: &[u8],
-    rows: u16,
-    columns: u16,
-    border_limit: u16,
-    out: &mut ReadingOut,
-)
-    ensures { ExtentResult extent rows columns modules.now doubtful.now border_limit out.old
-        out.new }
-{
-    if is_plain_square(rows, columns, doubtful) {
-        read_square(extent, modules, rows, border_limit, out);
-    } else if is_doubtful_square(rows, columns, doubtful) {
-        read_doubtful_square(extent, modules, doubtful, rows, border_limit, out);
+    if is_grid_square(rows, columns) {
+        read_square(extent, modules, doubtful, rows, border_limit, out);
     } else {
         read_symbol(extent, modules, doubtful, rows, columns, border_limit, out);
-    }
-}
-
-/// Does so for a square that can be read as a grid, of whose modules none is doubtful.
-fn read_square(extent: Extent, modules: &[u8], side: u16, border_limit: u16, out: &mut ReadingOut)
-    requires { IsSome (row_with_side side) }
-    ensures { ExtentResult extent side side modules.now [] border_limit out.old out.new }
-{
-    let mut grid = light_grid();
-    match make_grid(modules, side, &mut grid) {
-        Ok(()) => {
-            if spell_few(grid.size().data_count()) {
-                read_grid::<FEW_ITEMS>(extent, &grid, side, border_limit, out);
-            } else {
-                read_grid::<MESSAGE_ROOM>(extent, &grid, side, border_limit, out);
-            }
-        }
-        Err(why) => show_fault(out, why),
-    }
-}
-
-/// Shows what a grid of this side says in an extent, or why it says nothing, by way of a message with room for that.
-fn read_grid<const ROOM: usize>(
-    extent: Extent,
-    grid: &Grid,
-    side: u16,
-    border_limit: u16,
-    out: &mut ReadingOut,
-)
-    requires spelled { most_spelled extent grid.now.size.data_count ≤ ROOM }
-    requires most { ROOM ≤ LARGEST_ROOM }
-    ensures { IsReadingGiven extent side side (symbol_modules grid.now) None border_limit out.old
-        out.new }
-{
-    let checks = grid.size().block_check() as u8;
-    let mut message = MessageIn::<ROOM>::new();
-    let mut corrected = ArrayVec::new();
-    let mut faults = 0;
-    match read_message_to(
-        extent,
-        grid,
-        border_limit,
-        &mut message,
-        &mut corrected,
-        &mut faults,
-    ) {
-        Ok(()) => show_square_reading(out, side, checks, &message, &corrected, faults),
-        Err(why) => show_fault(out, read_fault(why)),
     }
 }
 
@@ -179,7 +102,7 @@ fn read_symbol(
 {
     match make_modules(modules, rows, columns) {
         Ok(symbol) => {
-            if none_doubtful(doubtful) {
+            if none_doubtful(doubtful, rows, columns) {
                 read_modules(extent, &symbol, None, rows, columns, border_limit, out);
             } else {
                 read_doubtful(extent, &symbol, doubtful, rows, columns, border_limit, out);
@@ -286,32 +209,6 @@ pub(crate) fn show_fault(out: &mut ReadingOut, why: Fault)
     out.item_count = 0;
 }
 
-/// Shows a reading of a grid of this side, whose blocks have so many check codewords each: its message, the number of
-/// corrected codewords of each block, and the number of border faults.
-fn show_square_reading<const ROOM: usize>(
-    out: &mut ReadingOut,
-    side: u16,
-    checks: u8,
-    message: &MessageIn<ROOM>,
-    corrected: &ArrayVec<u8, { dm_symbol::MOST_BLOCKS }>,
-    faults: u16,
-)
-    requires { ROOM ≤ LARGEST_ROOM }
-    ensures { out.new ≡ square_reading_shown side checks
-        (reading_of message.now corrected.now.items faults) out.old }
-{
-    out.fault = Fault::none();
-    out.rows = side;
-    out.columns = side;
-    out.border_faults = faults;
-    out.block_count = corrected.len() as u16;
-    put_bytes(&mut out.corrected, corrected.as_slice());
-    put_none_erased(&mut out.erased, corrected.as_slice(), checks);
-    put_left_by_errors(&mut out.left, corrected.as_slice(), checks);
-    out.item_count = message.items().len() as u16;
-    put_message(&mut out.items, message);
-}
-
 /// Shows a reading of a symbol with these rows and columns: its message, what became of each block, and the number of
 /// border faults.
 pub(crate) fn show_reading<const ROOM: usize>(
@@ -336,37 +233,6 @@ pub(crate) fn show_reading<const ROOM: usize>(
     put_left(&mut out.left, blocks.as_slice());
     out.item_count = message.items().len() as u16;
     put_message(&mut out.items, message);
-}
-
-/// Gives what is said of a block of so many check codewords in which so many codewords were wrong, and none is erased.
-fn none_erased(count: u8, checks: u8) -> BlockReading
-    ensures { result ≡ none_erased checks count }
-{
-    BlockReading {
-        corrected: count,
-        erased: 0,
-        left: u16::from(checks).saturating_sub(2 * u16::from(count)) as u8,
-    }
-}
-
-/// Writes 0 over the first ones for each of these counts: no codeword is erased where no module is doubtful.
-fn put_none_erased(all: &mut [u8], counts: &[u8], checks: u8)
-    requires { length counts.now ≤ length all.old }
-    ensures { all.new ≡ over (map erased_in (map (none_erased checks) counts.now)) all.old }
-{
-    for (b, count) in counts.iter().enumerate() {
-        all[b] = none_erased(*count, checks).erased;
-    }
-}
-
-/// Writes over the first ones how many of so many check codewords these counts of wrong codewords leave.
-fn put_left_by_errors(all: &mut [u8], counts: &[u8], checks: u8)
-    requires { length counts.now ≤ length all.old }
-    ensures { all.new ≡ over (map left_in (map (none_erased checks) counts.now)) all.old }
-{
-    for (b, count) in counts.iter().enumerate() {
-        all[b] = none_erased(*count, checks).left;
-    }
 }
 
 /// Writes the numbers of wrong codewords of these blocks over the first ones.

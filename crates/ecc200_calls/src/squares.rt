@@ -8,13 +8,11 @@ ghost use Rattle.dm_symbol.specs.Sizes.{row_with_side};
 ghost use Rattle.dm_symbol.specs.Grid.{is_dark_in, symbol_modules};
 ghost use Rattle.dm_modules.specs.Modules.{is_dark_number};
 ghost use Rattle.ecc200_calls.specs.Arrays.{over};
-ghost use Rattle.ecc200_calls.specs.Faults.{shape};
 ghost use Rattle.std.specs.Simd.Lanes.{mask_l};
 ghost use Rattle.ecc200_calls.specs.inner.UnpackedCells.{unpacked_cells};
-ghost use Rattle.ecc200_calls.specs.Modules.{AreModulesOf, module_of, modules_of};
+ghost use Rattle.ecc200_calls.specs.Modules.{AreModulesOf, IsGivenFault, module_of, modules_of};
 
 use crate::fault::Fault;
-use crate::modules::none_doubtful;
 use dm_symbol::{Grid, LARGEST_SIDE, Size};
 use std::simd::prelude::*;
 
@@ -33,32 +31,39 @@ const BYTES: [usize; TOGETHER] = [0, 0, 0, 0, 0, 0, 0, 0, 1, 1, 1, 1, 1, 1, 1, 1
 /// The weight of each module in its byte.
 const WEIGHTS: [u8; TOGETHER] = [1, 2, 4, 8, 16, 32, 64, 128, 1, 2, 4, 8, 16, 32, 64, 128];
 
-/// Whether a symbol with these rows and columns can be read as a grid, and none of its modules is doubtful.
-pub(crate) fn is_plain_square(rows: u16, columns: u16, doubtful: &[u8]) -> bool
-    ensures { IsTrue result → (rows ≡ columns) × (doubtful.now ≡ []) × IsSome (row_with_side rows) }
+/// Whether a symbol with these rows and columns can be read as a grid.
+pub(crate) fn is_grid_square(rows: u16, columns: u16) -> bool
+    ensures { IsTrue result → (rows ≡ columns) × IsSome (row_with_side rows) }
 {
-    rows == columns && none_doubtful(doubtful) && Size::of_side(rows).is_some()
+    rows == columns && Size::of_side(rows).is_some()
 }
 
-/// Whether a symbol with these rows and columns can be read as a grid, and some numbers for doubtful modules are given.
-pub(crate) fn is_doubtful_square(rows: u16, columns: u16, doubtful: &[u8]) -> bool
-    ensures { IsTrue result → (rows ≡ columns) × (doubtful.now ≢ []) × IsSome (row_with_side rows) }
-{
-    rows == columns && !none_doubtful(doubtful) && Size::of_side(rows).is_some()
-}
-
-/// Turns `grid` into that of these modules, where some size of a grid has this side; or says that they aren't as many
-/// as its rows times its columns.
-pub(crate) fn make_grid(modules: &[u8], side: u16, grid: &mut Grid) -> Result<(), Fault>
+/// Whether these modules are as many as those of a square with this side, which some size of a grid has, and so are the
+/// numbers for doubtful ones, where there are any; or why not.
+pub(crate) fn check_counts(modules: &[u8], doubtful: &[u8], side: u16) -> Result<(), Fault>
     requires { IsSome (row_with_side side) }
-    ensures grid { OnOk result (AreModulesOf side side modules.now (symbol_modules grid.new)) }
-    ensures size { OnOk result (row_with_side side ≡ Some grid.new.size) }
-    ensures fault { IfErr result (λ why. (length modules.now ≢ side * side) × (why ≡ shape)) }
+    ensures modules { OnOk result (length modules.now ≡ side * side) }
+    ensures doubtful { OnOk result (doubtful.now ≢ [] → length doubtful.now ≡ side * side) }
+    ensures fault { IfErr result (λ why. IsGivenFault side side modules.now doubtful.now why) }
 {
-    let across = usize::from(side);
-    if modules.len() != across * across {
+    let count = usize::from(side) * usize::from(side);
+    if modules.len() != count {
         return Err(Fault::shape());
     }
+    if !doubtful.is_empty() && doubtful.len() != count {
+        return Err(Fault::wrong_doubt());
+    }
+    Ok(())
+}
+
+/// Turns `grid` into that of these modules, where some size of a grid has this side.
+pub(crate) fn make_grid(modules: &[u8], side: u16, grid: &mut Grid)
+    requires side { IsSome (row_with_side side) }
+    requires count { length modules.now ≡ side * side }
+    ensures grid { AreModulesOf side side modules.now (symbol_modules grid.new) }
+    ensures size { row_with_side side ≡ Some grid.new.size }
+{
+    let across = usize::from(side);
     if across > LARGEST_SIDE {
         unreachable!();
     }
@@ -67,7 +72,7 @@ pub(crate) fn make_grid(modules: &[u8], side: u16, grid: &mut Grid) -> Result<()
         rows[row] = pack(&modules[row * across..], across);
     }
     match grid.set_rows(side, &rows[..across]) {
-        Ok(()) => Ok(()),
+        Ok(()) => {}
         Err(_) => unreachable!(),
     }
 }

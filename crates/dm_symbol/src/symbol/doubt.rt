@@ -1,10 +1,9 @@
 //! Doubtful modules: what they make of borders and of codewords.
 
-ghost use Rattle.std.specs.Prelude.{◌≡◌, ◌<◌, false, IfSome, length, map, option_map};
+ghost use Rattle.std.specs.Prelude.{◌≡◌, ◌<◌, IfSome, length, map, option_map};
 ghost use Rattle.dm_modules.specs.Blocks.{block_of};
 ghost use Rattle.dm_modules.specs.Sizes.{block_length};
 ghost use Rattle.dm_symbol.specs.Doubt.{sure_fault_count};
-ghost use Rattle.dm_symbol.specs.SymbolLaws.{AreLight};
 ghost use Rattle.dm_symbol.specs.inner.Marks.{is_mark};
 
 use arrayvec::ArrayVec;
@@ -25,18 +24,6 @@ pub(crate) fn sure_faults<C: Colour>(
         None => borrowed_border_faults(modules),
         Some(doubtful) => borrowed_border_faults_but(modules, doubtful),
     }
-}
-
-/// Whether some of these modules may be dark. All are looked at, without a jump, so that the compiler takes many at
-/// once.
-pub(crate) fn may_have_dark<C: Colour>(modules: &BorrowedModules<C>) -> bool
-    ensures { result ≡ false → AreLight modules.now }
-{
-    let mut dark = false;
-    for colour in modules.list() {
-        dark = dark | colour.is_dark();
-    }
-    dark
 }
 
 /// Says of each place of block `b` whether its codeword is erased.

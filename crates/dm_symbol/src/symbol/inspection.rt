@@ -8,7 +8,7 @@ ghost use Rattle.dm_symbol.specs.SymbolInspection.{IsSymbolInspection};
 ghost use Rattle.dm_symbol.specs.inner.Marks.{marked_in};
 
 use crate::symbol::correction::restore_block;
-use crate::symbol::doubt::{may_have_dark, sure_faults};
+use crate::symbol::doubt::sure_faults;
 use crate::symbol::reading::BlockReading;
 use arrayvec::ArrayVec;
 use dm_modules::{
@@ -103,28 +103,7 @@ fn mend_blocks<C: Colour>(
 {
     match doubtful {
         None => mend_each(words, None, blocks),
-        Some(doubtful) => mend_doubtful(words, doubtful, blocks),
-    }
-}
-
-/// Does so where these modules are doubtful. If none of them is dark, none is, and there are no marks to be lifted.
-fn mend_doubtful<C: Colour>(
-    words: &mut SymbolWords,
-    doubtful: &BorrowedModules<C>,
-    blocks: &mut ArrayVec<Option<BlockReading>, MOST_BLOCKS>,
-)
-    requires { doubtful.now.size ≡ words.old.size }
-    ensures size { words.new.size ≡ words.old.size }
-    ensures words { AreOfSize words.old.size words.new.list }
-    ensures count { length blocks.new.items ≡ words.old.size.blocks }
-    ensures mended { AreBlocksMended words.old.size
-        (erased_in words.old.size (Some doubtful.now)) words.old.list words.new.list
-        blocks.new.items }
-{
-    if may_have_dark(doubtful) {
-        mend_each(words, Some(&lift_borrowed(doubtful)), blocks);
-    } else {
-        mend_each(words, None, blocks);
+        Some(doubtful) => mend_each(words, Some(&lift_borrowed(doubtful)), blocks),
     }
 }
 

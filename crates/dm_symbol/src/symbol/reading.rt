@@ -11,7 +11,7 @@ ghost use Rattle.dm_symbol.specs.SymbolReading.{IsSymbolRead, IsFirstLost, block
 
 use crate::reading::ReadFault;
 use crate::symbol::correction::restore_block;
-use crate::symbol::doubt::{may_have_dark, sure_faults};
+use crate::symbol::doubt::sure_faults;
 use arrayvec::ArrayVec;
 use dm_modules::{BorrowedModules, Colour, MOST_BLOCKS, Modules, SymbolWords, lift_borrowed};
 use dm_words::{Extent, LARGEST_ROOM, MessageIn, message_to_as};
@@ -192,30 +192,7 @@ fn restore_blocks<C: Colour>(
 {
     match doubtful {
         None => restore_each(words, None, blocks),
-        Some(doubtful) => restore_doubtful(words, doubtful, blocks),
-    }
-}
-
-/// Does so where these modules are doubtful. If none of them is dark, none is, and there are no marks to be lifted.
-fn restore_doubtful<C: Colour>(
-    words: &mut SymbolWords,
-    doubtful: &BorrowedModules<C>,
-    blocks: &mut ArrayVec<BlockReading, MOST_BLOCKS>,
-) -> Result<(), u8>
-    requires { doubtful.now.size ≡ words.old.size }
-    ensures size { words.new.size ≡ words.old.size }
-    ensures words { AreOfSize words.old.size words.new.list }
-    ensures near { OnOk result (AreBlocksNear words.old.size
-        (erased_in words.old.size (Some doubtful.now)) words.old.list words.new.list) }
-    ensures readings { OnOk result (blocks.new.items ≡ block_readings words.old.size
-        (erased_in words.old.size (Some doubtful.now)) words.old.list words.new.list) }
-    ensures lost { IfErr result (λ b. IsFirstLost words.old.size
-        (erased_in words.old.size (Some doubtful.now)) words.old.list b) }
-{
-    if may_have_dark(doubtful) {
-        restore_each(words, Some(&lift_borrowed(doubtful)), blocks)
-    } else {
-        restore_each(words, None, blocks)
+        Some(doubtful) => restore_each(words, Some(&lift_borrowed(doubtful)), blocks),
     }
 }
 

@@ -1,16 +1,14 @@
-use Rattle.std.proofs.Common.{None}
 use Rattle.ecc200_calls.specs.Modules.{IsGivenFault}
 use Rattle.ecc200_calls.specs.Readings.{ExtentResult}
-use Rattle.ecc200_calls.proofs.Given.{none_given, read_given}
+use Rattle.ecc200_calls.proofs.Given.{read_given}
+use Rattle.ecc200_calls.proofs.NoDoubt.{read_sure}
 use Rattle.ecc200_calls.proofs.reading.read_symbol.Goals as goal
 
 pub returns-then-none_doubtful : goal.returns-then-none_doubtful
 returns-then-none_doubtful c =
-    ExtentResult.of_symbol c.in-Ok.symbol None
-    (none_given c.args.rows c.args.columns c.args.modules.now c.args.doubtful.now c.in-Ok.symbol
-    c.in-Ok.ensures.symbol
-    (c.none_doubtful.ensures.none c.if-none_doubtful.true))
-    c.read_modules.ensures
+    read_sure c.args.rows c.args.columns c.args.modules.now c.in-Ok.symbol c.in-Ok.ensures.symbol
+    c.args.extent c.args.doubtful.now c.args.border_limit c.args.out.now c.read_modules.new.out
+    (c.none_doubtful.ensures.none c.if-none_doubtful.true) c.read_modules.ensures
 
 pub returns-else-none_doubtful : goal.returns-else-none_doubtful
 returns-else-none_doubtful c =

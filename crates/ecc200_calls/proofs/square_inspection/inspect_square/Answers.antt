@@ -1,23 +1,20 @@
-use Rattle.std.proofs.Common.{None, [], refl}
 use Rattle.dm_symbol.specs.Grid.{symbol_modules}
-use Rattle.ecc200_calls.specs.Modules.{IsGivenFault, IsModulesFault}
 use Rattle.ecc200_calls.specs.Inspections.{IsInspectResult}
-use Rattle.ecc200_calls.proofs.Given.{none_given}
+use Rattle.ecc200_calls.proofs.Given.{inspection_given}
+use Rattle.ecc200_calls.proofs.NoDoubt.{shown_sure}
 use Rattle.ecc200_calls.proofs.square_inspection.inspect_square.Goals as goal
 
-pub returns-in-Ok : goal.returns-in-Ok
-returns-in-Ok c =
-    let grid = c.make_grid.new.grid in
-    IsInspectResult.of_symbol (symbol_modules grid) None
-    (none_given c.args.side c.args.side c.args.modules.now [] (symbol_modules grid) c.in-Ok.ensures.grid refl)
-    (record {
-      inspection = c.inspect_grid_to.new.inspection;
-      inspection_is = c.inspect_grid_to.ensures;
-      shown = c.show_inspection.ensures;
-    })
+pub returns-then-none_doubtful : goal.returns-then-none_doubtful
+returns-then-none_doubtful c =
+    shown_sure c.args.side c.args.side c.args.modules.now (symbol_modules c.make_grid.new.grid) c.make_grid.ensures.grid
+    c.args.doubtful.now c.args.out.now c.inspect_sure_grid.new.out
+    (c.none_doubtful.ensures.none c.if-none_doubtful.true) c.inspect_sure_grid.ensures
+
+pub returns-else-none_doubtful : goal.returns-else-none_doubtful
+returns-else-none_doubtful c =
+    inspection_given c.args.side c.args.side c.args.modules.now c.args.doubtful.now
+    c.args.out.now c.inspect_doubtful_grid.new.out (symbol_modules c.make_grid.new.grid) c.make_grid.ensures.grid
+    (c.none_doubtful.ensures.some c.if-none_doubtful.false) c.inspect_doubtful_grid.ensures
 
 pub returns-in-Err : goal.returns-in-Err
-returns-in-Err c =
-    IsInspectResult.not_given c.in-Err.why
-    (IsGivenFault.of_modules (IsModulesFault.wrong_count c.in-Err.ensures.fault.0 c.in-Err.ensures.fault.1))
-    c.show_fault.ensures
+returns-in-Err c = IsInspectResult.not_given c.in-Err.why c.in-Err.ensures.fault c.show_fault.ensures

@@ -13,25 +13,24 @@ use Rattle.ecc200_calls.proofs.squares.make_grid.Goals as goal
 
 pub unreachable-requires : goal.unreachable-requires
 unreachable-requires c =
-    no_larger c.args.side c.requires (omega (arith, c.from-across.ensures, c.if-across-gt-LARGEST_SIDE.true))
+    no_larger c.args.side c.requires.side (omega (arith, c.from-across.ensures, c.if-across-gt-LARGEST_SIDE.true))
 
 pub returns-clause-grid : goal.returns-clause-grid
 returns-clause-grid c =
     let modules = c.args.modules.now in
     let side = c.args.side in
     let across : c.from-across.result ≡ side = c.from-across.ensures in
-    let count : length modules ≡ side * side = rw (← across) c.if-modules-across.false in
     let above : (r k : ℕ) → r < c.loop-row.row → k < side →
     is_dark_in (get_or c.loop-row.rows r 0) k ≡ is_dark (get_or modules (r * side + k) 0) =
     subst (λ x. (r k : ℕ) → r < c.loop-row.row → k < x →
     is_dark_in (get_or c.loop-row.rows r 0) k ≡ is_dark (get_or modules (r * x + k) 0)) across
     c.loop-row.invariant.above in
     record {
-      count = count;
+      count = c.requires.count;
       size = square_found side c.in-Ok.ensures.size;
       colours =
           c.in-Ok.ensures.cells ∙ ap (λ k. square_of_rows side (take k c.loop-row.rows)) across
-          ∙ square_packed side modules c.loop-row.rows count
+          ∙ square_packed side modules c.loop-row.rows c.requires.count
           (λ r k lr lk. above r k (omega (arith, lr, c.loop-row-test.false, across)) lk);
     }
 
@@ -50,6 +49,6 @@ unreachable-requires-in-Err c =
     let count : length (take across rows) ≡ c.args.side =
     length-take-le across rows (omega (arith, c.loop-row.invariant.height, c.if-across-gt-LARGEST_SIDE.false))
     ∙ c.from-across.ensures in
-    not_missing c.args.side c.requires
+    not_missing c.args.side c.requires.side
     (no_size_there c.in-Err.field-0 c.args.side (length (take across rows)) count c.in-Err.ensures.not_square
     c.in-Err.ensures.no_such_size)

@@ -1,0 +1,20 @@
+use Rattle.dm_symbol.specs.Grid.{symbol_modules}
+use Rattle.ecc200_calls.specs.Readings.{ExtentResult}
+use Rattle.ecc200_calls.proofs.Given.{read_given}
+use Rattle.ecc200_calls.proofs.NoDoubt.{read_sure}
+use Rattle.ecc200_calls.proofs.square_reading.read_square.Goals as goal
+
+pub returns-then-none_doubtful : goal.returns-then-none_doubtful
+returns-then-none_doubtful c =
+    read_sure c.args.side c.args.side c.args.modules.now (symbol_modules c.make_grid.new.grid) c.make_grid.ensures.grid
+    c.args.extent c.args.doubtful.now c.args.border_limit c.args.out.now c.read_sure_grid.new.out
+    (c.none_doubtful.ensures.none c.if-none_doubtful.true) c.read_sure_grid.ensures
+
+pub returns-else-none_doubtful : goal.returns-else-none_doubtful
+returns-else-none_doubtful c =
+    read_given c.args.extent c.args.side c.args.side c.args.modules.now c.args.doubtful.now c.args.border_limit
+    c.args.out.now c.read_doubtful_grid.new.out (symbol_modules c.make_grid.new.grid) c.make_grid.ensures.grid
+    (c.none_doubtful.ensures.some c.if-none_doubtful.false) c.read_doubtful_grid.ensures
+
+pub returns-in-Err : goal.returns-in-Err
+returns-in-Err c = ExtentResult.not_given c.in-Err.why c.in-Err.ensures.fault c.show_fault.ensures
