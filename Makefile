@@ -2,6 +2,8 @@
 TOOL := crates/dm_tool/out/dm_tool
 # Debian's Python, where it is there: optional modules of the tests are installed for it.
 PYTHON ?= $(firstword $(wildcard /usr/bin/python3) python3)
+# The system for which library, sampler, wheel, deb and dist build, one of tools/targets.py, if it isn't this one.
+TARGET ?=
 # Where to install; packaging/install says more.
 export PREFIX DESTDIR LIBDIR PYTHONDIR
 
@@ -23,6 +25,8 @@ help:
 	@echo "make deb       builds Debian packages into out/deb: ten seconds after make build library sampler"
 	@echo "make dist      makes an archive of the sources and a prebuilt one in out/dist: seconds \
 	after make build library page"
+	@echo "With TARGET library, sampler, wheel, deb and dist build for another system, by cross compilers of Debian:"
+	@echo "aarch64-unknown-linux-gnu, riscv64-unknown-linux-gnu, or x86_64-w64-windows-gnu"
 	@echo "make bench     times the program and the library beside others that are installed: minutes"
 	@echo
 	@echo "The program is $(TOOL), the library is in library/out. README.md begins with what to do without the toolchain."
@@ -33,10 +37,11 @@ build:
 	@echo "The program is $(TOOL). It writes 123456 as"
 	@printf '123456\n' | $(TOOL) write
 
-# Proves the library ecc200 and what has changed below it, and leaves it as library/out/libecc200.a and libecc200.so.
+# Proves the library ecc200 and what has changed below it, and leaves it as library/out/libecc200.a and libecc200.so, or
+# with TARGET=aarch64-unknown-linux-gnu, for one, in library/out/aarch64-unknown-linux-gnu.
 library:
-	@library/build
-	@echo "The library is library/out/libecc200.a and library/out/libecc200.so; its manual is library/ecc200.h."
+	@library/build $(if $(TARGET),--target $(TARGET))
+	@echo "The library is in library/out/$(TARGET); its manual is library/ecc200.h."
 
 # Builds the page, one file that opens from disk: web/out/mitsubadoor.html. Its library is proved for WebAssembly too,
 # and lowered to 32-bit memory by wasm-opt (Debian: binaryen).
@@ -46,12 +51,12 @@ page:
 # Builds the sampler, from pictures to grids, over the library that `make library` left: sampler/out/dm_sample and
 # libecc200_sample.so.
 sampler: library
-	sampler/build
+	sampler/build $(if $(TARGET),--target $(TARGET))
 
 # Builds the Python package's wheel over the libraries that are built:
 # library/python/out/ecc200-VERSION-py3-none-PLATFORM.whl.
 wheel: library
-	library/python/build
+	library/python/build $(if $(TARGET),--target $(TARGET))
 
 # Shows the program at work: writing, damage, reading with a correction, a refusal.
 try:
@@ -72,13 +77,15 @@ install-library: library
 uninstall:
 	packaging/install --uninstall
 
-# Debian packages, by debhelper, of what is proved and built: out/deb.
-deb: build library sampler
-	packaging/deb
+# Debian packages, by debhelper, of what is proved and built: out/deb. For a target they are without the program, in
+# out/deb/TARGET.
+deb: $(if $(TARGET),,build) library sampler
+	packaging/deb $(if $(TARGET),--target $(TARGET))
 
-# Two archives in out/dist: the sources, and what is proved and built from them.
-dist: build library page sampler
-	packaging/dist
+# Two archives in out/dist: the sources, and what is proved and built from them. With Windows as the target one of the
+# libraries for it.
+dist: $(if $(TARGET),library sampler,build library page sampler)
+	$(if $(TARGET),packaging/windows $(TARGET),packaging/dist)
 
 # Times the program that `make build` left, and the library that `make library` left, beside others that are installed.
 bench:

@@ -4,18 +4,18 @@
 #ifndef _GNU_SOURCE
 #define _GNU_SOURCE
 #endif
+#include "system.h"
 #include <ecc200.h>
 #include <stdio.h>
 #include <stdlib.h>
 #include <string.h>
-#include <sys/mman.h>
 
 #define NAMED(name) printf("%s=%ld ", #name, (long)ECC200_##name)
 #define SIZED(type) printf("%s=%zu ", #type, sizeof(ecc200_##type))
 #define LAID(type, member)                                                                                             \
     printf("%s.%s=%zu+%zu ", #type, #member, offsetof(ecc200_##type, member), sizeof(((ecc200_##type *)0)->member))
 
-enum { PAGE = 4096, AREA = 1 << 19 };
+enum { AREA = 1 << 19, LINE = 1 << 19, BEFORE = 1 << 14 };
 
 /* an area that ends at an inaccessible page */
 typedef struct {
@@ -30,23 +30,20 @@ static void die(const char *what) {
 }
 
 static area new_area(void) {
-    uint8_t *at = (uint8_t *)mmap(0, AREA + PAGE, PROT_READ | PROT_WRITE, MAP_PRIVATE | MAP_ANONYMOUS, -1, 0);
-    area made = {at + AREA};
-    if (at == MAP_FAILED || mprotect(at + AREA, PAGE, PROT_NONE))
-        die("no memory");
+    area made = {(uint8_t *)guarded(AREA) + AREA};
     return made;
 }
 
 /* so many bytes at the end of the area, filled with rubbish, as are those before them */
 static uint8_t *place_of(area whole, size_t size) {
-    if (size > AREA)
+    if (size + BEFORE > AREA)
         die("too much");
-    memset(whole.end - AREA, 0xEE, AREA);
+    memset(whole.end - size - BEFORE, 0xEE, size + BEFORE);
     return whole.end - size;
 }
 
 static int is_untouched(area whole, size_t size) {
-    for (uint8_t *at = whole.end - AREA; at < whole.end - size; at++)
+    for (uint8_t *at = whole.end - size - BEFORE; at < whole.end - size; at++)
         if (*at != 0xEE)
             return 0;
     return 1;
@@ -367,11 +364,10 @@ static const request requests[] = {
 };
 
 int main(void) {
-    char *line = NULL;
-    size_t room = 0;
+    static char line[LINE];
     modules_area = new_area(), doubt_area = new_area(), items_area = new_area(), bytes_area = new_area();
     out_area = new_area();
-    while (getline(&line, &room, stdin) > 0) {
+    while (fgets(line, sizeof line, stdin)) {
         const char *name = strtok_r(line, " \n", &rest);
         size_t i = 0;
         while (i < sizeof requests / sizeof *requests && strcmp(requests[i].name, name))
@@ -381,6 +377,5 @@ int main(void) {
         requests[i].answer();
         printf("\n");
     }
-    free(line);
     return 0;
 }

@@ -6,6 +6,7 @@ import os
 import shutil
 import sys
 
+from tests.library.systems import HERE as THIS
 from tests.support import commands, places
 from tests.support.commands import said
 
@@ -15,11 +16,12 @@ WARNINGS = ["-Wall", "-Wextra", "-Werror"]
 
 
 class Callers:
-    """The callers of a folder `library`, the folder `built` with the library, and a folder to work in."""
+    """The callers of a folder `library`, the folder `built` with the library, and a folder to work in, on this system
+    or another."""
 
-    def __init__(self, library, built, work, interface):
+    def __init__(self, library, built, work, interface, system=THIS):
         self.library, self.built, self.work, self.interface = library, built, work, interface
-        self.archive = os.path.join(built, "libecc200.a")
+        self.archive, self.system = os.path.join(built, "libecc200.a"), system
 
     def source(self, *names):
         return os.path.join(self.library, *names)
@@ -29,13 +31,14 @@ class Callers:
 
     def compiled(self, name, words):
         """A program that a compiler makes, or what it says."""
-        status, output = said([*words, "-o", self.made(name)])
-        return (self.made(name), None) if status == 0 else (None, f"status {status}: {output[-2000:]}")
+        made = self.made(f"{name}{self.system.ending}")
+        status, output = said([*words, "-o", made])
+        return (made, None) if status == 0 else (None, f"status {status}: {output[-2000:]}")
 
     def answered(self, name, program, requests):
         """The answers of a program, each compared with what is wanted."""
         asked = "".join(f"{request}\n" for request, _ in requests)
-        status, output = said([program], given=asked.encode())
+        status, output = self.system.said([program], given=asked.encode())
         got = output.split("\n")
         yield f"{name}: status", None if status == 0 else f"{status}: {output[-3000:]}"
         for i, (request, wanted) in enumerate(requests):
@@ -45,7 +48,7 @@ class Callers:
     def in_c(self):
         """C with the sanitisers, if the compiler has them, and without."""
         yield from self.in_c_with("C", "-O2")
-        if self.has_sanitisers():
+        if has_sanitisers(self.work):
             yield from self.in_c_with_sanitisers()
 
     def in_c_with_sanitisers(self):
@@ -54,22 +57,16 @@ class Callers:
     def in_c_with(self, name, *flags):
         """C, compiled with these flags."""
         requests = [*self.interface.calls(), *self.interface.of_the_header()]
-        words = ["cc", "-std=c11", *WARNINGS, "-pedantic", f"-I{self.library}", os.path.join(HERE, "answers.c"),
-                 self.archive]
+        words = [self.system.cc, "-std=c11", *WARNINGS, "-pedantic", *self.system.flags, f"-I{self.library}",
+                 os.path.join(HERE, "answers.c"), self.archive]
         program, problem = self.compiled(f"answers{len(flags)}", [*words, *flags])
         yield f"{name}: compiled", problem
         if program:
             yield from self.answered(name, program, requests)
 
-    def has_sanitisers(self):
-        source = self.made("empty.c")
-        with open(source, "w", encoding="utf-8") as file:
-            file.write("int main(void) { return 0; }\n")
-        return said(["cc", *SANITISED, source, "-o", self.made("empty")])[0] == 0
-
     def in_cpp(self):
         """The same in C++."""
-        words = ["c++", "-std=c++17", "-O1", *WARNINGS, f"-I{self.library}", "-x", "c++",
+        words = [self.system.cxx, "-std=c++17", "-O1", *WARNINGS, *self.system.flags, f"-I{self.library}", "-x", "c++",
                  os.path.join(HERE, "answers.c")]
         words += ["-x", "none", self.archive]
         program, problem = self.compiled("answers_cpp", words)
@@ -83,7 +80,7 @@ class Callers:
         os.makedirs(folder, exist_ok=True)
         for source in (os.path.join(HERE, "answers.rs"), self.source("ecc200.rs")):
             shutil.copy(source, folder)
-        words = ["rustc", "--edition", "2021", "-D", "warnings", os.path.join(folder, "answers.rs")]
+        words = [*self.system.rustc()[0], "--edition", "2021", "-D", "warnings", os.path.join(folder, "answers.rs")]
         program, problem = self.compiled("answers_rs", [*words, "-L", f"native={self.built}", "-l", "static=ecc200"])
         yield "Rust: compiled", problem
         if program:
@@ -99,9 +96,9 @@ class Callers:
         if not os.path.isdir(folder):
             os.mkdir(folder)
             source, made = os.path.join(HERE, "other_abi.c"), os.path.join(folder, "libecc200")
-            compiled, shared = ["cc", "-c", "-fPIC", source, "-o",
-                                f"{made}.o"], ["cc", "-shared", f"{made}.o", "-o", f"{made}.so"]
-            for words in (compiled, shared, ["ar", "rc", f"{made}.a", f"{made}.o"]):
+            compiled = [self.system.cc, "-c", "-fPIC", source, "-o", f"{made}.o"]
+            shared = [self.system.cc, "-shared", f"{made}.o", "-o", f"{made}.so"]
+            for words in (compiled, shared, [self.system.ar, "rc", f"{made}.a", f"{made}.o"]):
                 status, output = said(words)
                 if status:
                     sys.exit(output)
@@ -110,13 +107,25 @@ class Callers:
     def in_python(self):
         """The Python module, by python_module.py, which says a line for each test."""
         own, other = (os.path.join(folder, "libecc200.so") for folder in (self.built, self.other()))
-        found = commands.environment(ECC200_LIBRARY=own, OTHER_LIBRARY=other, VERSION=self.interface.version)
-        words = [sys.executable, "-m", "tests.library.python_module", self.source("python", "ecc200", "core.py")]
+        asked = self.made("requests.json")
+        with open(asked, "w", encoding="ascii") as file:
+            json.dump(self.interface.calls(), file)
+        found = commands.environment(ECC200_LIBRARY=own, OTHER_LIBRARY=other, VERSION=self.interface.version,
+                                     REQUESTS=asked)
+        words = [self.system.python, "-m", "tests.library.python_module", self.source("python", "ecc200", "core.py")]
         done = commands.run(words, env=found, cwd=places.TOP, timeout=1800)
         for line in done.output.decode().splitlines():
             name, problem = json.loads(line)
             yield f"Python: {name}", problem
         yield "Python: its end", None if done.status == 0 else done.errors.decode(errors="replace")[-3000:]
+
+
+def has_sanitisers(work):
+    """Whether the C compiler has them; works in a folder."""
+    source = os.path.join(work, "empty.c")
+    with open(source, "w", encoding="utf-8") as file:
+        file.write("int main(void) { return 0; }\n")
+    return said(["cc", *SANITISED, source, "-o", os.path.join(work, "empty")])[0] == 0
 
 
 def copied(library, folder):

@@ -2,11 +2,11 @@
  * call returns, and the answers of the calls agree with one another, whatever their outputs held before.
  * The first argument is the number of rounds, the second the extent: 0 or 1. */
 #define _GNU_SOURCE
+#include "system.h"
 #include <ecc200.h>
 #include <stdio.h>
 #include <stdlib.h>
 #include <string.h>
-#include <sys/mman.h>
 
 enum { AREA = 1 << 17 };
 
@@ -39,15 +39,6 @@ static int chance(void) {
     static uint64_t state = 3;
     state = state * 6364136223846793005 + 1442695040888963407;
     return (int)(state >> 33);
-}
-
-/* so many bytes, which end at an inaccessible page */
-static void *guarded(size_t size) {
-    size_t room = (size + 4095) / 4096 * 4096;
-    uint8_t *at = mmap(0, room + 4096, PROT_READ | PROT_WRITE, MAP_PRIVATE | MAP_ANONYMOUS, -1, 0);
-    if (at == MAP_FAILED || mprotect(at + room, 4096, PROT_NONE))
-        exit(2);
-    return at + room - size;
 }
 
 /* random modules, now and then a number of them that isn't rows times columns */

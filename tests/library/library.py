@@ -7,13 +7,12 @@ import re
 from unittest import mock
 
 from tests.library.cases import Interface
-from tests.library.callers import HERE, WARNINGS
-from tests.support import commands, needs, places
+from tests.library.callers import WARNINGS
+from tests.library.systems import HERE as THIS
+from tests.support import commands, places
 from tests.support.places import LIBRARY
 
 EXAMPLES = os.path.join(LIBRARY, "examples")
-WORKED = ("1010101010 1100101101 1100000100 1100011101 1100001000 "
-          "1000001111 1110110000 1111011001 1001110100 1111111111").split()
 
 
 @functools.cache
@@ -37,25 +36,21 @@ def bits_of(lines):
     return [bytes(int(letter) for letter in line) for line in lines]
 
 
-def compiled(source, folder, *flags):
+def compiled(source, folder, *flags, system=THIS):
     """Compiles a C file over the static library, and gives the program, or None and what the compiler says."""
-    made = os.path.join(folder, os.path.basename(source).removesuffix(".c"))
-    words = ["cc", "-std=c11", "-O2", *WARNINGS, f"-I{LIBRARY}", *flags, source, places.ARCHIVE, "-o", made]
-    status, output = commands.said(words)
+    made = os.path.join(folder, os.path.basename(source).removesuffix(".c") + system.ending)
+    words = [system.cc, "-std=c11", "-O2", *WARNINGS, f"-I{LIBRARY}", *system.flags, *flags, source, system.archive]
+    status, output = commands.said([*words, "-o", made])
     return (made, None) if status == 0 else (None, output[-2000:])
 
 
 @functools.cache
-def lacking_rust():
+def lacking_rust(system=THIS):
     """Says why there is no Rust compiler for library/ecc200.rs, whose head names the least version; nothing if there is
     one."""
-    if not needs.has("rustc"):
-        return needs.lacking("rustc")
+    compiler, reason = system.rustc()
+    if reason:
+        return reason
     least = re.search(r"Rust (1\.\d+) or later", places.text_of("library", "ecc200.rs"))[1]
-    told = re.match(r"rustc (1\.\d+)", commands.said(["rustc", "--version"])[1])[1]
+    told = re.match(r"rustc (1\.\d+)", commands.said([compiler[0], "--version"])[1])[1]
     return "" if int(told[2:]) >= int(least[2:]) else f"rustc is {told}, older than {least}"
-
-
-def own(name):
-    """The path of a C file of these tests."""
-    return os.path.join(HERE, name)

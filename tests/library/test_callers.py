@@ -3,7 +3,7 @@ and answers of cases.py."""
 import sys
 
 from tests.library import planted
-from tests.library.callers import Callers
+from tests.library.callers import Callers, has_sanitisers
 from tests.library.cases import check_codewords_are_known
 from tests.library.library import interface, lacking_rust
 from tests.support import commands, needs, places
@@ -33,7 +33,7 @@ class Answers(Case):
         self.all_sound(self.callers.in_c_with("C", "-O2"))
 
     def test_c_with_the_sanitisers(self):
-        if not self.callers.has_sanitisers():
+        if not has_sanitisers(self.folder()):
             self.skipTest("cc has no sanitisers")
         self.all_sound(self.callers.in_c_with_sanitisers())
 

@@ -1,15 +1,16 @@
 /* Eight threads, each with a stack of as many KiB as the first argument says, read, normalise and inspect at the same
- * time: each answer must be that of one thread alone. Then prints how many bytes of stack each call uses, a line for
- * each call. */
+ * time, as often as the second says: each answer must be that of one thread alone. Then prints how many bytes of stack
+ * each call uses, a line for each call. */
 #define _GNU_SOURCE
 #include <ecc200.h>
 #include <pthread.h>
 #include <stdio.h>
 #include <stdlib.h>
 #include <string.h>
-#include <sys/mman.h>
 
-enum { THREADS = 8, ROUNDS = 300, CASES = 64, STACK = 1 << 20 };
+#define NOT_INLINE __attribute__((__noinline__))
+
+enum { THREADS = 8, CASES = 64, STACK = 1 << 19 };
 
 typedef struct {
     uint8_t modules[ECC200_MOST_MODULES], doubtful[ECC200_MOST_MODULES];
@@ -28,6 +29,7 @@ typedef struct {
 } job;
 
 static example examples[CASES], largest;
+static unsigned rounds;
 static uint16_t items[ECC200_MOST_ITEMS];
 static uint8_t many[ECC200_MOST_ITEMS];
 static size_t most_data; /* codewords of the largest size */
@@ -44,7 +46,7 @@ static void answer(const example *e, ecc200_reading *reading, ecc200_symbol *nor
 
 static void *work(void *at) {
     job *j = at;
-    for (unsigned i = 0; i < ROUNDS; i++) {
+    for (unsigned i = 0; i < rounds; i++) {
         example *e = &examples[(i * 7 + j->first) % CASES];
         answer(e, &j->reading, &j->normal, &j->inspection);
         j->wrong += memcmp(&j->reading, &e->reading, sizeof j->reading) ||
@@ -124,25 +126,26 @@ static void *do_places(void *at) {
 }
 static void *do_sizes(void *at) { static ecc200_size_table table; return ecc200_sizes(&table), at; }
 
-/* how many bytes of a stack that was filled with a pattern a call overwrites */
-static size_t touched(void *(*call)(void *)) {
-    uint8_t *stack = mmap(0, STACK, PROT_READ | PROT_WRITE, MAP_PRIVATE | MAP_ANONYMOUS, -1, 0);
-    pthread_attr_t attributes;
-    pthread_t thread;
+/* Fills the stack below its caller's frame with a pattern, or tells how many bytes of that are something else. */
+static NOT_INLINE size_t below(int fills) {
+    volatile uint8_t room[STACK], *volatile at = room;
     size_t low = 0;
-    memset(stack, 0xA5, STACK);
-    pthread_attr_init(&attributes);
-    if (pthread_attr_setstack(&attributes, stack, STACK) || pthread_create(&thread, &attributes, call, 0))
-        exit(2);
-    pthread_join(thread, 0);
-    while (low < STACK && stack[low] == 0xA5)
+    for (size_t i = 0; fills && i < STACK; i++)
+        at[i] = 0xA5;
+    while (low < STACK && at[low] == 0xA5)
         low++;
-    munmap(stack, STACK);
     return STACK - low;
+}
+
+/* how many bytes of the stack a call overwrites */
+static size_t touched(void *(*call)(void *)) {
+    below(1), call(NULL);
+    return below(0);
 }
 
 int main(int argc, char **argv) {
     size_t kib = argc > 1 ? strtoul(argv[1], 0, 10) : 64;
+    rounds = argc > 2 ? (unsigned)strtoul(argv[2], 0, 10) : 300;
     srand(1);
     for (int i = 0; i < CASES; i++)
         make(&examples[i], (size_t)(rand() % 300), rand() % 40);

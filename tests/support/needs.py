@@ -13,7 +13,9 @@ from tests.support import commands, places
 PACKAGES = {
     "c++": "g++", "nm": "binutils", "sshd": "openssh-server", "ssh": "openssh-client", "pkg-config": "pkgconf",
     "javac": "default-jdk-headless", "node": "nodejs", "wasm-opt": "binaryen", "WebKitWebDriver": "webkit2gtk-driver",
-    "Xvfb": "xvfb", "chromedriver": "chromium-driver", "tsc": "node-typescript",
+    "Xvfb": "xvfb", "chromedriver": "chromium-driver", "tsc": "node-typescript", "qemu-aarch64": "qemu-user",
+    "qemu-riscv64": "qemu-user", "aarch64-linux-gnu-g++": "g++-aarch64-linux-gnu",
+    "riscv64-linux-gnu-g++": "g++-riscv64-linux-gnu", "x86_64-w64-mingw32-g++": "g++-mingw-w64-x86-64",
 }
 PATH = os.pathsep.join([os.environ.get("PATH", os.defpath), "/usr/sbin"])
 

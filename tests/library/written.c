@@ -1,0 +1,85 @@
+/* What a call writes, whatever its result held before: each call is made with results that are filled with three other
+ * bytes. For each it prints its name, the code, how many bytes of the arrays are written, and what is wrong, if
+ * anything is. */
+#include <ecc200.h>
+#include <stddef.h>
+#include <stdio.h>
+#include <stdlib.h>
+#include <string.h>
+
+enum { FILLS = 3, SIDE = 10, ALL = SIDE * SIDE };
+
+static const uint8_t fills[FILLS] = {0xEE, 0x11, 0};
+static const char *worked = "1010101010110010110111000001001100011101110000100010000011111110110000111101100110"
+                            "011101001111111111";
+static uint8_t grid[ALL], light[ALL];
+static const uint16_t usual_items[] = {65}, wrong_items[] = {65, 300};
+static const ecc200_how usual = {0, 0, 0, 0}, small = {1, 4, 8, 18}, none = {7, 0, 0, 0};
+
+/* the numbers stand in front of the arrays, the fault in front of the other numbers */
+static void tell(const char *name, uint16_t (*call)(void *), size_t size, size_t numbers) {
+    uint8_t *outs[FILLS];
+    uint16_t code = 0;
+    size_t written = 0, wrong = 0;
+    for (int i = 0; i < FILLS; i++) {
+        if (!(outs[i] = (uint8_t *)malloc(size)))
+            exit(2);
+        memset(outs[i], fills[i], size);
+        code = call(outs[i]);
+    }
+    for (size_t at = numbers; at < size; at++) {
+        int is_written = outs[0][at] == outs[1][at];
+        written += (size_t)is_written, wrong += !is_written && outs[0][at] != fills[0];
+    }
+    printf("%s: %d %zu", name, code, written);
+    if (wrong)
+        printf(", %zu bytes behind those that count", wrong);
+    for (int i = 1; i < FILLS; i++)
+        if (memcmp(outs[0], outs[i], numbers))
+            printf(", other numbers");
+    for (size_t at = sizeof(ecc200_fault); code && at < numbers; at++)
+        if (outs[0][at])
+            printf(", a number beside the fault");
+    printf("\n");
+    for (int i = 0; i < FILLS; i++)
+        free(outs[i]);
+}
+
+static uint16_t do_read(void *out) { return ecc200_read(grid, ALL, NULL, 0, SIDE, SIDE, 2, 1, out); }
+static uint16_t read_light(void *out) { return ecc200_read(light, ALL, NULL, 0, SIDE, SIDE, 2, 0, out); }
+static uint16_t do_inspect(void *out) { return ecc200_inspect(grid, ALL, NULL, 0, SIDE, SIDE, out); }
+static uint16_t inspect_less(void *out) { return ecc200_inspect(grid, ALL - 1, NULL, 0, SIDE, SIDE, out); }
+static uint16_t do_write(void *out) { return ecc200_write(usual_items, 1, &usual, out); }
+static uint16_t write_wrong(void *out) { return ecc200_write(wrong_items, 2, &small, out); }
+static uint16_t do_write_bytes(void *out) { return ecc200_write_bytes((const uint8_t *)"AB", 2, &small, out); }
+static uint16_t write_bytes_no_profile(void *out) {
+    return ecc200_write_bytes((const uint8_t *)"AB", 2, &none, out);
+}
+static uint16_t do_normal(void *out) { return ecc200_normal(grid, ALL, NULL, 0, SIDE, SIDE, 2, 0, 1, out); }
+static uint16_t normal_no_extent(void *out) { return ecc200_normal(grid, ALL, NULL, 0, SIDE, SIDE, 2, 7, 1, out); }
+static uint16_t do_places(void *out) { return ecc200_places(8, 32, out); }
+static uint16_t places_no_size(void *out) { return ecc200_places(32, 8, out); }
+static uint16_t do_sizes(void *out) { return ecc200_sizes(out), 0; }
+
+int main(void) {
+    const size_t reading = sizeof(ecc200_reading), arrays = offsetof(ecc200_reading, corrected);
+    const size_t inspection = sizeof(ecc200_inspection), counts = offsetof(ecc200_inspection, corrected);
+    const size_t symbol = sizeof(ecc200_symbol), modules = offsetof(ecc200_symbol, modules);
+    const size_t table = sizeof(ecc200_place_table), places = offsetof(ecc200_place_table, places);
+    for (int i = 0; i < ALL; i++)
+        grid[i] = (uint8_t)(worked[i] - '0');
+    tell("read", do_read, reading, arrays);
+    tell("read, refused", read_light, reading, arrays);
+    tell("inspect", do_inspect, inspection, counts);
+    tell("inspect, refused", inspect_less, inspection, counts);
+    tell("write", do_write, symbol, modules);
+    tell("write, refused", write_wrong, symbol, modules);
+    tell("write_bytes", do_write_bytes, symbol, modules);
+    tell("write_bytes, refused", write_bytes_no_profile, symbol, modules);
+    tell("normal", do_normal, symbol, modules);
+    tell("normal, refused", normal_no_extent, symbol, modules);
+    tell("places", do_places, table, places);
+    tell("places, refused", places_no_size, table, places);
+    tell("sizes", do_sizes, sizeof(ecc200_size_table), 0);
+    return 0;
+}
