@@ -66,10 +66,11 @@
  * everything but `fault` and the arrays is 0, and the arrays are left as they were; if there is none, `fault` is 0. A
  * call whose `out` has a member `fault` returns its code.
  *
- * PROCESSORS: the library runs on x86-64 processors of the level x86-64-v2, which have SSSE3 and SSE4.2 among others,
- * as those made since 2009 mostly do. On an older one glibc's loader, from 2.33 on, refuses the shared library and
- * programs that are linked with it ("CPU ISA level is lower than required"); without such a loader an illegal
- * instruction ends the program.
+ * PROCESSORS: the library is made for x86-64, and also for 64-bit ARM and RISC-V under Linux and for x86-64 under
+ * Windows. Of x86-64 processors it needs the level x86-64-v2, which has SSSE3 and SSE4.2 among others, as those made
+ * since 2009 mostly do. On an older one glibc's loader, from 2.33 on, refuses the shared library and programs that are
+ * linked with it ("CPU ISA level is lower than required"); without such a loader an illegal instruction ends the
+ * program. Under Windows a call also calls what touches a large frame page by page, as all programs there do.
  *
  * WHAT A CALLER OWES, since C can't check it:
  *  - a pointer points to as many elements as the call says, aligned for their type. It may be NULL if the count is 0;

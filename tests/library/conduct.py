@@ -129,6 +129,16 @@ def example_in_c(system, folder):
     yield "the example in C", problem or shows(system, [program])
 
 
+def example_with_shared(system, folder):
+    """The example in C with the shared library, under the name by which it is loaded."""
+    made = os.path.join(folder, f"shared{system.ending}")
+    linked = system.shared.replace(".dll", ".dll.a").replace("/ecc200", "/libecc200")
+    words = [system.cc, "-std=c11", f"-I{places.LIBRARY}", os.path.join(EXAMPLES, "example.c"), linked, "-o", made]
+    status, told = said(words)
+    got = (status, told) if status else system.said([made], env=system.beside(folder, system.built))
+    yield "the example with the shared library", None if got == (0, shown()) else f"{got}"
+
+
 def example_in_cpp(system, folder):
     words = [system.cxx, "-std=c++17", "-O2", *WARNINGS, *system.flags, f"-I{places.LIBRARY}",
              os.path.join(EXAMPLES, "example.cpp"), system.archive]

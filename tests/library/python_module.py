@@ -428,10 +428,45 @@ def loading_from(folder):
     yield "the library that is named, and another beside the module", loads(ECC200_LIBRARY=own), f"10 {own}"
 
 
+# What is looked for where the system is called nt, and what is said if nothing is found.
+UNDER_WINDOWS = """
+import ctypes, os
+asked = []
+
+
+def opened(path):
+    asked.append(path)
+    raise FileNotFoundError(f"Could not find module '{path}' (or one of its dependencies).")
+
+
+ctypes.CDLL, os.name = opened, "nt"
+try:
+    import ecc200
+except ImportError as why:
+    print(asked, str(why).split(" (")[0])
+"""
+
+
+def loading_under_windows():
+    """Under Windows the library beside the module is looked for, and then that which the system finds."""
+    with tempfile.TemporaryDirectory() as folder:
+        shutil.copy(MODULE, os.path.join(folder, "ecc200.py"))
+        beside = os.path.join(folder, "ecc200.dll")
+        found = {name: value for name, value in os.environ.items() if name != "ECC200_LIBRARY"}
+        for is_there, said in ((False, "the library ecc200 isn't installed, or set ECC200_LIBRARY to its path"),
+                               (True, f"{beside} is there, but can't be loaded: Could not find module '{beside}'")):
+            if is_there:
+                with open(beside, "wb"):
+                    pass
+            done = subprocess.run([sys.executable, "-B", "-c", UNDER_WINDOWS], env={**found, "PYTHONPATH": folder},
+                                  capture_output=True, text=True, cwd="/", check=False)
+            yield f"a library, {is_there}", done.stdout.strip(), f"{[beside, 'ecc200.dll']} {said}"
+
+
 def tried():
     """Each test's name, and what is wrong or None."""
     for part in (names, layout, requests, exceptions, texts, defaults, limits, grids, doubts, numbers, results,
-                 pictures, loading):
+                 pictures, loading, loading_under_windows):
         try:
             for name, got, wanted in part():
                 wrong = None if got == wanted else f"{str(got)[:300]}, and not {str(wanted)[:300]}"

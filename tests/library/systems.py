@@ -1,5 +1,6 @@
 """The systems on which the library is tested: this one, and those of tools/targets.py, each by its emulator."""
 import os
+import re
 import shutil
 import sys
 
@@ -57,6 +58,17 @@ class Emulated(System):
     def variables(self):
         """What the emulator is told in the environment."""
         return {"WINEPREFIX": os.path.join(self.folder, "wine"), "WINEDEBUG": "-all"} if self.is_windows else {}
+
+    def beside(self, folder, *folders):
+        """Puts the shared libraries of folders where programs in a folder find them, and gives the environment in which
+        these run."""
+        for path in (os.path.join(at, name) for at in folders for name in os.listdir(at)):
+            if path.endswith(".dll"):
+                shutil.copy(path, folder)
+            elif path.endswith(".so"):
+                name = re.search(r"soname: \[(.*)\]", commands.said(["readelf", "-d", path])[1])[1]
+                shutil.copy(path, os.path.join(folder, name))
+        return commands.environment() if self.is_windows else commands.environment(LD_LIBRARY_PATH=folder)
 
     def end(self):
         """Ends what Wine has started."""

@@ -48,6 +48,7 @@ class OnTarget:
     def test_c(self):
         self.all_sound(self.callers().in_c_with("C", "-O2"))
         self.all_sound(conduct.example_in_c(self.system, self.folder()))
+        self.all_sound(conduct.example_with_shared(self.system, self.folder()))
 
     def test_the_example_in_cpp(self):
         if reason := needs.lacking(self.system.cxx):

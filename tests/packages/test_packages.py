@@ -3,7 +3,7 @@ install, pkg-config, CMake, Debian packages in a clean root, archives. What is i
 repository's folders, by another user, and with neither a compiler nor the toolchain on the path."""
 import os
 
-from tests.packages import archives, built, debian, installing, machine
+from tests.packages import archives, built, debian, installing, machine, targets
 from tests.packages.common import bare_path, left_out
 from tests.support import needs
 from tests.support.case import Case
@@ -67,3 +67,12 @@ class Packages(Case):
 
     def test_archives(self):
         self.told(archives.archived, self.room(), self.path)
+
+    def test_what_is_packed_for_other_systems(self):
+        for triple, target in targets.targets.TARGETS.items():
+            with self.subTest(triple):
+                self.told(targets.wheel, self.room(), target)
+                if target.debian:
+                    self.told(targets.debian, self.room(), target)
+                if target.is_windows:
+                    self.told(targets.windows, self.room(), target)

@@ -11,6 +11,7 @@ import ecc200
 from tests.python.common import (LIBRARIES, MARKS, PACKAGE, PYTHON, SAMPLER, SHARED, TOP, clean, has, holds, left_out,
                                  run, same, wanted_module)
 from tests.support import places
+from tests.support.glibc import many_linux
 
 GS1 = "(01)09521234543213(17)251231(10)ABC123"
 USED = """
@@ -114,7 +115,11 @@ def contents(wheel):
         owners = {line.split(":")[0] for line in told} - {"libc6"}
         yield same("packages that the wheel needs and doesn't name", [it for it in owners if it not in described], [])
         yield holds("they are known", any("libecc200" in name for name in needed), str(needed))
-    yield holds("the wheel is for this kind of machine", "-py3-none-linux_" in os.path.basename(wheel), wheel)
+    if has("readelf", "what the wheel needs of glibc"):
+        libraries = [it for it in (SHARED, SAMPLER) if os.path.isfile(it)]
+        wanted, foreign = many_linux(libraries, "x86_64")
+        yield same("what its libraries need beside glibc", foreign, set())
+        yield same("its name", os.path.basename(wheel), f"ecc200-{version()}-py3-none-{wanted}.whl")
 
 
 def installed(folder, wheel):

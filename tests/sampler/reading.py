@@ -167,9 +167,9 @@ def every_png(folder):
                   (0, True, b""))
 
 
-def the_set(folder, sampler):
+def the_set(folder, words):
     """Fifty pictures and two with several symbols: none is read wrong, and at least LEAST_SHARE of the symbols are
-    read."""
+    read. `words` call the sampler."""
     made = os.path.join(folder, "set")
     done = run([PYTHON, places.path("bench", "photographs"), "--program", PROGRAM, "--share", "13", made])
     if done.returncode:
@@ -179,13 +179,13 @@ def the_set(folder, sampler):
         index = json.load(file)
     symbols = right = 0
     for picture in index:
-        words = ["--all"] if len(picture["messages"]) > 1 else []
-        said = run([sampler, "--json", "--time=30000", *words, os.path.join(made, picture["file"])]).stdout.decode()
+        more = ["--all"] if len(picture["messages"]) > 1 else []
+        said = run([*words, "--json", "--time=30000", *more, os.path.join(made, picture["file"])]).stdout.decode()
         messages = {json.loads(line)["message"] for line in said.splitlines()}
         check(f"{picture['file']}: wrong messages", messages - set(picture["messages"]), set())
         symbols, right = symbols + len(picture["messages"]), right + len(messages)
     print(f"of {symbols} symbols in {len(index)} photographs {right} were read")
     check("the symbols that are read", right >= LEAST_SHARE * symbols and len(index) >= 50, True)
-    through = run(["sh", "-c", f'"$1" "$2" | "{PROGRAM}" read', "sh", sampler,
+    through = run(["sh", "-c", f'"$@" | "{PROGRAM}" read', "sh", *words,
                    os.path.join(made, index[0]["file"])]).stdout.decode()
     check("dm_sample | dm_tool read", through.rstrip("\n"), index[0]["messages"][0])

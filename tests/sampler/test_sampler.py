@@ -144,7 +144,7 @@ class Sampler(Case):
         self.told(options.parts, self.room)
 
     def test_the_set(self):
-        self.told(reading.the_set, self.room, self.sampler)
+        self.told(reading.the_set, self.room, [self.sampler])
 
     def test_a_label(self):
         self.told(timing.a_label, self.room, self.sampler)

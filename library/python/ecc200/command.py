@@ -301,7 +301,7 @@ def main(words: Optional[List[str]] = None) -> int:
         return _ended(str(why))
     except BrokenPipeError:
         _leave(1)
-        return 128 + signal.SIGPIPE
+        return 128 + getattr(signal, "SIGPIPE", 13)  # Windows has none
     except OSError as why:
         _leave(1)
         return _ended(f"{why.filename or 'standard output'}: {why.strerror}")

@@ -305,12 +305,16 @@ def _lacking(path: str) -> List[str]:
     return [] if flags is None else sorted(_INSTRUCTIONS - set(flags.split()))
 
 
+_WINDOWS = os.name == "nt"
+
+
 def _opened(name: str, needed: int, missing: Type[ImportError]) -> ctypes.CDLL:
     """The shared library of this name, with the version of its interface that is needed."""
-    file, variable, faults, there = f"lib{name}.so", f"{name.upper()}_LIBRARY", [], ""
+    file = f"{name}.dll" if _WINDOWS else f"lib{name}.so"
+    variable, faults, there = f"{name.upper()}_LIBRARY", [], ""
     beside, own = os.path.join(os.path.dirname(os.path.abspath(__file__)), file), f"{file}.{needed}"
-    named = os.environ.get(variable)
-    for path in [named] if named else [beside, own, file, os.path.join("/usr/local/lib", own)]:
+    named, usual = os.environ.get(variable), [file] if _WINDOWS else [own, file, os.path.join("/usr/local/lib", own)]
+    for path in [named] if named else [beside, *usual]:
         try:
             library = ctypes.CDLL(path)
             abi = getattr(library, f"{name}_abi")()
@@ -318,7 +322,8 @@ def _opened(name: str, needed: int, missing: Type[ImportError]) -> ctypes.CDLL:
             raise missing(f"{path} is a library, but not {name}", path=path) from None
         except OSError as why:
             faults.append(str(why))
-            is_there = os.path.isfile(path) or not str(why).startswith(f"{path}:")  # (or it names what this one needs)
+            # (if Linux names another file, that is one which this one needs)
+            is_there = os.path.isfile(path) or not _WINDOWS and not str(why).startswith(f"{path}:")
             if is_there:
                 there = there or f"{path} is there, but can't be loaded: {why}"
             continue
