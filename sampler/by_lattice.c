@@ -42,7 +42,7 @@ static void search_spot(struct search *search, int level, const struct plane *st
     count += find_lattices(grey, spot->x, spot->y, 0, lattices + count);
     size_t before = search->count;
     for (int k = 0; k < count && !is_over(search) && search->count == before; k++)
-        if (grow_lattice(grey, &lattices[k], search->judge.places, search->judge.end, &lattice) && is_large(&lattice))
+        if (grow_lattice(grey, &lattices[k], search->judge.places, search->judge.limit, &lattice) && is_large(&lattice))
             search_field(search, level, &lattice, field);
 }
 
@@ -50,8 +50,8 @@ void search_lattices(struct search *search, int level) {
     struct spot spots[SPOTS];
     struct plane steep;
     struct field *field = malloc(sizeof *field);
-    bool is_made = plane_steepen(&search->sights[0].levels[level], search->judge.end, &steep) && field != NULL;
-    int count = is_made ? find_spots(&steep, search->judge.end, spots, SPOTS) : 0;
+    bool is_made = plane_steepen(&search->sights[0].levels[level], search->judge.limit, &steep) && field != NULL;
+    int count = is_made ? find_spots(&steep, search->judge.limit, spots, SPOTS) : 0;
     for (int k = 0; k < count && !is_over(search); k++)
         search_spot(search, level, &steep, &spots[k], field);
     note_lack(search, is_made && count >= 0);

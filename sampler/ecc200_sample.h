@@ -1,9 +1,11 @@
 /* ecc200_sample.h: finds Data Matrix ECC 200 symbols, square and rectangular, in a picture, and samples them into grids
  * for ecc200.h.
  *
- *     ecc200_sample_picture   the symbols of a picture: grid, corners, reading
- *     ecc200_sample_usual     the usual options
- *     ecc200_sample_abi       which version of this interface the library has
+ *     ecc200_sample_picture        the symbols of a picture: grid, corners, reading
+ *     ecc200_sample_usual          the usual options
+ *     ecc200_sample_find           the same symbols, what was found and not read, and whether the search ended early
+ *     ecc200_sample_usual_search   the usual search
+ *     ecc200_sample_abi            which version of this interface the library has
  *
  * An example, for a picture of `width` by `height` bytes, 0 black and 255 white:
  *
@@ -14,6 +16,15 @@
  *         printf("%d by %d modules, %d items\n", symbol.rows, symbol.columns, symbol.reading.item_count);
  *
  *     cc example.c $(pkg-config --cflags --libs ecc200_sample)
+ *
+ * And one for all symbols, which says whether there may be more:
+ *
+ *     static ecc200_sample symbols[400], unread[8];
+ *     ecc200_sample_search search = ecc200_sample_usual_search();
+ *     search.symbols = symbols, search.room = 400, search.unread = unread, search.unread_room = 8;
+ *     if (ecc200_sample_find(luminance, width, height, width, &search) == ECC200_SAMPLE_OK)
+ *         printf("%zu read, %zu not; %s\n", search.count, search.unread_count,
+ *                search.ended == ECC200_SAMPLE_WHOLE ? "that is all" : "there may be more");
  *
  * The library reads no file formats: a PICTURE is its luminance, a byte a pixel, row by row from the top, each row
  * `stride` bytes after the one before. The symbols may be turned by any angle, in perspective, bent, mirrored, or light
@@ -46,6 +57,7 @@ enum {
     ECC200_SAMPLE_MOST_SIDE = 32767,  /* pixels: no picture may be wider or higher */
     ECC200_SAMPLE_USUAL_TIME = 1000   /* milliseconds */
 };
+#define ECC200_SAMPLE_ANY_TIME UINT32_MAX /* as long as it takes, for `milliseconds` */
 
 /* What a call returns. */
 enum ecc200_sample_code {
@@ -53,6 +65,22 @@ enum ecc200_sample_code {
     ECC200_SAMPLE_PICTURE = 1,        /* width or height is 0 or above ECC200_SAMPLE_MOST_SIDE, or the stride is less
                                          than the width */
     ECC200_SAMPLE_NO_MEMORY = 2
+};
+
+/* Why a search ended. But for the first, there may be symbols that weren't found. */
+enum ecc200_sample_end {
+    ECC200_SAMPLE_WHOLE = 0,          /* all of the picture was searched */
+    ECC200_SAMPLE_ROOM = 1,           /* there is no room for more symbols */
+    ECC200_SAMPLE_TIME = 2            /* the time was over */
+};
+
+/* Why a symbol that was found doesn't count as read. */
+enum ecc200_sample_unread {
+    ECC200_SAMPLE_READ = 0,           /* it does */
+    ECC200_SAMPLE_REFUSED = 1,        /* ecc200_read refuses it: reading.fault says why */
+    ECC200_SAMPLE_MARGIN = 2          /* a block leaves fewer corrections unused than asked; or none, where the border
+                                         is more damaged than usual or modules are doubtful. `reading` is what it may
+                                         say */
 };
 
 typedef struct ecc200_sample_options {
@@ -82,7 +110,22 @@ typedef struct ecc200_sample {
     ecc200_reading reading;           /* what ecc200_read says of these modules: at the usual border limit, or,
                                          if each block leaves a correction unused, at one of
                                          (rows + columns) * 5 / 8 */
+    uint16_t border_limit;            /* that limit: with it and with `doubtful`, ecc200_read says the same again */
+    uint16_t unread;                  /* one of ecc200_sample_unread; 0 for what was read */
 } ecc200_sample;
+
+/* A search: what is asked, and what came of it. ecc200_sample_usual_search fills it. */
+typedef struct ecc200_sample_search {
+    uint32_t milliseconds;            /* as in the options; ECC200_SAMPLE_ANY_TIME: as long as it takes */
+    uint16_t least_side, margin;      /* as in the options */
+    ecc200_sample *symbols;           /* where the symbols that are read go: their number goes into `count` */
+    size_t room, count;
+    ecc200_sample *unread;            /* where those go that were found and not read, each with the reason, the
+                                         likeliest first, one at a place. Their borders have no more faults than usual.
+                                         May be NULL if there is no room for any */
+    size_t unread_room, unread_count;
+    uint16_t ended;                   /* one of ecc200_sample_end */
+} ecc200_sample_search;
 
 /* The usual options: a second, every side, no margin, nothing unread. */
 ecc200_sample_options ecc200_sample_usual(void);
@@ -93,6 +136,14 @@ ecc200_sample_options ecc200_sample_usual(void);
  * count of 0 if there is none. */
 uint16_t ecc200_sample_picture(const uint8_t *luminance, size_t width, size_t height, size_t stride,
                                const ecc200_sample_options *options, ecc200_sample *out, size_t room, size_t *count);
+
+/* The usual search: as the usual options have it, with room for nothing yet. */
+ecc200_sample_search ecc200_sample_usual_search(void);
+
+/* As ecc200_sample_picture, but that `search` says what is asked and what came of it. After PICTURE or NO_MEMORY both
+ * counts are 0. */
+uint16_t ecc200_sample_find(const uint8_t *luminance, size_t width, size_t height, size_t stride,
+                            ecc200_sample_search *search);
 
 #if defined(__cplusplus)
 }

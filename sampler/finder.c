@@ -156,9 +156,9 @@ static int without_repetitions(struct elbow *elbows, int count) {
     return kept;
 }
 
-int find_elbows(const struct plane *dark, const struct lines *lines, int64_t end, struct elbow *out, int room) {
+int find_elbows(const struct plane *dark, const struct lines *lines, struct limit *limit, struct elbow *out, int room) {
     int count = 0;
-    for (int k = 0; k < lines->count && !clock_reached(end); k++)
+    for (int k = 0; k < lines->count && !limit_reached(limit); k++)
         for (int j = 0; j < lines->count; j++) {
             struct elbow elbow =
                 j == k ? (struct elbow){.score = 0} : elbow_of(dark, &lines->items[k], &lines->items[j]);

@@ -15,7 +15,7 @@ struct elbow {
 };
 
 /* Writes at most `room` elbows, the lively ones first, of these the long ones last, then by their scores, and returns
- * their number. Stops at the time `end`. */
-int find_elbows(const struct plane *dark, const struct lines *lines, int64_t end, struct elbow *out, int room);
+ * their number. Stops at the limit. */
+int find_elbows(const struct plane *dark, const struct lines *lines, struct limit *limit, struct elbow *out, int room);
 
 #endif

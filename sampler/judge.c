@@ -2,7 +2,6 @@
 
 #include <string.h>
 
-#include "clock.h"
 #include "sampling.h"
 #include "witness.h"
 
@@ -34,10 +33,18 @@ static int widest_limit(const ecc200_sample *trial) {
     return 5 * (trial->rows + trial->columns) / 8;
 }
 
-static uint16_t read(ecc200_sample *trial, int limit) {
+static int usual_limit(const ecc200_sample *trial) {
+    return ecc200_usual_limit(trial->rows, trial->columns);
+}
+
+/* Reads the candidate. `doubtful`: which of its modules are, or NULL if none is. */
+static uint16_t read(ecc200_sample *trial, const uint8_t *doubtful, int limit) {
     size_t count = (size_t)trial->rows * (size_t)trial->columns;
-    return ecc200_read(trial->modules, count, NULL, 0, trial->rows, trial->columns, (uint16_t)limit, ECC200_WIDE,
-                       &trial->reading);
+    uint16_t code = ecc200_read(trial->modules, count, doubtful, doubtful != NULL ? count : 0, trial->rows,
+                                trial->columns, (uint16_t)limit, ECC200_WIDE, &trial->reading);
+    bool is_usual = code == ECC200_OK && trial->reading.border_faults <= usual_limit(trial);
+    trial->border_limit = (uint16_t)(is_usual ? usual_limit(trial) : limit);
+    return code;
 }
 
 /* Codewords corrected, and then border modules: the fewer the better. */
@@ -52,8 +59,7 @@ static int cost_of(const ecc200_reading *reading) {
  * unused at least. */
 static bool leaves_margin(const ecc200_sample *trial, int margin) {
     const ecc200_reading *reading = &trial->reading;
-    bool is_usual = reading->border_faults <= ecc200_usual_limit(trial->rows, trial->columns);
-    margin = margin > 0 || is_usual ? margin : 1;
+    margin = margin > 0 || reading->border_faults <= usual_limit(trial) ? margin : 1;
     for (int block = 0; block < reading->block_count; block++)
         if (reading->left[block] < CHECKS_OF_A_CORRECTION * margin)
             return false;
@@ -91,22 +97,38 @@ static void keep(struct trials *trials) {
     *trials->best = *trial;
 }
 
-static void keep_if_trusted(struct trials *trials) {
-    if (leaves_margin(trials->judge->trial, trials->judge->options->margin))
-        keep(trials);
+/* Hands on a candidate that isn't read. */
+static void hand_on(struct trials *trials, enum ecc200_sample_unread why) {
+    ecc200_sample *trial = trials->judge->trial;
+    set_corners(trial, trials->warp, trials->layout->extent);
+    trial->unread = (uint16_t)why;
+    keep_unread(&trials->judge->unread, trial, trials->score);
+    trial->unread = ECC200_SAMPLE_READ;
+}
+
+static bool wants_unread(const struct trials *trials) {
+    return trials->best_cost < 0 && has_room_for(&trials->judge->unread, trials->score);
+}
+
+/* Hands on a candidate that is read, but not with the margin. */
+static void hand_on_untrusted(struct trials *trials) {
+    if (wants_unread(trials) && !trials->judge->unread.is_refused_only)
+        hand_on(trials, ECC200_SAMPLE_MARGIN);
 }
 
 /* A grid whose border the reader doesn't take is no symbol, but whatever else has a solid elbow. */
-static void keep_unread(struct trials *trials) {
-    struct judge *judge = trials->judge;
-    ecc200_sample *trial = judge->trial;
-    bool is_wanted = judge->unread != NULL && trials->best_cost < 0 && judge->unread_score < trials->score;
-    if (!is_wanted || trial->reading.fault.code == ECC200_BORDER ||
-        read(trial, ecc200_usual_limit(trial->rows, trial->columns)) == ECC200_BORDER)
-        return;
-    judge->unread_score = trials->score;
-    set_corners(trial, trials->warp, trials->layout->extent);
-    *judge->unread = *trial;
+static void hand_on_refused(struct trials *trials) {
+    ecc200_sample *trial = trials->judge->trial;
+    if (wants_unread(trials) && trial->reading.fault.code != ECC200_BORDER &&
+        read(trial, NULL, usual_limit(trial)) != ECC200_BORDER)
+        hand_on(trials, ECC200_SAMPLE_REFUSED);
+}
+
+static void keep_if_trusted(struct trials *trials) {
+    if (leaves_margin(trials->judge->trial, trials->judge->margin))
+        keep(trials);
+    else
+        hand_on_untrusted(trials);
 }
 
 /* Makes what is seen the candidate, as it is or as a mirror shows it. */
@@ -131,17 +153,17 @@ static void try_rules(struct trials *trials, const struct brightnesses *brightne
         if (!tell_apart(brightnesses, layout->colour, RULES[k], judge->seen))
             return;
         take_seen(trials, layout->is_mirrored);
-        if (read(trial, widest_limit(trial)) == ECC200_OK) {
+        if (read(trial, NULL, widest_limit(trial)) == ECC200_OK) {
             keep_if_trusted(trials);
             continue;
         }
         bool has_border = trial->reading.fault.code != ECC200_BORDER;
         if (RULES[k].around == 0)
-            keep_unread(trials);
+            hand_on_refused(trials);
         if (!has_border || !is_square(layout->extent))
             continue;
         take_seen(trials, true);
-        if (read(trial, widest_limit(trial)) == ECC200_OK)
+        if (read(trial, NULL, widest_limit(trial)) == ECC200_OK)
             keep_if_trusted(trials);
     }
 }
@@ -174,13 +196,13 @@ static bool try_doubtful(struct trials *trials, bool is_mirrored) {
         mirror_modules(judge->doubtful, extent, trial->doubtful);
     else
         memcpy(trial->doubtful, judge->doubtful, count);
-    bool is_read = ecc200_read(trial->modules, count, trial->doubtful, count, trial->rows, trial->columns,
-                               ecc200_usual_limit(trial->rows, trial->columns), ECC200_WIDE,
-                               &trial->reading) == ECC200_OK &&
-                   leaves_checks(trial, judge->options->margin);
-    if (is_read && trials->best_cost >= 0 && !says_the_same(&trials->best->reading, &trial->reading))
+    if (read(trial, trial->doubtful, usual_limit(trial)) != ECC200_OK)
+        return true;
+    if (!leaves_checks(trial, judge->margin))
+        hand_on_untrusted(trials);
+    else if (trials->best_cost >= 0 && !says_the_same(&trials->best->reading, &trial->reading))
         return false;
-    if (is_read)
+    else
         keep(trials);
     return true;
 }
@@ -207,7 +229,7 @@ static bool try_doubt(struct trials *trials, const struct brightnesses *brightne
 
 static void try_moved(struct trials *trials, const struct lie *lie, struct brightnesses *brightnesses) {
     static const double x[] = {0.2, -0.2, 0, 0}, y[] = {0, 0, 0.2, -0.2};
-    for (int k = 0; k < 4 && trials->best_cost < 0 && !clock_reached(trials->judge->end); k++) {
+    for (int k = 0; k < 4 && trials->best_cost < 0 && !limit_reached(trials->judge->limit); k++) {
         sample_modules(trials->judge->picture, trials->layout, lie, x[k], y[k], brightnesses);
         try_rules(trials, brightnesses, FEW_RULES);
     }
@@ -218,7 +240,7 @@ static void try_regions(struct trials *trials, struct lie *lie, struct brightnes
     const struct layout *layout = trials->layout;
     struct extent region = layout->region;
     int across = layout->extent.wide / region.wide, down = layout->extent.high / region.high;
-    if (across * down == 1 || trials->best_cost >= 0 || clock_reached(trials->judge->end))
+    if (across * down == 1 || trials->best_cost >= 0 || limit_reached(trials->judge->limit))
         return;
     lie->region = region;
     for (int k = 0; k < across * down; k++) {
@@ -236,10 +258,10 @@ static void try_bent(struct trials *trials, struct lie *lie, struct brightnesses
     struct judge *judge = trials->judge;
     struct extent extent = trials->layout->extent;
     struct warp warp = bendable_warp(&trials->warp->to_picture, extent);
-    if (trials->score < LEAST_BENT || trials->best_cost >= 0 || clock_reached(judge->end) ||
+    if (trials->score < LEAST_BENT || trials->best_cost >= 0 || limit_reached(judge->limit) ||
         bend(judge->smooth, trials->layout, 4, &warp) < LEAST_NEAR)
         return;
-    for (int round = 0; round < 2 && trials->best_cost < 0 && !clock_reached(judge->end); round++) {
+    for (int round = 0; round < 2 && trials->best_cost < 0 && !limit_reached(judge->limit); round++) {
         lie->region = extent, lie->warps[0] = warp;
         sample_modules(judge->picture, trials->layout, lie, 0, 0, brightnesses);
         try_rules(trials, brightnesses, RULE_COUNT);
@@ -254,7 +276,7 @@ static void try_known_damage(struct trials *trials, struct lie *lie, struct brig
     struct judge *judge = trials->judge;
     const struct layout *layout = trials->layout;
     *lie = (struct lie){.region = layout->extent, .warps = {*trials->warp}};
-    for (int beside = 0; beside <= 1 && trials->best_cost < 0 && !clock_reached(judge->end); beside++) {
+    for (int beside = 0; beside <= 1 && trials->best_cost < 0 && !limit_reached(judge->limit); beside++) {
         if (find_doubt(judge->picture, layout, trials->warp, beside, &judge->looks, judge->doubtful) == 0)
             return;
         if (beside == 0)
@@ -288,7 +310,7 @@ bool judge_placement(struct judge *judge, const struct placement *placement, ecc
     const struct layout *layout = layout_of(judge->layouts, placement->extent);
     if (layout == NULL)
         judge->has_no_memory = true;
-    if (layout == NULL || shorter_side(placement->extent) < judge->options->least_side)
+    if (layout == NULL || shorter_side(placement->extent) < judge->least_side)
         return false;
     struct warp warp = placement->warp;
     struct part whole = {0, layout->extent.wide, 0, layout->extent.high};

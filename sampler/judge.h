@@ -3,8 +3,8 @@
 #define JUDGE_H
 
 #include "doubt.h"
-#include "ecc200_sample.h"
 #include "track.h"
+#include "unread.h"
 
 /* A placement that was sampled before. */
 struct tried {
@@ -17,18 +17,17 @@ enum { MOST_TRIED = 64 };
 
 struct judge {
     const struct plane *picture, *smooth;   /* as it is, and smoothed */
-    const ecc200_sample_options *options;
+    int least_side, margin;                 /* of what counts as read */
     struct layouts *layouts;
     struct layout *places;                  /* room for the places between modules of any size */
-    int64_t end;                            /* when to stop */
+    struct limit *limit;                    /* when to stop */
     bool has_no_memory;                     /* whether memory was wanted that isn't there */
     bool is_inverted;                       /* whether `picture` is the picture inverted */
     ecc200_sample *trial;                   /* room for a candidate */
     uint8_t seen[MOST_MODULES];             /* its modules as the picture shows them, in a mirror perhaps */
     uint8_t doubtful[MOST_MODULES];         /* those of them that tell nothing, while these are given to the reader */
     struct looks looks;
-    ecc200_sample *unread; /* the likeliest one that has a border and isn't read, or NULL if none is wanted */
-    double unread_score;                    /* 0: there is none yet */
+    struct unread unread;                   /* those that have a border and aren't read */
     struct tried tried[MOST_TRIED];         /* the latest ones */
     int tried_count;
 };

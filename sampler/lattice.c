@@ -70,8 +70,8 @@ static bool has_room(struct part part) {
     return part.last_x - part.first_x + 2 * STEP <= MOST_EXTENT && part.last_y - part.first_y + 2 * STEP <= MOST_EXTENT;
 }
 
-bool grow_lattice(const struct plane *grey, const struct homography *to_picture, struct layout *room, int64_t end,
-                  struct lattice *out) {
+bool grow_lattice(const struct plane *grey, const struct homography *to_picture, struct layout *room,
+                  struct limit *limit, struct lattice *out) {
     struct lattice lattice = {settled(grey, to_picture), {-FIRST_REACH, FIRST_REACH, -FIRST_REACH, FIRST_REACH}};
     bool fits[SIDES_OF_A_PART] = {true, true, true, true};
     lay_out_places(room, lattice.part);
@@ -80,7 +80,7 @@ bool grow_lattice(const struct plane *grey, const struct homography *to_picture,
     if (!holds(grey, room, &lattice, lattice.part, least))
         return false;
     lattice.warp.is_bent = true;
-    while (!clock_reached(end) && has_room(lattice.part) && grow(grey, room, least, fits, &lattice)) {
+    while (!limit_reached(limit) && has_room(lattice.part) && grow(grey, room, least, fits, &lattice)) {
         lay_out_places(room, lattice.part);
         bend(grey, room, 1, &lattice.warp);
     }

@@ -2,7 +2,6 @@
 #ifndef LATTICE_H
 #define LATTICE_H
 
-#include "clock.h"
 #include "layout.h"
 #include "plane.h"
 #include "warp.h"
@@ -14,9 +13,9 @@ struct lattice {
     struct part part; /* the modules that it has */
 };
 
-/* Grows a lattice around the origin of the map as far as edges lie on it, or until the time `end`. `room` is for its
+/* Grows a lattice around the origin of the map as far as edges lie on it, or until the limit. `room` is for its
  * places. False if even the first modules don't fit. */
-bool grow_lattice(const struct plane *grey, const struct homography *to_picture, struct layout *room, int64_t end,
-                  struct lattice *out);
+bool grow_lattice(const struct plane *grey, const struct homography *to_picture, struct layout *room,
+                  struct limit *limit, struct lattice *out);
 
 #endif

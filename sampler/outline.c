@@ -16,7 +16,7 @@ struct tracing {
     struct corner *path;
     int count, room;
     double least;
-    int64_t end;
+    struct limit *limit;
     struct lines *lines;
 };
 
@@ -113,13 +113,13 @@ static double farthest(const struct tracing *tracing, int first, int last, int *
 }
 
 /* Cuts the path, which is closed, into straight pieces, and keeps the long ones. A comb of many teeth is cut tooth by
- * tooth, each time after a look at the whole of what is left, so the time may end here, too. */
+ * tooth, each time after a look at the whole of what is left, so the limit may be reached here, too. */
 static void cut(const struct tracing *tracing) {
     int pending[MOST_PENDING][2], depth = 0, opposite;
     farthest(tracing, 0, tracing->count, &opposite);
     pending[depth][0] = opposite, pending[depth++][1] = tracing->count;
     pending[depth][0] = 0, pending[depth++][1] = opposite;
-    while (depth > 0 && !clock_reached(tracing->end)) {
+    while (depth > 0 && !limit_reached(tracing->limit)) {
         int first = pending[--depth][0], last = pending[depth][1], where;
         if (last - first < tracing->least)
             continue;
@@ -169,12 +169,12 @@ static void join(struct lines *lines) {
     qsort(lines->items, (size_t)lines->count, sizeof *lines->items, by_length);
 }
 
-bool find_lines(const struct plane *dark, double least, int64_t end, struct lines *out) {
-    struct tracing tracing = {.dark = dark, .least = least, .end = end, .lines = out};
+bool find_lines(const struct plane *dark, double least, struct limit *limit, struct lines *out) {
+    struct tracing tracing = {.dark = dark, .least = least, .limit = limit, .lines = out};
     tracing.seen = calloc((size_t)dark->width, (size_t)dark->height);
     bool enough = tracing.seen != NULL;
     out->count = 0;
-    for (int y = 0; enough && y < dark->height && (y % 32 > 0 || !clock_reached(end)); y++)
+    for (int y = 0; enough && y < dark->height && (y % 32 > 0 || !limit_reached(limit)); y++)
         for (int x = 0; enough && x < dark->width; x++) {
             if (!is_dark(dark, x, y) || is_dark(dark, x - 1, y) ||
                 tracing.seen[(size_t)y * (size_t)dark->width + (size_t)x])

@@ -2,7 +2,6 @@
 #ifndef OUTLINE_H
 #define OUTLINE_H
 
-#include "clock.h"
 #include "plane.h"
 
 /* Who goes from `from` to `to` has the dark area on the right, in a picture whose y grows downwards. */
@@ -16,8 +15,8 @@ struct lines {
 };
 
 /* The longest straight pieces of at least `least` pixels in a plane of 0 and 1 with a frame of 0, at most `room` of
- * them, the longest first. The pieces that lie on one line are also there as one. Stops at the time `end`. False if
+ * them, the longest first. The pieces that lie on one line are also there as one. Stops at the limit. False if
  * there is no memory. */
-bool find_lines(const struct plane *dark, double least, int64_t end, struct lines *out);
+bool find_lines(const struct plane *dark, double least, struct limit *limit, struct lines *out);
 
 #endif

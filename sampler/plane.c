@@ -3,13 +3,12 @@
 #include <stdlib.h>
 #include <string.h>
 
-#include "clock.h"
 
 enum { ROWS_AT_A_TIME = 32 };
 
 /* Whether there is time for a row; the clock is looked at now and then. */
-static bool has_time(int64_t end, int row) {
-    return row % ROWS_AT_A_TIME > 0 || !clock_reached(end);
+static bool has_time(struct limit *limit, int row) {
+    return row % ROWS_AT_A_TIME > 0 || !limit_reached(limit);
 }
 
 /* Makes room for a plane of 0, and gives its first pixel; NULL if there is no memory. */
@@ -33,10 +32,10 @@ static bool is_made(bool is_whole, struct plane *plane) {
     return is_whole;
 }
 
-bool plane_invert(const struct plane *from, int64_t end, struct plane *out) {
+bool plane_invert(const struct plane *from, struct limit *limit, struct plane *out) {
     uint8_t *to = plane_make(from->width, from->height, 0, out);
     int y = 0;
-    for (; to != NULL && y < from->height && has_time(end, y); y++, to += out->stride) {
+    for (; to != NULL && y < from->height && has_time(limit, y); y++, to += out->stride) {
         const uint8_t *row = pixel_of(from, 0, y);
         for (int x = 0; x < from->width; x++)
             to[x] = (uint8_t)(255 - row[x]);
@@ -44,10 +43,10 @@ bool plane_invert(const struct plane *from, int64_t end, struct plane *out) {
     return is_made(to != NULL && y == out->height, out);
 }
 
-bool plane_halve(const struct plane *from, int64_t end, struct plane *out) {
+bool plane_halve(const struct plane *from, struct limit *limit, struct plane *out) {
     uint8_t *to = plane_make(from->width / 2, from->height / 2, 0, out);
     int y = 0;
-    for (; to != NULL && y < out->height && has_time(end, y); y++, to += out->stride) {
+    for (; to != NULL && y < out->height && has_time(limit, y); y++, to += out->stride) {
         const uint8_t *row = pixel_of(from, 0, 2 * y), *below = row + from->stride;
         for (int x = 0; x < out->width; x++)
             to[x] = (uint8_t)((row[2 * x] + row[2 * x + 1] + below[2 * x] + below[2 * x + 1] + 2) >> 2);
@@ -55,10 +54,10 @@ bool plane_halve(const struct plane *from, int64_t end, struct plane *out) {
     return is_made(to != NULL && y == out->height, out);
 }
 
-bool plane_steepen(const struct plane *from, int64_t end, struct plane *out) {
+bool plane_steepen(const struct plane *from, struct limit *limit, struct plane *out) {
     uint8_t *to = plane_make(from->width, from->height, 0, out);
     int y = 0;
-    for (; to != NULL && y + 1 < from->height && has_time(end, y); y++, to += out->stride) {
+    for (; to != NULL && y + 1 < from->height && has_time(limit, y); y++, to += out->stride) {
         const uint8_t *row = pixel_of(from, 0, y), *below = row + from->stride;
         for (int x = 0; x + 1 < from->width; x++)
             to[x] = (uint8_t)((abs(row[x] - below[x + 1]) + abs(row[x + 1] - below[x])) / 2);
@@ -115,9 +114,9 @@ static void frame_plane(uint8_t *first, const struct plane *plane) {
 
 /* Smooths all rows that there is time for, and returns their number. `sums` has room for a row and one more pixel on
  * each side. */
-static int smooth_rows(const struct plane *from, int64_t end, uint16_t *sums, uint8_t *to, size_t stride) {
+static int smooth_rows(const struct plane *from, struct limit *limit, uint16_t *sums, uint8_t *to, size_t stride) {
     int width = from->width, y = 0;
-    for (; y < from->height && has_time(end, y); y++, to += stride) {
+    for (; y < from->height && has_time(limit, y); y++, to += stride) {
         const uint8_t *row = pixel_of(from, 0, y);
         const uint8_t *above = y > 0 ? row - from->stride : row,
                       *below = y + 1 < from->height ? row + from->stride : row;
@@ -130,10 +129,10 @@ static int smooth_rows(const struct plane *from, int64_t end, uint16_t *sums, ui
     return y;
 }
 
-bool plane_smooth(const struct plane *from, int64_t end, struct plane *out) {
+bool plane_smooth(const struct plane *from, struct limit *limit, struct plane *out) {
     uint16_t *sums = malloc(sizeof *sums * (size_t)(from->width + 2));
     uint8_t *first = plane_make(from->width, from->height, 1, out);
-    bool is_whole = sums != NULL && first != NULL && smooth_rows(from, end, sums, first, out->stride) == from->height;
+    bool is_whole = sums != NULL && first != NULL && smooth_rows(from, limit, sums, first, out->stride) == from->height;
     free(sums);
     if (is_whole)
         frame_plane(first, out);
@@ -170,12 +169,12 @@ static void calm_row(const uint8_t *row, ptrdiff_t stride, int width, uint8_t *c
                           least_of(least_of(most[x], most[x + 1]), most[x + 2]));
 }
 
-bool plane_calm(const struct plane *from, int64_t end, struct plane *out) {
+bool plane_calm(const struct plane *from, struct limit *limit, struct plane *out) {
     uint8_t *first = plane_make(from->width, from->height, 1, out), *columns = malloc(3 * ((size_t)from->width + 2)),
             *to = first;
     bool has_room = first != NULL && columns != NULL;
     int y = 0;
-    for (; has_room && y < from->height && has_time(end, y); y++, to += out->stride)
+    for (; has_room && y < from->height && has_time(limit, y); y++, to += out->stride)
         calm_row(pixel_of(from, 0, y), (ptrdiff_t)from->stride, from->width, columns, to);
     bool is_whole = has_room && y == from->height;
     free(columns);
@@ -196,11 +195,11 @@ struct range {
     uint8_t least, most;
 };
 
-static bool find_ranges(const struct plane *from, int64_t end, int across, int down, struct range *ranges) {
+static bool find_ranges(const struct plane *from, struct limit *limit, int across, int down, struct range *ranges) {
     int y = 0;
     for (int k = 0; k < across * down; k++)
         ranges[k] = (struct range){255, 0};
-    for (; y < from->height && has_time(end, y); y++) {
+    for (; y < from->height && has_time(limit, y); y++) {
         const uint8_t *row = pixel_of(from, 0, y);
         struct range *tiles = ranges + (size_t)(y / TILE) * (size_t)across;
         for (int x = 0; x < from->width; x++) {
@@ -233,10 +232,10 @@ static uint8_t limit_of(const struct tiles *tiles, int column, int row) {
 }
 
 /* Marks what is dark by the limits of the tiles. `to` is light all over. */
-static bool mark_dark(const struct plane *from, int64_t end, const struct tiles *tiles, uint8_t *limits, uint8_t *to,
-                      size_t stride) {
+static bool mark_dark(const struct plane *from, struct limit *limit, const struct tiles *tiles, uint8_t *limits,
+                      uint8_t *to, size_t stride) {
     int y = 0;
-    for (; y < from->height && has_time(end, y); y++, to += stride) {
+    for (; y < from->height && has_time(limit, y); y++, to += stride) {
         if (y % TILE == 0)
             for (int column = 0; column < tiles->across; column++)
                 limits[column] = limit_of(tiles, column, y / TILE);
@@ -247,13 +246,13 @@ static bool mark_dark(const struct plane *from, int64_t end, const struct tiles 
     return y == from->height;
 }
 
-bool plane_darken(const struct plane *from, int around, int64_t end, struct plane *out) {
+bool plane_darken(const struct plane *from, int around, struct limit *limit, struct plane *out) {
     struct tiles tiles = {.across = tiles_in(from->width), .down = tiles_in(from->height), .around = around};
     uint8_t *to = plane_make(from->width, from->height, 1, out), *limits = malloc((size_t)tiles.across);
     tiles.ranges = malloc((size_t)tiles.across * (size_t)tiles.down * sizeof *tiles.ranges);
     bool is_whole = to != NULL && limits != NULL && tiles.ranges != NULL &&
-                    find_ranges(from, end, tiles.across, tiles.down, tiles.ranges) &&
-                    mark_dark(from, end, &tiles, limits, to, out->stride);
+                    find_ranges(from, limit, tiles.across, tiles.down, tiles.ranges) &&
+                    mark_dark(from, limit, &tiles, limits, to, out->stride);
     free(limits);
     free(tiles.ranges);
     return is_made(is_whole, out);

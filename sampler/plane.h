@@ -6,6 +6,7 @@
 #include <stdint.h>
 
 #include "geometry.h"
+#include "limit.h"
 
 struct plane {
     int width, height;
@@ -15,24 +16,24 @@ struct plane {
     uint8_t *owned;        /* what is freed, if anything */
 };
 
-/* Each of these makes a new plane by the time `end`. False if there was no memory, or no time, and then there is none.
- */
-bool plane_invert(const struct plane *from, int64_t end, struct plane *out);
-bool plane_halve(const struct plane *from, int64_t end, struct plane *out); /* each pixel is the mean of four */
+/* Each of these makes a new plane within the limit. False if there was no memory, or the limit was reached, and then
+ * there is none. */
+bool plane_invert(const struct plane *from, struct limit *limit, struct plane *out);
+bool plane_halve(const struct plane *from, struct limit *limit, struct plane *out); /* each pixel is the mean of four */
 
 /* By weights 1 2 1 in both directions. Its frame is as light as the lightest pixel near by, so that what is dark ends
  * with the picture. */
-bool plane_smooth(const struct plane *from, int64_t end, struct plane *out);
+bool plane_smooth(const struct plane *from, struct limit *limit, struct plane *out);
 
 /* The median of each pixel of a plane with a frame, and of the eight around it; framed as the smooth one is. */
-bool plane_calm(const struct plane *from, int64_t end, struct plane *out);
+bool plane_calm(const struct plane *from, struct limit *limit, struct plane *out);
 
 /* How much each four pixels differ along the diagonals between them; kept as the upper left one's. */
-bool plane_steepen(const struct plane *from, int64_t end, struct plane *out);
+bool plane_steepen(const struct plane *from, struct limit *limit, struct plane *out);
 
 /* 1 where a pixel is darker than its surroundings, else 0, and in the frame. The surroundings are `around` tiles of
  * eight pixels each way. */
-bool plane_darken(const struct plane *from, int around, int64_t end, struct plane *out);
+bool plane_darken(const struct plane *from, int around, struct limit *limit, struct plane *out);
 
 void plane_free(struct plane *plane);
 

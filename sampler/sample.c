@@ -20,20 +20,14 @@ ecc200_sample_options ecc200_sample_usual(void) {
     return (ecc200_sample_options){.milliseconds = ECC200_SAMPLE_USUAL_TIME};
 }
 
+ecc200_sample_search ecc200_sample_usual_search(void) {
+    return (ecc200_sample_search){.milliseconds = ECC200_SAMPLE_USUAL_TIME};
+}
+
 /* ---- What has been found */
 
 bool is_over(const struct search *search) {
-    return search->count == search->room || search->judge.has_no_memory || clock_reached(search->judge.end);
-}
-
-/* Whether a point lies within the corners, which go around a symbol one way or the other. */
-static bool lies_within(const ecc200_sample *sample, struct point at) {
-    int left = 0;
-    for (int k = 0; k < 4; k++) {
-        const ecc200_sample_point *from = &sample->corners[k], *to = &sample->corners[(k + 1) % 4];
-        left += (to->x - from->x) * (at.y - from->y) - (to->y - from->y) * (at.x - from->x) > 0;
-    }
-    return left == 0 || left == 4;
+    return search->count == search->room || search->judge.has_no_memory || limit_reached(search->judge.limit);
 }
 
 /* Makes light, in what a level shows as dark, the symbols that have been found, so that they cost no more time. */
@@ -49,28 +43,25 @@ static void blank_found(const struct search *search, int level, struct plane *da
         }
         for (int y = nearest_pixel(least_y, dark->height, 0); y <= nearest_pixel(most_y, dark->height, 0); y++)
             for (int x = nearest_pixel(least_x, dark->width, 0); x <= nearest_pixel(most_x, dark->width, 0); x++)
-                if (lies_within(found, point_at((x + 0.5) * scale, (y + 0.5) * scale)))
+                if (shows_at(found, point_at((x + 0.5) * scale, (y + 0.5) * scale)))
                     pixels[(size_t)y * dark->stride + (size_t)x] = LIGHT;
     }
 }
 
 /* Marks what is dark in a level, as plane_darken does, but for what has been found. */
 static bool darken(const struct search *search, const struct plane *grey, int level, int around, struct plane *out) {
-    bool is_made = plane_darken(grey, around, search->judge.end, out);
+    bool is_made = plane_darken(grey, around, search->judge.limit, out);
     if (is_made)
         blank_found(search, level, out);
     return is_made;
 }
 
 void note_lack(struct search *search, bool is_made) {
-    search->judge.has_no_memory |= !is_made && !clock_reached(search->judge.end);
+    search->judge.has_no_memory |= !is_made && !limit_reached(search->judge.limit);
 }
 
 bool is_known(const struct search *search, struct point at) {
-    for (size_t k = 0; k < search->count; k++)
-        if (lies_within(&search->found[k], at))
-            return true;
-    return false;
+    return one_shows_at(search->found, search->count, at);
 }
 
 bool judge_all(struct search *search, const struct sight *sight, struct placement *placements, int count,
@@ -108,9 +99,9 @@ static void search_elbows(struct search *search, const struct sight *sight, int 
 /* Finds the elbows of a level, unless there is no memory, or no time. */
 static bool find_all_elbows(struct search *search, const struct plane *dark, struct elbows *out) {
     struct lines lines = {search->lines, 0, LINES};
-    if (!find_lines(dark, LEAST_LINE, search->judge.end, &lines))
+    if (!find_lines(dark, LEAST_LINE, search->judge.limit, &lines))
         return false;
-    out->count = find_elbows(dark, &lines, search->judge.end, out->items, ELBOWS);
+    out->count = find_elbows(dark, &lines, search->judge.limit, out->items, ELBOWS);
     for (out->lively = 0; out->lively < out->count && out->items[out->lively].is_lively;)
         out->lively++;
     return true;
@@ -123,7 +114,7 @@ static void search_lively(struct search *search, struct sight *sight, int level)
     struct plane dark;
     bool is_made = darken(search, grey, level, AROUND, &dark) && find_all_elbows(search, &dark, elbows);
     if (is_made)
-        search_elbows(search, sight, level, (struct scene){grey, &dark, search->judge.end}, elbows->items,
+        search_elbows(search, sight, level, (struct scene){grey, &dark, search->judge.limit}, elbows->items,
                       elbows->items + elbows->lively);
     note_lack(search, is_made);
     plane_free(&dark);
@@ -138,7 +129,7 @@ static void search_still(struct search *search, struct sight *sight, int level) 
         return;
     bool is_made = darken(search, grey, level, AROUND, &dark);
     if (is_made)
-        search_elbows(search, sight, level, (struct scene){grey, &dark, search->judge.end},
+        search_elbows(search, sight, level, (struct scene){grey, &dark, search->judge.limit},
                       elbows->items + elbows->lively, elbows->items + elbows->count);
     note_lack(search, is_made);
     plane_free(&dark);
@@ -151,10 +142,10 @@ static void search_calm(struct search *search, struct sight *sight, int level) {
     struct plane grey, dark = {0};
     if (level >= CALM_LEVELS || search->count > 0)
         return;
-    bool is_made = plane_calm(&sight->levels[level], search->judge.end, &grey) &&
+    bool is_made = plane_calm(&sight->levels[level], search->judge.limit, &grey) &&
                    darken(search, &grey, level, CLOSE_AROUND, &dark) && find_all_elbows(search, &dark, elbows);
     if (is_made)
-        search_elbows(search, sight, level, (struct scene){&grey, &dark, search->judge.end}, elbows->items,
+        search_elbows(search, sight, level, (struct scene){&grey, &dark, search->judge.limit}, elbows->items,
                       elbows->items + elbows->lively);
     note_lack(search, is_made);
     plane_free(&grey);
@@ -179,18 +170,19 @@ static void search_levels(struct search *search, struct sight *sight,
 
 /* ---- A picture */
 
-/* Makes the levels of a sight, whose picture is there, by the time `end`. False if there was no memory, or no time. */
-static bool make_levels(struct sight *sight, int64_t end) {
-    if (!plane_smooth(&sight->picture, end, &sight->levels[0]))
+/* Makes the levels of a sight, whose picture is there, within the limit. False if there was no memory, or the limit was
+ * reached. */
+static bool make_levels(struct sight *sight, struct limit *limit) {
+    if (!plane_smooth(&sight->picture, limit, &sight->levels[0]))
         return false;
     for (sight->level_count = 1; sight->level_count < LEVELS; sight->level_count++) {
         const struct plane *last = &sight->levels[sight->level_count - 1];
         struct plane half;
         if (last->width / 2 < LEAST_LEVEL || last->height / 2 < LEAST_LEVEL)
             break;
-        if (!plane_halve(last, end, &half))
+        if (!plane_halve(last, limit, &half))
             return false;
-        bool is_made = plane_smooth(&half, end, &sight->levels[sight->level_count]);
+        bool is_made = plane_smooth(&half, limit, &sight->levels[sight->level_count]);
         plane_free(&half);
         if (!is_made)
             return false;
@@ -208,12 +200,12 @@ static void sight_free(struct sight *sight) {
  * which show both, then by the solid borders of a calm picture, and last by other solid borders. */
 static void search_picture(struct search *search, const struct plane *picture) {
     struct sight *plain = &search->sights[0], *inverted = &search->sights[1];
-    int64_t end = search->judge.end;
+    struct limit *limit = search->judge.limit;
     plain->picture = *picture, inverted->is_inverted = true;
-    note_lack(search, make_levels(plain, end));
+    note_lack(search, make_levels(plain, limit));
     search_levels(search, plain, search_lively);
     if (!is_over(search)) {
-        note_lack(search, plane_invert(picture, end, &inverted->picture) && make_levels(inverted, end));
+        note_lack(search, plane_invert(picture, limit, &inverted->picture) && make_levels(inverted, limit));
         search_levels(search, inverted, search_lively);
         search_levels(search, plain, search_woven);
         search_levels(search, plain, search_calm);
@@ -225,35 +217,85 @@ static void search_picture(struct search *search, const struct plane *picture) {
     sight_free(inverted);
 }
 
-uint16_t ecc200_sample_picture(const uint8_t *luminance, size_t width, size_t height, size_t stride,
-                               const ecc200_sample_options *options, ecc200_sample *out, size_t room, size_t *count) {
-    ecc200_sample_options usual = ecc200_sample_usual();
+static enum ecc200_sample_end end_of(const struct search *search) {
+    return search->count == search->room       ? ECC200_SAMPLE_ROOM
+           : search->judge.limit->is_reached ? ECC200_SAMPLE_TIME
+                                             : ECC200_SAMPLE_WHOLE;
+}
+
+/* Searches a picture of a size that is sampled. `search` is empty, but for its layouts. False if there is no memory. */
+static bool fill(struct search *search, const struct plane *picture, ecc200_sample_search *asked,
+                 bool is_refused_only) {
+    struct limit limit = limit_from_now(asked->milliseconds);
+    struct judge *judge = &search->judge;
+    ecc200_sample *trial = calloc(1, sizeof *trial);
+    bool has_room = unread_make(asked->unread, asked->unread_room, &judge->unread) && trial != NULL;
+    if (has_room) {
+        search->found = asked->symbols, search->room = asked->room;
+        judge->least_side = asked->least_side, judge->margin = asked->margin;
+        judge->places = &search->places, judge->limit = &limit, judge->trial = trial;
+        judge->unread.is_refused_only = is_refused_only;
+        search_picture(search, picture);
+        drop_read(&judge->unread, search->found, search->count);
+    }
+    if (has_room && !judge->has_no_memory) {
+        asked->count = search->count, asked->unread_count = judge->unread.count;
+        asked->ended = (uint16_t)end_of(search);
+    }
+    unread_free(&judge->unread);
+    free(trial);
+    return has_room && !judge->has_no_memory;
+}
+
+static uint16_t find(const struct plane *picture, ecc200_sample_search *asked, bool is_refused_only) {
     struct layouts layouts = {0};
-    *count = 0;
-    if (width == 0 || height == 0 || width > ECC200_SAMPLE_MOST_SIDE || height > ECC200_SAMPLE_MOST_SIDE ||
-        stride < width)
-        return ECC200_SAMPLE_PICTURE;
-    struct plane picture = {.width = (int)width, .height = (int)height, .stride = stride, .pixels = luminance};
     struct search *search = calloc(1, sizeof *search);
-    ecc200_sample *trials = calloc(2, sizeof *trials);
-    uint16_t code = ECC200_SAMPLE_NO_MEMORY;
-    if (search != NULL && trials != NULL) {
-        search->found = out, search->room = room;
-        search->judge.options = options != NULL ? options : &usual;
+    bool is_done = false;
+    if (search != NULL) {
         search->judge.layouts = &layouts;
         list_shapes(&layouts);
-        search->judge.places = &search->places;
-        search->judge.end = clock_now() + search->judge.options->milliseconds;
-        search->judge.trial = trials;
-        search->judge.unread = search->judge.options->keep_unread ? trials + 1 : NULL;
-        search_picture(search, &picture);
-        if (search->count == 0 && room > 0 && search->judge.unread_score > 0)
-            out[search->count++] = trials[1];
-        code = search->judge.has_no_memory ? ECC200_SAMPLE_NO_MEMORY : ECC200_SAMPLE_OK;
-        *count = search->judge.has_no_memory ? 0 : search->count;
+        is_done = fill(search, picture, asked, is_refused_only);
     }
     layouts_free(&layouts);
     free(search);
-    free(trials);
+    return is_done ? ECC200_SAMPLE_OK : ECC200_SAMPLE_NO_MEMORY;
+}
+
+/* A picture, if its size is one of those that are sampled; else one without pixels. */
+static struct plane picture_of(const uint8_t *luminance, size_t width, size_t height, size_t stride) {
+    bool is_sampled = width > 0 && height > 0 && width <= ECC200_SAMPLE_MOST_SIDE &&
+                      height <= ECC200_SAMPLE_MOST_SIDE && stride >= width;
+    struct plane picture = {.width = (int)width, .height = (int)height, .stride = stride, .pixels = luminance};
+    return is_sampled ? picture : (struct plane){0};
+}
+
+uint16_t ecc200_sample_find(const uint8_t *luminance, size_t width, size_t height, size_t stride,
+                            ecc200_sample_search *search) {
+    struct plane picture = picture_of(luminance, width, height, stride);
+    search->count = search->unread_count = 0;
+    search->ended = ECC200_SAMPLE_WHOLE;
+    return picture.pixels != NULL ? find(&picture, search, false) : ECC200_SAMPLE_PICTURE;
+}
+
+uint16_t ecc200_sample_picture(const uint8_t *luminance, size_t width, size_t height, size_t stride,
+                               const ecc200_sample_options *options, ecc200_sample *out, size_t room, size_t *count) {
+    ecc200_sample_options usual = ecc200_sample_usual();
+    const ecc200_sample_options *asked = options != NULL ? options : &usual;
+    struct plane picture = picture_of(luminance, width, height, stride);
+    ecc200_sample *unread = malloc(sizeof *unread);
+    ecc200_sample_search search = {.milliseconds = asked->milliseconds,
+                                   .least_side = asked->least_side,
+                                   .margin = asked->margin,
+                                   .symbols = out,
+                                   .room = room,
+                                   .unread = unread,
+                                   .unread_room = asked->keep_unread ? 1 : 0};
+    uint16_t code = picture.pixels == NULL ? ECC200_SAMPLE_PICTURE
+                    : unread == NULL       ? ECC200_SAMPLE_NO_MEMORY
+                                           : find(&picture, &search, true);
+    if (search.count == 0 && search.unread_count > 0 && room > 0)
+        out[search.count++] = *unread;
+    *count = search.count;
+    free(unread);
     return code;
 }

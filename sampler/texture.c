@@ -16,8 +16,8 @@ static int steepness_at(const struct plane *steep, int x, int y) {
     return here < MOST_STEEP ? here : MOST_STEEP;
 }
 
-static void sum_tiles(const struct plane *steep, int64_t end, struct tiles *tiles) {
-    for (int y = 0; y < steep->height && (y % TILE > 0 || !clock_reached(end)); y++)
+static void sum_tiles(const struct plane *steep, struct limit *limit, struct tiles *tiles) {
+    for (int y = 0; y < steep->height && (y % TILE > 0 || !limit_reached(limit)); y++)
         for (int x = 0; x < steep->width; x++)
             tiles->sums[(size_t)(y / TILE) * (size_t)tiles->across + (size_t)(x / TILE)] +=
                 (uint32_t)steepness_at(steep, x, y);
@@ -74,13 +74,13 @@ static void keep_spot(struct spot *out, int room, int *count, struct spot spot) 
     out[at] = spot;
 }
 
-int find_spots(const struct plane *steep, int64_t end, struct spot *out, int room) {
+int find_spots(const struct plane *steep, struct limit *limit, struct spot *out, int room) {
     struct tiles tiles = {.across = (steep->width + TILE - 1) / TILE, .down = (steep->height + TILE - 1) / TILE};
     int count = 0;
     tiles.sums = calloc((size_t)tiles.across * (size_t)tiles.down, sizeof *tiles.sums);
     if (tiles.sums == NULL)
         return -1;
-    sum_tiles(steep, end, &tiles);
+    sum_tiles(steep, limit, &tiles);
     for (int row = -1; row < tiles.down; row++)
         for (int column = -1; column < tiles.across; column++) {
             double here = steepness_of(&tiles, column, row);

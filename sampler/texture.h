@@ -2,7 +2,6 @@
 #ifndef TEXTURE_H
 #define TEXTURE_H
 
-#include "clock.h"
 #include "plane.h"
 
 /* The upper left corner of a window of WINDOW_SIDE pixels each way, around the middle of what is steep there. */
@@ -12,6 +11,6 @@ struct spot {
 };
 
 /* Writes at most `room` spots, the steepest first, and returns their number, or -1 if there is no memory. */
-int find_spots(const struct plane *steep, int64_t end, struct spot *out, int room);
+int find_spots(const struct plane *steep, struct limit *limit, struct spot *out, int room);
 
 #endif

@@ -106,7 +106,7 @@ struct fan {
 static void look_around(const struct scene *scene, const struct start *start, struct fan *fan, struct track *best) {
     struct fan from = *fan;
     double last = from.shift + from.shift_reach + 0.01;
-    for (double s = from.shift - from.shift_reach; s <= last && !clock_reached(scene->end); s += from.shift_step)
+    for (double s = from.shift - from.shift_reach; s <= last && !limit_reached(scene->limit); s += from.shift_step)
         for (double a = from.angle - from.angle_reach; a <= from.angle + from.angle_reach; a += from.angle_step) {
             struct track track = {.from = sum(start->end, scale_by(start->inwards, s * start->module)),
                                   .along = turn_by(start->along, a)};

@@ -10,7 +10,7 @@
 /* A picture in grey, and where it is dark. */
 struct scene {
     const struct plane *grey, *dark;
-    int64_t end;                  /* when to stop looking */
+    struct limit *limit;                  /* when to stop looking */
 };
 
 /* Where a symbol may be. */

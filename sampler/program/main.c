@@ -7,10 +7,17 @@
 #include "picture.h"
 #include "report.h"
 
-enum { MOST_SYMBOLS = 256 };
+enum { MOST_SYMBOLS = 256, MOST_UNREAD = 32 };
 
+/* Where the symbols of a picture go. */
+struct rooms {
+    ecc200_sample *symbols, *unread;
+};
+
+/* That a file couldn't be read is worse than that a search ended early. */
 static enum outcome worse(enum outcome one, enum outcome other) {
-    return one > other ? one : other;
+    static const int badness[] = {[FINE] = 0, [NONE_FOUND] = 1, [ENDED_EARLY] = 2, [WRONG_USAGE] = 3, [FAILED] = 4};
+    return badness[one] > badness[other] ? one : other;
 }
 
 static enum outcome complain(const char *file, const char *problem) {
@@ -27,9 +34,22 @@ static enum outcome hold_back(const char *file, const ecc200_sample *symbol, con
     return NONE_FOUND;
 }
 
-static enum outcome report(const struct options *options, const char *file, const ecc200_sample *symbol) {
+/* Says that a search ended early, and why. */
+static enum outcome say_early(const char *file, const ecc200_sample_search *search) {
+    fflush(stdout);
+    fprintf(stderr, "dm_sample: %s: the search ended early, ", file);
+    if (search->ended == ECC200_SAMPLE_ROOM)
+        fprintf(stderr, "with %zu symbols: there may be more\n", search->count);
+    else
+        fprintf(stderr, "after %u milliseconds: there may be %s\n", search->milliseconds,
+                search->count > 0 ? "more symbols" : "a symbol");
+    return ENDED_EARLY;
+}
+
+static enum outcome report(const struct options *options, const char *file, const ecc200_sample *symbol,
+                           bool is_complete) {
     if (options->json) {
-        report_json(file, symbol);
+        report_json(file, symbol, is_complete);
         return FINE;
     }
     const char *why = report_no_record(symbol);
@@ -43,27 +63,57 @@ static enum outcome report(const struct options *options, const char *file, cons
     return FINE;
 }
 
-/* Samples a picture. `symbols` has room for MOST_SYMBOLS. */
-static enum outcome sample(const struct options *options, const char *file, const struct picture *picture,
-                           ecc200_sample *symbols) {
-    size_t count, room = options->all ? MOST_SYMBOLS : 1;
-    uint16_t code = ecc200_sample_picture(picture->luminance, picture->width, picture->height, picture->width,
-                                          &options->sampling, symbols, room, &count);
-    if (code != ECC200_SAMPLE_OK)
-        return complain(file, code == ECC200_SAMPLE_NO_MEMORY ? "no memory" : "a size that isn't sampled");
-    enum outcome outcome = count > 0 ? FINE : NONE_FOUND;
-    for (size_t k = 0; k < count; k++)
-        outcome = worse(outcome, report(options, file, &symbols[k]));
-    return outcome;
+/* Whether there may be more symbols than were asked for and found. */
+static bool is_early(const struct options *options, const ecc200_sample_search *search) {
+    return search->ended != ECC200_SAMPLE_WHOLE && (options->all || search->ended != ECC200_SAMPLE_ROOM);
 }
 
-static enum outcome do_file(const struct options *options, const char *file, ecc200_sample *symbols) {
+/* Reports what wasn't read: by JSON all of it; else the likeliest grid, where nothing was read. */
+static void report_unread(const struct options *options, const char *file, const ecc200_sample_search *search,
+                          bool is_complete) {
+    size_t most = options->json ? search->unread_count : search->count == 0 && search->unread_count > 0 ? 1 : 0;
+    for (size_t k = 0; k < most; k++)
+        report(options, file, &search->unread[k], is_complete);
+}
+
+/* Samples a picture. */
+static enum outcome sample(const struct options *options, const char *file, const struct picture *picture,
+                           const struct rooms *rooms) {
+    ecc200_sample_search search = options->search;
+    search.symbols = rooms->symbols, search.room = options->all ? MOST_SYMBOLS : 1;
+    search.unread = rooms->unread, search.unread_room = options->unread ? MOST_UNREAD : 0;
+    uint16_t code =
+        ecc200_sample_find(picture->luminance, picture->width, picture->height, picture->width, &search);
+    if (code != ECC200_SAMPLE_OK)
+        return complain(file, code == ECC200_SAMPLE_NO_MEMORY ? "no memory" : "a size that isn't sampled");
+    enum outcome outcome = search.count > 0 || search.unread_count > 0 ? FINE : NONE_FOUND;
+    bool is_complete = !is_early(options, &search);
+    for (size_t k = 0; k < search.count; k++)
+        outcome = worse(outcome, report(options, file, &search.symbols[k], is_complete));
+    report_unread(options, file, &search, is_complete);
+    return is_complete ? outcome : worse(outcome, say_early(file, &search));
+}
+
+static enum outcome do_file(const struct options *options, const char *file, const struct rooms *rooms) {
     struct picture picture;
     const char *problem = picture_read(file, &picture);
     if (problem != NULL)
         return complain(file, problem);
-    enum outcome outcome = sample(options, file, &picture, symbols);
+    enum outcome outcome = sample(options, file, &picture, rooms);
     picture_free(&picture);
+    return outcome;
+}
+
+static enum outcome do_files(const struct options *options, char *const *names, int count,
+                             const struct rooms *rooms) {
+    enum outcome outcome = FINE;
+    for (int k = 0; k < count; k++) {
+        outcome = worse(outcome, do_file(options, names[k], rooms));
+        if (fflush(stdout) != 0 || ferror(stdout)) {
+            fputs("dm_sample: write failed\n", stderr);
+            return FAILED;
+        }
+    }
     return outcome;
 }
 
@@ -71,20 +121,13 @@ int main(int count, char **words) {
     static char *const standard_input[] = {"-"};
     struct options options;
     signal(SIGPIPE, SIG_IGN); /* a write to a closed pipe then fails like any other */
-    int first = options_read(count, words, &options), files = first < count ? count - first : 1;
-    char *const *names = first < count ? words + first : standard_input;
-    enum outcome outcome = FINE;
-    ecc200_sample *symbols = malloc(MOST_SYMBOLS * sizeof *symbols);
-    if (symbols == NULL)
-        return complain("-", "no memory");
-    for (int k = 0; k < files; k++) {
-        outcome = worse(outcome, do_file(&options, names[k], symbols));
-        if (fflush(stdout) != 0 || ferror(stdout)) {
-            fputs("dm_sample: write failed\n", stderr);
-            outcome = FAILED;
-            break;
-        }
-    }
-    free(symbols);
+    int first = options_read(count, words, &options);
+    struct rooms rooms = {malloc(MOST_SYMBOLS * sizeof *rooms.symbols), malloc(MOST_UNREAD * sizeof *rooms.unread)};
+    enum outcome outcome =
+        rooms.symbols == NULL || rooms.unread == NULL ? complain("-", "no memory")
+        : first < count                               ? do_files(&options, words + first, count - first, &rooms)
+                                                      : do_files(&options, standard_input, 1, &rooms);
+    free(rooms.symbols);
+    free(rooms.unread);
     return (int)outcome;
 }

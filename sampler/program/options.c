@@ -22,7 +22,9 @@ static const char HELP[] =
     "right, bottom left\n"
     "  -j, --json           a line of JSON for each symbol of any kind instead of a record: also rows, columns, "
     "message, corrections and corners\n"
-    "  -u, --unread         where no symbol is read, print the likeliest grid that has a symbol's border\n"
+    "  -u, --unread         where no symbol is read, print the likeliest grid that has a symbol's border; with --json "
+    "every one\n"
+    "                       that isn't read, with the reason\n"
     "  -t, --time MS        how long to try at most for each picture, in milliseconds (usually 1000)\n"
     "  -m, --margin N       take only readings that leave N corrections of each block unused (usually 0)\n"
     "      --min-modules N  pass over symbols with a side of fewer modules\n"
@@ -31,7 +33,7 @@ static const char HELP[] =
     "\n"
     "Status: 0; 1: in some picture nothing was found, or a symbol that is no record; 2: the command line is wrong; "
     "3: a\n"
-    "file couldn't be read, or a write failed.\n";
+    "file couldn't be read, or a write failed; 4: a search ended early, so that there may be more.\n";
 
 _Noreturn static void refuse_usage(void) {
     fputs("dm_sample: ", stderr);
@@ -68,17 +70,17 @@ int options_read(int count, char **words, struct options *out) {
                                           {"help", no_argument, NULL, 'h'},
                                           {"version", no_argument, NULL, 'V'},
                                           {0}};
-    *out = (struct options){.sampling = ecc200_sample_usual()};
+    *out = (struct options){.search = ecc200_sample_usual_search()};
     opterr = 0;
     for (int option; (option = getopt_long(count, words, "acjut:m:hV", names, NULL)) != -1;) {
         switch (option) {
         case 'a': out->all = true; break;
         case 'c': out->corners = true; break;
         case 'j': out->json = true; break;
-        case 'u': out->sampling.keep_unread = 1; break;
-        case 't': out->sampling.milliseconds = (uint32_t)number(optarg, UINT32_MAX); break;
-        case 'm': out->sampling.margin = (uint16_t)number(optarg, UINT16_MAX); break;
-        case LEAST_MODULES: out->sampling.least_side = (uint16_t)number(optarg, UINT16_MAX); break;
+        case 'u': out->unread = true; break;
+        case 't': out->search.milliseconds = (uint32_t)number(optarg, UINT32_MAX); break;
+        case 'm': out->search.margin = (uint16_t)number(optarg, UINT16_MAX); break;
+        case LEAST_MODULES: out->search.least_side = (uint16_t)number(optarg, UINT16_MAX); break;
         case 'h': answer(USAGE, HELP);
         case 'V': answer("dm_sample " VERSION, "\n");
         default: refuse_usage();

@@ -6,16 +6,18 @@
 
 #include "../ecc200_sample.h"
 
+/* The program's status: the worst of what happened. */
 enum outcome {
     FINE = 0,
     NONE_FOUND = 1,
     WRONG_USAGE = 2,
-    FAILED = 3
-}; /* the program's status, the largest of what happened */
+    FAILED = 3,
+    ENDED_EARLY = 4
+};
 
 struct options {
-    ecc200_sample_options sampling;
-    bool all, corners, json;
+    ecc200_sample_search search;
+    bool all, corners, json, unread;
 };
 
 /* Reads the options, and returns the index of the first file. Ends the program on --help, --version and a wrong usage.

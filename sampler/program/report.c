@@ -1,6 +1,5 @@
 #include "report.h"
 
-#include <stdbool.h>
 #include <stdio.h>
 #include <string.h>
 
@@ -100,9 +99,11 @@ static void put_counts(const char *name, const uint8_t *counts, int count) {
     putchar(']');
 }
 
-static void put_reading(const ecc200_reading *reading) {
-    if (reading->fault.code != ECC200_OK) {
-        printf("\"refused\":\"%s\"", ecc200_words(reading->fault.code));
+static void put_answer(const ecc200_sample *symbol) {
+    const ecc200_reading *reading = &symbol->reading;
+    if (symbol->unread != ECC200_SAMPLE_READ) {
+        bool is_refused = symbol->unread == ECC200_SAMPLE_REFUSED;
+        printf("\"refused\":\"%s\"", is_refused ? ecc200_words(reading->fault.code) : "too few corrections unused");
         return;
     }
     fputs("\"message\":", stdout);
@@ -110,7 +111,7 @@ static void put_reading(const ecc200_reading *reading) {
     put_counts("corrected", reading->corrected, reading->block_count);
     put_counts("erased", reading->erased, reading->block_count);
     put_counts("left", reading->left, reading->block_count);
-    printf(",\"border_faults\":%d", reading->border_faults);
+    printf(",\"border_faults\":%d,\"border_limit\":%d", reading->border_faults, symbol->border_limit);
 }
 
 static void put_grid(const char *name, const ecc200_sample *symbol, const uint8_t *modules) {
@@ -123,7 +124,7 @@ static void put_grid(const char *name, const ecc200_sample *symbol, const uint8_
     putchar(']');
 }
 
-void report_json(const char *file, const ecc200_sample *symbol) {
+void report_json(const char *file, const ecc200_sample *symbol, bool is_complete) {
     fputs("{\"file\":", stdout);
     put_string(file);
     printf(",\"rows\":%d,\"columns\":%d,\"corners\":[", symbol->rows, symbol->columns);
@@ -131,9 +132,9 @@ void report_json(const char *file, const ecc200_sample *symbol) {
         printf("%s[%.1f,%.1f]", k > 0 ? "," : "", symbol->corners[k].x, symbol->corners[k].y);
     printf("],\"inverted\":%s,\"mirrored\":%s,", symbol->inverted ? "true" : "false",
            symbol->mirrored ? "true" : "false");
-    put_reading(&symbol->reading);
+    put_answer(symbol);
     put_grid("grid", symbol, symbol->modules);
     if (has_doubt(symbol))
         put_grid("doubtful", symbol, symbol->doubtful);
-    fputs("}\n", stdout);
+    printf(",\"complete\":%s}\n", is_complete ? "true" : "false");
 }

@@ -2,6 +2,8 @@
 #ifndef REPORT_H
 #define REPORT_H
 
+#include <stdbool.h>
+
 #include "../ecc200_sample.h"
 
 /* Why a symbol is no record that dm_tool takes, after 'it', or NULL if it is one. Its records are squares of sides 10
@@ -11,8 +13,8 @@ const char *report_no_record(const ecc200_sample *symbol);
 /* As a record: a line of 0 and 1 for each row, from the top, and an empty line. To standard output. */
 void report_record(const ecc200_sample *symbol);
 
-/* As a line of JSON, to standard output. */
-void report_json(const char *file, const ecc200_sample *symbol);
+/* As a line of JSON, to standard output. `is_complete`: whether the search didn't end early. */
+void report_json(const char *file, const ecc200_sample *symbol, bool is_complete);
 
 /* The file, and the corners in pixels: top left, top right, bottom right, bottom left. To standard error. */
 void report_corners(const char *file, const ecc200_sample *symbol);

@@ -3,7 +3,39 @@
 #include <ecc200_sample.h>
 #include <stdio.h>
 #include <string.h>
-static ecc200_sample symbols[2];
+static ecc200_sample symbols[2], unread[1];
+
+/* Searches the picture for `room` symbols; returns how it ended, or 99 if it is as it shouldn't be. */
+static int search_for(const uint8_t *pixels, size_t width, size_t height, size_t room, ecc200_sample_search *search) {
+    search->symbols = symbols, search->room = room, search->unread = unread, search->unread_room = 1;
+    uint16_t code = ecc200_sample_find(pixels, width, height, 400, search);
+    return code == ECC200_SAMPLE_OK && search->count <= room ? search->ended : 99;
+}
+
+/* Tells the number of the first search that goes wrong; 0 if none does. */
+static int try_searches(const uint8_t *pixels, size_t width, size_t height) {
+    ecc200_sample_search search = ecc200_sample_usual_search();
+    if (search_for(pixels, width, height, 2, &search) != ECC200_SAMPLE_WHOLE || search.count != 1 ||
+        search.unread_count != 0 || symbols[0].unread != ECC200_SAMPLE_READ ||
+        symbols[0].border_limit != ecc200_usual_limit(14, 14))
+        return 1;
+    if (search_for(pixels, width, height, 1, &search) != ECC200_SAMPLE_ROOM || search.count != 1)
+        return 2;
+    if (search_for(pixels, width, height, 0, &search) != ECC200_SAMPLE_ROOM || search.count != 0)
+        return 3;
+    search.margin = 9;
+    if (search_for(pixels, width, height, 2, &search) != ECC200_SAMPLE_WHOLE || search.count != 0 ||
+        search.unread_count != 1 || unread[0].unread != ECC200_SAMPLE_MARGIN || unread[0].rows != 14)
+        return 4;
+    search.milliseconds = 0;
+    if (search_for(pixels, width, height, 2, &search) != ECC200_SAMPLE_TIME || search.count != 0 ||
+        search.unread_count != 0)
+        return 5;
+    if (search_for(pixels, 0, height, 2, &search) != 99 || search.ended != ECC200_SAMPLE_WHOLE)
+        return 6;
+    return 0;
+}
+
 int main(int count, char **words) {
     static uint8_t pixels[400 * 400];
     size_t width, height, found = 9;
@@ -26,6 +58,11 @@ int main(int count, char **words) {
         return 3;
     if (ecc200_sample_picture(pixels, width, height, 400, NULL, symbols, 1, &found) != ECC200_SAMPLE_OK || found != 1)
         return 2;
+    int wrong = try_searches(pixels, width, height);
+    if (wrong != 0)
+        return 20 + wrong;
+    if (ecc200_sample_picture(pixels, width, height, 400, &options, symbols, 2, &found) != ECC200_SAMPLE_OK || found != 1)
+        return 1;
     uint8_t text[ECC200_MOST_ITEMS];
     size_t length = ecc200_text(&symbols[0].reading, text, sizeof text, NULL);
     printf("%d %d %.*s %.1f", symbols[0].rows, symbols[0].columns, (int)length, (const char *)text,

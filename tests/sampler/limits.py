@@ -7,7 +7,8 @@ import time
 from tests.sampler.pictures import check, grid_of, left_out, pgm, pixels_of, record, run
 from tests.support import places
 
-EXPORTS = ["ecc200_sample_abi", "ecc200_sample_picture", "ecc200_sample_usual"]
+EXPORTS = ["ecc200_sample_abi", "ecc200_sample_find", "ecc200_sample_picture", "ecc200_sample_usual",
+           "ecc200_sample_usual_search"]
 
 
 def hostile(folder, careful):

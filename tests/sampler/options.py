@@ -28,7 +28,7 @@ def options(folder, sampler):
     told = json.loads(run([sampler, "--json", path]).stdout)
     check("--json", {name: told[name] for name in told if name != "corners"}, {
         "file": path, "rows": 10, "columns": 10, "inverted": False, "mirrored": False, "message": "123456",
-        "corrected": [0], "erased": [0], "left": [5], "border_faults": 0,
+        "corrected": [0], "erased": [0], "left": [5], "border_faults": 0, "border_limit": 2, "complete": True,
         "grid": ["".join(map(str, row)) for row in grid]})
     check("corners in --json", [[round(c) for c in corner] for corner in told["corners"]],
           [[12, 12], [52, 12], [52, 52], [12, 52]])
@@ -47,6 +47,47 @@ def options(folder, sampler):
     check("a symbol beyond the limit", (run([sampler], lost).returncode, run([sampler], lost).stdout), (1, b""))
     check("--unread", run([sampler, "--unread"], lost).stdout.decode(), record(spoilt))
     check("--unread --json", "block" in json.loads(run([sampler, "--unread", "--json"], lost).stdout)["refused"], True)
+
+
+def beside(pictures):
+    """Pictures side by side, all of one height."""
+    return [[level for picture in pictures for level in picture[row]] for row in range(len(pictures[0]))]
+
+
+def beyond_repair(message):
+    """A grid with so much damage that it isn't read; its border is whole."""
+    grid = grid_of(message)
+    return [[module ^ (0 < row < len(grid) - 1 and 0 < column < len(grid) - 1 and (row * 7 + column * 5) % 3 == 0)
+             for column, module in enumerate(line)] for row, line in enumerate(grid)]
+
+
+def unread(sampler):
+    """What is found and not read is listed, once each, with the reason, also beside what is read."""
+    good, lost = grid_of("GOOD 1"), beyond_repair("LOST 1")
+    rows = beside([pixels_of(grid) for grid in (lost, good, lost)])
+    said = [json.loads(line) for line in run([sampler, "--all", "--json", "--unread", "--time=30000"],
+                                             pgm(rows)).stdout.splitlines()]
+    check("what is read, and what isn't", sorted((one.get("message", ""), "block" in one.get("refused", ""))
+                                                 for one in said), [("", True), ("", True), ("GOOD 1", False)])
+    check("where they are", sorted(round(one["corners"][0][0]) for one in said), [12, 84, 156])
+    check("their grids", [one["grid"] for one in said if "refused" in one],
+          [["".join(map(str, row)) for row in lost]] * 2)
+    done = run([sampler, "--all", "--unread", "--time=30000"], pgm(rows))
+    check("as records, what is read", done.stdout.decode(), record(good))
+    said = json.loads(run([sampler, "--json", "--unread", "--margin=9", "--time=30000"],
+                          pgm(pixels_of(good))).stdout)
+    check("what leaves too little", (said["refused"], "message" in said), ("too few corrections unused", False))
+
+
+def early(sampler):
+    """A search that ends early says so, once, and one that doesn't, doesn't."""
+    grid = grid_of("123456")
+    picture = pgm(pixels_of(grid))
+    for words, status, said in (
+            (["--all", "--time=30000"], 0, b""), (["--time=30000"], 0, b""),
+            (["--time=0"], 4, b"dm_sample: -: the search ended early, after 0 milliseconds: there may be a symbol\n")):
+        done = run([sampler, *words], picture)
+        check(" ".join(words), (done.returncode, done.stderr), (status, said))
 
 
 def unread_without_a_symbol(sampler):

@@ -125,6 +125,12 @@ class Sampler(Case):
     def test_options(self):
         self.told(options.options, self.room, self.sampler)
 
+    def test_unread(self):
+        self.told(options.unread, self.sampler)
+
+    def test_early(self):
+        self.told(options.early, self.sampler)
+
     def test_unread_without_a_symbol(self):
         self.told(options.unread_without_a_symbol, self.sampler)
 
@@ -148,6 +154,9 @@ class Sampler(Case):
 
     def test_a_label(self):
         self.told(timing.a_label, self.room, self.sampler)
+
+    def test_early_with_a_symbol(self):
+        self.told(timing.early, self.room, self.sampler)
 
     def test_deadline(self):
         self.told(timing.deadline, self.room, self.sampler)

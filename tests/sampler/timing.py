@@ -1,4 +1,5 @@
 """What the time of a picture is enough for, counted by the processor, and not by the clock."""
+import json
 import os
 import random
 import resource
@@ -50,6 +51,19 @@ def a_label(folder, sampler):
             check(f"a label of twelve, {name} {more}", sorted(done.stdout.decode().split("\n\n")[:-1]), wanted)
 
 
+def early(folder, sampler):
+    """What was found when the time was over is printed, and it is said that there may be more."""
+    chance, wide = random.Random(4), 3000
+    symbol = pixels_of(grid_of("123456"), 12)
+    rows = [bytes(row) + b"\xe6" * (wide - len(row)) for row in symbol]
+    picture = f"P5 {wide} {wide} 255\n".encode() + b"".join(rows) + chance.randbytes(wide * (wide - len(rows)))
+    done = run([sampler, "--all", "--json", "--time=900"], picture, env=by_processor(folder))
+    told = [json.loads(line) for line in done.stdout.splitlines()]
+    said = b"dm_sample: -: the search ended early, after 900 milliseconds: there may be more symbols\n"
+    check("found before the time was over", ([(one["message"], one["complete"]) for one in told], done.returncode,
+                                             done.stderr), ([("123456", False)], 4, said))
+
+
 def deadline(folder, sampler):
     """The time binds also what is computed before the search."""
     path = os.path.join(folder, "fifty.pgm")
@@ -59,5 +73,5 @@ def deadline(folder, sampler):
         before = resource.getrusage(resource.RUSAGE_CHILDREN).ru_utime
         done = run([sampler, f"--time={milliseconds}", path], env=by_processor(folder))
         took = resource.getrusage(resource.RUSAGE_CHILDREN).ru_utime - before
-        check(f"{milliseconds} milliseconds for 50 megapixels", (done.returncode, took < 0.5), (1, True))
+        check(f"{milliseconds} milliseconds for 50 megapixels", (done.returncode, took < 0.5), (4, True))
     os.remove(path)
