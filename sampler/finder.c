@@ -131,11 +131,14 @@ static struct elbow elbow_of(const struct plane *dark, const struct line *bottom
 
 static int by_likelihood(const void *one, const void *other) {
     const struct elbow *a = one, *b = other;
+    int corner = by_place(a->corner, b->corner), top = by_place(a->top, b->top);
     return a->is_lively != b->is_lively ? b->is_lively - a->is_lively
            : a->is_long != b->is_long     ? a->is_long - b->is_long
            : a->score < b->score          ? 1
            : a->score > b->score          ? -1
-                                          : 0;
+           : corner                       ? corner
+           : top                          ? top
+                                          : by_place(a->right, b->right);
 }
 
 static bool alike(const struct elbow *one, const struct elbow *other) {

@@ -38,6 +38,12 @@ static inline double cross(struct point a, struct point b) {
     return a.x * b.y - a.y * b.x;
 }
 
+/* For qsort, where all else is equal: what lies higher comes first, and of two at one height what lies farther left. So
+ * the order is the same whatever the C library makes of ties. */
+static inline int by_place(struct point a, struct point b) {
+    return a.y < b.y ? -1 : a.y > b.y ? 1 : a.x < b.x ? -1 : a.x > b.x;
+}
+
 struct point turn_by(struct point a, double angle);
 double length(struct point a);
 

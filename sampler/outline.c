@@ -85,8 +85,10 @@ static double extent(const struct line *line) {
 }
 
 static int by_length(const void *one, const void *other) {
-    double a = extent(one), b = extent(other);
-    return a < b ? 1 : a > b ? -1 : 0;
+    const struct line *a = one, *b = other;
+    double long_a = extent(a), long_b = extent(b);
+    int place = by_place(a->from, b->from);
+    return long_a < long_b ? 1 : long_a > long_b ? -1 : place ? place : by_place(a->to, b->to);
 }
 
 /* Keeps a line. When there is no more room, the shorter half goes. */
