@@ -69,7 +69,8 @@ def unread(sampler):
                                              pgm(rows)).stdout.splitlines()]
     check("what is read, and what isn't", sorted((one.get("message", ""), "block" in one.get("refused", ""))
                                                  for one in said), [("", True), ("", True), ("GOOD 1", False)])
-    check("where they are", sorted(round(one["corners"][0][0]) for one in said), [12, 84, 156])
+    wide = len(rows[0]) // 3
+    check("where they are", sorted(round(one["corners"][0][0]) for one in said), [12, 12 + wide, 12 + 2 * wide])
     check("their grids", [one["grid"] for one in said if "refused" in one],
           [["".join(map(str, row)) for row in lost]] * 2)
     done = run([sampler, "--all", "--unread", "--time=30000"], pgm(rows))
