@@ -35,7 +35,7 @@ static void search_spot(struct search *search, int level, const struct plane *st
     struct lattice lattice;
     const struct plane *grey = &search->sights[0].levels[level];
     struct point middle = point_at((spot->x + WINDOW_SIDE / 2) << level, (spot->y + WINDOW_SIDE / 2) << level);
-    if (is_known(search, middle))
+    if (is_known_at(&search->known, middle))
         return;
     /* Edges are seen by what is steep, and dots that don't touch by what is dark. */
     int count = find_lattices(steep, spot->x, spot->y, 0.5, lattices);
@@ -51,6 +51,8 @@ void search_lattices(struct search *search, int level) {
     struct plane steep;
     struct field *field = malloc(sizeof *field);
     bool is_made = plane_steepen(&search->sights[0].levels[level], search->judge.limit, &steep) && field != NULL;
+    if (is_made)
+        blank_found(search, level, &steep);
     int count = is_made ? find_spots(&steep, search->judge.limit, spots, SPOTS) : 0;
     for (int k = 0; k < count && !is_over(search); k++)
         search_spot(search, level, &steep, &spots[k], field);

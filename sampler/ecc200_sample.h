@@ -130,10 +130,11 @@ typedef struct ecc200_sample_search {
 /* The usual options: a second, every side, no margin, nothing unread. */
 ecc200_sample_options ecc200_sample_usual(void);
 
-/* Finds at most `room` symbols in a picture, writes them into `out`, and their number into *count. With room for one,
- * the search ends with the first; else it goes on until there are `room`, or nothing more is found, or the time is
- * over. `options` may be NULL: the usual ones. Returns PICTURE or NO_MEMORY with a count of 0; otherwise OK, with a
- * count of 0 if there is none. */
+/* Finds at most `room` symbols in a picture, writes them into `out` and their number into *count. They are in reading
+ * order: row by row from the top, each from the left; and where they all are turned by about one angle, of at most 45
+ * degrees but for quarter turns, as if that were turned back. With room for one, the search ends with the first; else
+ * it goes on until there are `room`, or nothing more is found, or the time is over. `options` may be NULL: the usual
+ * ones. Returns PICTURE or NO_MEMORY with a count of 0; otherwise OK, with a count of 0 if there is none. */
 uint16_t ecc200_sample_picture(const uint8_t *luminance, size_t width, size_t height, size_t stride,
                                const ecc200_sample_options *options, ecc200_sample *out, size_t room, size_t *count);
 

@@ -6,6 +6,8 @@
 static const double LEAST_SINE = 0.7, LEAST_RATIO = 0.035, LEAST_SOLID = 0.7;
 /* Of the two borders' lengths: below it an elbow may be a rectangle's, and no square's. */
 static const double LEAST_OF_SQUARE = 0.4;
+/* How far from the corner a border may end: pixels, and a share of its length. */
+static const double MOST_GAP = 3, MOST_GAP_SHARE = 0.2;
 /* Of the turns from dark to light and back that modules of chance have. */
 static const double LEAST_LIVELINESS = 0.3, MOST_LIVELINESS = 2.5;
 /* Of the numbers of modules that the two borders seem to have, more over fewer; and of the widths of modules along the
@@ -104,8 +106,10 @@ static void look_inside(const struct plane *dark, struct elbow *elbow) {
 
 /* The elbow of a bottom border, which comes to the corner, and a left border, which leaves it; with a score of 0 if
  * there is none. */
-static struct elbow elbow_of(const struct plane *dark, const struct line *bottom, const struct line *left) {
-    struct elbow none = {.score = 0}, elbow = {.top = left->to, .right = bottom->from};
+static struct elbow elbow_of(const struct sought *in, const struct line *bottom, const struct line *left) {
+    const struct plane *dark = in->dark;
+    struct elbow none = {.score = 0},
+                 elbow = {.top = left->to, .right = bottom->from, .is_joined = left->is_joined || bottom->is_joined};
     struct point along = difference(bottom->to, bottom->from), up = difference(left->to, left->from);
     double wide = length(along), high = length(up);
     if (wide < LEAST_RATIO * high || high < LEAST_RATIO * wide || cross(along, up) < LEAST_SINE * wide * high)
@@ -113,7 +117,8 @@ static struct elbow elbow_of(const struct plane *dark, const struct line *bottom
     if (!intersection(bottom->from, along, left->from, up, &elbow.corner))
         return none;
     double gap = length(difference(bottom->to, elbow.corner)), other = length(difference(left->from, elbow.corner));
-    if (gap > 3 + 0.2 * wide || other > 3 + 0.2 * high)
+    if (gap > MOST_GAP + MOST_GAP_SHARE * wide || other > MOST_GAP + MOST_GAP_SHARE * high ||
+        embrace_known(in->known, in->scale, elbow.corner, elbow.top, elbow.right))
         return none;
     double solid = 1;
     for (int side = 0; side < 2; side++) {
@@ -133,6 +138,7 @@ static int by_likelihood(const void *one, const void *other) {
     const struct elbow *a = one, *b = other;
     int corner = by_place(a->corner, b->corner), top = by_place(a->top, b->top);
     return a->is_lively != b->is_lively ? b->is_lively - a->is_lively
+           : a->is_joined != b->is_joined ? a->is_joined - b->is_joined
            : a->is_long != b->is_long     ? a->is_long - b->is_long
            : a->score < b->score          ? 1
            : a->score > b->score          ? -1
@@ -142,7 +148,10 @@ static int by_likelihood(const void *one, const void *other) {
 }
 
 static bool alike(const struct elbow *one, const struct elbow *other) {
-    double apart = 2 + 0.01 * length(difference(one->top, one->right));
+    struct point across = difference(one->top, one->right);
+    if (fabs(one->corner.y - other->corner.y) > 2 + 0.01 * (fabs(across.x) + fabs(across.y)))
+        return false;
+    double apart = 2 + 0.01 * length(across);
     return length(difference(one->corner, other->corner)) < apart && length(difference(one->top, other->top)) < apart &&
            length(difference(one->right, other->right)) < apart;
 }
@@ -159,21 +168,99 @@ static int without_repetitions(struct elbow *elbows, int count) {
     return kept;
 }
 
-int find_elbows(const struct plane *dark, const struct lines *lines, struct limit *limit, struct elbow *out, int room) {
-    int count = 0;
-    for (int k = 0; k < lines->count && !limit_reached(limit); k++)
-        for (int j = 0; j < lines->count; j++) {
-            struct elbow elbow =
-                j == k ? (struct elbow){.score = 0} : elbow_of(dark, &lines->items[k], &lines->items[j]);
-            if (elbow.score <= 0)
-                continue;
-            if (count == room) {
-                qsort(out, (size_t)count, sizeof *out, by_likelihood);
-                count = without_repetitions(out, count);
-                count = count == room ? room / 2 : count;
-            }
-            out[count++] = elbow;
-        }
-    qsort(out, (size_t)count, sizeof *out, by_likelihood);
-    return without_repetitions(out, count);
+/* Keeps an elbow. Where there are too many, the worse half goes. False if there is no memory. */
+static bool keep(struct elbows *elbows, struct elbow elbow) {
+    if (elbows->count == MOST_ELBOWS) {
+        qsort(elbows->items, (size_t)elbows->count, sizeof elbow, by_likelihood);
+        elbows->count = without_repetitions(elbows->items, elbows->count);
+        elbows->count = elbows->count == MOST_ELBOWS ? MOST_ELBOWS / 2 : elbows->count;
+    }
+    if (elbows->count == elbows->room) {
+        int room = elbows->room > 0 ? 2 * elbows->room : 64;
+        struct elbow *items = realloc(elbows->items, (size_t)room * sizeof *items);
+        if (items == NULL)
+            return false;
+        elbows->items = items, elbows->room = room;
+    }
+    elbows->items[elbows->count++] = elbow;
+    return true;
+}
+
+/* An end of a line. */
+struct end {
+    struct point at;
+    int line;
+};
+
+static int by_row(const void *one, const void *other) {
+    const struct end *a = one, *b = other;
+    return a->at.y < b->at.y ? -1 : a->at.y > b->at.y ? 1 : a->line - b->line;
+}
+
+/* The ends of all lines, from the top: where they begin, or where they end. NULL if there is no memory. */
+static struct end *ends_of(const struct lines *lines, bool is_first) {
+    struct end *ends = malloc(((size_t)lines->count + 1) * sizeof *ends);
+    for (int k = 0; ends != NULL && k < lines->count; k++)
+        ends[k] = (struct end){is_first ? lines->items[k].from : lines->items[k].to, k};
+    if (ends != NULL)
+        qsort(ends, (size_t)lines->count, sizeof *ends, by_row);
+    return ends;
+}
+
+/* The first end that isn't above a row. */
+static int first_from(const struct end *ends, int count, double row) {
+    int first = 0;
+    while (count > 0) {
+        int half = count / 2;
+        if (ends[first + half].at.y < row)
+            first += half + 1, count -= half + 1;
+        else
+            count = half;
+    }
+    return first;
+}
+
+/* Keeps the elbows of a line and each shorter one that has an end near one of its own: `is_bottom`: the line's last
+ * end, and the others' first. */
+static bool keep_elbows_at(const struct sought *in, int at, bool is_bottom, const struct end *ends,
+                           struct elbows *out) {
+    const struct lines *lines = in->lines;
+    const struct line *line = &lines->items[at];
+    struct point near = is_bottom ? line->to : line->from;
+    double reach = 2 * MOST_GAP + 2 * MOST_GAP_SHARE * length(difference(line->to, line->from));
+    bool enough = true;
+    for (int k = first_from(ends, lines->count, near.y - reach);
+         enough && k < lines->count && ends[k].at.y <= near.y + reach; k++) {
+        if (ends[k].line <= at || fabs(ends[k].at.x - near.x) > reach)
+            continue;
+        const struct line *other = &lines->items[ends[k].line];
+        struct elbow elbow = is_bottom ? elbow_of(in, line, other) : elbow_of(in, other, line);
+        enough = elbow.score <= 0 || keep(out, elbow);
+    }
+    return enough;
+}
+
+void elbows_free(struct elbows *elbows) {
+    free(elbows->items);
+    *elbows = (struct elbows){0};
+}
+
+bool find_elbows(const struct sought *in, struct limit *limit, struct elbows *out) {
+    const struct lines *lines = in->lines;
+    struct end *firsts = ends_of(lines, true), *lasts = ends_of(lines, false);
+    bool enough = firsts != NULL && lasts != NULL;
+    out->count = out->whole = out->lively = 0;
+    for (int k = 0; enough && k < lines->count && !limit_reached(limit); k++)
+        enough = keep_elbows_at(in, k, true, firsts, out) && keep_elbows_at(in, k, false, lasts, out);
+    free(firsts);
+    free(lasts);
+    if (!enough || out->count == 0)
+        return enough;
+    qsort(out->items, (size_t)out->count, sizeof *out->items, by_likelihood);
+    out->count = without_repetitions(out->items, out->count);
+    for (int k = 0; k < out->count; k++) {
+        out->lively += out->items[k].is_lively;
+        out->whole += out->items[k].is_lively && !out->items[k].is_joined;
+    }
+    return true;
 }

@@ -76,8 +76,8 @@ static struct line fit_line(const struct tracing *tracing, int first, int last) 
     struct point along = turn_by(point_at(1, 0), angle);
     if (dot(along, difference(to, from)) < 0)
         along = scale_by(along, -1);
-    return (struct line){sum(middle, scale_by(along, dot(difference(from, middle), along))),
-                         sum(middle, scale_by(along, dot(difference(to, middle), along)))};
+    return (struct line){.from = sum(middle, scale_by(along, dot(difference(from, middle), along))),
+                         .to = sum(middle, scale_by(along, dot(difference(to, middle), along)))};
 }
 
 static double extent(const struct line *line) {
@@ -91,13 +91,27 @@ static int by_length(const void *one, const void *other) {
     return long_a < long_b ? 1 : long_a > long_b ? -1 : place ? place : by_place(a->to, b->to);
 }
 
-/* Keeps a line. When there is no more room, the shorter half goes. */
-static void keep(struct lines *lines, struct line line) {
-    if (lines->count == lines->room) {
+/* Makes room for one line more. False if there is no memory. */
+static bool has_room(struct lines *lines) {
+    if (lines->count < lines->room)
+        return true;
+    int room = lines->room > 0 ? 2 * lines->room : 1024;
+    struct line *items = realloc(lines->items, (size_t)room * sizeof *items);
+    if (items != NULL)
+        lines->items = items, lines->room = room;
+    return items != NULL;
+}
+
+/* Keeps a line. Where there are too many, the shorter half goes. False if there is no memory. */
+static bool keep(struct lines *lines, struct line line) {
+    if (lines->count == MOST_LINES) {
         qsort(lines->items, (size_t)lines->count, sizeof *lines->items, by_length);
-        lines->count = lines->room / 2;
+        lines->count /= 2;
     }
-    lines->items[lines->count++] = line;
+    bool enough = has_room(lines);
+    if (enough)
+        lines->items[lines->count++] = line;
+    return enough;
 }
 
 /* Where the path from `first` to `last` is farthest from its chord, and how far. */
@@ -115,60 +129,96 @@ static double farthest(const struct tracing *tracing, int first, int last, int *
 }
 
 /* Cuts the path, which is closed, into straight pieces, and keeps the long ones. A comb of many teeth is cut tooth by
- * tooth, each time after a look at the whole of what is left, so the limit may be reached here, too. */
-static void cut(const struct tracing *tracing) {
+ * tooth, each time after a look at the whole of what is left, so the limit may be reached here, too. False if there is
+ * no memory. */
+static bool cut(const struct tracing *tracing) {
     int pending[MOST_PENDING][2], depth = 0, opposite;
+    bool enough = true;
     farthest(tracing, 0, tracing->count, &opposite);
     pending[depth][0] = opposite, pending[depth++][1] = tracing->count;
     pending[depth][0] = 0, pending[depth++][1] = opposite;
-    while (depth > 0 && !limit_reached(tracing->limit)) {
+    while (enough && depth > 0 && !limit_reached(tracing->limit)) {
         int first = pending[--depth][0], last = pending[depth][1], where;
         if (last - first < tracing->least)
             continue;
         if (farthest(tracing, first, last, &where) <= BEND) {
             struct line line = fit_line(tracing, first, last);
             if (extent(&line) >= tracing->least)
-                keep(tracing->lines, line);
+                enough = keep(tracing->lines, line);
         } else if (depth + 2 <= MOST_PENDING) {
             pending[depth][0] = where, pending[depth++][1] = last;
             pending[depth][0] = first, pending[depth++][1] = where;
         }
     }
+    return enough;
+}
+
+/* The strip along a line that the pieces lie in which continue it: `reach` is how far from its beginning they begin at
+ * most, each way. */
+struct strip {
+    struct point from, unit, reach;
+    double whole, apart;
+};
+
+static struct strip strip_along(const struct line *line) {
+    struct point along = difference(line->to, line->from);
+    double whole = length(along), apart = 1.5 + 0.012 * whole;
+    struct point reach = point_at(1.5 * fabs(along.x) + apart, 1.5 * fabs(along.y) + apart);
+    return (struct strip){line->from, scale_by(along, 1 / whole), reach, whole, apart};
 }
 
 /* Whether the piece lies on the line, or on its way beyond its ends, no farther away than half its length. */
-static bool continues(const struct line *line, const struct line *piece) {
-    struct point along = difference(line->to, line->from), way = difference(piece->to, piece->from);
-    double long_one = length(along), apart = 1.5 + 0.012 * long_one;
-    struct point unit = scale_by(along, 1 / long_one);
-    double first = dot(unit, difference(piece->from, line->from)), last = dot(unit, difference(piece->to, line->from));
-    return dot(unit, way) > 0.99 * length(way) && fabs(cross(unit, difference(piece->from, line->from))) < apart &&
-           fabs(cross(unit, difference(piece->to, line->from))) < apart && last > -0.5 * long_one &&
-           first < 1.5 * long_one;
+static bool continues(const struct strip *strip, const struct line *piece) {
+    struct point before = difference(piece->from, strip->from);
+    if (fabs(before.x) > strip->reach.x || fabs(before.y) > strip->reach.y)
+        return false;
+    struct point way = difference(piece->to, piece->from), behind = difference(piece->to, strip->from);
+    double first = dot(strip->unit, before), last = dot(strip->unit, behind);
+    return dot(strip->unit, way) > 0.99 * length(way) && fabs(cross(strip->unit, before)) < strip->apart &&
+           fabs(cross(strip->unit, behind)) < strip->apart && last > -0.5 * strip->whole && first < 1.5 * strip->whole;
 }
 
-/* Adds, for each line, the line that it and the pieces that continue it make up. */
-static void join(struct lines *lines) {
+/* The line that one and the pieces behind it which continue it make up. */
+static struct line joined_from(const struct lines *lines, int at, int count) {
+    struct line joined = lines->items[at];
+    struct strip strip = strip_along(&joined);
+    for (int k = at + 1; k < count; k++) {
+        const struct line *piece = &lines->items[k];
+        if (!continues(&strip, piece))
+            continue;
+        bool is_before = dot(strip.unit, difference(piece->from, joined.from)) < 0,
+             is_behind = dot(strip.unit, difference(piece->to, joined.to)) > 0;
+        if (is_before)
+            joined.from = piece->from;
+        if (is_behind)
+            joined.to = piece->to;
+        if (is_before || is_behind)
+            strip = strip_along(&joined);
+    }
+    joined.is_joined = true;
+    return joined;
+}
+
+/* Adds the lines that several pieces make up. False if there is no memory. */
+static bool join(struct lines *lines, struct limit *limit) {
+    if (lines->count == 0)
+        return true;
     qsort(lines->items, (size_t)lines->count, sizeof *lines->items, by_length);
-    int count = lines->count < lines->room / 2 ? lines->count : lines->room / 2;
+    int count = lines->count < MOST_LINES / 2 ? lines->count : MOST_LINES / 2;
+    bool enough = true;
     lines->count = count;
-    for (int k = 0; k < count; k++) {
-        struct line joined = lines->items[k];
-        double whole = extent(&joined);
-        for (int j = k + 1; j < count; j++) {
-            const struct line *piece = &lines->items[j];
-            if (!continues(&joined, piece))
-                continue;
-            struct point along = difference(joined.to, joined.from);
-            if (dot(along, difference(piece->from, joined.from)) < 0)
-                joined.from = piece->from;
-            if (dot(along, difference(piece->to, joined.to)) > 0)
-                joined.to = piece->to;
-        }
-        if (extent(&joined) > whole + 1)
-            lines->items[lines->count++] = joined;
+    for (int k = 0; k < count && enough && !limit_reached(limit); k++) {
+        struct line joined = joined_from(lines, k, count);
+        if (extent(&joined) > extent(&lines->items[k]) + 1)
+            enough = keep(lines, joined);
     }
     qsort(lines->items, (size_t)lines->count, sizeof *lines->items, by_length);
+    return enough;
+}
+
+void lines_free(struct lines *lines) {
+    free(lines->items);
+    *lines = (struct lines){0};
 }
 
 bool find_lines(const struct plane *dark, double least, struct limit *limit, struct lines *out) {
@@ -181,13 +231,9 @@ bool find_lines(const struct plane *dark, double least, struct limit *limit, str
             if (!is_dark(dark, x, y) || is_dark(dark, x - 1, y) ||
                 tracing.seen[(size_t)y * (size_t)dark->width + (size_t)x])
                 continue;
-            enough = trace(&tracing, x, y);
-            if (enough && tracing.count >= LEAST_STEPS)
-                cut(&tracing);
+            enough = trace(&tracing, x, y) && (tracing.count < LEAST_STEPS || cut(&tracing));
         }
     free(tracing.seen);
     free(tracing.path);
-    if (enough)
-        join(out);
-    return enough;
+    return enough && join(out, limit);
 }

@@ -7,6 +7,7 @@
 /* Who goes from `from` to `to` has the dark area on the right, in a picture whose y grows downwards. */
 struct line {
     struct point from, to;
+    bool is_joined; /* whether it is made up of several straight pieces */
 };
 
 struct lines {
@@ -14,9 +15,12 @@ struct lines {
     int count, room;
 };
 
-/* The longest straight pieces of at least `least` pixels in a plane of 0 and 1 with a frame of 0, at most `room` of
- * them, the longest first. The pieces that lie on one line are also there as one. Stops at the limit. False if
- * there is no memory. */
+enum { MOST_LINES = 16384 };
+
+/* The straight pieces of at least `least` pixels in a plane of 0 and 1 with a frame of 0, the longest first, and each
+ * line that several of them lie on: at most MOST_LINES. Stops at the limit. False if there is no memory. `out`, which
+ * lines_free frees, may have room from before. */
 bool find_lines(const struct plane *dark, double least, struct limit *limit, struct lines *out);
+void lines_free(struct lines *lines);
 
 #endif

@@ -7,6 +7,7 @@
 #include "ecc200_sample.h"
 #pragma GCC visibility pop
 
+#include "order.h"
 #include "search.h"
 
 enum { CALM_LEVELS = 3, LATTICE_LEVELS = 4, LEAST_LEVEL = 24, AROUND = 2, CLOSE_AROUND = 1 };
@@ -30,21 +31,21 @@ bool is_over(const struct search *search) {
     return search->count == search->room || search->judge.has_no_memory || limit_reached(search->judge.limit);
 }
 
-/* Makes light, in what a level shows as dark, the symbols that have been found, so that they cost no more time. */
-static void blank_found(const struct search *search, int level, struct plane *dark) {
+void blank_found(const struct search *search, int level, struct plane *plane) {
     double scale = 1 << level;
-    uint8_t *pixels = dark->owned + (dark->pixels - dark->owned);
+    uint8_t *pixels = plane->owned + (plane->pixels - plane->owned);
     for (size_t k = 0; k < search->count; k++) {
-        const ecc200_sample *found = &search->found[k];
-        double least_x = dark->width, least_y = dark->height, most_x = 0, most_y = 0;
+        ecc200_sample_point corners[4];
+        double least_x = plane->width, least_y = plane->height, most_x = 0, most_y = 0;
+        grow_corners(&search->found[k], 1.5 * scale, corners);
         for (int corner = 0; corner < 4; corner++) {
-            double x = found->corners[corner].x / scale, y = found->corners[corner].y / scale;
+            double x = corners[corner].x / scale, y = corners[corner].y / scale;
             least_x = fmin(least_x, x), least_y = fmin(least_y, y), most_x = fmax(most_x, x), most_y = fmax(most_y, y);
         }
-        for (int y = nearest_pixel(least_y, dark->height, 0); y <= nearest_pixel(most_y, dark->height, 0); y++)
-            for (int x = nearest_pixel(least_x, dark->width, 0); x <= nearest_pixel(most_x, dark->width, 0); x++)
-                if (shows_at(found, point_at((x + 0.5) * scale, (y + 0.5) * scale)))
-                    pixels[(size_t)y * dark->stride + (size_t)x] = LIGHT;
+        for (int y = nearest_pixel(least_y, plane->height, 0); y <= nearest_pixel(most_y, plane->height, 0); y++)
+            for (int x = nearest_pixel(least_x, plane->width, 0); x <= nearest_pixel(most_x, plane->width, 0); x++)
+                if (lies_within(corners, point_at((x + 0.5) * scale, (y + 0.5) * scale)))
+                    pixels[(size_t)y * plane->stride + (size_t)x] = 0;
     }
 }
 
@@ -60,10 +61,6 @@ void note_lack(struct search *search, bool is_made) {
     search->judge.has_no_memory |= !is_made && !limit_reached(search->judge.limit);
 }
 
-bool is_known(const struct search *search, struct point at) {
-    return one_shows_at(search->found, search->count, at);
-}
-
 bool judge_all(struct search *search, const struct sight *sight, struct placement *placements, int count,
                double scale) {
     search->judge.picture = &sight->picture, search->judge.smooth = &sight->levels[0],
@@ -73,8 +70,9 @@ bool judge_all(struct search *search, const struct sight *sight, struct placemen
         for (int column = 0; column < 3; column++)
             placement->warp.to_picture.m[0][column] *= scale, placement->warp.to_picture.m[1][column] *= scale;
         struct point middle = warp_point(&placement->warp, placement->extent.wide / 2.0, placement->extent.high / 2.0);
-        if (!is_known(search, middle) && judge_placement(&search->judge, placement, &search->found[search->count])) {
-            search->count++;
+        if (!is_known_at(&search->known, middle) &&
+            judge_placement(&search->judge, placement, &search->found[search->count])) {
+            add_known(&search->known, &search->found[search->count++]);
             return true;
         }
     }
@@ -89,50 +87,65 @@ static void search_elbows(struct search *search, const struct sight *sight, int 
     struct placement placements[MOST_PLACEMENTS];
     double scale = 1 << level;
     for (const struct elbow *elbow = first; elbow < last && !is_over(search); elbow++) {
-        struct point middle = scale_by(sum(elbow->top, elbow->right), 0.5 * scale);
-        if (!is_known(search, middle))
-            judge_all(search, sight, placements, placements_of(&scene, search->judge.layouts, elbow, placements),
-                      scale);
+        const struct layouts *shapes = search->judge.layouts;
+        if (!embrace_known(&search->known, scale, elbow->corner, elbow->top, elbow->right) &&
+            !judge_all(search, sight, placements, placements_of(&scene, shapes, elbow, placements), scale) &&
+            elbow->is_lively && even_placement_of(&scene, shapes, elbow, placements))
+            judge_all(search, sight, placements, 1, scale);
     }
 }
 
-/* Finds the elbows of a level, unless there is no memory, or no time. */
-static bool find_all_elbows(struct search *search, const struct plane *dark, struct elbows *out) {
-    struct lines lines = {search->lines, 0, LINES};
-    if (!find_lines(dark, LEAST_LINE, search->judge.limit, &lines))
-        return false;
-    out->count = find_elbows(dark, &lines, search->judge.limit, out->items, ELBOWS);
-    for (out->lively = 0; out->lively < out->count && out->items[out->lively].is_lively;)
-        out->lively++;
-    return true;
+/* Finds the elbows of a level. False if there is no memory. */
+static bool find_all_elbows(struct search *search, int level, const struct plane *dark, struct elbows *out) {
+    struct sought in = {dark, &search->lines, &search->known, 1 << level};
+    return find_lines(dark, LEAST_LINE, search->judge.limit, &search->lines) &&
+           find_elbows(&in, search->judge.limit, out);
 }
 
-/* Finds the elbows of a level, and tries the lively ones. */
+/* Finds the elbows of a level, and tries the lively ones whose borders are of one piece each; and where that finds
+ * nothing, the other lively ones. */
 static void search_lively(struct search *search, struct sight *sight, int level) {
     struct elbows *elbows = &sight->elbows[level];
     const struct plane *grey = &sight->levels[level];
+    size_t before = search->count;
     struct plane dark;
-    bool is_made = darken(search, grey, level, AROUND, &dark) && find_all_elbows(search, &dark, elbows);
+    bool is_made = darken(search, grey, level, AROUND, &dark) && find_all_elbows(search, level, &dark, elbows);
     if (is_made)
         search_elbows(search, sight, level, (struct scene){grey, &dark, search->judge.limit}, elbows->items,
-                      elbows->items + elbows->lively);
+                      elbows->items + elbows->whole);
+    if (is_made && search->count == before) {
+        search_elbows(search, sight, level, (struct scene){grey, &dark, search->judge.limit},
+                      elbows->items + elbows->whole, elbows->items + elbows->lively);
+        elbows->whole = elbows->lively;
+    }
     note_lack(search, is_made);
     plane_free(&dark);
+}
+
+/* Tries elbows that have been found in a level. */
+static void search_again(struct search *search, struct sight *sight, int level, const struct elbow *first,
+                         const struct elbow *last) {
+    const struct plane *grey = &sight->levels[level];
+    struct plane dark;
+    if (first == last)
+        return;
+    bool is_made = darken(search, grey, level, AROUND, &dark);
+    if (is_made)
+        search_elbows(search, sight, level, (struct scene){grey, &dark, search->judge.limit}, first, last);
+    note_lack(search, is_made);
+    plane_free(&dark);
+}
+
+/* Tries the other lively elbows of a level. */
+static void search_joined(struct search *search, struct sight *sight, int level) {
+    const struct elbows *elbows = &sight->elbows[level];
+    search_again(search, sight, level, elbows->items + elbows->whole, elbows->items + elbows->lively);
 }
 
 /* Tries the elbows of a level that aren't lively. */
 static void search_still(struct search *search, struct sight *sight, int level) {
-    struct elbows *elbows = &sight->elbows[level];
-    const struct plane *grey = &sight->levels[level];
-    struct plane dark;
-    if (elbows->count == elbows->lively)
-        return;
-    bool is_made = darken(search, grey, level, AROUND, &dark);
-    if (is_made)
-        search_elbows(search, sight, level, (struct scene){grey, &dark, search->judge.limit},
-                      elbows->items + elbows->lively, elbows->items + elbows->count);
-    note_lack(search, is_made);
-    plane_free(&dark);
+    const struct elbows *elbows = &sight->elbows[level];
+    search_again(search, sight, level, elbows->items + elbows->lively, elbows->items + elbows->count);
 }
 
 /* Finds the elbows of a fine level in another way, against noise and sudden changes of light, and tries the lively
@@ -143,7 +156,7 @@ static void search_calm(struct search *search, struct sight *sight, int level) {
     if (level >= CALM_LEVELS || search->count > 0)
         return;
     bool is_made = plane_calm(&sight->levels[level], search->judge.limit, &grey) &&
-                   darken(search, &grey, level, CLOSE_AROUND, &dark) && find_all_elbows(search, &dark, elbows);
+                   darken(search, &grey, level, CLOSE_AROUND, &dark) && find_all_elbows(search, level, &dark, elbows);
     if (is_made)
         search_elbows(search, sight, level, (struct scene){&grey, &dark, search->judge.limit}, elbows->items,
                       elbows->items + elbows->lively);
@@ -192,7 +205,7 @@ static bool make_levels(struct sight *sight, struct limit *limit) {
 
 static void sight_free(struct sight *sight) {
     for (int k = 0; k < LEVELS; k++)
-        plane_free(&sight->levels[k]);
+        plane_free(&sight->levels[k]), elbows_free(&sight->elbows[k]);
     plane_free(&sight->picture);
 }
 
@@ -204,9 +217,11 @@ static void search_picture(struct search *search, const struct plane *picture) {
     plain->picture = *picture, inverted->is_inverted = true;
     note_lack(search, make_levels(plain, limit));
     search_levels(search, plain, search_lively);
+    search_levels(search, plain, search_joined);
     if (!is_over(search)) {
         note_lack(search, plane_invert(picture, limit, &inverted->picture) && make_levels(inverted, limit));
         search_levels(search, inverted, search_lively);
+        search_levels(search, inverted, search_joined);
         search_levels(search, plain, search_woven);
         search_levels(search, plain, search_calm);
         search_levels(search, inverted, search_calm);
@@ -215,6 +230,8 @@ static void search_picture(struct search *search, const struct plane *picture) {
     }
     sight_free(plain);
     sight_free(inverted);
+    elbows_free(&search->calm);
+    lines_free(&search->lines);
 }
 
 static enum ecc200_sample_end end_of(const struct search *search) {
@@ -229,7 +246,8 @@ static bool fill(struct search *search, const struct plane *picture, ecc200_samp
     struct limit limit = limit_from_now(asked->milliseconds);
     struct judge *judge = &search->judge;
     ecc200_sample *trial = calloc(1, sizeof *trial);
-    bool has_room = unread_make(asked->unread, asked->unread_room, &judge->unread) && trial != NULL;
+    bool has_room = unread_make(asked->unread, asked->unread_room, &judge->unread) &&
+                    known_make(picture->width, picture->height, &search->known) && trial != NULL;
     if (has_room) {
         search->found = asked->symbols, search->room = asked->room;
         judge->least_side = asked->least_side, judge->margin = asked->margin;
@@ -237,11 +255,13 @@ static bool fill(struct search *search, const struct plane *picture, ecc200_samp
         judge->unread.is_refused_only = is_refused_only;
         search_picture(search, picture);
         drop_read(&judge->unread, search->found, search->count);
+        judge->has_no_memory |= !put_in_order(search->found, search->count, trial);
     }
     if (has_room && !judge->has_no_memory) {
         asked->count = search->count, asked->unread_count = judge->unread.count;
         asked->ended = (uint16_t)end_of(search);
     }
+    known_free(&search->known);
     unread_free(&judge->unread);
     free(trial);
     return has_room && !judge->has_no_memory;

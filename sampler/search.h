@@ -4,13 +4,7 @@
 
 #include "judge.h"
 
-enum { LEVELS = 6, LINES = 800, ELBOWS = 128 };
-
-/* Where solid borders may be, the lively ones first. */
-struct elbows {
-    struct elbow items[ELBOWS];
-    int count, lively;
-};
+enum { LEVELS = 6 };
 
 /* The picture as it is, or inverted: symbols are looked for as dark on light in both. */
 struct sight {
@@ -24,11 +18,12 @@ struct sight {
 struct search {
     struct judge judge;
     struct sight sights[2]; /* as it is, and inverted */
-    struct line lines[LINES];
+    struct lines lines;   /* of the level that is being searched */
     struct layout places; /* room for the places between modules */
     struct elbows calm;   /* of the calm level that is being searched */
     ecc200_sample *found;
     size_t count, room;
+    struct known known;   /* where they are */
 };
 
 /* Whether there are enough symbols, or no memory, or no time. */
@@ -37,8 +32,8 @@ bool is_over(const struct search *search);
 /* Takes note of a plane that wasn't made: there was no memory, if there was time. */
 void note_lack(struct search *search, bool is_made);
 
-/* Whether a point of the picture lies in a symbol that has been found. */
-bool is_known(const struct search *search, struct point at);
+/* Makes 0, in what a level shows as dark or steep, the symbols that have been found, so that they cost no more time. */
+void blank_found(const struct search *search, int level, struct plane *plane);
 
 /* Judges placements from the likeliest on, until one is read. They are of a level of which each pixel is `scale` pixels
  * of the picture. */

@@ -11,6 +11,7 @@ static const double STILL_BEFORE = 12, STILL_BETWEEN = 6;
 
 /* Of twice the number of dark modules that a track shows, the least and the most that a square's side may be. */
 static const double LEAST_OF_COUNT = 0.75, MOST_OF_COUNT = 1.35;
+static const double LEAST_EVEN = 0.95; /* of the score of a placement without perspective */
 /* By how much twice that number may differ from a rectangle's side: so many modules, and this share of the side. */
 static const double UNSURE = 2, UNSURE_SHARE = 0.2;
 
@@ -285,4 +286,29 @@ int placements_of(const struct scene *scene, const struct layouts *shapes, const
             keep_best(out, &count, placement);
     }
     return count;
+}
+
+/* Whether borders of so many modules each way, about, may be those of a shape. */
+static bool is_near(struct extent shape, double across, double down) {
+    return fabs(shape.wide - across) <= UNSURE + UNSURE_SHARE * across &&
+           fabs(shape.high - down) <= UNSURE + UNSURE_SHARE * down;
+}
+
+bool even_placement_of(const struct scene *scene, const struct layouts *shapes, const struct elbow *elbow,
+                       struct placement *out) {
+    struct point meeting = sum(elbow->top, difference(elbow->right, elbow->corner));
+    double across = length(difference(elbow->right, elbow->corner)) / elbow->across,
+           down = length(difference(elbow->top, elbow->corner)) / elbow->upwards;
+    *out = (struct placement){.score = 0};
+    for (int k = 0; k < shapes->count; k++) {
+        struct extent shape = shapes->shapes[k];
+        if (!is_near(shape, across, down))
+            continue;
+        struct frame frame = {{{0, 0}, {0, shape.high}, {shape.wide, shape.high}, {shape.wide, 0}},
+                              {elbow->top, elbow->corner, elbow->right, meeting}};
+        struct placement placement = best_near(scene, &frame, shape, 0.5, 0.25);
+        if (placement.score > out->score)
+            *out = placement;
+    }
+    return out->score >= LEAST_EVEN;
 }

@@ -27,4 +27,9 @@ enum { MOST_PLACEMENTS = 4 };
 int placements_of(const struct scene *scene, const struct layouts *shapes, const struct elbow *elbow,
                   struct placement out[MOST_PLACEMENTS]);
 
+/* The likeliest placement that the solid borders alone tell, as they do in a picture without perspective. False if its
+ * alternating borders don't show clearly. */
+bool even_placement_of(const struct scene *scene, const struct layouts *shapes, const struct elbow *elbow,
+                       struct placement *out);
+
 #endif

@@ -42,9 +42,9 @@ void keep_unread(struct unread *unread, const ecc200_sample *symbol, double scor
 
 void drop_read(struct unread *unread, const ecc200_sample *read, size_t count) {
     for (size_t k = unread->count; k-- > 0;) {
-        bool is_read = one_shows_at(read, count, middle_of(&unread->items[k]));
+        bool is_read = false;
         for (size_t j = 0; j < count && !is_read; j++)
-            is_read = shows_at(&unread->items[k], middle_of(&read[j]));
+            is_read = is_at_one_place(&unread->items[k], &read[j]);
         if (is_read)
             drop(unread, k);
     }

@@ -7,7 +7,7 @@
 #include "picture.h"
 #include "report.h"
 
-enum { MOST_SYMBOLS = 256, MOST_UNREAD = 32 };
+enum { MOST_SYMBOLS = 1024, MOST_UNREAD = 32 };
 
 /* Where the symbols of a picture go. */
 struct rooms {

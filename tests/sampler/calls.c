@@ -61,7 +61,8 @@ int main(int count, char **words) {
     int wrong = try_searches(pixels, width, height);
     if (wrong != 0)
         return 20 + wrong;
-    if (ecc200_sample_picture(pixels, width, height, 400, &options, symbols, 2, &found) != ECC200_SAMPLE_OK || found != 1)
+    if (ecc200_sample_picture(pixels, width, height, 400, &options, symbols, 2, &found) != ECC200_SAMPLE_OK ||
+        found != 1)
         return 1;
     uint8_t text[ECC200_MOST_ITEMS];
     size_t length = ecc200_text(&symbols[0].reading, text, sizeof text, NULL);

@@ -3,7 +3,7 @@ options, errors and statuses, hostile files, and the shared library from C and C
 library ecc200 under it is."""
 import os
 
-from tests.sampler import damage, hard, limits, options, reading, sizes, timing
+from tests.sampler import damage, hard, limits, options, reading, sheets, sizes, timing
 from tests.sampler.pictures import CAREFUL, left_out, results
 from tests.support import commands, needs, places
 from tests.support.case import Case
@@ -76,6 +76,21 @@ class Sampler(Case):
 
     def test_outside(self):
         self.told(damage.outside, self.sampler)
+
+    def test_sheets(self):
+        self.told(sheets.sheets, self.sampler)
+
+    def test_turned_sheets(self):
+        self.told(sheets.turned_sheets, self.sampler)
+
+    def test_trays(self):
+        self.told(sheets.trays, self.sampler)
+
+    def test_our_own_sheets(self):
+        self.told(sheets.our_own, self.room, self.sampler)
+
+    def test_more_than_are_looked_for(self):
+        self.told(sheets.most, self.sampler)
 
     def test_known_torn(self):
         self.told(damage.torn, self.sampler)
