@@ -2,6 +2,7 @@
 
 #include <math.h>
 #include <stdlib.h>
+#include <string.h>
 
 enum { LEAST_STEPS = 40, MOST_STEPS = 1 << 20, MOST_PENDING = 64 };
 static const double BEND = 1.4; /* pixels by which a straight piece may leave its chord */
@@ -116,16 +117,20 @@ static bool keep(struct lines *lines, struct line line) {
 
 /* Where the path from `first` to `last` is farthest from its chord, and how far. */
 static double farthest(const struct tracing *tracing, int first, int last, int *where) {
-    struct point from = place(tracing, first), chord = difference(place(tracing, last), from);
-    double most = 0, scale = length(chord);
+    int count = tracing->count;
+    struct corner from = tracing->path[first % count], to = tracing->path[last % count];
+    int64_t chord_x = to.x - from.x, chord_y = to.y - from.y, most = 0;
+    bool is_closed = chord_x == 0 && chord_y == 0;
     *where = (first + last) / 2;
     for (int k = first + 1; k < last; k++) {
-        struct point away = difference(place(tracing, k), from);
-        double distance = scale > 0 ? fabs(cross(chord, away)) / scale : length(away);
-        if (distance > most)
-            most = distance, *where = k;
+        struct corner at = tracing->path[k % count];
+        int64_t x = at.x - from.x, y = at.y - from.y, away = is_closed ? x * x + y * y : chord_x * y - chord_y * x;
+        away = away < 0 ? -away : away;
+        if (away > most)
+            most = away, *where = k;
     }
-    return most;
+    double chord = sqrt((double)(chord_x * chord_x + chord_y * chord_y));
+    return is_closed ? sqrt((double)most) : (double)most / chord;
 }
 
 /* Cuts the path, which is closed, into straight pieces, and keeps the long ones. A comb of many teeth is cut tooth by
@@ -221,18 +226,30 @@ void lines_free(struct lines *lines) {
     *lines = (struct lines){0};
 }
 
+/* The first pixel of a row, from `x` on, that is dark and whose left neighbour is light; the width, if there is none.
+ * The plane has a frame, and is looked at eight pixels at a time. */
+static int next_left_side(const struct plane *dark, int x, int y) {
+    const uint8_t *row = pixel_of(dark, 0, y);
+    for (uint64_t here, before; x + (int)sizeof here <= dark->width; x += (int)sizeof here) {
+        memcpy(&here, row + x, sizeof here);
+        memcpy(&before, row + x - 1, sizeof before);
+        if ((here & ~before) != 0)
+            break;
+    }
+    while (x < dark->width && (row[x] == 0 || row[x - 1] != 0))
+        x++;
+    return x;
+}
+
 bool find_lines(const struct plane *dark, double least, struct limit *limit, struct lines *out) {
     struct tracing tracing = {.dark = dark, .least = least, .limit = limit, .lines = out};
     tracing.seen = calloc((size_t)dark->width, (size_t)dark->height);
     bool enough = tracing.seen != NULL;
     out->count = 0;
     for (int y = 0; enough && y < dark->height && (y % 32 > 0 || !limit_reached(limit)); y++)
-        for (int x = 0; enough && x < dark->width; x++) {
-            if (!is_dark(dark, x, y) || is_dark(dark, x - 1, y) ||
-                tracing.seen[(size_t)y * (size_t)dark->width + (size_t)x])
-                continue;
-            enough = trace(&tracing, x, y) && (tracing.count < LEAST_STEPS || cut(&tracing));
-        }
+        for (int x = next_left_side(dark, 0, y); enough && x < dark->width; x = next_left_side(dark, x + 1, y))
+            enough = tracing.seen[(size_t)y * (size_t)dark->width + (size_t)x] ||
+                     (trace(&tracing, x, y) && (tracing.count < LEAST_STEPS || cut(&tracing)));
     free(tracing.seen);
     free(tracing.path);
     return enough && join(out, limit);

@@ -195,20 +195,47 @@ struct range {
     uint8_t least, most;
 };
 
-static bool find_ranges(const struct plane *from, struct limit *limit, int across, int down, struct range *ranges) {
-    int y = 0;
-    for (int k = 0; k < across * down; k++)
-        ranges[k] = (struct range){255, 0};
-    for (; y < from->height && has_time(limit, y); y++) {
-        const uint8_t *row = pixel_of(from, 0, y);
-        struct range *tiles = ranges + (size_t)(y / TILE) * (size_t)across;
-        for (int x = 0; x < from->width; x++) {
-            struct range *tile = tiles + x / TILE;
-            tile->least = row[x] < tile->least ? row[x] : tile->least;
-            tile->most = row[x] > tile->most ? row[x] : tile->most;
-        }
+/* What a row of tiles shows in each column of pixels. */
+struct columns {
+    uint8_t *least, *most;
+};
+
+/* Takes a row of pixels into what the columns show. In lanes, so it says that nothing overlaps. */
+static void widen(const uint8_t *restrict row, int width, uint8_t *restrict least, uint8_t *restrict most) {
+    for (int x = 0; x < width; x++) {
+        least[x] = least_of(row[x], least[x]);
+        most[x] = most_of(row[x], most[x]);
     }
-    return y == from->height;
+}
+
+static struct range range_of(const struct columns *columns, int tile) {
+    struct range range = {255, 0};
+    for (int x = tile * TILE; x < (tile + 1) * TILE; x++) {
+        range.least = least_of(range.least, columns->least[x]);
+        range.most = most_of(range.most, columns->most[x]);
+    }
+    return range;
+}
+
+/* The ranges of a row of tiles. */
+static void find_row(const struct plane *from, int row, int across, const struct columns *columns,
+                     struct range *ranges) {
+    memset(columns->least, 255, (size_t)across * TILE);
+    memset(columns->most, 0, (size_t)across * TILE);
+    for (int y = row * TILE; y < (row + 1) * TILE && y < from->height; y++)
+        widen(pixel_of(from, 0, y), from->width, columns->least, columns->most);
+    for (int tile = 0; tile < across; tile++)
+        ranges[tile] = range_of(columns, tile);
+}
+
+static bool find_ranges(const struct plane *from, struct limit *limit, int across, int down, struct range *ranges) {
+    uint8_t *room = malloc(2 * (size_t)across * TILE);
+    int row = 0;
+    for (; room != NULL && row < down && has_time(limit, row * TILE); row++)
+        find_row(from, row, across, &(struct columns){room, room + (size_t)across * TILE},
+                 ranges + (size_t)row * (size_t)across);
+    free(room);
+    return row == down;
 }
 
 /* The least and the most of all tiles of a plane, row by row, and how many tiles around one are its surroundings. */
@@ -231,24 +258,28 @@ static uint8_t limit_of(const struct tiles *tiles, int column, int row) {
     return (uint8_t)(most - least < LEAST_CONTRAST ? 0 : (most + least) / 2);
 }
 
-/* Marks what is dark by the limits of the tiles. `to` is light all over. */
+/* Marks what is dark in a row of pixels, by a limit for each. */
+static void mark_row(const uint8_t *restrict row, const uint8_t *restrict limits, int width, uint8_t *restrict to) {
+    for (int x = 0; x < width; x++)
+        to[x] = row[x] < limits[x];
+}
+
+/* Marks what is dark by the limits of the tiles. `limits` has room for a row of them, `to` is light all over. */
 static bool mark_dark(const struct plane *from, struct limit *limit, const struct tiles *tiles, uint8_t *limits,
                       uint8_t *to, size_t stride) {
     int y = 0;
     for (; y < from->height && has_time(limit, y); y++, to += stride) {
         if (y % TILE == 0)
             for (int column = 0; column < tiles->across; column++)
-                limits[column] = limit_of(tiles, column, y / TILE);
-        const uint8_t *row = pixel_of(from, 0, y);
-        for (int x = 0; x < from->width; x++)
-            to[x] = row[x] < limits[x / TILE];
+                memset(limits + column * TILE, limit_of(tiles, column, y / TILE), TILE);
+        mark_row(pixel_of(from, 0, y), limits, from->width, to);
     }
     return y == from->height;
 }
 
 bool plane_darken(const struct plane *from, int around, struct limit *limit, struct plane *out) {
     struct tiles tiles = {.across = tiles_in(from->width), .down = tiles_in(from->height), .around = around};
-    uint8_t *to = plane_make(from->width, from->height, 1, out), *limits = malloc((size_t)tiles.across);
+    uint8_t *to = plane_make(from->width, from->height, 1, out), *limits = malloc((size_t)tiles.across * TILE);
     tiles.ranges = malloc((size_t)tiles.across * (size_t)tiles.down * sizeof *tiles.ranges);
     bool is_whole = to != NULL && limits != NULL && tiles.ranges != NULL &&
                     find_ranges(from, limit, tiles.across, tiles.down, tiles.ranges) &&
