@@ -6,12 +6,15 @@
 #include "spectrum.h"
 #include "texture.h"
 
+enum { WORK_OF_A_WINDOW = 400000, WORK_OF_A_MODULE = 1500 };
 enum { SPOTS = 12, BORDERS = 6, LEAST_EXTENT = 8, CLEAR = 6 };
 
 /* Judges the symbols whose borders the lattice's modules show. */
 static void search_field(struct search *search, int level, const struct lattice *lattice, struct field *field) {
     struct border borders[BORDERS];
     int first_x, first_y;
+    limit_spend(search->judge.limit, WORK_OF_A_MODULE * (int64_t)(lattice->part.last_x - lattice->part.first_x) *
+                                         (lattice->part.last_y - lattice->part.first_y));
     sample_field(&search->sights[0].levels[level], lattice, field, &first_x, &first_y);
     int count = find_borders(field, search->judge.layouts, borders, BORDERS);
     search->judge.has_no_memory |= count < 0;
@@ -38,6 +41,7 @@ static void search_spot(struct search *search, int level, const struct plane *st
     if (is_known_at(&search->known, middle))
         return;
     /* Edges are seen by what is steep, and dots that don't touch by what is dark. */
+    limit_spend(search->judge.limit, WORK_OF_A_WINDOW);
     int count = find_lattices(steep, spot->x, spot->y, 0.5, lattices);
     count += find_lattices(grey, spot->x, spot->y, 0, lattices + count);
     size_t before = search->count;

@@ -55,9 +55,10 @@ uint16_t ecc200_sample_abi(void);
 
 enum {
     ECC200_SAMPLE_MOST_SIDE = 32767,  /* pixels: no picture may be wider or higher */
-    ECC200_SAMPLE_USUAL_TIME = 1000   /* milliseconds */
+    ECC200_SAMPLE_USUAL_TIME = 1000   /* milliseconds, where a search is to be limited by the clock */
 };
-#define ECC200_SAMPLE_ANY_TIME UINT32_MAX /* as long as it takes, for `milliseconds` */
+#define ECC200_SAMPLE_ANY_TIME UINT32_MAX   /* for `milliseconds`: the search is limited by its work */
+#define ECC200_SAMPLE_ANY_EFFORT UINT16_MAX /* for `effort`: by nothing */
 
 /* What a call returns. */
 enum ecc200_sample_code {
@@ -71,7 +72,8 @@ enum ecc200_sample_code {
 enum ecc200_sample_end {
     ECC200_SAMPLE_WHOLE = 0,          /* all of the picture was searched */
     ECC200_SAMPLE_ROOM = 1,           /* there is no room for more symbols */
-    ECC200_SAMPLE_TIME = 2            /* the time was over */
+    ECC200_SAMPLE_TIME = 2,           /* the time was over */
+    ECC200_SAMPLE_WORK = 3            /* so much work was done without finding one more */
 };
 
 /* Why a symbol that was found doesn't count as read. */
@@ -84,8 +86,10 @@ enum ecc200_sample_unread {
 };
 
 typedef struct ecc200_sample_options {
-    uint32_t milliseconds; /* how long to try at most. What is being tried is ended, so a call may take a little
-                              longer */
+    uint32_t milliseconds; /* how long to try at most, by the clock. What is being tried is ended, so a call may take a
+                              little longer. Or ECC200_SAMPLE_ANY_TIME: then the work is limited that is done until the
+                              first symbol is found, and from one to the next, so that the same picture gives the same
+                              answer on any machine, however busy */
     uint16_t least_side;              /* symbols with a side of fewer modules are passed over; 0: none is */
     uint16_t margin;      /* how many corrections each block must leave unused, of those that its size allows */
     uint16_t keep_unread; /* not 0: if no symbol is read, the most likely grid that has a symbol's border is given, with
@@ -116,7 +120,7 @@ typedef struct ecc200_sample {
 
 /* A search: what is asked, and what came of it. ecc200_sample_usual_search fills it. */
 typedef struct ecc200_sample_search {
-    uint32_t milliseconds;            /* as in the options; ECC200_SAMPLE_ANY_TIME: as long as it takes */
+    uint32_t milliseconds;            /* as in the options */
     uint16_t least_side, margin;      /* as in the options */
     ecc200_sample *symbols;           /* where the symbols that are read go: their number goes into `count` */
     size_t room, count;
@@ -125,16 +129,20 @@ typedef struct ecc200_sample_search {
                                          May be NULL if there is no room for any */
     size_t unread_room, unread_count;
     uint16_t ended;                   /* one of ecc200_sample_end */
+    uint16_t effort;                  /* if the time is any: how much work may be done, in percent of the usual; 0: the
+                                         usual; or ECC200_SAMPLE_ANY_EFFORT */
 } ecc200_sample_search;
 
-/* The usual options: a second, every side, no margin, nothing unread. */
+/* The usual options: the usual work, which takes about a second if nothing is found in a picture of few megapixels,
+ * every side, no margin, nothing unread. */
 ecc200_sample_options ecc200_sample_usual(void);
 
 /* Finds at most `room` symbols in a picture, writes them into `out` and their number into *count. They are in reading
  * order: row by row from the top, each from the left; and where they all are turned by about one angle, of at most 45
  * degrees but for quarter turns, as if that were turned back. With room for one, the search ends with the first; else
- * it goes on until there are `room`, or nothing more is found, or the time is over. `options` may be NULL: the usual
- * ones. Returns PICTURE or NO_MEMORY with a count of 0; otherwise OK, with a count of 0 if there is none. */
+ * it goes on until there are `room`, or nothing more is found, or the limit of time or work is reached. `options` may
+ * be NULL: the usual ones. Returns PICTURE or NO_MEMORY with a count of 0; otherwise OK, with a count of 0 if there is
+ * none. */
 uint16_t ecc200_sample_picture(const uint8_t *luminance, size_t width, size_t height, size_t stride,
                                const ecc200_sample_options *options, ecc200_sample *out, size_t room, size_t *count);
 

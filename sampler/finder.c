@@ -15,6 +15,8 @@ static const double LEAST_LIVELINESS = 0.3, MOST_LIVELINESS = 2.5;
 static const double MOST_UNEVEN = 2.5, MOST_OBLONG = 2;
 static const double WIDEST_MODULE = 0.1, WIDEST_OF_LONG = 0.14; /* of a border */
 
+enum { WORK_OF_A_LINE = 1000, WORK_OF_AN_ELBOW = 40000 };
+
 /* ---- The width of a module */
 
 /* How far it is dark from a point on a border inwards, in pixels. */
@@ -250,8 +252,11 @@ bool find_elbows(const struct sought *in, struct limit *limit, struct elbows *ou
     struct end *firsts = ends_of(lines, true), *lasts = ends_of(lines, false);
     bool enough = firsts != NULL && lasts != NULL;
     out->count = out->whole = out->lively = 0;
-    for (int k = 0; enough && k < lines->count && !limit_reached(limit); k++)
+    for (int k = 0; enough && k < lines->count && !limit_reached(limit); k++) {
+        int before = out->count;
         enough = keep_elbows_at(in, k, true, firsts, out) && keep_elbows_at(in, k, false, lasts, out);
+        limit_spend(limit, WORK_OF_A_LINE + WORK_OF_AN_ELBOW * (int64_t)abs(out->count - before));
+    }
     free(firsts);
     free(lasts);
     if (!enough || out->count == 0)

@@ -25,6 +25,9 @@ enum { CHECKS_OF_A_CORRECTION = 2 };
 static const double LEAST_SHARE = 0.4, LEAST_SHARE_OF_CLEAR = 0.25, LEAST_BENT = 0.6;
 static const double LEAST_NEAR = 0.6; /* of the edges of a border that is bent: by chance, a third */
 
+/* What is spent on a module that is sampled, told apart, read, or looked at for damage. */
+enum { WORK_OF_SAMPLING = 160, WORK_OF_A_RULE = 60, WORK_OF_READING = 20, WORK_OF_LOOKING = 150 };
+
 /* ---- One candidate */
 
 /* How many wrong border modules are taken at most, where each block leaves a correction unused: as many as a torn
@@ -73,6 +76,17 @@ static void set_corners(ecc200_sample *sample, const struct warp *warp, struct e
                      at = warp_point(warp, corner.x, corner.y);
         sample->corners[k] = (ecc200_sample_point){at.x, at.y};
     }
+}
+
+/* ---- What is spent */
+
+static void spend(struct judge *judge, const struct layout *layout, int64_t work_of_a_module) {
+    limit_spend(judge->limit, work_of_a_module * layout->extent.wide * layout->extent.high);
+}
+
+/* On a fit to edges, so many times. */
+static void spend_on_edges(struct judge *judge, const struct layout *layout, int rounds) {
+    limit_spend(judge->limit, rounds * work_of_fitting(layout));
 }
 
 /* ---- The candidates of one sampling */
@@ -150,6 +164,7 @@ static void try_rules(struct trials *trials, const struct brightnesses *brightne
     ecc200_sample *trial = judge->trial;
     const struct layout *layout = trials->layout;
     for (int k = 0; k < count && trials->best_cost != 0; k++) {
+        spend(judge, layout, WORK_OF_A_RULE + WORK_OF_READING);
         if (!tell_apart(brightnesses, layout->colour, RULES[k], judge->seen))
             return;
         take_seen(trials, layout->is_mirrored);
@@ -216,6 +231,7 @@ static bool try_doubt(struct trials *trials, const struct brightnesses *brightne
     for (int k = 0; k < layout->extent.wide * layout->extent.high; k++)
         colour[k] = judge->doubtful[k] ? UNKNOWN : layout->colour[k];
     for (int k = 0; k < DOUBT_RULE_COUNT && is_one; k++) {
+        spend(judge, layout, WORK_OF_A_RULE + 2 * WORK_OF_READING);
         if (!tell_apart(brightnesses, colour, DOUBT_RULES[k], judge->seen))
             continue;
         is_one = try_doubtful(trials, layout->is_mirrored);
@@ -230,6 +246,7 @@ static bool try_doubt(struct trials *trials, const struct brightnesses *brightne
 static void try_moved(struct trials *trials, const struct lie *lie, struct brightnesses *brightnesses) {
     static const double x[] = {0.2, -0.2, 0, 0}, y[] = {0, 0, 0.2, -0.2};
     for (int k = 0; k < 4 && trials->best_cost < 0 && !limit_reached(trials->judge->limit); k++) {
+        spend(trials->judge, trials->layout, WORK_OF_SAMPLING);
         sample_modules(trials->judge->picture, trials->layout, lie, x[k], y[k], brightnesses);
         try_rules(trials, brightnesses, FEW_RULES);
     }
@@ -243,6 +260,8 @@ static void try_regions(struct trials *trials, struct lie *lie, struct brightnes
     if (across * down == 1 || trials->best_cost >= 0 || limit_reached(trials->judge->limit))
         return;
     lie->region = region;
+    spend_on_edges(trials->judge, layout, 2);
+    spend(trials->judge, layout, WORK_OF_SAMPLING);
     for (int k = 0; k < across * down; k++) {
         int x = k % across * region.wide, y = k / across * region.high;
         struct part part = {x, x + region.wide, y, y + region.high};
@@ -258,14 +277,18 @@ static void try_bent(struct trials *trials, struct lie *lie, struct brightnesses
     struct judge *judge = trials->judge;
     struct extent extent = trials->layout->extent;
     struct warp warp = bendable_warp(&trials->warp->to_picture, extent);
-    if (trials->score < LEAST_BENT || trials->best_cost >= 0 || limit_reached(judge->limit) ||
-        bend(judge->smooth, trials->layout, 4, &warp) < LEAST_NEAR)
+    if (trials->score < LEAST_BENT || trials->best_cost >= 0 || limit_reached(judge->limit))
+        return;
+    spend_on_edges(judge, trials->layout, 4);
+    if (bend(judge->smooth, trials->layout, 4, &warp) < LEAST_NEAR)
         return;
     for (int round = 0; round < 2 && trials->best_cost < 0 && !limit_reached(judge->limit); round++) {
         lie->region = extent, lie->warps[0] = warp;
+        spend(judge, trials->layout, WORK_OF_SAMPLING);
         sample_modules(judge->picture, trials->layout, lie, 0, 0, brightnesses);
         try_rules(trials, brightnesses, RULE_COUNT);
         lay_out_places(judge->places, (struct part){0, extent.wide, 0, extent.high});
+        spend_on_edges(judge, judge->places, 3);
         bend(judge->smooth, judge->places, 3, &warp);
     }
 }
@@ -277,6 +300,7 @@ static void try_known_damage(struct trials *trials, struct lie *lie, struct brig
     const struct layout *layout = trials->layout;
     *lie = (struct lie){.region = layout->extent, .warps = {*trials->warp}};
     for (int beside = 0; beside <= 1 && trials->best_cost < 0 && !limit_reached(judge->limit); beside++) {
+        spend(judge, layout, WORK_OF_LOOKING);
         if (find_doubt(judge->picture, layout, trials->warp, beside, &judge->looks, judge->doubtful) == 0)
             return;
         if (beside == 0)
@@ -314,6 +338,7 @@ bool judge_placement(struct judge *judge, const struct placement *placement, ecc
         return false;
     struct warp warp = placement->warp;
     struct part whole = {0, layout->extent.wide, 0, layout->extent.high};
+    spend_on_edges(judge, layout, 4);
     double share = refine(judge->smooth, layout, whole, 0.01, 4, &warp);
     if (share < (placement->shows_border ? LEAST_SHARE_OF_CLEAR : LEAST_SHARE) ||
         was_tried(judge, &warp, layout->extent))
@@ -321,6 +346,7 @@ bool judge_placement(struct judge *judge, const struct placement *placement, ecc
     struct trials trials = {judge, layout, &warp, out, -1, share};
     struct brightnesses brightnesses;
     struct lie lie = {.region = layout->extent, .warps = {warp}};
+    spend(judge, layout, WORK_OF_SAMPLING);
     sample_modules(judge->picture, layout, &lie, 0, 0, &brightnesses);
     try_rules(&trials, &brightnesses, RULE_COUNT);
     try_regions(&trials, &lie, &brightnesses);

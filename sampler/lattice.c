@@ -82,6 +82,7 @@ bool grow_lattice(const struct plane *grey, const struct homography *to_picture,
     lattice.warp.is_bent = true;
     while (!limit_reached(limit) && has_room(lattice.part) && grow(grey, room, least, fits, &lattice)) {
         lay_out_places(room, lattice.part);
+        limit_spend(limit, 2 * work_of_fitting(room)); /* the strips beside, and the bend */
         bend(grey, room, 1, &lattice.warp);
     }
     *out = lattice;

@@ -2,7 +2,8 @@
 
 #include <time.h>
 
-#include "ecc200_sample.h"
+static const int64_t USUAL_WORK = 600000000, USUAL_WORK_OF_A_PIXEL = 10;
+static const int64_t MOST_WORK = INT64_MAX / 2; /* as good as any */
 
 static int64_t now(void) {
     struct timespec now;
@@ -10,11 +11,19 @@ static int64_t now(void) {
     return (int64_t)now.tv_sec * 1000 + now.tv_nsec / 1000000;
 }
 
-struct limit limit_from_now(uint32_t milliseconds) {
-    return (struct limit){.end = milliseconds == ECC200_SAMPLE_ANY_TIME ? INT64_MAX : now() + milliseconds};
+struct limit limit_from_now(uint32_t milliseconds, uint16_t effort, int64_t pixels) {
+    bool is_timed = milliseconds != ECC200_SAMPLE_ANY_TIME;
+    int64_t percent = effort != 0 ? effort : 100;
+    int64_t work = is_timed || effort == ECC200_SAMPLE_ANY_EFFORT
+                       ? MOST_WORK
+                       : percent * ((USUAL_WORK + USUAL_WORK_OF_A_PIXEL * pixels) / 100);
+    return (struct limit){.end = is_timed ? now() + milliseconds : INT64_MAX, .allowed = work, .left = work};
 }
 
 bool limit_reached(struct limit *limit) {
-    limit->is_reached = limit->is_reached || (limit->end < INT64_MAX && now() >= limit->end);
-    return limit->is_reached;
+    if (limit->reached == ECC200_SAMPLE_WHOLE)
+        limit->reached = limit->left < 0                                  ? ECC200_SAMPLE_WORK
+                         : limit->end < INT64_MAX && now() >= limit->end ? ECC200_SAMPLE_TIME
+                                                                          : ECC200_SAMPLE_WHOLE;
+    return limit->reached != ECC200_SAMPLE_WHOLE;
 }

@@ -1,17 +1,32 @@
-/* What a search of a picture may take. */
+/* What a search of a picture may take: so long, or so much work. */
 #ifndef LIMIT_H
 #define LIMIT_H
 
 #include <stdbool.h>
 #include <stdint.h>
 
+#include "ecc200_sample.h"
+
+/* Work is counted in about nanoseconds of a processor, the same for the same picture. */
 struct limit {
-    int64_t end;     /* milliseconds of a clock that never goes back: when to stop; INT64_MAX: never */
-    bool is_reached; /* whether something was left undone for that */
+    int64_t end;           /* milliseconds of a clock that never goes back: when to stop; INT64_MAX: never */
+    int64_t allowed, left; /* how much work may be done until the first symbol, or from one to the next */
+    enum ecc200_sample_end reached; /* what left something undone: ECC200_SAMPLE_WHOLE if nothing did */
 };
 
-/* A limit of so many milliseconds from now on, of any number if they are ECC200_SAMPLE_ANY_TIME. */
-struct limit limit_from_now(uint32_t milliseconds);
+/* A limit of so many milliseconds from now on; if they are ECC200_SAMPLE_ANY_TIME, of work: of so many percent of what
+ * is usual for so many pixels, or any if they are ECC200_SAMPLE_ANY_EFFORT. */
+struct limit limit_from_now(uint32_t milliseconds, uint16_t effort, int64_t pixels);
+
+/* Takes account of work. */
+static inline void limit_spend(struct limit *limit, int64_t work) {
+    limit->left -= work;
+}
+
+/* Allows as much work once more, after a symbol. */
+static inline void limit_renew(struct limit *limit) {
+    limit->left = limit->allowed;
+}
 
 /* Whether the limit is reached. Who asks then leaves undone what it was about to do. */
 bool limit_reached(struct limit *limit);

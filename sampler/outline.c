@@ -5,6 +5,7 @@
 #include <string.h>
 
 enum { LEAST_STEPS = 40, MOST_STEPS = 1 << 20, MOST_PENDING = 64 };
+enum { WORK_OF_A_STEP = 10 }; /* along an outline */
 static const double BEND = 1.4; /* pixels by which a straight piece may leave its chord */
 
 struct corner {
@@ -56,6 +57,7 @@ static bool trace(struct tracing *tracing, int x, int y) {
         else if (!is_dark(tracing->dark, at_x + right_x[way], at_y + right_y[way]))
             way = (way + 1) % 4;
     } while (at_x != x || at_y != y + 1 || way != 0);
+    limit_spend(tracing->limit, WORK_OF_A_STEP * (int64_t)tracing->count);
     return true;
 }
 
@@ -214,6 +216,7 @@ static bool join(struct lines *lines, struct limit *limit) {
     lines->count = count;
     for (int k = 0; k < count && enough && !limit_reached(limit); k++) {
         struct line joined = joined_from(lines, k, count);
+        limit_spend(limit, count);
         if (extent(&joined) > extent(&lines->items[k]) + 1)
             enough = keep(lines, joined);
     }
@@ -246,10 +249,12 @@ bool find_lines(const struct plane *dark, double least, struct limit *limit, str
     tracing.seen = calloc((size_t)dark->width, (size_t)dark->height);
     bool enough = tracing.seen != NULL;
     out->count = 0;
-    for (int y = 0; enough && y < dark->height && (y % 32 > 0 || !limit_reached(limit)); y++)
+    for (int y = 0; enough && y < dark->height && (y % 32 > 0 || !limit_reached(limit)); y++) {
+        limit_spend(limit, dark->width / 4);
         for (int x = next_left_side(dark, 0, y); enough && x < dark->width; x = next_left_side(dark, x + 1, y))
             enough = tracing.seen[(size_t)y * (size_t)dark->width + (size_t)x] ||
                      (trace(&tracing, x, y) && (tracing.count < LEAST_STEPS || cut(&tracing)));
+    }
     free(tracing.seen);
     free(tracing.path);
     return enough && join(out, limit);

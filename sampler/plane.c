@@ -6,9 +6,12 @@
 
 enum { ROWS_AT_A_TIME = 32 };
 
-/* Whether there is time for a row; the clock is looked at now and then. */
-static bool has_time(struct limit *limit, int row) {
-    return row % ROWS_AT_A_TIME > 0 || !limit_reached(limit);
+/* Whether the limit leaves a row of so many pixels; that is looked at now and then. */
+static bool leaves(struct limit *limit, int row, int width) {
+    if (row % ROWS_AT_A_TIME > 0)
+        return true;
+    limit_spend(limit, (int64_t)ROWS_AT_A_TIME * width);
+    return !limit_reached(limit);
 }
 
 /* Makes room for a plane of 0, and gives its first pixel; NULL if there is no memory. */
@@ -35,7 +38,7 @@ static bool is_made(bool is_whole, struct plane *plane) {
 bool plane_invert(const struct plane *from, struct limit *limit, struct plane *out) {
     uint8_t *to = plane_make(from->width, from->height, 0, out);
     int y = 0;
-    for (; to != NULL && y < from->height && has_time(limit, y); y++, to += out->stride) {
+    for (; to != NULL && y < from->height && leaves(limit, y, from->width); y++, to += out->stride) {
         const uint8_t *row = pixel_of(from, 0, y);
         for (int x = 0; x < from->width; x++)
             to[x] = (uint8_t)(255 - row[x]);
@@ -46,7 +49,7 @@ bool plane_invert(const struct plane *from, struct limit *limit, struct plane *o
 bool plane_halve(const struct plane *from, struct limit *limit, struct plane *out) {
     uint8_t *to = plane_make(from->width / 2, from->height / 2, 0, out);
     int y = 0;
-    for (; to != NULL && y < out->height && has_time(limit, y); y++, to += out->stride) {
+    for (; to != NULL && y < out->height && leaves(limit, y, from->width); y++, to += out->stride) {
         const uint8_t *row = pixel_of(from, 0, 2 * y), *below = row + from->stride;
         for (int x = 0; x < out->width; x++)
             to[x] = (uint8_t)((row[2 * x] + row[2 * x + 1] + below[2 * x] + below[2 * x + 1] + 2) >> 2);
@@ -57,7 +60,7 @@ bool plane_halve(const struct plane *from, struct limit *limit, struct plane *ou
 bool plane_steepen(const struct plane *from, struct limit *limit, struct plane *out) {
     uint8_t *to = plane_make(from->width, from->height, 0, out);
     int y = 0;
-    for (; to != NULL && y + 1 < from->height && has_time(limit, y); y++, to += out->stride) {
+    for (; to != NULL && y + 1 < from->height && leaves(limit, y, from->width); y++, to += out->stride) {
         const uint8_t *row = pixel_of(from, 0, y), *below = row + from->stride;
         for (int x = 0; x + 1 < from->width; x++)
             to[x] = (uint8_t)((abs(row[x] - below[x + 1]) + abs(row[x + 1] - below[x])) / 2);
@@ -116,7 +119,7 @@ static void frame_plane(uint8_t *first, const struct plane *plane) {
  * each side. */
 static int smooth_rows(const struct plane *from, struct limit *limit, uint16_t *sums, uint8_t *to, size_t stride) {
     int width = from->width, y = 0;
-    for (; y < from->height && has_time(limit, y); y++, to += stride) {
+    for (; y < from->height && leaves(limit, y, from->width); y++, to += stride) {
         const uint8_t *row = pixel_of(from, 0, y);
         const uint8_t *above = y > 0 ? row - from->stride : row,
                       *below = y + 1 < from->height ? row + from->stride : row;
@@ -174,7 +177,7 @@ bool plane_calm(const struct plane *from, struct limit *limit, struct plane *out
             *to = first;
     bool has_room = first != NULL && columns != NULL;
     int y = 0;
-    for (; has_room && y < from->height && has_time(limit, y); y++, to += out->stride)
+    for (; has_room && y < from->height && leaves(limit, y, from->width); y++, to += out->stride)
         calm_row(pixel_of(from, 0, y), (ptrdiff_t)from->stride, from->width, columns, to);
     bool is_whole = has_room && y == from->height;
     free(columns);
@@ -231,7 +234,7 @@ static void find_row(const struct plane *from, int row, int across, const struct
 static bool find_ranges(const struct plane *from, struct limit *limit, int across, int down, struct range *ranges) {
     uint8_t *room = malloc(2 * (size_t)across * TILE);
     int row = 0;
-    for (; room != NULL && row < down && has_time(limit, row * TILE); row++)
+    for (; room != NULL && row < down && leaves(limit, row * TILE, from->width); row++)
         find_row(from, row, across, &(struct columns){room, room + (size_t)across * TILE},
                  ranges + (size_t)row * (size_t)across);
     free(room);
@@ -268,7 +271,7 @@ static void mark_row(const uint8_t *restrict row, const uint8_t *restrict limits
 static bool mark_dark(const struct plane *from, struct limit *limit, const struct tiles *tiles, uint8_t *limits,
                       uint8_t *to, size_t stride) {
     int y = 0;
-    for (; y < from->height && has_time(limit, y); y++, to += stride) {
+    for (; y < from->height && leaves(limit, y, from->width); y++, to += stride) {
         if (y % TILE == 0)
             for (int column = 0; column < tiles->across; column++)
                 memset(limits + column * TILE, limit_of(tiles, column, y / TILE), TILE);

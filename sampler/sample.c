@@ -18,11 +18,11 @@ uint16_t ecc200_sample_abi(void) {
 }
 
 ecc200_sample_options ecc200_sample_usual(void) {
-    return (ecc200_sample_options){.milliseconds = ECC200_SAMPLE_USUAL_TIME};
+    return (ecc200_sample_options){.milliseconds = ECC200_SAMPLE_ANY_TIME};
 }
 
 ecc200_sample_search ecc200_sample_usual_search(void) {
-    return (ecc200_sample_search){.milliseconds = ECC200_SAMPLE_USUAL_TIME};
+    return (ecc200_sample_search){.milliseconds = ECC200_SAMPLE_ANY_TIME};
 }
 
 /* ---- What has been found */
@@ -73,6 +73,7 @@ bool judge_all(struct search *search, const struct sight *sight, struct placemen
         if (!is_known_at(&search->known, middle) &&
             judge_placement(&search->judge, placement, &search->found[search->count])) {
             add_known(&search->known, &search->found[search->count++]);
+            limit_renew(search->judge.limit);
             return true;
         }
     }
@@ -235,15 +236,14 @@ static void search_picture(struct search *search, const struct plane *picture) {
 }
 
 static enum ecc200_sample_end end_of(const struct search *search) {
-    return search->count == search->room       ? ECC200_SAMPLE_ROOM
-           : search->judge.limit->is_reached ? ECC200_SAMPLE_TIME
-                                             : ECC200_SAMPLE_WHOLE;
+    return search->count == search->room ? ECC200_SAMPLE_ROOM : search->judge.limit->reached;
 }
 
 /* Searches a picture of a size that is sampled. `search` is empty, but for its layouts. False if there is no memory. */
 static bool fill(struct search *search, const struct plane *picture, ecc200_sample_search *asked,
                  bool is_refused_only) {
-    struct limit limit = limit_from_now(asked->milliseconds);
+    struct limit limit =
+        limit_from_now(asked->milliseconds, asked->effort, (int64_t)picture->width * picture->height);
     struct judge *judge = &search->judge;
     ecc200_sample *trial = calloc(1, sizeof *trial);
     bool has_room = unread_make(asked->unread, asked->unread_room, &judge->unread) &&

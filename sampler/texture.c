@@ -17,6 +17,7 @@ static int steepness_at(const struct plane *steep, int x, int y) {
 }
 
 static void sum_tiles(const struct plane *steep, struct limit *limit, struct tiles *tiles) {
+    limit_spend(limit, (int64_t)steep->width * steep->height);
     for (int y = 0; y < steep->height && (y % TILE > 0 || !limit_reached(limit)); y++)
         for (int x = 0; x < steep->width; x++)
             tiles->sums[(size_t)(y / TILE) * (size_t)tiles->across + (size_t)(x / TILE)] +=

@@ -15,6 +15,8 @@ static const double LEAST_EVEN = 0.95; /* of the score of a placement without pe
 /* By how much twice that number may differ from a rectangle's side: so many modules, and this share of the side. */
 static const double UNSURE = 2, UNSURE_SHARE = 0.2;
 
+enum { WORK_OF_A_TRACK = 80, WORK_OF_A_STEP = 4, WORK_OF_A_MODULE = 25 };
+
 /* ---- The line along an alternating border */
 
 struct track {
@@ -54,18 +56,19 @@ static bool add_turn(struct rhythm *rhythm, double place) {
 }
 
 /* Follows the turns of brightness along the track, of at least `least` in brightness, and counts those that come
- * evenly. */
-static void follow(const struct plane *grey, struct track *track, double module, double longest, int least) {
+ * evenly. Returns how many steps it went. */
+static int follow(const struct plane *grey, struct track *track, double module, double longest, int least) {
     struct rhythm rhythm = {0};
     double step = fmax(module / 7, 0.5);
     bool seeks_dark = true;
-    int extreme = 255;
+    int extreme = 255, steps = 0;
     double place = 0;
     track->darks = 0;
     struct point at = track->from, move = scale_by(track->along, step);
+    bool is_inside = shows(grey, at) && shows(grey, sum(at, scale_by(track->along, longest + step)));
     for (double way = 0; way < longest && rhythm.bad < rhythm.good + 4 && !is_still(&rhythm, way, module);
-         way += step, at = sum(at, move)) {
-        int here = grey_at(grey, at);
+         way += step, at = sum(at, move), steps++) {
+        int here = is_inside ? *pixel_of(grey, (int)at.x, (int)at.y) : grey_at(grey, at);
         if (seeks_dark ? here < extreme : here > extreme) {
             extreme = here, place = way;
         } else if (seeks_dark ? here >= extreme + least : here <= extreme - least) {
@@ -76,6 +79,7 @@ static void follow(const struct plane *grey, struct track *track, double module,
         }
     }
     track->score = rhythm.good - 1.3 * rhythm.bad;
+    return steps;
 }
 
 /* The share of dark pixels beside the track, outside of the symbol. */
@@ -111,7 +115,8 @@ static void look_around(const struct scene *scene, const struct start *start, st
         for (double a = from.angle - from.angle_reach; a <= from.angle + from.angle_reach; a += from.angle_step) {
             struct track track = {.from = sum(start->end, scale_by(start->inwards, s * start->module)),
                                   .along = turn_by(start->along, a)};
-            follow(scene->grey, &track, start->module, 1.4 * start->whole, start->least);
+            int steps = follow(scene->grey, &track, start->module, 1.4 * start->whole, start->least);
+            limit_spend(scene->limit, WORK_OF_A_TRACK + WORK_OF_A_STEP * (int64_t)steps);
             track.score -= 0.3 * fabs(s - 0.5);
             if (track.score <= best->score)
                 continue;
@@ -219,7 +224,7 @@ struct frame {
 static struct placement best_near(const struct scene *scene, const struct frame *frame, struct extent extent,
                                   double reach, double step) {
     struct placement best = {.extent = extent, .score = 0};
-    double least = is_square(extent) ? LEAST_TRACK : LEAST_TRACK_OF_RECTANGLE;
+    double least = is_square(extent) ? LEAST_TRACK : LEAST_TRACK_OF_RECTANGLE, places = 2 * reach / step + 1;
     struct point along = scale_by(difference(frame->pixels[3], frame->pixels[0]), 1.0 / extent.wide);
     struct point down = scale_by(difference(frame->pixels[2], frame->pixels[3]), 1.0 / extent.high);
     for (double x = -reach; x <= reach; x += step)
@@ -235,6 +240,7 @@ static struct placement best_near(const struct scene *scene, const struct frame 
             if (score > best.score)
                 best.score = score, best.warp = flat_warp(&to_picture);
         }
+    limit_spend(scene->limit, (int64_t)(places * places * WORK_OF_A_MODULE * (extent.wide + extent.high)));
     return best;
 }
 

@@ -122,6 +122,11 @@ static int look_at(const struct plane *plane, const struct layout *layout, struc
     return count;
 }
 
+int64_t work_of_fitting(const struct layout *layout) {
+    enum { WORK_OF_AN_EDGE = 900 };
+    return WORK_OF_AN_EDGE * (int64_t)(layout->witness_count < MOST_LOOKED_AT ? layout->witness_count : MOST_LOOKED_AT);
+}
+
 double refine(const struct plane *plane, const struct layout *layout, struct part part, double stiff, int rounds,
               struct warp *warp) {
     double share = 0;

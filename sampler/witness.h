@@ -6,6 +6,9 @@
 #include "plane.h"
 #include "warp.h"
 
+/* How much work a round of a fit to the edges of a layout is. */
+int64_t work_of_fitting(const struct layout *layout);
+
 /* Moves the projection of a warp so that the edges in the part come to lie where the picture shows them. `stiff` says
  * how much it is held back: 0.01 for a whole symbol, more for small parts. Returns the share of edges that the picture
  * shows near where they should be. */

@@ -38,11 +38,13 @@ static enum outcome hold_back(const char *file, const ecc200_sample *symbol, con
 static enum outcome say_early(const char *file, const ecc200_sample_search *search) {
     fflush(stdout);
     fprintf(stderr, "dm_sample: %s: the search ended early, ", file);
+    const char *what = search->count > 0 ? "more symbols" : "a symbol";
     if (search->ended == ECC200_SAMPLE_ROOM)
         fprintf(stderr, "with %zu symbols: there may be more\n", search->count);
+    else if (search->ended == ECC200_SAMPLE_TIME)
+        fprintf(stderr, "after %u milliseconds: there may be %s\n", search->milliseconds, what);
     else
-        fprintf(stderr, "after %u milliseconds: there may be %s\n", search->milliseconds,
-                search->count > 0 ? "more symbols" : "a symbol");
+        fprintf(stderr, "after the usual work: there may be %s, --time searches longer\n", what);
     return ENDED_EARLY;
 }
 

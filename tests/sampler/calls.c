@@ -27,6 +27,12 @@ static int try_searches(const uint8_t *pixels, size_t width, size_t height) {
     if (search_for(pixels, width, height, 2, &search) != ECC200_SAMPLE_WHOLE || search.count != 0 ||
         search.unread_count != 1 || unread[0].unread != ECC200_SAMPLE_MARGIN || unread[0].rows != 14)
         return 4;
+    search.effort = 1;
+    if (search_for(pixels, width, height, 2, &search) != ECC200_SAMPLE_WORK || search.count != 0)
+        return 7;
+    search.effort = ECC200_SAMPLE_ANY_EFFORT;
+    if (search_for(pixels, width, height, 2, &search) != ECC200_SAMPLE_WHOLE || search.count != 0)
+        return 8;
     search.milliseconds = 0;
     if (search_for(pixels, width, height, 2, &search) != ECC200_SAMPLE_TIME || search.count != 0 ||
         search.unread_count != 0)
@@ -46,7 +52,7 @@ int main(int count, char **words) {
         if (fread(pixels + y * 400, 1, width, stdin) != width)
             return 8;
     ecc200_sample_options options = ecc200_sample_usual();
-    if (ecc200_sample_abi() != ECC200_SAMPLE_ABI || options.milliseconds != ECC200_SAMPLE_USUAL_TIME)
+    if (ecc200_sample_abi() != ECC200_SAMPLE_ABI || options.milliseconds != ECC200_SAMPLE_ANY_TIME)
         return 7;
     if (ecc200_sample_picture(pixels, 0, 1, 1, NULL, symbols, 2, &found) != ECC200_SAMPLE_PICTURE || found != 0)
         return 6;

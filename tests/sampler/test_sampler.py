@@ -173,6 +173,12 @@ class Sampler(Case):
     def test_early_with_a_symbol(self):
         self.told(timing.early, self.room, self.sampler)
 
+    def test_busy(self):
+        self.told(timing.late, self.room, self.sampler)
+
+    def test_work(self):
+        self.told(timing.work, self.sampler)
+
     def test_deadline(self):
         self.told(timing.deadline, self.room, self.sampler)
 

@@ -8,13 +8,18 @@ from tests.sampler.pictures import check, grid_of, pgm, pixels_of, record, run
 from tests.support import places
 
 
-def by_processor(folder):
-    """The environment in which the time of a picture is the processor's."""
-    made = os.path.join(folder, "clock.so")
+def by_clock(folder, name):
+    """The environment in which the clock is one of these."""
+    made = os.path.join(folder, f"{name}.so")
     if not os.path.exists(made):
         words = ["cc", "-shared", "-fPIC", "-Wall", "-Wextra", "-Werror", "-o", made]
-        check("clock.c compiles", run([*words, places.path("tests", "sampler", "clock.c")]).stderr.decode(), "")
+        check(f"{name}.c compiles", run([*words, places.path("tests", "sampler", f"{name}.c")]).stderr.decode(), "")
     return {**os.environ, "LD_PRELOAD": made}
+
+
+def by_processor(folder):
+    """The environment in which the time of a picture is the processor's."""
+    return by_clock(folder, "clock")
 
 
 def draw(rows, part, down, right):
@@ -62,6 +67,36 @@ def early(folder, sampler):
     said = b"dm_sample: -: the search ended early, after 900 milliseconds: there may be more symbols\n"
     check("found before the time was over", ([(one["message"], one["complete"]) for one in told], done.returncode,
                                              done.stderr), ([("123456", False)], 4, said))
+
+
+def late(folder, sampler):
+    """A busy machine says what an idle one does, unless a time is given."""
+    grid = grid_of("LATE")
+    found, none = pgm(pixels_of(grid)), pgm([[k * j % 251 for k in range(300)] for j in range(300)])
+    for name, picture in (("a symbol", found), ("none", none)):
+        idle, busy = (run([sampler, "--all", "--json"], picture, env=env)
+                      for env in (None, by_clock(folder, "late")))
+        check(f"{name} on a busy machine", (busy.returncode, busy.stdout, busy.stderr),
+              (idle.returncode, idle.stdout, idle.stderr))
+    done = run([sampler, "--time=1000"], found, env=by_clock(folder, "late"))
+    check("a second that is over at once", (done.returncode, done.stdout), (4, b""))
+
+
+def work(sampler):
+    """A picture of many megapixels with much in it and no symbol is given up, and it is said why."""
+    chance, wide, high = random.Random(8), 3000, 2000
+    rows = [bytearray(b"\xd0" * wide) for _ in range(high)]
+    for _ in range(2500):
+        x, y, across, down = (chance.randrange(most) for most in (wide - 60, high - 60, 60, 60))
+        level = bytes([chance.randrange(20, 240)]) * across
+        for row in rows[y:y + down]:
+            row[x:x + across] = level
+    before = resource.getrusage(resource.RUSAGE_CHILDREN).ru_utime
+    done = run([sampler], f"P5 {wide} {high} 255\n".encode() + b"".join(rows))
+    took = resource.getrusage(resource.RUSAGE_CHILDREN).ru_utime - before
+    said = b"dm_sample: -: the search ended early, after the usual work: there may be a symbol, --time searches longer\n"
+    check("given up", (done.returncode, done.stdout, done.stderr), (4, b"", said))
+    check("within the time of some seconds", took < 4 or took, True)
 
 
 def deadline(folder, sampler):
