@@ -94,7 +94,8 @@ def work(sampler):
     before = resource.getrusage(resource.RUSAGE_CHILDREN).ru_utime
     done = run([sampler], f"P5 {wide} {high} 255\n".encode() + b"".join(rows))
     took = resource.getrusage(resource.RUSAGE_CHILDREN).ru_utime - before
-    said = b"dm_sample: -: the search ended early, after the usual work: there may be a symbol, --time searches longer\n"
+    said = (b"dm_sample: -: the search ended early, after the usual work: there may be a symbol, --time searches "
+            b"longer\n")
     check("given up", (done.returncode, done.stdout, done.stderr), (4, b"", said))
     check("within the time of some seconds", took < 4 or took, True)
 
