@@ -8,14 +8,15 @@ TARGET ?=
 export PREFIX DESTDIR LIBDIR PYTHONDIR
 
 .PHONY: help build library page sampler wheel try test install install-library uninstall deb dist bench
+# What a target is made of is made in its order: each of these steps uses all processors by itself.
+.NOTPARALLEL:
 
 # Processor times on an idle machine of 2.5 GHz. What is proved already isn't proved again.
 help:
 	@echo "make build     proves the program and everything below it: ten minutes on four processors"
 	@echo "make library   proves the library for C and builds it, static and shared: a minute after make build"
-	@echo "make page      builds the page, one file for a browser: a minute after make build; binaryen is needed"
-	@echo "make sampler   builds what finds symbols in pictures, over the library: seconds; libpng-dev and libjpeg-dev \
-	are needed"
+	@echo "make page      builds the page, one file for a browser: a minute after make build"
+	@echo "make sampler   builds what finds symbols in pictures, over the library: seconds"
 	@echo "make wheel     builds the Python package's wheel, with the libraries that are built: seconds"
 	@echo "make try       shows the program at work, unproved if it isn't built yet: half a minute"
 	@echo "make test      the merge gate, every proof from scratch and all tests: an hour of processor time"
@@ -29,7 +30,12 @@ help:
 	@echo "aarch64-unknown-linux-gnu, riscv64-unknown-linux-gnu, or x86_64-w64-windows-gnu"
 	@echo "make bench     times the program and the library beside others that are installed: minutes"
 	@echo
+	@echo "page, sampler, wheel, deb and dist name the Debian packages that they want, where these aren't installed."
 	@echo "The program is $(TOOL), the library is in library/out. README.md begins with what to do without the toolchain."
+
+# What a target wants and isn't installed is named before anything is proved or built for it.
+needs-%:
+	@packaging/needs $* $(TARGET)
 
 # Proves the program and everything below it, and leaves it at crates/dm_tool/out/dm_tool.
 build:
@@ -45,17 +51,17 @@ library:
 
 # Builds the page, one file that opens from disk: web/out/mitsubadoor.html. Its library is proved for WebAssembly too,
 # and lowered to 32-bit memory by wasm-opt (Debian: binaryen).
-page:
+page: needs-page
 	web/build
 
 # Builds the sampler, from pictures to grids, over the library that `make library` left: sampler/out/dm_sample and
 # libecc200_sample.so.
-sampler: library
+sampler: needs-sampler library
 	sampler/build $(if $(TARGET),--target $(TARGET))
 
 # Builds the Python package's wheel over the libraries that are built:
 # library/python/out/ecc200-VERSION-py3-none-PLATFORM.whl.
-wheel: library
+wheel: needs-wheel library
 	library/python/build $(if $(TARGET),--target $(TARGET))
 
 # Shows the program at work: writing, damage, reading with a correction, a refusal.
@@ -79,12 +85,12 @@ uninstall:
 
 # Debian packages, by debhelper, of what is proved and built: out/deb. For a target they are without the program, in
 # out/deb/TARGET.
-deb: $(if $(TARGET),,build) library sampler
+deb: needs-deb $(if $(TARGET),,build) library sampler
 	packaging/deb $(if $(TARGET),--target $(TARGET))
 
 # Two archives in out/dist: the sources, and what is proved and built from them. With Windows as the target one of the
 # libraries for it.
-dist: $(if $(TARGET),library sampler,build library page sampler)
+dist: needs-dist $(if $(TARGET),library sampler,build library page sampler)
 	$(if $(TARGET),packaging/windows $(TARGET),packaging/dist)
 
 # Times the program that `make build` left, and the library that `make library` left, beside others that are installed.

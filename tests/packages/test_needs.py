@@ -1,0 +1,47 @@
+"""What targets of the Makefile want is named before they begin, each tool with its Debian package."""
+import os
+import re
+
+from tests.packages.common import bare_path, package, run
+from tests.support.case import Case
+from tests.support.places import TOP
+
+SAMPLER = ["cc gcc", "png.h libpng-dev", "jpeglib.h libjpeg-dev"]
+WANTED = {"sampler": SAMPLER, "page": ["wasm-opt binaryen"],
+          "wheel": ["setuptools python3-setuptools", "wheel python3-wheel"],
+          "deb": [*SAMPLER, "dpkg-buildpackage dpkg-dev", "dh debhelper", "dh_python3 dh-python"],
+          "dist": [*SAMPLER, "wasm-opt binaryen"]}
+LINE = re.compile(r"^make (\w+): (\S+) isn't installed \(Debian package (\S+)\)$", re.M)
+
+
+class Needs(Case):
+    def setUp(self):
+        self.path = bare_path(self.folder())
+
+    def made(self, target, **more):
+        """The status of `make TARGET` on a bare machine, what it names as missing, and all that it says."""
+        settings = {"PATH": self.path, "PYTHON": "no-python", **more}
+        status, output = run(["env", "-i", *(f"{name}={value}" for name, value in settings.items()),
+                              "make", "-C", TOP, target])
+        named = [(it[1], f"{it[2]} {it[3]}") for it in LINE.finditer(output)]
+        return status, named, output
+
+    def test_each_is_named_before_anything_is_begun(self):
+        for target, wanted in WANTED.items():
+            status, named, output = self.made(target)
+            self.row(f"make {target}", (status != 0, named), (True, [(target, it) for it in wanted]))
+            begun = [it for it in ("proving", "Proving", "build:", "rt)") if it in output]
+            self.row(f"make {target} begins nothing", begun, [])
+
+    def test_each_is_found_by_itself(self):
+        """A compiler without headers, and tools of Debian one by one."""
+        self.row("no headers", [it for _, it in self.made("sampler", CC="/bin/false")[1]], SAMPLER[1:])
+        for name in ("dpkg-buildpackage", "dh", "dh_python3"):
+            os.symlink("/bin/true", os.path.join(self.path, name))
+            self.row(f"{name} is there", [it for _, it in self.made("deb")[1] if it.startswith(f"{name} ")], [])
+
+    def test_the_readme_names_them(self):
+        """README's set-up has the Debian package of each."""
+        told = package.text("README.md")
+        packages = {it.split()[1] for wanted in WANTED.values() for it in wanted}
+        self.row("packages that README doesn't name", sorted(it for it in packages if it not in told), [])
