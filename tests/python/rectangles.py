@@ -126,7 +126,7 @@ def chosen(folder):
                         ("extended", "any rectangle holds: 236 digits"), ("any", "any symbol holds: 3116 digits"),
                         ("square", "any symbol holds: 3116 digits")):
         yield says(f"too long for --shape {shape}", ecc("write", "--shape", shape, given="7" * 4000), 1, "", [part])
-    yield holds("words of an unknown size name all", "'8x32'" in ecc("write", "--size", "9x9", "A")[2])
+    yield holds("words of an unknown size say where all are", "'ecc200 sizes'" in ecc("write", "--size", "9x9", "A")[2])
     yield says("files by message", ecc("write", "--shape", "rectangle", "-o", "{}.txt", "A", "B", folder=here),
                output="")
     yield same("one of them", open(os.path.join(here, "A.txt")).read(), text(ecc200.write(b"A", shape=1)))

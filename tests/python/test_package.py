@@ -22,6 +22,9 @@ PARTS = {
     "labels": "captions captions_on_sheets names output sizes first_symbols letters_of_dots terminal "
               "no_picture_on_a_terminal",
     "pages": "unlike margins",
+    "whole": "captions replaced missing_folder blank_lines",
+    "wanted": "by_python rows_of_numbers sixteen_bits by_command sizes_as_json",
+    "quick": "starts reduced within_time pngs",
     "packaged": "typed from_system wheel",
 }
 

@@ -1,7 +1,10 @@
 """Refusals in words: what is wrong with a grid, and what to do about it."""
+from __future__ import annotations
+
 import functools
 import math
-from typing import Callable, List, NamedTuple, Optional, Tuple
+import operator
+from typing import Callable, Iterable, List, NamedTuple, Optional, Tuple
 
 from . import core
 from .core import Code, Extent, Reading, Refused, Rows, Shape, Size
@@ -99,27 +102,29 @@ def _cropped(rows: Rows) -> Tuple[Rows, str]:
     dark = [number for number, row in enumerate(rows) if any(row)]
     if not dark:
         return rows, ""
-    columns = [column for column in range(len(rows[0])) if any(row[column] for row in rows)]
-    if (len(dark), len(columns)) == (len(rows), len(rows[0])):
+    in_columns = functools.reduce(operator.or_, map(_as_number, rows)).to_bytes(len(rows[0]), "big")
+    left, right = len(in_columns) - len(in_columns.lstrip(b"\0")), len(in_columns.rstrip(b"\0"))
+    if (dark[-1] - dark[0] + 1, right - left) == (len(rows), len(rows[0])):
         return rows, ""
-    cut = [row[columns[0]:columns[-1] + 1] for row in rows[dark[0]:dark[-1] + 1]]
-    return cut, "has a light margin"
+    return [row[left:right] for row in rows[dark[0]:dark[-1] + 1]], "has a light margin"
 
 
-def _lengths(row: bytes) -> List[int]:
-    """The lengths of the runs of one colour."""
-    runs, begin = [], 0
-    for at in range(1, len(row) + 1):
-        if at == len(row) or row[at] != row[begin]:
-            runs.append(at - begin)
-            begin = at
-    return runs
+def _as_number(row: bytes) -> int:
+    """A row as one number, a byte a module: what is done to it is done to all modules at once."""
+    return int.from_bytes(row, "big")
+
+
+def _common(places: Iterable[int], length: int) -> int:
+    """The greatest divisor that places of a row of this length, and the length, have in common."""
+    return functools.reduce(math.gcd, places, length)
 
 
 def reduced(rows: Rows) -> Tuple[Rows, str]:
     """With one character for each module, where several in a row and several rows stand for one."""
-    across = functools.reduce(math.gcd, (run for row in rows for run in _lengths(row)), 0)
-    down = functools.reduce(math.gcd, (run for column in zip(*rows) for run in _lengths(bytes(column))), 0)
+    numbers = [_as_number(row) for row in rows]
+    begun = functools.reduce(operator.or_, (number ^ number >> 8 for number in numbers)).to_bytes(len(rows[0]), "big")
+    across = _common((column for column, is_new in enumerate(begun) if is_new), len(begun))
+    down = _common((row for row in range(1, len(rows)) if rows[row] != rows[row - 1]), len(rows))
     if across * down <= 1:
         return rows, ""
     return [row[::across] for row in rows[::down]], f"has {across} by {down} characters or pixels for each module"
@@ -138,6 +143,13 @@ def _reading(rows: Rows, border_limit: Optional[int], extent: Extent,
         return None
 
 
+def _has_size(rows: Rows) -> bool:
+    """Whether some symbol has so many rows and columns, as they stand or turned."""
+    size = len(rows), len(rows[0])
+    return bool({size, size[::-1]} & core._sizes_by_dimensions().keys())
+
+
+_INVERSE = bytes((1, 0)) + bytes(254)
 _TURNS = ("", "is turned to the right by a quarter", "is upside down", "is turned to the left by a quarter")
 
 
@@ -158,10 +170,12 @@ def righted(rows: Rows, border_limit: Optional[int] = None, extent: Extent = Ext
     turned or mirrored."""
     if not rows or len({len(row) for row in rows}) != 1:
         return None
-    inverse = [bytes(1 - module for module in row) for row in rows]
+    inverse = [row.translate(_INVERSE) for row in rows]
     for colour, grid in (("", rows), ("is light on dark", inverse)):
         cut, margin = _cropped(grid)
         small, many = reduced(cut)
+        if not _has_size(small):
+            continue
         stands = _stands(small, lambda some: _reading(some, border_limit, extent))
         if stands is not None:
             how = " and ".join(filter(None, (many, margin, colour, stands.how)))

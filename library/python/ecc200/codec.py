@@ -1,9 +1,11 @@
 """Messages into symbols that are drawn."""
+from __future__ import annotations
+
 import functools
 import os
 from typing import Any, Callable, Dict, Optional, Tuple, Union
 
-from . import core, drawing, gs1 as element_strings
+from . import core, drawing, files, gs1 as element_strings
 from .core import Message, Profile, Rows, Shape
 
 __all__ = ["Symbol", "encode"]
@@ -16,7 +18,8 @@ class Symbol:
 
     def __init__(self, rows: Rows, module: float = 0.5, quiet: int = 2) -> None:
         drawing.check(module, quiet)
-        self.rows, self.module, self.quiet = rows, module, quiet
+        self.rows: Rows = core._Drawn(rows)
+        self.module, self.quiet = module, quiet
 
     @property
     def columns(self) -> int:
@@ -68,15 +71,14 @@ class Symbol:
         return drawing.pdf([self.page()])
 
     def save(self, path: Union[str, "os.PathLike[str]"], dpi: float = 300) -> None:
-        """Writes a file, of the kind that its name's end says: .png, at this resolution, .svg, .pdf or .txt, a grid."""
+        """Writes a file, of the kind that its name's end says: .png, at this resolution, .svg, .pdf or .txt, a grid.
+        It is replaced when it is whole."""
         kinds: Dict[str, Callable[[], bytes]] = {".png": lambda: self.png(dpi), ".svg": self.svg, ".pdf": self.pdf,
                                                  ".txt": str(self).encode}
         kind = os.path.splitext(path)[1].lower()
         if kind not in kinds:
             raise ValueError(f"{os.fspath(path)}: its name should end with {', '.join(kinds)}")
-        data = kinds[kind]()
-        with open(path, "wb") as file:
-            file.write(data)
+        files.replace(path, kinds[kind]())
 
     def _repr_svg_(self) -> str:
         return self.svg().decode()

@@ -31,22 +31,24 @@ The shared library is looked for at the path in the environment variable ECC200_
 file, then where the system keeps its libraries. The sampler's, ECC200_SAMPLE_LIBRARY, is looked for in the same way
 when it is first needed.
 """
-import array
+from __future__ import annotations
+
 import ctypes
 import enum
 import functools
 import io
 import math
+import operator
 import os
 import struct
 import warnings
 from typing import (Any, Callable, Dict, Iterable, Iterator, List, NamedTuple, Optional, Protocol, Sequence, Tuple,
-                    Type, Union)
+                    Type, TypeVar, Union, overload)
 
-__all__ = ["ABI", "Code", "Corners", "Extent", "FNC1", "Found", "Grid", "Inspection", "Kind", "MOST_ITEMS", "Message",
-           "Place", "Profile", "Reading", "Refused", "Rows", "SamplerMissing", "Shape", "Size", "decode", "find",
-           "has_sampler", "inspect", "luminance", "normal", "places", "read", "read_many", "sampler_fault", "sizes",
-           "usual_limit", "version", "write"]
+__all__ = ["ABI", "Code", "Corners", "End", "Extent", "FNC1", "Findings", "Found", "Grid", "Inspection", "Kind",
+           "MOST_ITEMS", "Message", "Place", "Profile", "Reading", "Refused", "Rows", "SamplerMissing", "Shape", "Size",
+           "Unsure", "decode", "find", "has_sampler", "inspect", "luminance", "normal", "places", "read", "read_many",
+           "sampler_fault", "sizes", "usual_limit", "version", "write"]
 
 # ecc200.h: constants
 ABI = 3
@@ -143,7 +145,7 @@ class Refused(ValueError):
         words = _library.ecc200_code_words(code).decode()
         super().__init__(f"{words} ({self.code.name}, value {value}, place {place})")
 
-    def __reduce__(self) -> Tuple[Type["Refused"], Tuple[Code, int, int]]:
+    def __reduce__(self) -> Tuple[Type["Refused"], Tuple[Any, ...]]:
         return type(self), (self.code, self.value, self.place)
 
 
@@ -390,6 +392,8 @@ def _of_row(row: Any) -> bytes:
         if row.strip("01"):
             raise ValueError(f"a row of text consists of the characters 0 and 1, unlike {row!r}")
         return row.encode().translate(_DIGITS)
+    if not hasattr(row, "__iter__") and not hasattr(row, "__getitem__"):
+        raise TypeError(f"a row of modules is bytes, text, or a list of numbers, unlike {row!r}")
     return row if isinstance(row, bytes) else bytes(1 if module else 0 for module in row)
 
 
@@ -451,6 +455,8 @@ def _plain(grid: Any) -> Sequence[Any]:
         return list(grid.rows)
     if hasattr(grid, "getbbox"):
         return _best(_ways(grid))
+    if not hasattr(grid, "__iter__") and not hasattr(grid, "__getitem__"):
+        raise TypeError(f"a grid is rows of modules, as a list, a text, an array or a picture, unlike {grid!r}")
     return _of_row(grid) if getattr(grid, "ndim", 2) == 1 else list(grid)
 
 
@@ -513,9 +519,16 @@ def _dimensions(rows: int, columns: int) -> Tuple[int, int]:
 
 def _number(code: Code, number: int) -> Any:
     """A number that the library takes as it is, or the refusal that names it."""
+    if not hasattr(number, "__index__"):
+        kind = _KINDS[code]
+        some = ", ".join(f"{kind.__name__}.{member.name}" for member in kind)
+        raise TypeError(f"one of {some} is wanted, unlike {number!r}")
     if 0 <= number <= 65535:
         return number
     raise Refused(code, number)
+
+
+_KINDS: Dict[Code, Type[enum.IntEnum]] = {Code.PROFILE: Profile, Code.EXTENT: Extent, Code.CHOICE: Shape}
 
 
 def _limit(rows: int, columns: int, border_limit: Optional[int]) -> int:
@@ -538,6 +551,16 @@ def _said(answer: memoryview) -> Reading:
     return Reading(data, gs1, items, counts[0], border_faults, rows, columns, counts[1], counts[2])
 
 
+class _Drawn(List[bytes]):
+    """The rows of a symbol, of which numpy makes an array of numbers. (Of a list of bytes it would make strings,
+    without the light modules at the end of each.)"""
+
+    @property
+    def __array_interface__(self) -> Dict[str, Any]:
+        shape = len(self), len(self[0]) if self else 0
+        return {"version": 3, "shape": shape, "typestr": "|u1", "data": b"".join(self)}
+
+
 @functools.lru_cache(maxsize=None)
 def _cut(rows: int, columns: int) -> Callable[[Union[bytes, memoryview], int], Tuple[bytes, ...]]:
     """What takes the rows of a symbol out of an answer: many slices would take longer than the call."""
@@ -548,7 +571,7 @@ def _drawn(answer: memoryview) -> Rows:
     code, value, place, rows, columns = _drawn_head(answer)
     if code:
         raise Refused(code, value, place)
-    return list(_cut(rows, columns)(answer, _MODULES))
+    return _Drawn(_cut(rows, columns)(answer, _MODULES))
 
 
 def version() -> str:
@@ -595,7 +618,9 @@ def read_many(grids: Iterable[Grid], border_limit: Optional[int] = None,
     return answers
 
 
-def _items(message: Iterable[int], gs1: bool) -> "array.array[int]":
+def _items(message: Iterable[int], gs1: bool) -> Any:
+    """The items of a message as an array of 16 bits each."""
+    import array  # (which would take a part of each start)
     items = [FNC1 if gs1 and item == _GS else item for item in message]
     try:
         return array.array("H", [FNC1, *items] if gs1 else items)
@@ -619,7 +644,10 @@ def _chosen(profile: int, size: Optional[Tuple[int, int]], shape: Optional[int])
         return _how(form, _number(Code.CHOICE, Shape.SQUARE if shape is None else shape))
     if shape is not None:
         raise TypeError("a size is chosen or a shape, and not both")
-    rows, columns = _dimensions(*size)
+    try:
+        rows, columns = map(operator.index, size)
+    except (TypeError, ValueError):
+        raise TypeError(f"a size is the rows and the columns of a symbol, as (8, 32), unlike {size!r}") from None
     if (rows, columns) not in _sizes_by_dimensions():
         raise Refused(Code.SIZE, rows, columns)
     return _how(form, _ONE, rows, columns)
@@ -712,11 +740,28 @@ def _size_of(rows: int, columns: int) -> Size:
 
 _SAMPLE_ABI = 2
 _MOST_FOUND = 64  # symbols of one picture, unless a caller says otherwise
-_COLOURS = {1: "L", 2: "LA", 3: "RGB", 4: "RGBA"}  # by the bytes of a pixel, as Pillow calls them
+_MOST_UNREAD = 32  # symbols of one picture that aren't read
+_IS_UNSURE = 2  # `unread` of a symbol that is
+_COLOURS = {1: "L", 2: "LA", 3: "RGB", 4: "RGBA"}  # by the numbers of a pixel, as Pillow calls them
+_SIXTEEN = ("H", "<H", ">H")  # how an array has numbers of 16 bits
 
 
 class SamplerMissing(ImportError):
     """The library ecc200_sample isn't installed, can't be loaded, or is of another version."""
+
+
+class Unsure(Refused):
+    """A symbol of a picture that leaves too few corrections unused for what it may say, `reading`, to be trusted."""
+
+    def __init__(self, reading: Reading) -> None:
+        least = min(reading.left)
+        super().__init__(Code.BLOCK, 0, reading.left.index(least))
+        self.reading = reading
+        self.args = (f"block {self.place + 1} leaves {least} check codewords, too few to be sure that it says "
+                     f"{reading.data!r}",)
+
+    def __reduce__(self) -> Tuple[Type[Refused], Tuple[Any, ...]]:
+        return type(self), (self.reading,)
 
 
 class Found(NamedTuple):
@@ -728,24 +773,66 @@ class Found(NamedTuple):
     mirrored: bool
     page: int = 1                             # of a picture with several pages, which one has it
     doubtful: Optional[Rows] = None           # of which modules the picture tells nothing, if it was read with that
+    border_limit: int = 0                     # how many wrong border modules it might have: with this and `doubtful`
+                                              # `read` says the same of its rows
 
 
-class _Options(ctypes.Structure):
-    _fields_ = [("milliseconds", ctypes.c_uint32), ("least_side", _u16), ("margin", _u16), ("keep_unread", _u16)]
+class End(enum.IntEnum):
+    """Why the search of a picture ended: all of it was searched; as many symbols were found as were asked for; or the
+    time was over."""
+    WHOLE = 0
+    ROOM = 1
+    TIME = 2
+
+
+_Item = TypeVar("_Item")
+
+
+class Findings(List[_Item]):
+    """A list of what was found, which says why the search ended."""
+    ended: End = End.WHOLE
+
+    @property
+    def complete(self) -> bool:
+        """Whether all of the picture was searched; else there may be more."""
+        return self.ended == End.WHOLE
+
+    def add(self, some: Iterable[_Item], ended: End) -> None:
+        """Adds what was found on another page."""
+        self.extend(some)
+        self.ended = max(self.ended, ended)
 
 
 class _Sample(ctypes.Structure):
     _fields_ = [("corners", ctypes.c_double * 8), ("rows", _u16), ("columns", _u16), ("inverted", _u8),
                 ("mirrored", _u8), ("modules", _u8 * _MOST_MODULES), ("doubtful", _u8 * _MOST_MODULES),
-                ("reading", _ReadingOut)]
+                ("reading", _ReadingOut), ("border_limit", _u16), ("unread", _u16)]
+
+
+class _Search(ctypes.Structure):
+    _fields_ = [("milliseconds", ctypes.c_uint32), ("least_side", _u16), ("margin", _u16),
+                ("symbols", ctypes.c_void_p), ("room", ctypes.c_size_t), ("count", ctypes.c_size_t),
+                ("unread", ctypes.c_void_p), ("unread_room", ctypes.c_size_t), ("unread_count", ctypes.c_size_t),
+                ("ended", _u16)]
+
+
+class _Asked(NamedTuple):
+    """What is asked of the search of a page: how many symbols at most, and how many that aren't read; about how long
+    it may take; how many corrections each block must leave unused."""
+    most: int = _MOST_FOUND
+    unread: int = 0
+    milliseconds: int = 1000
+    margin: int = 0
 
 
 @functools.lru_cache(maxsize=None)
 def _sampler() -> ctypes.CDLL:
     library = _opened("ecc200_sample", _SAMPLE_ABI, SamplerMissing)
-    size, pointer = ctypes.c_size_t, ctypes.c_void_p
-    library.ecc200_sample_picture.argtypes = [ctypes.c_char_p, size, size, size, pointer, pointer, size, pointer]
-    library.ecc200_sample_picture.restype = _u16
+    if not hasattr(library, "ecc200_sample_find"):
+        raise SamplerMissing("the library ecc200_sample is older than this module", path=library._name)
+    size = ctypes.c_size_t
+    library.ecc200_sample_find.argtypes = [ctypes.c_char_p, size, size, size, ctypes.c_void_p]
+    library.ecc200_sample_find.restype = _u16
     return library
 
 
@@ -765,14 +852,15 @@ def has_sampler() -> bool:
 
 def _of_pillow(picture: Any) -> Any:
     """A Pillow picture in shades of grey, on white paper where it is transparent."""
-    if "A" in picture.getbands() or "transparency" in picture.info:
+    if picture.mode.startswith("I") or picture.mode == "F":  # 16 bits or more, which Pillow would cut off at 255
+        picture = picture if picture.mode == "F" else picture.convert("I")
+        low, high = picture.getextrema()
+        picture = picture.point(lambda value: value * (255 / max(high, 255)) + 0)
+    elif "A" in picture.getbands() or "transparency" in picture.info:
         from PIL import Image
         paper = Image.new("RGBA", picture.size, "white")
         paper.alpha_composite(picture.convert("RGBA"))
         picture = paper
-    if picture.mode.startswith("I") or picture.mode == "F":  # 16 bits or more, which Pillow would cut off at 255
-        low, high = picture.getextrema()
-        picture = picture.point(lambda value: value * (255 / max(high, 255)) + 0)
     return picture.convert("L")
 
 
@@ -782,7 +870,7 @@ def _elements(picture: Any) -> memoryview:
     try:
         return memoryview(picture)
     except TypeError:
-        named = getattr(picture, "__array_interface__", None)
+        named = None if isinstance(picture, list) else getattr(picture, "__array_interface__", None)
     if named is None:
         raise TypeError(f"a picture is Pillow's, or an array, unlike {type(picture).__name__}")
     if isinstance(named.get("data"), bytes) and not named.get("strides") and named["typestr"] in ("|u1", "|b1"):
@@ -792,19 +880,31 @@ def _elements(picture: Any) -> memoryview:
     return memoryview(array)
 
 
+def _in_bytes(view: memoryview) -> bytes:
+    """The numbers of an array of two or three dimensions as bytes: booleans as 0 and 255, and those of 16 bits by the
+    largest, which is 255 if it is beyond that."""
+    if view.format == "?":
+        return view.tobytes().replace(b"\1", b"\xff")
+    if view.format == "B":
+        return view.tobytes()
+    from PIL import Image
+    mode, numbers = "I;16B" if view.format.startswith(">") else "I;16", view.tobytes()
+    width = view.nbytes // view.itemsize // len(view)
+    return bytes(_of_pillow(Image.frombytes(mode, (width, len(view)), numbers)).tobytes())
+
+
 def luminance(picture: Any) -> Tuple[bytes, int, int]:
     """The luminances of a picture row by row, its width and its height."""
     if not hasattr(picture, "getbbox"):
         view = _elements(picture)
         shape = view.shape or ()
-        if len(shape) == 2 and view.format in ("B", "?"):
-            pixels = view.tobytes()
-            return pixels.replace(b"\1", b"\xff") if view.format == "?" else pixels, shape[1], shape[0]
-        if len(shape) != 3 or view.format != "B" or shape[2] not in _COLOURS:
-            raise TypeError("a picture is an array of rows of bytes, or of rows of colours, unlike one of "
-                            f"{shape} of {view.format}")
+        if len(shape) == 2 and view.format in ("B", "?", *_SIXTEEN):
+            return _in_bytes(view), shape[1], shape[0]
+        if len(shape) != 3 or view.format not in ("B", *_SIXTEEN) or shape[2] not in _COLOURS:
+            raise TypeError("a picture is an array of rows of numbers of 8 or 16 bits, or of rows of colours, unlike "
+                            f"one of {shape} of {view.format}")
         from PIL import Image
-        picture = Image.frombytes(_COLOURS[shape[2]], (shape[1], shape[0]), view.tobytes())
+        picture = Image.frombytes(_COLOURS[shape[2]], (shape[1], shape[0]), _in_bytes(view))
     grey = _of_pillow(picture)
     return grey.tobytes(), grey.width, grey.height
 
@@ -829,6 +929,8 @@ def _held(data: bytes, name: str) -> Any:
 
 def _loaded(given: Any) -> Any:
     """What a file holds, given by its path, open, or as its bytes; a grid or a picture as it is."""
+    if given is None:
+        raise TypeError("a picture or a grid is wanted, unlike None, which OpenCV's imread gives where it opens none")
     if isinstance(given, (bytes, bytearray)) or isinstance(given, memoryview) and given.ndim == 1:
         return _held(bytes(given), "what these bytes are")
     is_path = isinstance(given, str) and "\n" not in given and (not given.strip() or given.strip("01 \t\r") != "")
@@ -872,27 +974,32 @@ def _tell_broken(broken: List[str], is_found: bool) -> None:
 
 
 def _found(sample: Any, page: int) -> Found:
-    rows, doubtful = (list(_cut(sample.rows, sample.columns)(bytes(modules), 0))
+    rows, doubtful = (_Drawn(_cut(sample.rows, sample.columns)(bytes(modules), 0))
                       for modules in (sample.modules, sample.doubtful))
     corners = tuple(zip(sample.corners[::2], sample.corners[1::2]))
     answer: Union[Reading, Refused]
     try:
         answer = _said(memoryview(bytes(sample.reading)))._replace(corners=corners)
+        answer = Unsure(answer) if sample.unread == _IS_UNSURE else answer
     except Refused as why:
         answer = why
     return Found(answer, rows, corners, bool(sample.inverted), bool(sample.mirrored), page,
-                 doubtful if any(map(any, doubtful)) else None)
+                 doubtful if any(map(any, doubtful)) else None, sample.border_limit)
 
 
-def _searched(picture: Any, page: int, most: int, options: _Options) -> List[Found]:
-    """The symbols of one page of a picture."""
+def _searched(picture: Any, page: int, asked: _Asked) -> Findings[Found]:
+    """The symbols of one page of a picture, and behind them those that aren't read, the likeliest first."""
     pixels, width, height = luminance(picture)
-    samples, count = (_Sample * most)(), ctypes.c_size_t()
-    looked = ctypes.byref(options), samples, most, ctypes.byref(count)
-    code = _sampler().ecc200_sample_picture(pixels, width, height, width, *looked)
+    samples, unread = (_Sample * asked.most)(), (_Sample * asked.unread)()
+    search = _Search(asked.milliseconds, 0, asked.margin, ctypes.addressof(samples), asked.most, 0,
+                     ctypes.addressof(unread), asked.unread)
+    code = _sampler().ecc200_sample_find(pixels, width, height, width, ctypes.byref(search))
     if code:
         raise ValueError(f"a picture of {width} by {height} pixels can't be searched ({code})")
-    return [_found(sample, page) for sample in samples[:count.value]]
+    found: Findings[Found] = Findings()
+    found.add((_found(sample, page) for sample in (*samples[:search.count], *unread[:search.unread_count])),
+              End(search.ended))
+    return found
 
 
 def _only_read(answers: Iterable[Union[Reading, Refused]]) -> List[Reading]:
@@ -909,51 +1016,95 @@ def _records(grid: Any) -> List[Any]:
 
 
 def find(picture: Any, most: int = _MOST_FOUND, milliseconds: int = 1000, margin: int = 0,
-         unread: bool = False) -> List[Found]:
+         unread: bool = False) -> Findings[Found]:
     """At most `most` symbols of each page of a picture; the search takes about `milliseconds` for a page, and ends at
-    once where `most` are found. `margin`: how many corrections each block must leave unused. With `unread`, where none
-    is read, the most likely grid that isn't, with its refusal. A page that can't be opened is a warning where a symbol
-    is read on another, and else ValueError is raised.
+    once where `most` are found: `complete` of the list is false where it ended before all was searched. `margin`: how
+    many corrections each block must leave unused. With `unread`, behind those of each page also what was found on it
+    and isn't read, the likeliest first, with its refusal: at most 32, whose borders have few faults. A page that can't
+    be opened is a warning where a symbol is read on another, and else ValueError is raised.
 
     Where the library ecc200_sample isn't installed SamplerMissing is raised."""
+    given = _loaded(picture)
     _sampler()
-    options = _Options(milliseconds, 0, margin, int(unread))
-    found: List[Found] = []
-    likely: List[Found] = []
+    asked = _Asked(most, _MOST_UNREAD if unread else 0, milliseconds, margin)
+    found: Findings[Found] = Findings()
     broken: List[str] = []
-    for number, page in _pages(_loaded(picture), broken):
-        for symbol in _searched(page, number, most, options):
-            (likely if isinstance(symbol.answer, Refused) else found).append(symbol)
-    _tell_broken(broken, bool(found))
-    return found or likely[:1]
+    for number, page in _pages(given, broken):
+        symbols = _searched(page, number, asked)
+        found.add(symbols, symbols.ended)
+    _tell_broken(broken, any(isinstance(symbol.answer, Reading) for symbol in found))
+    return found
+
+
+def _of_page(page: Any, number: int, asked: _Asked, border_limit: Optional[int],
+             extent: Extent) -> Findings[Union[Reading, Refused]]:
+    """What the symbols of a Pillow picture say: those that are found, or else the one whose modules the pixels are."""
+    found = _searched(page, number, asked) if has_sampler() else Findings()
+    answers: Findings[Union[Reading, Refused]] = Findings()
+    answers.add((symbol.answer for symbol in found), found.ended)
+    if not _only_read(answers):
+        spelled = read_many([page], border_limit, extent)
+        if _only_read(spelled) or asked.unread and not answers and _has_border(spelled):
+            return Findings(spelled)
+    return answers
+
+
+def _has_border(answers: Iterable[Union[Reading, Refused]]) -> bool:
+    """Whether these are of symbols, read or not."""
+    return not any(isinstance(answer, Refused) and answer.code in (Code.SHAPE, Code.SIZE, Code.BORDER)
+                   for answer in answers)
+
+
+@overload
+def decode(picture: Any, most: int = ..., milliseconds: int = ..., border_limit: Optional[int] = ...,
+           extent: Extent = ...) -> Findings[Reading]: ...
+
+
+@overload
+def decode(picture: Any, most: int = ..., milliseconds: int = ..., border_limit: Optional[int] = ...,
+           extent: Extent = ..., *, unread: bool) -> Findings[Union[Reading, Refused]]: ...
 
 
 def decode(picture: Any, most: int = _MOST_FOUND, milliseconds: int = 1000, border_limit: Optional[int] = None,
-           extent: Extent = Extent.WIDE) -> List[Reading]:
+           extent: Extent = Extent.WIDE, *, unread: bool = False) -> Any:
     """What the symbols of a grid or of a picture say: a list, empty if nothing is read. Rows, text of 0 and 1, and what
     has `rows`, such as an encoded symbol, are grids; what has the array interface (numpy, OpenCV, Pillow) is a picture,
     on each page of which at most `most` symbols are looked for during `milliseconds`, wherever they stand. A memoryview
     of rows is a grid, or else a picture. The path of a file, an open file, and the bytes of one are what the file
-    holds; if that is neither, TypeError is raised.
+    holds; if that is neither, TypeError is raised. `complete` of the list is false where the search of a picture ended
+    before all of it was searched. With `unread` the list also has the Refused of each grid that isn't read, and of each
+    symbol that is found and isn't.
 
-    Symbols found in a picture are read at the wide extent and the usual limit. A Pillow picture in which nothing is
-    found is read as one symbol with one pixel a module; where that is none, and the library ecc200_sample isn't
-    installed, SamplerMissing is raised. A page that can't be opened is a warning where something is read on another,
-    and else ValueError is raised."""
+    Symbols found in a picture are read at the wide extent, with as many border faults as the search takes. A Pillow
+    picture in which nothing is found is read as one symbol with one pixel a module; where that is none, and the library
+    ecc200_sample isn't installed, SamplerMissing is raised. A page that can't be opened is a warning where something is
+    read on another, and else ValueError is raised."""
     given = _loaded(picture)
-    if hasattr(given, "rows") or not hasattr(given, "__array_interface__"):
-        readings = _only_read(read_many(_records(given), border_limit, extent))
-        if readings or not (isinstance(given, memoryview) and given.ndim > 1):
-            return readings
+    answers: Findings[Union[Reading, Refused]] = Findings()
+    if isinstance(given, list) or hasattr(given, "rows") or not hasattr(given, "__array_interface__"):
+        answers.extend(read_many(_records(given), border_limit, extent))
+        if not (isinstance(given, memoryview) and given.ndim > 1) or _only_read(answers):
+            return _kept(answers, unread)
     if not hasattr(given, "getbbox"):
-        return _only_read(symbol.answer for symbol in find(given, most, milliseconds))
-    readings = []
+        found = find(given, most, milliseconds, unread=unread)
+        answers = Findings(symbol.answer for symbol in found)
+        answers.ended = found.ended
+        return _kept(answers, unread)
     broken: List[str] = []
-    options = _Options(milliseconds, 0, 0, 0)
+    asked = _Asked(most, _MOST_UNREAD if unread else 0, milliseconds)
     for number, page in _pages(given, broken):
-        found = _searched(page, number, most, options) if has_sampler() else []
-        readings += _only_read(symbol.answer for symbol in found) or _only_read(read_many([page], border_limit, extent))
-    _tell_broken(broken, bool(readings))
-    if not readings:
+        of_page = _of_page(page, number, asked, border_limit, extent)
+        answers.add(of_page, of_page.ended)
+    _tell_broken(broken, bool(_only_read(answers)))
+    if not _only_read(answers):
         _sampler()
+    return _kept(answers, unread)
+
+
+def _kept(answers: Findings[Union[Reading, Refused]], unread: bool) -> Findings[Any]:
+    """All answers, or those alone that are readings."""
+    if unread:
+        return answers
+    readings: Findings[Any] = Findings(_only_read(answers))
+    readings.ended = answers.ended
     return readings

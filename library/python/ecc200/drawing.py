@@ -1,9 +1,11 @@
 """Symbols as pictures: PNG, SVG and PDF, one symbol or a sheet of them, perhaps with text below each. Nothing but
 Python's own modules is needed."""
+from __future__ import annotations
+
+import itertools
 import struct
 import zlib
 from typing import List, NamedTuple, Sequence, Tuple
-from xml.sax.saxutils import escape
 
 from . import font
 from .core import Rows
@@ -13,7 +15,8 @@ __all__ = ["A4", "Cell", "DOT", "Line", "Page", "alone", "check", "dots", "pdf",
 A4 = (210.0, 297.0)
 DOT = 0.25  # the side of a dot of a letter in millimetres: letters are 1.75 mm high
 _INCH = 25.4
-_ADVANCE, _FEED = font.WIDTH + 1, font.HEIGHT  # from letter to letter, and from line to line, in dots
+_DESCENT = 3  # dots below the letters, as fonts of SVG and PDF have them for a p
+_ADVANCE, _FEED = font.WIDTH + 1, font.BASELINE + _DESCENT  # from letter to letter, and from line to line, in dots
 _MOST_DOTS = 1 << 29  # of a PNG, which takes a byte for each while it is drawn: a sheet of A4 at 2,000 dots an inch
 _LEAST_COLUMNS = 20  # letters that a caption has room for below the smallest symbol
 
@@ -152,6 +155,7 @@ def _number(value: float) -> str:
 
 def svg(page: Page) -> bytes:
     """A page as SVG, in millimetres. Each symbol is one path, so that no seams show between modules."""
+    from html import escape  # (a part of each start, where it isn't needed)
     width, height = _number(page.width), _number(page.height)
     parts = [f'<svg xmlns="http://www.w3.org/2000/svg" width="{width}mm" height="{height}mm" '
              f'viewBox="0 0 {width} {height}">\n',
@@ -164,7 +168,7 @@ def svg(page: Page) -> bytes:
         place = f'x="{_number(left)}" y="{_number(top + font.BASELINE * page.dot)}"'
         letters = f'font-family="monospace" font-size="{_number(_size(page))}" xml:space="preserve"'
         length = f'textLength="{_number(len(text) * _ADVANCE * page.dot)}"'
-        parts.append(f'<text {place} {length} {letters}>{escape(text)}</text>\n')
+        parts.append(f'<text {place} {length} {letters}>{escape(text, quote=False)}</text>\n')
     return "".join([*parts, "</svg>\n"]).encode()
 
 
@@ -219,35 +223,45 @@ def png(page: Page, dpi: float) -> bytes:
     width, height = round(page.width * scale), round(page.height * scale)
     if width * height > _MOST_DOTS:
         raise ValueError(f"a PNG of {width} by {height} dots is too large: .svg and .pdf need none")
-    lines = [bytearray(b"\1" * width) for _ in range(height)]
+    lines = [b"1" * width] * height  # (lines that are alike are mostly one object)
     for rows, left, top in page.cells:
         x, y = round(left * scale), round(top * scale)
         for number, row in enumerate(rows):
-            dark = bytes(0 if module else 1 for module in row for _ in range(many))
-            for line in lines[y + number * many:y + (number + 1) * many]:
-                line[x:x + len(dark)] = dark
+            _lay(lines, x, y + number * many, many, _wide(row, many))
     for text, left, top in page.lines:
         _set(lines, text, round(left * scale), round(top * scale), max(1, int(page.dot * scale + 1e-6)))
-    packed = b"".join(b"\0" + _packed(line) for line in lines)
+    packed = b"".join(_packed(line) * len(list(same)) for line, same in itertools.groupby(lines))
     metre = round(dpi / _INCH * 1000)
     return (b"\x89PNG\r\n\x1a\n" + _chunk(b"IHDR", struct.pack(">IIBBBBB", width, height, 1, 0, 0, 0, 0))
             + _chunk(b"pHYs", struct.pack(">IIB", metre, metre,
                                           1)) + _chunk(b"IDAT", zlib.compress(packed, 9)) + _chunk(b"IEND", b""))
 
 
-def _set(lines: Sequence[bytearray], text: str, left: int, top: int, many: int) -> None:
+def _wide(row: bytes, many: int) -> bytes:
+    """A row of modules as pixels, with so many for each."""
+    return row.replace(b"\0", b"1" * many).replace(b"\1", b"0" * many)
+
+
+def _lay(lines: List[bytes], left: int, top: int, many: int, pixels: bytes) -> None:
+    """Lays pixels into so many lines from this one on, as far as there is room. Lines that were one object stay one."""
+    before = lines[top:top + many]
+    end = min(left + len(pixels), len(lines[0]))
+    after = {key: line[:left] + pixels[:end - left] + line[end:] for key, line in {id(it): it for it in before}.items()}
+    lines[top:top + many] = [after[id(line)] for line in before]
+
+
+def _set(lines: List[bytes], text: str, left: int, top: int, many: int) -> None:
     """Sets a line of text into lines of pixels, with so many for a dot."""
     columns = [column for letter in text for column in (*font.glyph(letter), 0)]
     for bit in range(font.HEIGHT):
-        dark = bytes(1 - (column >> bit & 1) for column in columns for _ in range(many))
-        for line in lines[top + bit * many:top + (bit + 1) * many]:
-            line[left:left + len(dark)] = dark[:len(line) - left]
+        row = bytes(column >> bit & 1 for column in columns)
+        _lay(lines, left, top + bit * many, many, _wide(row, many))
 
 
-def _packed(line: bytearray) -> bytes:
-    """Pixels of 0 and 1 as bits, eight in a byte, the first the highest."""
+def _packed(line: bytes) -> bytes:
+    """A line of pixels as a PNG has it: its filter, which is none, and bits, eight in a byte, the first the highest."""
     length = -(-len(line) // 8)
-    return int(line.ljust(length * 8, b"\0").translate(bytes((48, 49)) + bytes(254)), 2).to_bytes(length, "big")
+    return int(line.ljust(length * 8, b"0"), 2).to_bytes(length + 1, "big")
 
 
 def _chunk(name: bytes, body: bytes) -> bytes:

@@ -1,5 +1,7 @@
 """What each codeword of a symbol stands for. What the symbol says is read by the library; the meanings told here are
 compared with that."""
+from __future__ import annotations
+
 from typing import Iterator, List, NamedTuple, Optional, Sequence, Tuple
 
 from . import core

@@ -1,5 +1,7 @@
 """Letters for pictures of dots, 5 wide and 7 high, with 2 dots above for accents and one below for a cedilla: those of
 ASCII, these with accents, and a few others."""
+from __future__ import annotations
+
 import unicodedata
 from typing import Dict, List, Optional
 

@@ -12,7 +12,9 @@ A message is written with `write(gs1.message(elements), gs1=True)`, and what is 
 Faulty, which says what is wrong with which identifier. Identifiers that the table doesn't have are refused too; with
 `unknown=True` they pass. Which identifiers there are, and where they come from, is said in data/gs1_identifiers.txt.
 """
-import datetime
+from __future__ import annotations
+
+import functools
 import os
 import re
 from typing import Callable, Dict, Iterable, List, NamedTuple, Sequence, Tuple, Union
@@ -60,11 +62,11 @@ class Identifier(NamedTuple):
 # ---- The table
 
 _SOURCE = os.path.join(os.path.dirname(os.path.abspath(__file__)), "data", "gs1_identifiers.txt")
-_PART = re.compile(r"(\[?)([NXYZ])(\.\.)?(\d+)(?::([a-z-]+))?\]?$")
+_PART = r"(\[?)([NXYZ])(\.\.)?(\d+)(?::([a-z-]+))?\]?$"
 
 
 def _part(word: str) -> Part:
-    found = _PART.match(word)
+    found = re.match(_PART, word)
     if not found:
         raise ValueError(f"{_SOURCE}: a part {word!r}")
     bracket, charset, to, length, check = found.groups()
@@ -83,20 +85,27 @@ def _table(lines: Iterable[str]) -> Dict[str, Identifier]:
     return table
 
 
-with open(_SOURCE, encoding="utf-8") as _file:
-    _TABLE = _table(_file)
+@functools.lru_cache(maxsize=None)
+def _known() -> Dict[str, Identifier]:
+    with open(_SOURCE, encoding="utf-8") as file:
+        return _table(file)
 
-# Lengths of the values that all scanners know by the first two digits of the identifier, and how many digits an
-# identifier has, by the same.
+
+# Lengths of the values that all scanners know by the first two digits of the identifier.
 _LENGTHS = {"00": 18, "01": 14, "02": 14, "03": 14, "04": 16,
             **{str(two): 6 for two in (*range(11, 20), *range(31, 37))}, "20": 2, "41": 13}
-_DIGITS = {**{number[:2]: len(number) for number in _TABLE}, **{two: 2 for two in ("04", "14", "18", "19")}}
-_DIGITS.update({"31": 4, "32": 4, "33": 4, "34": 4, "35": 4, "36": 4, "41": 3})
+
+
+@functools.lru_cache(maxsize=None)
+def _digits() -> Dict[str, int]:
+    """How many digits an identifier has, by its first two."""
+    return {**{number[:2]: len(number) for number in _known()}, **{two: 2 for two in ("04", "14", "18", "19")},
+            "31": 4, "32": 4, "33": 4, "34": 4, "35": 4, "36": 4, "41": 3}
 
 
 def identifiers() -> Dict[str, Identifier]:
     """The table of identifiers."""
-    return dict(_TABLE)
+    return dict(_known())
 
 
 def _is_fixed(identifier: str) -> bool:
@@ -133,6 +142,7 @@ def _check_pair(value: str) -> str:
 
 
 def _day(year: int, month: str, day: str) -> str:
+    import datetime  # (an eighth of the package's import)
     try:
         datetime.date(year, int(month), int(day))
         return ""
@@ -198,7 +208,7 @@ def _fault(value: str, parts: Sequence[Part]) -> str:
 
 def _checked(element: Element, unknown: bool) -> Element:
     identifier, value = element
-    known = _TABLE.get(identifier)
+    known = _known().get(identifier)
     if known is None and not unknown:
         raise Faulty(f"({identifier}) isn't an application identifier of the table")
     if not re.fullmatch("[0-9]{2,4}", identifier):
@@ -215,8 +225,8 @@ def _checked(element: Element, unknown: bool) -> Element:
 
 # ---- Text and messages
 
-_BRACKETED = re.compile(r"\((\d*)\)((?:[^(\\]|\\.)*)", re.DOTALL)
-_SQUARE = re.compile(r"\[(\d*)\]([^\[\\]*)", re.DOTALL)
+_BRACKETED = r"(?s)\((\d*)\)((?:[^(\\]|\\.)*)"
+_SQUARE = r"(?s)\[(\d*)\]([^\[\\]*)"
 
 
 def parse(text: str, unknown: bool = False) -> List[Element]:
@@ -225,7 +235,7 @@ def parse(text: str, unknown: bool = False) -> List[Element]:
     stand in square brackets, as zint has them, which are part of no value; round ones in a value are then written as
     they are."""
     elements, at = [], 0
-    bracketed = _SQUARE if text.startswith("[") else _BRACKETED
+    bracketed = re.compile(_SQUARE if text.startswith("[") else _BRACKETED)
     while at < len(text) or not text:
         found = bracketed.match(text, at)
         if not found:
@@ -257,9 +267,9 @@ def items(elements: Sequence[Element]) -> List[int]:
 def _identifier(data: str, at: int, unknown: bool) -> str:
     """The identifier that stands here."""
     for digits in (2, 3, 4):
-        if data[at:at + digits] in _TABLE:
+        if data[at:at + digits] in _known():
             return data[at:at + digits]
-    digits = _DIGITS.get(data[at:at + 2], 0)
+    digits = _digits().get(data[at:at + 2], 0)
     if not digits:
         raise Faulty(f"no identifier begins with {data[at:at + 2]!r}, so it can't be said where its value begins "
                      f"(character {at + 1})")

@@ -1,12 +1,15 @@
 """Labels: symbols as the command line asks for them, as grids, as blocks on a terminal, or as pictures in files."""
+from __future__ import annotations
+
 import argparse
+import errno
 import os
 import re
 import sys
 import unicodedata
 from typing import Dict, List, NamedTuple, Optional, Sequence, Tuple
 
-from . import drawing, font, terminal
+from . import drawing, files, font, terminal
 from .core import Rows
 from .progress import Progress
 from .sources import Trouble
@@ -18,6 +21,8 @@ _DRAWN = ("png", "svg", "pdf")
 _INCH = 25.4
 _MOST_OFF = 0.02  # how much a module may be off before it is said, as a part of its side
 _MOST_NAME = 150  # bytes of a message in the name of a file
+_ALONE, _ON_SHEETS = 2, 4  # modules of the quiet zone, unless another is asked for
+_FOR_ALL = (errno.ENOSPC, errno.EDQUOT, errno.EROFS)  # what keeps every file from being written
 
 
 class Label(NamedTuple):
@@ -52,9 +57,11 @@ class Output:
 
     def __init__(self, given: argparse.Namespace) -> None:
         self.file: Optional[str] = None if given.output == "-" else given.output
-        self.quiet: int = given.quiet_zone
+        usual = _ALONE if given.sheet is None else _ON_SHEETS
+        self.quiet: int = usual if given.quiet_zone is None else given.quiet_zone
         self.captions: bool = given.caption
         self.kind = self._kind(given)
+        self._check_folder()
         self.sheet = self._sheet(given)
         self.module, self.dpi = self._module(given), float(given.dpi)
         self.dot = drawing.DOT
@@ -83,12 +90,19 @@ class Output:
             raise Trouble("--caption: a grid has none; it needs a picture, as -o label.png, or --format blocks")
         return kind
 
+    def _check_folder(self) -> None:
+        """That the folder of the files is there, if it is one for all."""
+        folder = os.path.dirname(self.file or "")
+        if folder and "{}" not in folder and not os.path.isdir(folder):
+            raise Trouble(f"{self.file}: there is no folder {folder}; make it first")
+
     def _sheet(self, given: argparse.Namespace) -> Optional[Tuple[float, float]]:
         if given.sheet is None:
             return None
         found = re.fullmatch(r"(\d+(?:\.\d+)?)x(\d+(?:\.\d+)?)", given.sheet)
         if not found:
-            raise Trouble(f"--sheet {given.sheet}: a size in millimetres is wanted, as 210x297")
+            raise Trouble(f"--sheet {given.sheet}: a size in millimetres is wanted, as 210x297; if that is a message, "
+                          "put it before --sheet")
         if self.kind not in _DRAWN:
             raise Trouble("--sheet: sheets are pictures, and need -o FILE, its name ending with .pdf, .svg or .png")
         if self.is_named:
@@ -233,14 +247,15 @@ class Output:
 
     def _write(self, name: Optional[str], data: bytes) -> None:
         """Writes a file, or onto standard output. A file that can't be written is named, and keeps no other from being
-        written."""
+        written, unless no other could be."""
         if name is None:
             sys.stdout.flush()
             sys.stdout.buffer.write(data)
             return
         try:
-            with open(name, "wb") as file:
-                file.write(data)
+            files.replace(name, data)
         except OSError as why:
+            if why.errno in _FOR_ALL or why.errno == errno.EACCES and not os.path.exists(name):
+                raise
             self.status = 2
             print(f"ecc200: {name}: {why.strerror}", file=sys.stderr, flush=True)

@@ -1,4 +1,6 @@
 """The messages of the subcommand write: words of the command line, lines of standard input, or the bytes of a file."""
+from __future__ import annotations
+
 import argparse
 import os
 import re
@@ -9,11 +11,11 @@ from .advice import why_not_written
 from .core import Refused, Rows, Shape
 from .labels import Label, printed
 from .sources import Trouble, open_input
-from .spelling import Misspelled, of_spelling, shown, spelled
+from .spelling import of_spelling, shown, spelled
 
 __all__ = ["Unwritten", "labels"]
 
-_LINE_END = re.compile("(\r\n|\n|\r)\\Z")
+_LINE_END = "(\r\n|\n|\r)\\Z"
 _UTF16 = (b"\xff\xfe", b"\xfe\xff")
 
 
@@ -48,7 +50,7 @@ def _given(messages: List[str]) -> Iterator[_Given]:
     """The messages, without a byte order mark in front of the first, and without the line end behind each."""
     name, texts = ("message", map(_word, messages)) if messages else ("line", _lines())
     for number, text in enumerate(texts, 1):
-        bare = _LINE_END.sub("", text)
+        bare = re.sub(_LINE_END, "", text)
         yield _Given(f"{name} {number}", bare[1:] if number == 1 and bare.startswith("\ufeff") else bare)
 
 
@@ -68,13 +70,25 @@ def _check(text: str, is_line: bool) -> None:
         raise _Unclear("it has a CR inside; if that is part of the message, write it as \\x0D with --escapes")
 
 
+def _of_hexadecimal(text: str) -> bytes:
+    """The bytes that two digits each stand for."""
+    strange = re.search(r"[^0-9A-Fa-f\s]", text)
+    if strange:
+        raise _Unclear(f"it has {strange[0]!r}, which is no hexadecimal digit")
+    try:
+        return bytes.fromhex(text)
+    except ValueError:
+        raise _Unclear("each byte takes two hexadecimal digits side by side, as 41 for A, and it has "
+                       f"{len(''.join(text.split()))}: {text}") from None
+
+
 def _message(text: str, given: argparse.Namespace) -> Tuple[Union[bytes, List[int]], bool, Tuple[str, ...]]:
     """The bytes or items of a message, whether it is GS1 data, and its text in parts."""
     if given.gs1:
         elements = gs1.parse(text, given.unknown)
         return gs1.message(elements), True, tuple(gs1.text([element]) for element in elements)
     if given.hex:
-        data = bytes.fromhex(text)
+        data = _of_hexadecimal(text)
         return data, False, (data.hex(),)
     if given.escapes:
         items = of_spelling(text, given.charset)
@@ -103,9 +117,7 @@ def _in_words(why: ValueError, given: argparse.Namespace) -> str:
         return why_not_written(why, _size(given), _shape(given))
     if isinstance(why, UnicodeEncodeError):
         return f"the charset {given.charset} has no {why.object[why.start]!r}; name another by --charset, as utf-8"
-    if isinstance(why, (gs1.Faulty, Misspelled, _Unclear, UnicodeError)):
-        return str(why)
-    return f"these aren't bytes in hexadecimal ({why})"
+    return str(why)
 
 
 def _of_bytes(given: argparse.Namespace) -> Union[Label, Unwritten]:
@@ -125,9 +137,12 @@ def labels(given: argparse.Namespace) -> Iterator[Union[Label, Unwritten]]:
                           "another")
         yield _of_bytes(given)
         return
+    is_batch = not given.messages
     for number, (name, text) in enumerate(_given(given.messages), 1):
         try:
-            _check(text, not given.messages)
+            if is_batch and not given.blank and not text.strip():
+                raise _Unclear("it is blank, and has no symbol; --blank makes symbols of blank lines too")
+            _check(text, is_batch)
             message, is_gs1, parts = _message(text, given)
             yield Label(number, parts, _written(message, is_gs1, given))
         except ValueError as why:

@@ -1,4 +1,6 @@
 """How far long work is, on standard error, where that is a terminal."""
+from __future__ import annotations
+
 import sys
 import time
 

@@ -1,4 +1,6 @@
 """The subcommands that read: read, check, normal, compare, explain; and sizes."""
+from __future__ import annotations
+
 import argparse
 import json
 import sys
@@ -6,18 +8,21 @@ from typing import Any, Dict, Iterator, List, NamedTuple, Optional, Tuple, Union
 
 from . import core, explaining, gs1
 from .advice import bytes_in, in_words, righted, sizes_of, why_not_written
-from .core import FNC1, Code, Reading, Refused, Rows, Shape
+from .core import FNC1, Code, Reading, Refused, Rows, Shape, Unsure
 from .labels import Label, Output, printed
 from .progress import Progress
-from .sources import Source, Trouble, doubts, known_charset, sources
+from .sources import Search, Source, Trouble, doubts, known_charset, sources
 from .spelling import decoded, shown, spelled
 
 __all__ = ["Answer", "answers", "check", "compare", "explain", "normal", "read", "sizes"]
 
+_EARLY = 3  # the status where a search ended early
+
 
 class Answer(NamedTuple):
     """What a symbol says, or why it isn't read, in words, with the refusal if the library refused; the grid; how it was
-    changed to be read; and which of its modules are doubtful, if that is said."""
+    changed to be read; which of its modules are doubtful, if that is said; and how many border modules may be wrong, if
+    it isn't the usual number."""
     source: Source
     reading: Optional[Reading]
     rows: Rows
@@ -25,6 +30,7 @@ class Answer(NamedTuple):
     refused: Optional[Refused] = None
     how: str = ""
     doubtful: Optional[Rows] = None
+    border: Optional[int] = None
 
     @property
     def size(self) -> str:
@@ -36,22 +42,35 @@ def _refusal(source: Source, rows: Rows, why: Refused, given: argparse.Namespace
     hint = None if source.found or doubtful is not None else righted(rows, given.border, given.extent)
     if hint is not None and given.any_way:
         return Answer(source, hint.reading, hint.rows, how=hint.how)
+    if isinstance(why, Unsure):
+        return Answer(source, None, rows, _unsure(why, given.margin), why, doubtful=doubtful)
     fault = in_words(why, rows, given.extent, doubtful)
-    if source.found and why.code in (Code.BORDER, Code.BLOCK):
+    if source.found and why.code in (Code.BORDER, Code.BLOCK) and not given.unread:
         fault = f"what looks most like a symbol isn't read: {fault}. Other codes, as QR codes, aren't read at all"
     if hint is not None:
         fault = f"it {hint.how}; --any-way reads it so" + ("" if Code.SIZE >= why.code else f" (as it stands, {fault})")
     return Answer(source, None, rows, "; ".join(filter(None, (fault, source.fault))), why, doubtful=doubtful)
 
 
+def _unsure(why: Unsure, margin: int) -> str:
+    """What a symbol may say, and why that isn't sure."""
+    left = (f"fewer than {margin} corrections" if margin
+            else "no correction, while its border is damaged or modules are doubtful")
+    return f"it may say {shown(why.reading.items)}, but its blocks leave {left}"
+
+
 def _answer(source: Source, given: argparse.Namespace, doubtful: Optional[Rows]) -> Answer:
+    """What a grid says; or a symbol of a picture as it was read there, unless something else is asked for."""
     if source.rows is None:
         return Answer(source, None, [], source.fault)
-    rows = source.rows
-    if doubtful is None and source.found is not None:
-        doubtful = source.found.doubtful
+    rows, border, found = source.rows, given.border, source.found
+    if found is not None and doubtful is None:
+        doubtful = found.doubtful
+        if isinstance(found.answer, Unsure):
+            return _refusal(source, rows, found.answer, given, doubtful)
+        border = found.border_limit if isinstance(found.answer, Reading) and border is None else border
     try:
-        return Answer(source, core.read(rows, given.border, given.extent, doubtful), rows, doubtful=doubtful)
+        return Answer(source, core.read(rows, border, given.extent, doubtful), rows, doubtful=doubtful, border=border)
     except Refused as why:
         return _refusal(source, rows, why, given, doubtful)
 
@@ -69,7 +88,8 @@ def answers(given: argparse.Namespace, names: List[str]) -> Iterator[Answer]:
     _check_doubts(given, names)
     progress, marks = Progress("symbols read"), doubts(given.doubtful)
     try:
-        for source in sources(names, given.recursive, given.most, given.milliseconds, given.margin):
+        search = Search(given.most, given.milliseconds, given.margin, given.unread)
+        for source in sources(names, given.recursive, search):
             doubtful = next(marks, None) if source.number else None
             if given.doubtful is not None and source.number and doubtful is None:
                 raise Trouble(f"--doubtful {given.doubtful}: it has no grid for symbol {source.number} of "
@@ -96,10 +116,25 @@ def _complain(answer: Answer, given: argparse.Namespace) -> int:
     """Says on standard error why a symbol isn't read. Returns the status that this makes."""
     source = answer.source
     file = "" if source.file == "-" and not _is_named(given) else source.file
-    where = ", ".join(filter(None, (file, f"symbol {source.number}" if source.number else "")))
+    where = ", ".join(filter(None, (file, f"symbol {source.number}" if source.number else "", _place(source, given))))
     sys.stdout.flush()
     print(f"ecc200: {where or 'standard input'}: {answer.fault}", file=sys.stderr, flush=True)
+    return _status(source)
+
+
+def _status(source: Source) -> int:
+    """The status that something makes which isn't read."""
+    if source.is_end or source.rows is None and not source.is_complete:
+        return _EARLY
     return 1 if source.number else 2
+
+
+def _place(source: Source, given: argparse.Namespace) -> str:
+    """Where the middle of a symbol is in its picture, if all that aren't read are listed."""
+    if source.found is None or not given.unread:
+        return ""
+    x, y = (sum(values) / 4 for values in zip(*source.found.corners))
+    return f"at {x:.0f}, {y:.0f}"
 
 
 def _elements(reading: Reading, unknown: bool) -> Union[List[gs1.Element], str, None]:
@@ -113,14 +148,18 @@ def _elements(reading: Reading, unknown: bool) -> Union[List[gs1.Element], str, 
 
 
 def _about(answer: Answer) -> Dict[str, Any]:
-    """What JSON has of each symbol, read or not, and of a file that can't be read."""
-    if not answer.source.number:
-        return {"file": answer.source.file, "error": answer.fault}
-    told: Dict[str, Any] = {"file": answer.source.file, "symbol": answer.source.number}
-    found = answer.source.found
+    """What JSON has of each symbol, read or not, of a file that can't be read, and of a search that ended early."""
+    source, found = answer.source, answer.source.found
+    if source.is_end:
+        return {"file": source.file, "complete": False, "ended": answer.fault}
+    if not source.number:
+        return {"file": source.file, "error": answer.fault}
+    told: Dict[str, Any] = {"file": source.file, "symbol": source.number}
     if found is not None:
         corners = [[round(value, 2) for value in corner] for corner in found.corners]
         told.update(page=found.page, corners=corners, inverted=found.inverted, mirrored=found.mirrored)
+    if found is not None or not source.is_complete:
+        told["complete"] = source.is_complete
     if answer.how:
         told["righted"] = answer.how
     if answer.reading is None:
@@ -133,6 +172,10 @@ def _about(answer: Answer) -> Dict[str, Any]:
         reading = answer.reading
         told.update(rows=reading.rows, columns=reading.columns, border_faults=reading.border_faults,
                     corrected=list(reading.corrected), erased=list(reading.erased), left=list(reading.left))
+        if found is not None:
+            told["border_limit"] = found.border_limit if answer.border is None else answer.border
+            if answer.doubtful is not None:
+                told["doubtful"] = ["".join(map(str, row)) for row in answer.doubtful]
     return told
 
 
@@ -219,10 +262,11 @@ def _parts(reading: Reading) -> Tuple[str, ...]:
 def normal(given: argparse.Namespace) -> int:
     """Writes the normal grids of what symbols say."""
     status, count, labels, output = 0, 0, [], Output(given)  # type: int, int, List[Label], Output
-    for count, answer in enumerate(answers(given, given.files), 1):
+    for answer in answers(given, given.files):
+        count += not answer.source.is_end
         if answer.reading is not None:
             try:
-                rows = core.normal(answer.rows, given.border, given.profile, given.extent, answer.doubtful)
+                rows = core.normal(answer.rows, answer.border, given.profile, given.extent, answer.doubtful)
                 labels.append(Label(count, _parts(answer.reading), rows))
                 continue
             except Refused as why:
@@ -232,14 +276,18 @@ def normal(given: argparse.Namespace) -> int:
     return max(status, output.status)
 
 
-def _only(given: argparse.Namespace, name: str) -> Answer:
-    """The one symbol of a file."""
+def _only(given: argparse.Namespace, name: str) -> Tuple[Answer, int]:
+    """The one symbol of a file, and the status that a search makes which ended early."""
     found = list(answers(given, [name]))
+    ends = [answer for answer in found if answer.source.is_end]
+    found = [answer for answer in found if not answer.source.is_end]
     if len(found) != 1:
         raise Trouble(f"{name}: to compare there must be one symbol, and there are {len(found) or 'none'}")
     if found[0].reading is None:
         raise Trouble(f"{name}: {found[0].fault}")
-    return found[0]
+    for end in ends:
+        _complain(end._replace(fault=f"{end.fault}; --most 1 takes the first that is found"), given)
+    return found[0], _EARLY if ends else 0
 
 
 def _difference(first: Reading, second: Reading) -> str:
@@ -256,7 +304,7 @@ def _difference(first: Reading, second: Reading) -> str:
 
 def compare(given: argparse.Namespace) -> int:
     """Says whether two symbols say the same."""
-    first, second = (_only(given, name) for name in given.files)
+    (first, early), (second, other) = (_only(given, name) for name in given.files)
     assert first.reading is not None and second.reading is not None
     same = first.reading.items == second.reading.items
     for name, answer in zip(given.files, (first, second)):
@@ -264,7 +312,7 @@ def compare(given: argparse.Namespace) -> int:
         print(f"{name}: {shown(answer.reading.items)} ({answer.size}, {sum(answer.reading.corrected)} codewords "
               "corrected)")
     print("the same" if same else f"different: {_difference(first.reading, second.reading)}")
-    return 0 if same else 1
+    return max(early, other, 0 if same else 1)
 
 
 def _table(explanation: explaining.Explanation) -> Iterator[str]:
@@ -281,7 +329,7 @@ def explain(given: argparse.Namespace) -> int:
         if answer.reading is None:
             status = max(status, _complain(answer, given))
         try:
-            explanation = explaining.explain(answer.rows, given.border, given.extent, answer.doubtful)
+            explanation = explaining.explain(answer.rows, answer.border, given.extent, answer.doubtful)
         except Refused:
             if given.json:
                 print(_json(_about(answer)), flush=True)
@@ -300,17 +348,18 @@ def explain(given: argparse.Namespace) -> int:
 
 def sizes(given: argparse.Namespace) -> int:
     """Prints the table of sizes."""
-    shape = Shape[(given.shape or "any").upper()]
     if not given.json:
         print(f"{'size':7}  {'regions':>12}  {'data':>5}  {'check':>5}  {'blocks':>6}  {'limit':>5}  {'digits':>6}  "
               f"{'letters':>7}  {'bytes':>5}  standard")
-    for size in sizes_of(shape):
+    for size in sizes_of(Shape[(given.shape or "any").upper()]):
         standard, data = "ISO/IEC 21471" if size.extension else "ISO/IEC 16022", size.data_codewords
+        named = f"{size.rows}x{size.columns}"
         if given.json:
-            print(_json({**size._asdict(), "digits": 2 * data, "letters": data, "bytes": bytes_in(size),
-                         "standard": standard}), flush=True)
+            shape = Shape.SQUARE if size.rows == size.columns else Shape.EXTENDED if size.extension else Shape.RECTANGLE
+            print(_json({"size": named, "shape": shape.name.lower(), **size._asdict(), "digits": 2 * data,
+                         "letters": data, "bytes": bytes_in(size), "standard": standard}), flush=True)
             continue
         regions = f"{size.regions_down * size.regions_across} of {size.region_rows}x{size.region_columns}"
-        print(f"{f'{size.rows}x{size.columns}':7}  {regions:>12}  {data:5}  {size.check_codewords:5}  "
+        print(f"{named:7}  {regions:>12}  {data:5}  {size.check_codewords:5}  "
               f"{size.blocks:6}  {size.limit:5}  {2 * data:6}  {data:7}  {bytes_in(size):5}  {standard}", flush=True)
     return 0

@@ -1,4 +1,6 @@
 """What the command reads: files with grids as text, or pictures, also those of whole folders."""
+from __future__ import annotations
+
 import io
 import os
 import re
@@ -10,16 +12,15 @@ from . import core, pictures
 from .advice import reduced
 from .core import Rows
 
-__all__ = ["Source", "Trouble", "doubts", "known_charset", "of_picture", "of_text", "open_input", "sources"]
+__all__ = ["Search", "Source", "Trouble", "doubts", "known_charset", "of_picture", "of_text", "open_input", "sources"]
 
 # How pictures begin: PNG, JPEG, GIF, BMP, TIFF, WebP, PNM. A sound is a RIFF too, and a text may begin with BM.
-_PICTURE = re.compile(rb"\x89PNG|\xff\xd8\xff|GIF8|BM.{13}\0\0\0|II\*\0|MM\0\*|RIFF....WEBP|P[1-6]\s+[#\d]",
-                      re.DOTALL)
+_PICTURE = rb"(?s)\x89PNG|\xff\xd8\xff|GIF8|BM.{13}\0\0\0|II\*\0|MM\0\*|RIFF....WEBP|P[1-6]\s+[#\d]"
 _WITHOUT = "without it a picture has to show one upright symbol with a whole number of pixels for each module"
 _MOST_CHARACTERS, _MOST_LINES = 4096, 4096  # of a record; a symbol has at most 144
-_GRID = re.compile(rb"[\r\n]*[01]{10,}\r?\n")
-_NOT_DOTS = re.compile(rb"(?P<PDF>%PDF-)|(?P<SVG>(?:\xef\xbb\xbf)?\s*(?:<[?!][^>]*>\s*)*<svg\b)")
-_OBJECT = re.compile(r"\s*<_io\.BytesIO object at \w+>")  # how Pillow names what it was given
+_GRID = rb"[\r\n]*[01]{10,}\r?\n"
+_NOT_DOTS = rb"(?P<PDF>%PDF-)|(?P<SVG>(?:\xef\xbb\xbf)?\s*(?:<[?!][^>]*>\s*)*<svg\b)"
+_OBJECT = r"\s*<_io\.BytesIO object at \w+>"  # how Pillow names what it was given
 _DRAWN_BY = {"PDF": "pdftoppm -r 300 -png label.pdf label", "SVG": "rsvg-convert -d 300 -p 300 -o label.png label.svg"}
 
 
@@ -47,6 +48,32 @@ class Source(NamedTuple):
     # why there are no rows; or, if these aren't read, what else may be the reason
     fault: str = ""
     found: Optional[pictures.Found] = None
+    is_complete: bool = True               # whether all of its picture's page was searched that was to be
+    is_end: bool = False                   # whether it only says that the search ended early
+
+
+class Search(NamedTuple):
+    """How pictures are searched: for how many symbols on each page, for how long, with how many corrections left, and
+    whether all that aren't read are wanted."""
+    most: int = 64
+    milliseconds: int = 1000
+    margin: int = 0
+    unread: bool = False
+
+    def asked(self) -> core._Asked:
+        """The same for the sampler: the likeliest symbol that isn't read is wanted anyway."""
+        return core._Asked(self.most, core._MOST_UNREAD if self.unread else 1, self.milliseconds, self.margin)
+
+    def is_early(self, ended: core.End) -> bool:
+        """Whether there may be more of what was to be found: who asks for one symbol wants the first."""
+        return ended == core.End.TIME or ended == core.End.ROOM and self.most > 1
+
+    def in_words(self, ended: core.End, count: int) -> str:
+        """Why a search ended early."""
+        if ended == core.End.ROOM:
+            return f"the search ended with {count} symbols, and there may be more: --most is how many are looked for"
+        return (f"the search ended after its {self.milliseconds} ms, with {count} symbols, and there may be more: "
+                "--time allows a longer one")
 
 
 def open_input(name: str) -> io.BufferedReader:
@@ -72,7 +99,7 @@ def _of_record(file: str, number: int, lines: List[bytes]) -> Source:
         shortest, longest = min(map(len, lines)), max(map(len, lines))
         return Source(file, number, None, f"its lines have from {shortest} to {longest} characters; a grid has as many "
                       "in each")
-    return Source(file, number, [bytes(byte - 48 for byte in line) for line in lines])
+    return Source(file, number, [line.translate(core._DIGITS) for line in lines])
 
 
 def of_text(name: str, stream: BinaryIO) -> Iterator[Source]:
@@ -134,56 +161,74 @@ def _has_margin(source: Source, margin: int) -> bool:
     return core._size_of(*reading.size).limit - max(reading.corrected) >= margin
 
 
-def _of_page(name: str, page: Any, number: int, most: int, options: core._Options) -> List[Source]:
-    """The symbols of a page. Where the sampler can't be used or reads none, the one that the pixels spell module by
-    module; or else the likeliest that isn't read."""
+def _of_page(name: str, page: Any, number: int, search: Search) -> List[Source]:
+    """The symbols of a page, those that are read first. Where the sampler can't be used or reads none, the one that the
+    pixels spell module by module; or else the likeliest that isn't read, and all of these if they are wanted. Behind
+    them, whether the search ended early."""
     fault = core.sampler_fault()
-    found = core._searched(page, number, most, options) if fault is None else []
-    if not any(isinstance(symbol.answer, core.Reading) for symbol in found):
+    found = core._searched(page, number, search.asked()) if fault is None else core.Findings[pictures.Found]()
+    read = [symbol for symbol in found if isinstance(symbol.answer, core.Reading)]
+    if not read:
         spelled = _of_modules(name, page, "" if fault is None else f"{fault}; {_WITHOUT}")
-        if _has_margin(spelled, options.margin) and (fault is not None or _is_symbol(spelled)):
+        if _has_margin(spelled, search.margin) and (fault is not None or _is_symbol(spelled)):
             return [spelled]
-    return [Source(name, 1, symbol.rows, "", symbol) for symbol in found]
+    is_complete = not search.is_early(found.ended)
+    sources = [Source(name, 1, symbol.rows, "", symbol, is_complete)
+               for symbol in (read if read and not search.unread else found)]
+    if not is_complete:
+        where = "" if number == 1 else f"page {number}: "
+        sources.append(Source(name, 0, None, where + search.in_words(found.ended, len(read)), None, False, True))
+    return sources
 
 
-def of_picture(name: str, data: bytes, most: int, milliseconds: int, margin: int) -> Iterator[Source]:
+def of_picture(name: str, data: bytes, search: Search) -> Iterator[Source]:
     """The symbols of a picture, page by page."""
-    picture, count, options = _picture(data), 0, core._Options(milliseconds, 0, margin, True)
+    picture, count, ends = _picture(data), 0, []  # type: Any, int, List[Source]
     broken: List[str] = []
     for number, page in core._pages(picture, broken):
-        for source in _of_page(name, page, number, most, options):
-            count += 1
-            yield source._replace(number=count)
+        for source in _of_page(name, page, number, search):
+            if source.is_end:
+                ends.append(source)
+            else:
+                count += 1
+                yield source._replace(number=count)
     for why in broken:
-        yield Source(name, 0, None, _OBJECT.sub("", why))
-    if not count and not broken:
-        passed = f"; those that leave fewer than {margin} corrections are passed over" if margin else ""
-        yield Source(name, 1, None, f"no Data Matrix symbol was found in its {picture.width} by {picture.height} "
-                     "pixels; other codes, as QR codes, aren't read. A module should have at least two pixels, and the "
-                     "symbol a light margin. --time allows a longer search" + passed)
+        yield Source(name, 0, None, re.sub(_OBJECT, "", why))
+    if count or broken:
+        yield from ends
+        return
+    margin = search.margin
+    passed = f"; those that leave fewer than {margin} corrections are passed over" if margin else ""
+    within = f" within the {search.milliseconds} ms that it may take" if ends else ""
+    yield Source(name, 1, None, f"no Data Matrix symbol was found in its {picture.width} by {picture.height} pixels"
+                 f"{within}; other codes, as QR codes, aren't read. A module should have at least two pixels, and the "
+                 "symbol a light margin. --time allows a longer search" + passed, is_complete=not ends)
 
 
 # ---- Files and folders
 
-def _of_file(name: str, is_named: bool, most: int, milliseconds: int, margin: int) -> Iterator[Source]:
+def _of_file(name: str, is_named: bool, search: Search) -> Iterator[Source]:
     """The grids of a file. One that isn't named, but found in a folder, is passed over if it is neither a picture nor
     has grids."""
     with open_input(name) as file:
         start = file.peek(4096)
-        if _PICTURE.match(start):
-            yield from of_picture(name, file.read(), most, milliseconds, margin)
-        elif is_named or _GRID.match(start):
+        if re.match(_PICTURE, start):
+            yield from of_picture(name, file.read(), search)
+        elif is_named or re.match(_GRID, start):
             _check_text(start, name)
             yield from of_text(name, file)
 
 
 def _check_text(start: bytes, name: str) -> None:
     """That what a file begins with may be text of grids."""
-    found = _NOT_DOTS.match(start)
+    found = re.match(_NOT_DOTS, start)
     if found:
         kind = str(found.lastgroup)
         raise _Unreadable(f"it is {'an' if kind == 'SVG' else 'a'} {kind}, and pictures made of pixels are read: draw "
                           f"it first, as by  {_DRAWN_BY[kind]}")
+    if re.search("\u2580|\u2584|\u2588".encode(), start):
+        raise _Unreadable("it is a symbol in half blocks, as a terminal shows it, and grids of 0 and 1 are read: leave "
+                          "out --format blocks, or write --format txt")
     if re.search(rb"[\0-\x08\x0e-\x1f]", start):
         raise _Unreadable("it is neither a picture (PNG, JPEG, GIF, BMP, TIFF, WebP, PNM) nor text with grids")
     if not start and name != "-":
@@ -206,8 +251,7 @@ def _walked(folder: str) -> Iterator[Union[str, OSError]]:
     yield from faults
 
 
-def sources(names: List[str], recursive: bool = False, most: int = 64, milliseconds: int = 1000,
-            margin: int = 0) -> Iterator[Source]:
+def sources(names: List[str], recursive: bool = False, search: Search = Search()) -> Iterator[Source]:
     """The grids of these files in order, and of all files in these folders if `recursive`. Without names those of
     standard input, or if `recursive` of the folder in which the command runs."""
     for name in names or ["" if recursive else "-"]:
@@ -216,13 +260,13 @@ def sources(names: List[str], recursive: bool = False, most: int = 64, milliseco
             try:
                 if isinstance(file, OSError):
                     raise file
-                yield from _of_file(file, is_named, most, milliseconds, margin)
+                yield from _of_file(file, is_named, search)
             except IsADirectoryError:
                 yield Source(name, 0, None, "it is a folder; -r reads the files in it")
             except OSError as why:
                 yield Source(str(why.filename) if why is file else str(file), 0, None, str(why.strerror))
             except (_Unreadable, ValueError) as why:  # as of a page that can't be opened
-                yield Source(str(file), 0, None, _OBJECT.sub("", str(why)))
+                yield Source(str(file), 0, None, re.sub(_OBJECT, "", str(why)))
 
 
 # ---- Doubtful modules

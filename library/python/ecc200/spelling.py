@@ -1,4 +1,6 @@
 """Messages as text to be shown: characters as they are, with a backslash before what isn't one."""
+from __future__ import annotations
+
 import re
 from typing import Iterable, List, Optional, Tuple
 
@@ -6,7 +8,7 @@ from .core import FNC1
 
 __all__ = ["Misspelled", "decoded", "of_spelling", "shown", "spelled"]
 
-_ESCAPE = re.compile(r"\\(\\|F|x[0-9A-Fa-f]{2})|\\(.?)|([^\\]+)", re.DOTALL)
+_ESCAPE = r"(?s)\\(\\|F|x[0-9A-Fa-f]{2})|\\(.?)|([^\\]+)"
 
 
 class Misspelled(ValueError):
@@ -53,7 +55,7 @@ def shown(items: Iterable[int], charset: Optional[str] = None) -> str:
 def of_spelling(text: str, charset: str) -> List[int]:
     """The items of a text that is spelled."""
     items: List[int] = []
-    for found in _ESCAPE.finditer(text):
+    for found in re.finditer(_ESCAPE, text):
         escape, wrong, plain = found.groups()
         if plain is not None:
             items += plain.encode(charset)

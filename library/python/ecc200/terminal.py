@@ -1,4 +1,6 @@
 """Symbols on a terminal: two modules in a character, of half blocks."""
+from __future__ import annotations
+
 import os
 import sys
 from typing import List

@@ -1,4 +1,6 @@
 """The subcommand write."""
+from __future__ import annotations
+
 import argparse
 import sys
 from typing import List

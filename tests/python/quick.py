@@ -1,0 +1,93 @@
+"""What takes time: a start, pictures without a symbol, many pictures of symbols."""
+import functools
+import math
+import os
+import random
+import resource
+import subprocess
+from unittest import mock
+
+from tests.python.common import PYTHON, has_sampler, holds, same, wanted_module
+from tests.python.surface import WORDS, ecc, environment
+
+import ecc200
+from ecc200 import advice, drawing
+
+# What a start doesn't need, each a few hundredths to a tenth of a second.
+HEAVY = {"xml.sax", "urllib.parse", "urllib.request", "http.client", "email", "html", "json", "shutil", "tempfile",
+         "datetime", "numpy", "PIL", "argcomplete", "ecc200.reporting", "ecc200.explaining", "unittest", "inspect"}
+
+
+def starts():
+    """A start imports no more than it needs."""
+    done = subprocess.run([PYTHON, "-X", "importtime", *WORDS[1:], "write", "123456"], env=environment(),
+                          stdout=subprocess.PIPE, stderr=subprocess.PIPE, timeout=60, check=True)
+    imported = {line.rsplit(b"|", 1)[1].strip().decode() for line in done.stderr.splitlines() if b"|" in line}
+    yield holds("modules are listed", {"ecc200.core", "argparse"} <= imported, str(imported))
+    yield same("modules that it doesn't need", sorted(HEAVY & imported), [])
+
+
+def runs_of(line):
+    """The lengths of the runs of one value."""
+    ends = [at for at in range(1, len(line)) if line[at] != line[at - 1]] + [len(line)]
+    return [end - begin for begin, end in zip([0, *ends], ends)]
+
+
+def plainly(rows):
+    """How many pixels across and down stand for each module: what all runs have in common."""
+    return tuple(functools.reduce(math.gcd, (run for line in lines for run in runs_of(line)))
+                 for lines in (rows, list(zip(*rows))))
+
+
+def reduced():
+    """Pixels are made modules as one by one, at once for each row."""
+    some = random.Random(5)
+    for number in range(200):
+        rows, columns = some.randint(1, 12), some.randint(1, 12)
+        down, across = some.randint(1, 5), some.randint(1, 5)
+        small = [bytes(some.choice((0, 0, 1)) for _ in range(columns)) for _ in range(rows)]
+        large = [bytes(module for module in row for _ in range(across)) for row in small for _ in range(down)]
+        wanted = plainly(large)
+        got, how = advice.reduced(large)
+        yield same(f"picture {number}", got, [row[::wanted[0]] for row in large[::wanted[1]]])
+        yield same(f"picture {number} in words", how, "" if wanted == (1, 1) else
+                   f"has {wanted[0]} by {wanted[1]} characters or pixels for each module")
+    for rows, left, right in [(ecc200.write(b"A"), 0, 0), (ecc200.write(b"A"), 3, 1), (ecc200.write(b"B"), 0, 2)]:
+        wide = [bytes(left) + row + bytes(right) for row in rows]
+        wide = [bytes(len(wide[0]))] * left + wide + [bytes(len(wide[0]))] * right
+        got = advice.righted(wide)
+        yield same(f"a margin of {left} and {right}", got and (got.how, got.rows),
+                   ("has a light margin", rows) if left + right else None)
+
+
+def within_time(folder):
+    """A picture of 12 million pixels that has no symbol takes its time, and what opening it takes."""
+    pillow = wanted_module("PIL.Image", "Pillow", "the time of a large picture")
+    if not pillow:
+        return
+    path = os.path.join(folder, "noise.bmp")
+    pillow.Image.effect_noise((4000, 3000), 90).save(path)
+    for name, more in (("", {}), (" without the sampler", {"ECC200_SAMPLE_LIBRARY": "/none"})):
+        if not name and not has_sampler("the time of a search"):
+            continue
+        before = resource.getrusage(resource.RUSAGE_CHILDREN)
+        done = subprocess.run([*WORDS, "read", "--time", "100", path], env={**environment(), **more}, timeout=120,
+                              stdout=subprocess.PIPE, stderr=subprocess.PIPE)
+        after = resource.getrusage(resource.RUSAGE_CHILDREN)
+        taken = after.ru_utime - before.ru_utime
+        yield holds(f"12 million pixels{name}", taken < 4 and done.returncode in (1, 3) and not done.stdout,
+                    f"{taken:.1f} s of processor time, {done}")
+
+
+def pngs(folder):
+    """Lines of a picture that are alike are made once, and files of many messages are those of each by itself."""
+    symbol = ecc200.encode(b"123456", module=1.0)
+    with mock.patch.object(drawing, "_packed", wraps=drawing._packed) as packed:
+        symbol.png()
+        symbol.page()
+    yield same("lines that are made", packed.call_count, len(symbol.rows) + 2)
+    ecc("write", "-o", "lot.png", given="\n".join(map(str, range(30))), folder=folder)
+    for number in (1, 17, 30):
+        ecc("write", str(number - 1), "-o", "one.png", folder=folder)
+        one, lot = (open(os.path.join(folder, name), "rb").read() for name in ("one.png", f"lot-{number:02}.png"))
+        yield same(f"file {number}", lot, one)

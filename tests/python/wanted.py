@@ -1,0 +1,136 @@
+"""What is wanted is said where something else is given, in words of the user's; and what can be taken is."""
+import json
+import os
+
+from tests.python.batches import saved, shell
+from tests.python.common import holds, raises, same, wanted_module
+from tests.python.surface import ecc, says
+
+import ecc200
+from ecc200 import core, pictures
+
+
+def by_python():
+    """TypeErrors name what is wanted and what was given."""
+    rows = ecc200.write(b"A")
+    for size in (8, "8x32", (8, ), (8, "32"), 8.0):
+        yield raises(f"size={size!r}", TypeError, f"as (8, 32), unlike {size!r}",
+                     lambda size=size: ecc200.encode(b"A", size=size))
+    for name, call in {"shape": lambda: ecc200.encode(b"A", shape="rectangle"),
+                       "write, shape": lambda: ecc200.write(b"A", shape="rectangle")}.items():
+        yield raises(name, TypeError, "one of Shape.SQUARE, Shape.RECTANGLE, Shape.EXTENDED, Shape.ANY is wanted, "
+                     "unlike 'rectangle'", call)
+    yield raises("profile", TypeError, "Profile.SHORTER is wanted, unlike 'short'",
+                 lambda: ecc200.write(b"A", profile="short"))
+    yield raises("extent", TypeError, "Extent.WIDE is wanted, unlike 'all'", lambda: ecc200.read(rows, extent="all"))
+    for name, call in {"decode": ecc200.decode, "find": ecc200.find}.items():
+        yield raises(f"{name}(None)", TypeError, "unlike None, which OpenCV's imread gives", lambda call=call: call(None))
+    yield raises("decode(7)", TypeError, "a grid is rows of modules", lambda: ecc200.decode(7))
+    yield raises("read(None)", TypeError, "a grid is rows of modules, as a list, a text, an array or a picture, unlike "
+                 "None", lambda: ecc200.read(None))
+    yield raises("read([7])", TypeError, "a row of modules is bytes, text, or a list of numbers, unlike 7",
+                 lambda: ecc200.read([7]))
+    yield same("a size of numpy's numbers", ecc200.write(b"A", size=(Index(8), Index(32))),
+               ecc200.write(b"A", size=(8, 32)))
+
+
+class Index:
+    """A whole number that is no int, as numpy's are."""
+
+    def __init__(self, number):
+        self.number = number
+
+    def __index__(self):
+        return self.number
+
+
+def rows_of_numbers():
+    """numpy makes numbers of the rows of symbols, all of them."""
+    numpy = wanted_module("numpy", "numpy", "rows as numbers of numpy")
+    if not numpy:
+        return
+    symbol = ecc200.encode(b"LOT 7", size=(8, 32))
+    for name, rows in {"encode": symbol.rows, "write": ecc200.write(b"A"), "normal": ecc200.normal(symbol.rows),
+                       "a symbol of rows": ecc200.Symbol([b"\1\0", b"\0\0"]).rows}.items():
+        array = numpy.array(rows)
+        yield same(f"rows of {name}", (array.tolist(), array.dtype), ([list(row) for row in rows], numpy.uint8))
+        yield same(f"they are a list of {name}", (isinstance(rows, list), rows == list(rows)), (True, True))
+    yield same("rows are a grid, and no picture", [found.data for found in ecc200.decode(symbol.rows)], [b"LOT 7"])
+    yield same("read as an array", ecc200.read(numpy.array(symbol.rows)).data, b"LOT 7")
+    if pictures.is_there():
+        yield raises("rows are no picture", TypeError, "unlike _Drawn", lambda: ecc200.find(symbol.rows))
+
+
+def sixteen_bits(folder):
+    """Pictures of 16 bits are read as those of 8 are."""
+    pillow, numpy = (wanted_module(*names, "pictures of 16 bits") for names in (("PIL.Image", "Pillow"),
+                                                                              ("numpy", "numpy")))
+    if not pillow or not numpy:
+        return
+    grey = numpy.array(ecc200.encode(b"16 bits"))
+    grey = grey.repeat(5, 0).repeat(5, 1)
+    full, camera = grey.astype(numpy.uint16) * 257, grey.astype(numpy.uint16) * 16  # 12 bits of a camera's
+    given = {"full": full, "a camera's": camera, "the other order": full.astype(">u2"), "a part": full[::1, ::-1][:, ::-1],
+             "colours": numpy.stack([full] * 3, 2), "colours of a camera": numpy.stack([camera] * 3, 2)}
+    for name, array in given.items():
+        pixels, width, height = ecc200.luminance(array)
+        got = numpy.frombuffer(pixels, numpy.uint8).reshape(height, width)
+        yield holds(f"luminance, {name}", (abs(got.astype(int) - grey) <= 1).all(), str(got[:1]))
+    path = os.path.join(folder, "sixteen.png")
+    pillow.Image.fromarray(full).save(path)
+    opened = pillow.Image.open(path)
+    got = numpy.frombuffer(ecc200.luminance(opened)[0], numpy.uint8)
+    yield holds("a PNG of 16 bits", (abs(got.astype(int) - grey.ravel()) <= 1).all(), f"{opened.mode}")
+    dim = numpy.full((4, 4), 100, numpy.uint16)
+    yield same("what is below 256 stays", set(ecc200.luminance(dim)[0]), {100})
+    if pictures.is_there():
+        for name, array in given.items():
+            yield same(f"decoded, {name}", [found.data for found in ecc200.decode(array, most=1)], [b"16 bits"])
+        yield says("a file by the command", ecc("read", path), output="16 bits\n")
+
+
+def by_command(folder):
+    """The command says what it wants in words of the user's."""
+    saved(folder, "blocks.txt", ecc("write", "A", "--format", "blocks")[1])
+    for name, words, parts in [
+        ("a message behind --sheet", ("write", "-o", "a.pdf", "--sheet", "123456"),
+         ["--sheet 123456: a size in millimetres is wanted, as 210x297; if that is a message, put it before --sheet"]),
+        ("a size that there isn't", ("write", "--size", "9x9", "A"),
+         ["no symbol has 9 rows and 9 columns; 'ecc200 sizes' lists those that there are"]),
+        ("no size", ("write", "--size", "8", "A"), ["rows and columns are wanted, as 8x32, unlike '8'"]),
+        ("a size turned", ("write", "--size", "32x8", "A"), ["no symbol has 32 rows"]),
+        ("no number", ("read", "--border", "x"), ["--border: a whole number from 0 to 65535 is wanted, unlike 'x'"]),
+        ("a number too large", ("read", "--border", "70000"), ["from 0 to 65535 is wanted, unlike '70000'"]),
+        ("a number with a sign", ("read", "--time", "+5"), ["a whole number from 1 to 3600000 is wanted"]),
+        ("no resolution", ("write", "--dpi", "x", "A"), ["from 1 to 100000 of dots an inch is wanted, as 300, unlike"]),
+        ("half blocks", ("read", "blocks.txt"), ["blocks.txt: it is a symbol in half blocks", "--format txt"]),
+    ]:
+        got = ecc(*words, folder=folder)
+        yield says(name, got, 2, "", parts)
+        yield holds(f"{name}: no list of choices, no names of Python's",
+                    not any(word in got[2] for word in ("choose from", "value:", "fromhex", "invalid")), got[2])
+    yield says("blocks through a pipe", shell("$E write --format blocks 123456 | $E read", folder), 2, "",
+               ["half blocks"])
+    for text, part in (("414", "each byte takes two hexadecimal digits side by side, as 41 for A, and it has 3: 414"),
+                       ("4g", "it has 'g', which is no hexadecimal digit"), ("4 14 1", "side by side")):
+        yield says(f"--hex {text}", ecc("write", "--hex", text), 1, "", ["message 1: ", part])
+    yield says("--hex with blanks", ecc("write", "--hex", "41 42"), output=ecc("write", "AB")[1])
+    for command in ("read", "check", "normal", "compare", "explain", "write", "sizes"):
+        groups = [line for line in ecc(command, "--help")[1].splitlines() if line.endswith(":") and line[0] != " "]
+        yield same(f"groups of {command} --help", len(groups), len(set(groups)))
+
+
+def sizes_as_json():
+    """A size is named as the options name it."""
+    status, output, _ = ecc("sizes", "--json")
+    told = [json.loads(line) for line in output.splitlines()]
+    yield same("how many", (status, len(told)), (0, 48))
+    for shape in ("square", "rectangle", "extended"):
+        size = next(each["size"] for each in told if each["shape"] == shape)
+        yield holds(f"--size {size}", ecc("write", "--size", size, "--", "7")[0] == 0)
+        named = [json.loads(line)["size"] for line in ecc("sizes", "--shape", shape, "--json")[1].splitlines()]
+        wanted = ("rectangle", "extended") if shape == "extended" else (shape, )
+        yield same(f"--shape {shape}", named, [each["size"] for each in told if each["shape"] in wanted])
+    numbers = {name: told[0][name] for name in core.Size._fields}
+    yield same("the numbers of the smallest", numbers, core.sizes()[0]._asdict())
+    yield holds("--help speaks of sizes", "JSON for each size" in " ".join(ecc("sizes", "--help")[1].split()))
