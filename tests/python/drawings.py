@@ -335,7 +335,8 @@ def sampled():
     yield holds("the corners", all(abs(x - wanted_x) < 8 and abs(y - wanted_y) < 8 for (x, y), (wanted_x, wanted_y) in
                                    zip(corners, [(32, 32), (160, 32), (160, 160), (32, 160)])), str(corners))
     yield same("nothing in a picture", pictures.find(pillow.Image.new("L", (200, 200), 255), milliseconds=50), [])
-    yield raises("an array of floats", TypeError, "rows of numbers of 8 or 16 bits", lambda: pictures.find(array.astype(float)))
+    yield raises("an array of floats", TypeError, "rows of numbers of 8 or 16 bits",
+                 lambda: pictures.find(array.astype(float)))
     symbol = ecc200.encode(b"A" * 9, quiet=4)
     yield same("a symbol, an array by its interface alone",
                [reading.data for reading in ecc200.decode(Magnified(symbol, 5), most=1)], [b"A" * 9])

@@ -24,6 +24,7 @@ PARTS = {
     "pages": "unlike margins",
     "whole": "captions replaced missing_folder blank_lines",
     "wanted": "by_python rows_of_numbers sixteen_bits by_command sizes_as_json",
+    "searches": "early out_of_time by_python sheets handed_on unread unsure",
     "quick": "starts reduced within_time pngs",
     "packaged": "typed from_system wheel",
 }

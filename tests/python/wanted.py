@@ -24,7 +24,8 @@ def by_python():
                  lambda: ecc200.write(b"A", profile="short"))
     yield raises("extent", TypeError, "Extent.WIDE is wanted, unlike 'all'", lambda: ecc200.read(rows, extent="all"))
     for name, call in {"decode": ecc200.decode, "find": ecc200.find}.items():
-        yield raises(f"{name}(None)", TypeError, "unlike None, which OpenCV's imread gives", lambda call=call: call(None))
+        yield raises(f"{name}(None)", TypeError, "unlike None, which OpenCV's imread gives",
+                     lambda call=call: call(None))
     yield raises("decode(7)", TypeError, "a grid is rows of modules", lambda: ecc200.decode(7))
     yield raises("read(None)", TypeError, "a grid is rows of modules, as a list, a text, an array or a picture, unlike "
                  "None", lambda: ecc200.read(None))
@@ -70,7 +71,8 @@ def sixteen_bits(folder):
     grey = numpy.array(ecc200.encode(b"16 bits"))
     grey = grey.repeat(5, 0).repeat(5, 1)
     full, camera = grey.astype(numpy.uint16) * 257, grey.astype(numpy.uint16) * 16  # 12 bits of a camera's
-    given = {"full": full, "a camera's": camera, "the other order": full.astype(">u2"), "a part": full[::1, ::-1][:, ::-1],
+    given = {"full": full, "a camera's": camera, "the other order": full.astype(">u2"),
+             "a part": full[:, ::-1][:, ::-1],
              "colours": numpy.stack([full] * 3, 2), "colours of a camera": numpy.stack([camera] * 3, 2)}
     for name, array in given.items():
         pixels, width, height = ecc200.luminance(array)

@@ -110,7 +110,8 @@ def missing_folder(folder):
     yield says("a folder that takes no files is said once", got, 2, "", ["ecc200: label-1.svg: Permission denied\n"])
     yield same("lines that say so", got[2].count("\n"), 1)
     path = saved(here, "label.svg", b"before")
-    yield says("a file in it that may be written", run([PYTHON, "-c", REFUSED, path, "1"], env=environment()), output="")
+    yield says("a file in it that may be written", run([PYTHON, "-c", REFUSED, path, "1"], env=environment()),
+               output="")
     yield same("is written", open(path, "rb").read(5), b"<svg ")
 
 

@@ -1,0 +1,254 @@
+"""Searches of pictures: what ends one early is said, what the sampler read is what is said, and what is found and not
+read is listed with the reason."""
+import copy
+import json
+import math
+import os
+import pickle
+
+from tests.python.batches import made
+from tests.python.common import has_sampler, holds, same, wanted_module
+from tests.python.surface import ecc, hurt, says, text
+
+import ecc200
+from ecc200 import core
+
+LONG = 600_000  # milliseconds, which no search here takes
+
+
+def is_possible(what):
+    """Whether pictures can be searched here."""
+    return bool(wanted_module("PIL.Image", "Pillow", what)) and has_sampler(what)
+
+
+def sheet(folder, count, *more):
+    """A sheet of this many labels, and what they say."""
+    messages = [f"SN-{number:05}" for number in range(count)]
+    name = f"sheet-{count}.png"
+    ecc("write", "--sheet", "-o", name, *more, given="\n".join(messages), folder=folder)
+    return name, messages
+
+
+def early(folder):
+    """A search that ends early says so, by a status of its own, a line and JSON; and no other does."""
+    if not is_possible("searches that end early"):
+        return
+    here = made(folder, "early")
+    name, messages = sheet(here, 12)
+    rows = [("all", ("--all", ), 0, 12, None), ("more than there are", ("--most", "13"), 0, 12, None),
+            ("the first", (), 0, 1, None), ("one", ("--most", "1"), 0, 1, None),
+            ("some", ("--most", "5"), 3, 5, [f"ecc200: {name}: the search ended with 5 symbols", "--most"]),
+            ("as many as there are", ("--most", "12"), 3, 12, ["the search ended with 12 symbols"])]
+    for case, words, status, count, parts in rows:
+        got = ecc("read", "--time", str(LONG), *words, name, folder=here)
+        yield says(case, (got[0], "", got[2]), status, "", parts)
+        read = got[1].split()
+        yield holds(f"{case}, what is read", len(set(read)) == len(read) == count and set(read) <= set(messages), read)
+        yield holds(f"{case}, lines of errors", got[2].count("\n") == (status > 0), got[2])
+        told = [json.loads(line) for line in ecc("read", "--json", "--time", str(LONG), *words, name,
+                                                 folder=here)[1].splitlines()]
+        yield same(f"{case}, complete in JSON", {line["complete"] for line in told}, {status == 0})
+        yield same(f"{case}, a line of its own", ["ended" in line for line in told],
+                   [False] * count + [True] * (status > 0))
+    for command in ("check", "explain", "normal"):
+        got = ecc(command, "--most", "2", "--time", str(LONG), name, folder=here)
+        yield holds(f"{command}, some", got[0] == 3 and "the search ended with 2 symbols" in got[2], str(got))
+    got = ecc("normal", "--most", "2", "--time", str(LONG), name, "-o", "normal.svg", folder=here)
+    yield same("files of a search that ended early", (got[0], sorted(it for it in os.listdir(here) if "normal" in it)),
+               (3, ["normal-1.svg", "normal-2.svg"]))
+
+
+def out_of_time(folder):
+    """The end of the time is said, whether something was found or not, and on which page."""
+    if not is_possible("searches whose time is over"):
+        return
+    from PIL import Image
+    here = made(folder, "time")
+    noise = Image.effect_noise((3000, 3000), 90)
+    noise.save(os.path.join(here, "noise.png"))
+    got = ecc("read", "--time", "1", "noise.png", folder=here)
+    yield says("nothing within the time", got, 3, "", ["no Data Matrix symbol was found", "within the 1 ms", "--time"])
+    yield same("in one line", got[2].count("\n"), 1)
+    told = json.loads(ecc("read", "--json", "--time", "1", "noise.png", folder=here)[1])
+    yield same("in JSON", (told["complete"], "refused" in told), (False, True))
+    Image.new("L", (60, 60), 255).save(os.path.join(here, "white.png"))
+    yield says("nothing in all of a picture", ecc("read", "white.png", folder=here), 1, "", ["no Data Matrix symbol"])
+    told = json.loads(ecc("read", "--json", "white.png", folder=here)[1])
+    yield same("it is complete in JSON", told.get("complete", True), True)
+    ecc200.encode(b"one", quiet=4).save(os.path.join(here, "one.png"))
+    with Image.open(os.path.join(here, "one.png")) as one:
+        one.convert("L").save(os.path.join(here, "pages.tif"), save_all=True, append_images=[noise.copy()])
+    got = ecc("read", "--time", "200", "pages.tif", folder=here)
+    yield says("a page whose time is over", got, 3, "one\n", ["pages.tif: page 2: the search ended after its 200 ms"])
+    with Image.open(os.path.join(here, "one.png")) as one:
+        noise.paste(one.convert("L").resize((600, 600), Image.NEAREST), (100, 100))
+    noise.save(os.path.join(here, "beside.png"))
+    status, _, errors = ecc("compare", "--time", "300", "beside.png", "one.png", folder=here)
+    yield holds("compare may have missed one", status >= 2 and ("the search ended after its 300 ms" in errors
+                                                               or "no Data Matrix" in errors), errors)
+
+
+def by_python(folder):
+    """The lists of decode and find say why the search ended."""
+    yield same("a grid is complete", (ecc200.decode(ecc200.write(b"A")).complete, ecc200.decode([b"\1"]).complete),
+               (True, True))
+    if not is_possible("searches by Python that end early"):
+        return
+    here = made(folder, "python")
+    path, messages = sheet(here, 70)
+    path = os.path.join(here, path)
+    for call in (ecc200.decode, ecc200.find):
+        for name, more, count, ended in [("all", {"most": 100}, 70, core.End.WHOLE), ("usual", {}, 64, core.End.ROOM),
+                                         ("some", {"most": 3}, 3, core.End.ROOM)]:
+            got = call(path, milliseconds=LONG, **more)
+            yield same(f"{call.__name__}, {name}", (len(got), got.ended, got.complete),
+                       (count, ended, ended == core.End.WHOLE))
+            for kind, other in (("a copy", copy.copy(got)), ("pickled", pickle.loads(pickle.dumps(got)))):
+                yield same(f"{call.__name__}, {name}, {kind}", (other == got, other.ended), (True, ended))
+        yield same(f"{call.__name__}, no time", call(path, milliseconds=1, most=100).ended, core.End.TIME)
+    texts = [found.text for found in ecc200.decode(path, most=100, milliseconds=LONG)]
+    yield same("what is read", sorted(texts), messages)
+    yield holds("they are lists", isinstance(ecc200.decode(path, most=1), list))
+
+
+def sheets(folder):
+    """Of sheets as they are drawn by default each label is found."""
+    if not is_possible("sheets of labels"):
+        return
+    here = made(folder, "sheets")
+    for count in (10, 50, 100, 200, 400):
+        name, messages = sheet(here, count)
+        status, read, errors = ecc("read", "--all", "--time", str(LONG), name, folder=here)
+        yield same(f"{count} labels", (status, len(read.split()), errors), (0, count, ""))
+        yield same(f"what {count} labels say", sorted(read.split()), messages)
+
+
+# ---- What the sampler read
+
+
+def pixels(rows, scale, dark=30, light=200, quiet=3):
+    """A symbol as rows of luminances."""
+    wide = [bytes(quiet) + bytes(row) + bytes(quiet) for row in rows]
+    wide = [bytes(len(wide[0]))] * quiet + wide + [bytes(len(wide[0]))] * quiet
+    return [[dark if module else light for module in row for _ in range(scale)] for row in wide for _ in range(scale)]
+
+
+def of_rows(folder, name, rows):
+    """A picture of these luminances, as a file."""
+    from PIL import Image
+    picture = Image.frombytes("L", (len(rows[0]), len(rows)), b"".join(map(bytes, rows)))
+    picture.save(os.path.join(folder, name))
+    return name
+
+
+def frayed(message, count):
+    """A symbol with so many wrong modules in its top border."""
+    rows = [bytearray(row) for row in ecc200.write(message)]
+    for column in range(3, 3 + count):
+        rows[0][column] ^= 1
+    return rows
+
+
+def in_glare(message):
+    """The luminances of a symbol with a spot in its middle that is as light as can be."""
+    rows = pixels(ecc200.write(message), 5)
+    middle = len(rows) / 2
+    return [[255 if math.hypot(x - middle, y - middle) < 0.2 * len(rows) else level for x, level in enumerate(row)]
+            for y, row in enumerate(rows)]
+
+
+def handed_on(folder):
+    """What the sampler read is what is said, with the border limit and the doubtful modules by which it was read."""
+    if not is_possible("readings of pictures"):
+        return
+    here, message = made(folder, "handed"), b"M" * 62
+    border = of_rows(here, "border.png", pixels(frayed(message, 16), 6))
+    glare = of_rows(here, "glare.png", in_glare(message))
+    for name in (border, glare):
+        found, = ecc200.find(os.path.join(here, name), most=1, milliseconds=20_000)
+        yield same(f"found, {name}", found.answer.data, message)
+        usual = found.answer.border_faults <= ecc200.usual_limit(*found.answer.size) and not found.doubtful
+        yield same(f"not as a grid by itself, {name}", usual, False)
+        again = ecc200.read(found.rows, found.border_limit, doubtful=found.doubtful)
+        yield same(f"read says the same, {name}", again._replace(corners=found.answer.corners), found.answer)
+        yield same(f"decode, {name}", [got.data for got in ecc200.decode(os.path.join(here, name), most=1)], [message])
+        words = ("--time", "20000", name)
+        yield says(f"read, {name}", ecc("read", *words, folder=here), output=message.decode() + "\n")
+        told = json.loads(ecc("read", "--json", *words, folder=here)[1])
+        doubtful = found.doubtful and ["".join(map(str, row)) for row in found.doubtful]
+        got = told["border_limit"], told["border_faults"], told["corrected"], told["erased"], told.get("doubtful")
+        answer = found.answer
+        yield same(f"in JSON, {name}", got, (found.border_limit, answer.border_faults, list(answer.corrected),
+                                             list(answer.erased), doubtful))
+        yield says(f"normal, {name}", ecc("normal", *words, folder=here), output=text(ecc200.write(message)))
+        yield same(f"check, {name}", ecc("check", *words, folder=here)[0], 0)
+        explained = ecc("explain", *words, folder=here)
+        yield holds(f"explain, {name}", explained[0] == 0 and f"It says {message.decode()}" in explained[1], explained)
+        yield same(f"compare, {name}", ecc("compare", "--most", "1", *words, name, folder=here)[0], 0)
+    yield says("another limit is asked for", ecc("read", "--border", "2", "--time", "20000", border, folder=here), 1, "",
+               ["modules of its border have the wrong colour"])
+
+
+# ---- What isn't read
+
+
+def beside_one_another(folder, name, symbols):
+    """A picture of several symbols."""
+    parts = [pixels(rows, 8, 0, 255, 6) for rows in symbols]
+    return of_rows(folder, name, [[level for part in parts for level in part[y]] for y in range(len(parts[0]))])
+
+
+def unread(folder):
+    """What is found and not read is listed with the reason and the place, if that is asked for."""
+    damaged = [bytes(row) for row in hurt(4)]
+    refused = ecc200.decode(damaged, unread=True)
+    yield same("decode of a grid that isn't read", (ecc200.decode(damaged), [each.code for each in refused]),
+               ([], [ecc200.Code.BLOCK]))
+    grids = text(ecc200.write(b"A")) + text(damaged)
+    yield same("of two grids", [isinstance(each, ecc200.Reading) for each in ecc200.decode(grids, unread=True)],
+               [True, False])
+    if not is_possible("symbols that are found and not read"):
+        return
+    here = made(folder, "unread")
+    name = beside_one_another(here, "three.png", [ecc200.write(b"123456"), damaged, ecc200.write(b"A")])
+    path, words = os.path.join(here, name), ("--time", "20000", name)
+    yield same("as without it", sorted(ecc("read", "--all", *words, folder=here)[1].split()), ["123456", "A"])
+    status, read, errors = ecc("read", "--all", "--unread", *words, folder=here)
+    yield same("what is read", (status, sorted(read.split())), (1, ["123456", "A"]))
+    middle = 8 * (22 + 11)
+    yield holds("the reason and the place", errors.count("\n") == 1 and f"symbol 3, at {middle}, {8 * 11}: block 1"
+                in errors, errors)
+    told = [json.loads(line) for line in ecc("read", "--all", "--unread", "--json", *words, folder=here)[1].splitlines()]
+    yield same("in JSON", ["refused" in line for line in told], [False, False, True])
+    yield same("its reason there", (told[2]["code"], told[2]["block"], told[2]["complete"]), ("BLOCK", 1, True))
+    for call in (ecc200.find, ecc200.decode):
+        counts = [len(call(path, milliseconds=20_000, **more)) for more in ({}, {"unread": True})]
+        yield same(f"{call.__name__} without it, and with it", counts, [2, 3])
+    found = ecc200.find(path, milliseconds=20_000, unread=True)
+    yield same("the rows of what isn't read", (found[2].answer.code, found[2].rows), (ecc200.Code.BLOCK, damaged))
+    alone = beside_one_another(here, "alone.png", [damaged])
+    yield same("decode says why nothing is read", [each.code for each in ecc200.decode(os.path.join(here, alone),
+                                                                                     unread=True)],
+               [ecc200.Code.BLOCK])
+    yield same("and is empty where that isn't asked", ecc200.decode(os.path.join(here, alone)), [])
+
+
+def unsure(folder):
+    """What leaves too few corrections isn't read, and says what it may be."""
+    if not is_possible("symbols that leave few corrections"):
+        return
+    here = made(folder, "unsure")
+    name = beside_one_another(here, "one.png", [hurt(1)])
+    found = ecc200.find(os.path.join(here, name), milliseconds=20_000, margin=2, unread=True)
+    yield same("how many", len(found), 1)
+    why = found[0].answer
+    yield same("it is a refusal", (isinstance(why, ecc200.Unsure), isinstance(why, ecc200.Refused),
+                                   isinstance(why, ecc200.Reading)), (True, True, False))
+    yield same("what it may say", (why.reading.data, why.code, why.place), (b"123456", ecc200.Code.BLOCK, 0))
+    yield same("in words", str(why), "block 1 leaves 3 check codewords, too few to be sure that it says b'123456'")
+    other = pickle.loads(pickle.dumps(why))
+    yield same("pickled", (str(other), other.reading), (str(why), why.reading))
+    yield same("without unread", ecc200.find(os.path.join(here, name), milliseconds=20_000, margin=2), [])
+    for words in ((), ("--unread", )):
+        yield says(f"by the command {words}", ecc("read", "--margin", "2", *words, name, folder=here), 1, "",
+                   ["it may say 123456, but its blocks leave fewer than 2 corrections"])
