@@ -20,11 +20,12 @@ HEAVY = {"xml.sax", "urllib.parse", "urllib.request", "http.client", "email", "h
 
 def starts():
     """A start imports no more than it needs."""
-    done = subprocess.run([PYTHON, "-X", "importtime", *WORDS[1:], "write", "123456"], env=environment(),
-                          stdout=subprocess.PIPE, stderr=subprocess.PIPE, timeout=60, check=True)
-    imported = {line.rsplit(b"|", 1)[1].strip().decode() for line in done.stderr.splitlines() if b"|" in line}
-    yield holds("modules are listed", {"ecc200.core", "argparse"} <= imported, str(imported))
-    yield same("modules that it doesn't need", sorted(HEAVY & imported), [])
+    for words, needed in ((["write", "123456"], set()), (["read"], {"ecc200.reporting", "ecc200.explaining"})):
+        done = subprocess.run([PYTHON, "-X", "importtime", *WORDS[1:], *words], env=environment(), input=b"",
+                              stdout=subprocess.PIPE, stderr=subprocess.PIPE, timeout=60, check=True)
+        imported = {line.rsplit(b"|", 1)[1].strip().decode() for line in done.stderr.splitlines() if b"|" in line}
+        yield holds(f"modules of {words} are listed", {"ecc200.core", "argparse", *needed} <= imported, str(imported))
+        yield same(f"modules that {words} doesn't need", sorted((HEAVY - needed) & imported), [])
 
 
 def runs_of(line):

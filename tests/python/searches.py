@@ -106,6 +106,14 @@ def by_python(folder):
             for kind, other in (("a copy", copy.copy(got)), ("pickled", pickle.loads(pickle.dumps(got)))):
                 yield same(f"{call.__name__}, {name}, {kind}", (other == got, other.ended), (True, ended))
         yield same(f"{call.__name__}, no time", call(path, milliseconds=1, most=100).ended, core.End.TIME)
+    from PIL import Image
+    with Image.open(path) as first:
+        pages = [first.convert("L").crop((0, 0, 1200, 400)), Image.new("L", (90, 90), 255)]
+    for name, order in (("first", pages), ("last", pages[::-1])):
+        order[0].save(os.path.join(here, "pages.tif"), save_all=True, append_images=order[1:])
+        for call in (ecc200.decode, ecc200.find):
+            got = call(os.path.join(here, "pages.tif"), most=2, milliseconds=LONG)
+            yield same(f"{call.__name__}, the page that has more is {name}", (len(got), got.ended), (2, core.End.ROOM))
     texts = [found.text for found in ecc200.decode(path, most=100, milliseconds=LONG)]
     yield same("what is read", sorted(texts), messages)
     yield holds("they are lists", isinstance(ecc200.decode(path, most=1), list))

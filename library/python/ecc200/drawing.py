@@ -234,7 +234,7 @@ def png(page: Page, dpi: float) -> bytes:
     metre = round(dpi / _INCH * 1000)
     return (b"\x89PNG\r\n\x1a\n" + _chunk(b"IHDR", struct.pack(">IIBBBBB", width, height, 1, 0, 0, 0, 0))
             + _chunk(b"pHYs", struct.pack(">IIB", metre, metre,
-                                          1)) + _chunk(b"IDAT", zlib.compress(packed, 9)) + _chunk(b"IEND", b""))
+                                          1)) + _chunk(b"IDAT", zlib.compress(packed)) + _chunk(b"IEND", b""))
 
 
 def _wide(row: bytes, many: int) -> bytes:
@@ -253,9 +253,13 @@ def _lay(lines: List[bytes], left: int, top: int, many: int, pixels: bytes) -> N
 def _set(lines: List[bytes], text: str, left: int, top: int, many: int) -> None:
     """Sets a line of text into lines of pixels, with so many for a dot."""
     columns = [column for letter in text for column in (*font.glyph(letter), 0)]
+    halves = bytes(column & 255 for column in columns), bytes(column >> 8 for column in columns)
     for bit in range(font.HEIGHT):
-        row = bytes(column >> bit & 1 for column in columns)
+        row = halves[bit // 8].translate(_BITS[bit % 8])
         _lay(lines, left, top + bit * many, many, _wide(row, many))
+
+
+_BITS = [bytes(byte >> bit & 1 for byte in range(256)) for bit in range(8)]
 
 
 def _packed(line: bytes) -> bytes:

@@ -2,6 +2,7 @@
 ASCII, these with accents, and a few others."""
 from __future__ import annotations
 
+import functools
 import unicodedata
 from typing import Dict, List, Optional
 
@@ -53,6 +54,7 @@ def _composed(letter: str) -> Optional[List[int]]:
     return columns
 
 
+@functools.lru_cache(maxsize=1024)
 def glyph(letter: str) -> List[int]:
     """The columns of a letter from the left, the uppermost dot in the lowest bit; of one that isn't there a box."""
     return _composed(letter) or [column << _ABOVE for column in _BOX]

@@ -2,7 +2,6 @@
 from __future__ import annotations
 
 import argparse
-import json
 import sys
 from typing import Any, Dict, Iterator, List, NamedTuple, Optional, Tuple, Union
 
@@ -181,6 +180,7 @@ def _about(answer: Answer) -> Dict[str, Any]:
 
 def _json(told: Dict[str, Any]) -> str:
     """A line of JSON, in ASCII: other characters are \\u and four digits, whatever the locale."""
+    import json  # (which would take a part of each start)
     return json.dumps(told)
 
 
