@@ -7,7 +7,7 @@ import resource
 import subprocess
 from unittest import mock
 
-from tests.python.common import PYTHON, has_sampler, holds, same, wanted_module
+from tests.python.common import PYTHON, has_sampler, holds, run, same, wanted_module
 from tests.python.surface import WORDS, ecc, environment
 
 import ecc200
@@ -18,13 +18,21 @@ HEAVY = {"xml.sax", "urllib.parse", "urllib.request", "http.client", "email", "h
          "datetime", "numpy", "PIL", "argcomplete", "ecc200.reporting", "ecc200.explaining", "unittest", "inspect"}
 
 
+STARTED = """import sys
+from ecc200.command import main
+status = main(sys.argv[1:])
+print(" ".join(sys.modules), file=sys.stderr)
+sys.exit(status)
+"""
+
+
 def starts():
     """A start imports no more than it needs."""
     for words, needed in ((["write", "123456"], set()), (["read"], {"ecc200.reporting", "ecc200.explaining"})):
-        done = subprocess.run([PYTHON, "-X", "importtime", *WORDS[1:], *words], env=environment(), input=b"",
-                              stdout=subprocess.PIPE, stderr=subprocess.PIPE, timeout=60, check=True)
-        imported = {line.rsplit(b"|", 1)[1].strip().decode() for line in done.stderr.splitlines() if b"|" in line}
-        yield holds(f"modules of {words} are listed", {"ecc200.core", "argparse", *needed} <= imported, str(imported))
+        status, _, errors = run([PYTHON, "-c", STARTED, *words], env=environment())
+        imported = set(errors.split())
+        yield holds(f"modules of {words} are listed", not status and {"ecc200.core", "argparse", *needed} <= imported,
+                    errors)
         yield same(f"modules that {words} doesn't need", sorted((HEAVY - needed) & imported), [])
 
 

@@ -191,7 +191,8 @@ def handed_on(folder):
         yield says(f"normal, {name}", ecc("normal", *words, folder=here), output=text(ecc200.write(message)))
         yield same(f"check, {name}", ecc("check", *words, folder=here)[0], 0)
         explained = ecc("explain", *words, folder=here)
-        yield holds(f"explain, {name}", explained[0] == 0 and f"It says {message.decode()}" in explained[1], explained)
+        yield holds(f"explain, {name}", explained[0] == 0 and f"It says {message.decode()}" in explained[1]
+                    and "not read" not in explained[1], explained)
         yield same(f"compare, {name}", ecc("compare", "--most", "1", *words, name, folder=here)[0], 0)
     yield says("another limit is asked for", ecc("read", "--border", "2", "--time", "20000", border, folder=here), 1, "",
                ["modules of its border have the wrong colour"])
@@ -234,6 +235,11 @@ def unread(folder):
         yield same(f"{call.__name__} without it, and with it", counts, [2, 3])
     found = ecc200.find(path, milliseconds=20_000, unread=True)
     yield same("the rows of what isn't read", (found[2].answer.code, found[2].rows), (ecc200.Code.BLOCK, damaged))
+    several = beside_one_another(here, "several.png", [damaged, ecc200.write(b"123456"), damaged, damaged])
+    got = ecc("read", "--all", "--unread", "--time", "20000", several, folder=here)
+    yield same("several that aren't read", (got[:2], got[2].count("block 1")), ((1, "123456\n"), 3))
+    got = ecc("read", "--all", "--time", "20000", several, folder=here)
+    yield says("without --unread", got, output="123456\n")
     alone = beside_one_another(here, "alone.png", [damaged])
     yield same("decode says why nothing is read", [each.code for each in ecc200.decode(os.path.join(here, alone),
                                                                                      unread=True)],

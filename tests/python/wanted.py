@@ -72,7 +72,7 @@ def sixteen_bits(folder):
     grey = grey.repeat(5, 0).repeat(5, 1)
     full, camera = grey.astype(numpy.uint16) * 257, grey.astype(numpy.uint16) * 16  # 12 bits of a camera's
     given = {"full": full, "a camera's": camera, "the other order": full.astype(">u2"),
-             "a part": full[:, ::-1][:, ::-1],
+             "a camera's in the other order": camera.astype(">u2"), "a part": full[:, ::-1][:, ::-1],
              "colours": numpy.stack([full] * 3, 2), "colours of a camera": numpy.stack([camera] * 3, 2)}
     for name, array in given.items():
         pixels, width, height = ecc200.luminance(array)
