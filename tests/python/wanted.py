@@ -78,6 +78,10 @@ def sixteen_bits(folder):
         pixels, width, height = ecc200.luminance(array)
         got = numpy.frombuffer(pixels, numpy.uint8).reshape(height, width)
         yield holds(f"luminance, {name}", (abs(got.astype(int) - grey) <= 1).all(), str(got[:1]))
+    levels = numpy.arange(256).reshape(16, 16)
+    for kind in ("<u2", ">u2"):
+        got = numpy.frombuffer(ecc200.luminance((levels * 16).astype(kind))[0], numpy.uint8)
+        yield holds(f"each level, {kind}", (abs(got.astype(int) - levels.ravel()) <= 1).all(), str(got))
     path = os.path.join(folder, "sixteen.png")
     pillow.Image.fromarray(full).save(path)
     opened = pillow.Image.open(path)
