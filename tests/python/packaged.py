@@ -27,7 +27,7 @@ print(ecc200.core._library._name)
 # What a program does with the package, for the checker of types.
 PROGRAM = """
 import pathlib
-from typing import List, Optional
+from typing import List, Optional, Union
 
 
 def texts(path: str) -> List[str]:
@@ -59,6 +59,10 @@ first(encode(b"A", size=(8, 32)))
 square: List[Size] = [size for size in sizes() if size.rows == size.columns and not size.extension]
 grids: List[Rows] = [write(b"A", shape=Shape.RECTANGLE), write(b"A", size=(square[0].side, square[0].side))]
 elements: List[gs1.Element] = gs1.parse("(10)A")
+readings: Findings[Reading] = decode("a.png", most=9)
+ended: End = max(readings.ended, find("a.png").ended)
+answers: Findings[Union[Reading, Refused]] = decode("a.png", unread=True)
+print(readings.complete, ended is End.WHOLE, [answer.reading for answer in answers if isinstance(answer, Unsure)])
 """
 
 

@@ -194,6 +194,11 @@ def handed_on(folder):
         yield holds(f"explain, {name}", explained[0] == 0 and f"It says {message.decode()}" in explained[1]
                     and "not read" not in explained[1], explained)
         yield same(f"compare, {name}", ecc("compare", "--most", "1", *words, name, folder=here)[0], 0)
+    blot = os.path.join(here, "blot.txt")
+    with open(blot, "w", encoding="ascii") as file:
+        file.write(text([bytes(column == 5 for column in range(len(frayed(message, 0)))) for _ in frayed(message, 0)]))
+    yield says("with doubtful modules of the caller's", ecc("read", "--doubtful", blot, "--time", "20000", border,
+                                                           folder=here), output=message.decode() + "\n")
     yield says("another limit is asked for", ecc("read", "--border", "2", "--time", "20000", border, folder=here), 1, "",
                ["modules of its border have the wrong colour"])
 

@@ -63,10 +63,10 @@ def _answer(source: Source, given: argparse.Namespace, doubtful: Optional[Rows])
     if source.rows is None:
         return Answer(source, None, [], source.fault)
     rows, border, found = source.rows, given.border, source.found
-    if found is not None and doubtful is None:
-        doubtful = found.doubtful
-        if isinstance(found.answer, Unsure):
-            return _refusal(source, rows, found.answer, given, doubtful)
+    if found is not None:
+        if isinstance(found.answer, Unsure) and doubtful is None:
+            return _refusal(source, rows, found.answer, given, found.doubtful)
+        doubtful = found.doubtful if doubtful is None else doubtful
         border = found.border_limit if isinstance(found.answer, Reading) and border is None else border
     try:
         return Answer(source, core.read(rows, border, given.extent, doubtful), rows, doubtful=doubtful, border=border)

@@ -70,10 +70,11 @@ class Search(NamedTuple):
 
     def in_words(self, ended: core.End, count: int) -> str:
         """Why a search ended early."""
+        some = f"{count} symbol{'s' * (count != 1)}"
         if ended == core.End.ROOM:
-            return f"the search ended with {count} symbols, and there may be more: --most is how many are looked for"
-        return (f"the search ended after its {self.milliseconds} ms, with {count} symbols, and there may be more: "
-                "--time allows a longer one")
+            return f"the search ended with {some}, and there may be more: --most is how many are looked for"
+        return (f"the search ended after its {self.milliseconds} ms, with {some}, and there may be more: --time allows "
+                "a longer one")
 
 
 def open_input(name: str) -> io.BufferedReader:
