@@ -334,8 +334,8 @@ def results():
     """Types and forms of what is returned."""
     for size in SIZES:
         grid = ecc200.write(b"A" * size.data, size=size.named)
-        got = type(grid), {type(row) for row in grid}, {len(row) for row in grid}, len(grid)
-        yield f"rows of {size.named}", got, (list, {bytes}, {size.columns}, size.rows)
+        got = isinstance(grid, list), {type(row) for row in grid}, {len(row) for row in grid}, len(grid)
+        yield f"rows of {size.named}", got, (True, {bytes}, {size.columns}, size.rows)
         places = ecc200.places(*size.named)
         yield f"places of {size.named}", [tuple(at) for row in places for at in row], PLACES[size.named]
         yield f"their rows of {size.named}", [len(row) for row in places], [size.columns] * size.rows
@@ -373,10 +373,10 @@ def pictures():
         ("steps", memoryview(shades).cast("B", (2, 3))[::2], (shades[:3], 3, 1)),
         ("an array interface", Array(shades, (2, 3)), (shades, 3, 2)),
         ("an array interface of booleans", Array(b"\0\1", (1, 2), "|b1"), (b"\0\xff", 2, 1)),
-        ("shorts", memoryview(shades * 2).cast("B").cast("H", (2, 3)), "TypeError"),
+        ("longs", memoryview(shades * 4).cast("B").cast("I", (2, 3)), "TypeError"),
         ("one dimension", memoryview(shades), "TypeError"),
         ("five colours", memoryview(bytes(30)).cast("B", (2, 3, 5)), "TypeError"),
-        ("colours of shorts", memoryview(bytes(36)).cast("B").cast("H", (2, 3, 3)), "TypeError"),
+        ("colours of longs", memoryview(bytes(72)).cast("B").cast("I", (2, 3, 3)), "TypeError"),
         ("four dimensions", memoryview(shades).cast("B", (1, 1, 2, 3)), "TypeError"),
         ("rows", [shades], "TypeError"),
         ("a text", "0101", "TypeError"),
