@@ -199,8 +199,8 @@ def handed_on(folder):
         file.write(text([bytes(column == 5 for column in range(len(frayed(message, 0)))) for _ in frayed(message, 0)]))
     yield says("with doubtful modules of the caller's", ecc("read", "--doubtful", blot, "--time", "20000", border,
                                                            folder=here), output=message.decode() + "\n")
-    yield says("another limit is asked for", ecc("read", "--border", "2", "--time", "20000", border, folder=here), 1, "",
-               ["modules of its border have the wrong colour"])
+    got = ecc("read", "--border", "2", "--time", "20000", border, folder=here)
+    yield says("another limit is asked for", got, 1, "", ["modules of its border have the wrong colour"])
 
 
 # ---- What isn't read
