@@ -232,7 +232,8 @@ def unread(folder):
     middle = 8 * (22 + 11)
     yield holds("the reason and the place", errors.count("\n") == 1 and f"symbol 3, at {middle}, {8 * 11}: block 1"
                 in errors, errors)
-    told = [json.loads(line) for line in ecc("read", "--all", "--unread", "--json", *words, folder=here)[1].splitlines()]
+    got = ecc("read", "--all", "--unread", "--json", *words, folder=here)
+    told = [json.loads(line) for line in got[1].splitlines()]
     yield same("in JSON", ["refused" in line for line in told], [False, False, True])
     yield same("its reason there", (told[2]["code"], told[2]["block"], told[2]["complete"]), ("BLOCK", 1, True))
     for call in (ecc200.find, ecc200.decode):
