@@ -11,7 +11,7 @@ from tests.python.common import (PACKAGE, PYTHON, SAMPLER, SHARED, clean, has, h
 from tests.support import places
 
 import ecc200
-from ecc200 import drawing, pictures
+from ecc200 import core, drawing, pictures
 
 MESSAGES = [b"123456", b"Mitsubadoor", b"A" * 44, b"caf\xe9 " * 30, b"7" * 1632]
 
@@ -126,6 +126,11 @@ def unloadable(folder):
     for name, told in (("the module", errors), ("the command", help_told)):
         is_told = f"{path} is there, but can't be loaded: libgone.so.7" in told and "isn't installed" not in told
         yield holds(f"{name} names what is lacking", is_told, told)
+    run(["cc", "-shared", "-o", path, "-x", "c", "-"],
+        f"unsigned short ecc200_sample_abi(void) {{ return {core._SAMPLE_ABI}; }}\n".encode())
+    status, output, errors = run([PYTHON, "-c", asked], env=env)
+    yield holds("a library without the search", (status, output) == (1, "False\n") and "older than this" in errors,
+                errors)
 
 
 # ---- What decode takes
