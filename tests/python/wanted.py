@@ -120,6 +120,8 @@ def by_command(folder):
     for text, part in (("414", "each byte takes two hexadecimal digits side by side, as 41 for A, and it has 3: 414"),
                        ("4g", "it has 'g', which is no hexadecimal digit"), ("4 14 1", "side by side")):
         yield says(f"--hex {text}", ecc("write", "--hex", text), 1, "", ["message 1: ", part])
+    yield says("a size with a zero in front", ecc("write", "--size", "08x32", "A"),
+               output=ecc("write", "--size", "8x32", "A")[1])
     yield says("--hex with blanks", ecc("write", "--hex", "41 42"), output=ecc("write", "AB")[1])
     for command in ("read", "check", "normal", "compare", "explain", "write", "sizes"):
         groups = [line for line in ecc(command, "--help")[1].splitlines() if line.endswith(":") and line[0] != " "]

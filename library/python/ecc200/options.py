@@ -38,10 +38,11 @@ def _size(text: str) -> str:
     found = re.fullmatch("([0-9]+)x([0-9]+)", text)
     if not found:
         raise argparse.ArgumentTypeError(f"rows and columns are wanted, as 8x32, unlike {text!r}")
-    if (int(found[1]), int(found[2])) not in core._sizes_by_dimensions():
-        raise argparse.ArgumentTypeError(f"no symbol has {found[1]} rows and {found[2]} columns; 'ecc200 sizes' lists "
-                                         "those that there are")
-    return text
+    rows, columns = int(found[1]), int(found[2])
+    if (rows, columns) not in core._sizes_by_dimensions():
+        raise argparse.ArgumentTypeError(f"no symbol has {rows} rows and {columns} columns; 'ecc200 sizes' lists those "
+                                         "that there are")
+    return f"{rows}x{columns}"
 
 
 def _takes(parser: argparse.ArgumentParser) -> None:
