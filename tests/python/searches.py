@@ -5,6 +5,7 @@ import json
 import math
 import os
 import pickle
+import re
 
 from tests.python.batches import made
 from tests.python.common import has_sampler, holds, same, wanted_module
@@ -119,16 +120,26 @@ def by_python(folder):
     yield holds("they are lists", isinstance(ecc200.decode(path, most=1), list))
 
 
+def gap(folder, *more):
+    """How many modules stand between two symbols on a sheet."""
+    ecc("write", "--sheet", "-o", "two.svg", *more, "A", "B", folder=folder)
+    with open(os.path.join(folder, "two.svg"), encoding="ascii") as file:
+        lefts = [float(left) for left in re.findall(r"translate\(([0-9.]+) ", file.read())]
+    return (lefts[1] - lefts[0]) / 0.5 - len(ecc200.write(b"A"))
+
+
 def sheets(folder):
-    """Of sheets as they are drawn by default each label is found."""
+    """Of sheets as they are drawn by default each label is found, and all in reading order."""
+    here = made(folder, "sheets")
+    gaps = [gap(here, *words) for words in ((), ("--quiet-zone", "1"), ("--quiet-zone", "2"))]
+    yield same("modules between symbols", gaps, [8, 2, 4])
     if not is_possible("sheets of labels"):
         return
-    here = made(folder, "sheets")
     for count in (10, 50, 100, 200, 400):
         name, messages = sheet(here, count)
         status, read, errors = ecc("read", "--all", "--time", str(LONG), name, folder=here)
         yield same(f"{count} labels", (status, len(read.split()), errors), (0, count, ""))
-        yield same(f"what {count} labels say", sorted(read.split()), messages)
+        yield same(f"what {count} labels say", read.split(), messages)
 
 
 # ---- What the sampler read
