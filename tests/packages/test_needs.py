@@ -33,6 +33,16 @@ class Needs(Case):
             begun = [it for it in ("proving", "Proving", "build:", "rt)") if it in output]
             self.row(f"make {target} begins nothing", begun, [])
 
+    def test_for_another_system(self):
+        """A compiler for it is wanted, and nothing for this one."""
+        tools = WANTED["deb"][len(SAMPLER):]
+        for target, triple, wanted in [
+                ("deb", "aarch64-unknown-linux-gnu", ["aarch64-linux-gnu-gcc gcc-aarch64-linux-gnu", *tools]),
+                ("dist", "x86_64-w64-windows-gnu", ["x86_64-w64-mingw32-gcc gcc-mingw-w64-x86-64"]),
+                ("sampler", "riscv64-unknown-linux-gnu", ["riscv64-linux-gnu-gcc gcc-riscv64-linux-gnu"])]:
+            status, named, _ = self.made(target, TARGET=triple)
+            self.row(f"make {target} TARGET={triple}", (status != 0, named), (True, [(target, it) for it in wanted]))
+
     def test_each_is_found_by_itself(self):
         """A compiler without headers, and tools of Debian one by one."""
         self.row("no headers", [it for _, it in self.made("sampler", CC="/bin/false")[1]], SAMPLER[1:])
