@@ -1,9 +1,18 @@
-// Lines of a file with one column a field: its first row has headings. Where all of them are GS1 identifiers, each row
-// is an element string of those fields that aren't empty. Otherwise the column 'message' is the message, or else the
-// first one, and the column 'text', if there is one, stands below the symbol.
+// Lines of a file with one column a field. Its first row has headings, which say what the columns are: GS1 identifiers,
+// whose fields make an element string, or `message`; `text`, which stands below the symbol; `qty`, the number of
+// copies. What a heading leaves open is asked.
+import { isIdentifier } from "./gs1.mjs";
 
-/** @typedef {{ message: string, text: string | null }} Line */
+/** @typedef {{ message: string, text: string | null, copies: number, why?: string }} Line */
+/** @typedef {{ heading: string, identifier: string, role: string | null, example: string }} Column its role is null if
+    the heading doesn't tell it */
+/** @typedef {{ rows: string[][], columns: Column[], mayBeData: boolean }} Table with its first row, which may have data
+    instead of headings */
+/** @typedef {{ isData: boolean, roles: string[] }} Meaning whether the first row has data, and what the columns are */
 const SEPARATORS = [";", "\t", ","];
+export const ELEMENT = "element", MESSAGE = "message", TEXT = "text", COPIES = "copies", UNUSED = "left out";
+/** @type {Record<string, string>} */
+const ROLES = { message: MESSAGE, text: TEXT, qty: COPIES, quantity: COPIES, copies: COPIES };
 
 // The rows of a CSV file. A field in quotation marks may hold separators, line ends and, doubled, quotation marks.
 /** @type {(text: string) => string[][]} */
@@ -22,18 +31,89 @@ export function rowsOf(text) {
   }
   return rows.filter((row) => row.some((field) => field.trim()));
 }
-const identifierOf = (heading) => /^\(?(\d{2,4})\)?$/.exec(heading.trim())?.[1];
-const spelledValue = (field) => field.trim().replace(/[\\]/g, "\\\\").replace(/[(]/g, "\\(");
 
-// The messages of a CSV file.
-/** @type {(text: string) => Line[]} */
-export function linesOfCsv(text) {
-  const [headings = [], ...rows] = rowsOf(text), identifiers = headings.map(identifierOf);
-  if (headings.length && identifiers.every(Boolean)) {
-    const element = (field, k) => (field.trim() && identifiers[k] ? `(${identifiers[k]})${spelledValue(field)}` : "");
-    return rows.map((row) => ({ message: row.map(element).join(""), text: null }));
-  }
-  const names = headings.map((heading) => heading.trim().toLowerCase());
-  const from = Math.max(0, names.indexOf("message")), below = names.indexOf("text");
-  return rows.map((row) => ({ message: row[from] ?? "", text: below < 0 ? null : row[below] ?? "" }));
+// ---- What the columns are
+
+const DIGITS = /^\d{2,4}$/, IN_BRACKETS = /^\(\d{2,4}\)$/;
+// The identifier that a heading is, or "".
+/** @type {(heading: string) => string} */
+function identifierOf(heading) {
+  const digits = DIGITS.test(heading) ? heading : IN_BRACKETS.test(heading) ? heading.slice(1, -1) : "";
+  return isIdentifier(digits) ? digits : "";
+}
+const columnOf = (rows, k) => rows.map((row) => (row[k] ?? "").trim());
+// The columns by their headings. What comes a second time isn't known, nor a message beside identifiers.
+/** @type {(headings: string[], rows: string[][]) => Column[]} */
+function columnsOf(headings, rows) {
+  const identifiers = headings.map(identifierOf), roles = headings.map((heading, k) =>
+    (identifiers[k] ? ELEMENT : ROLES[heading.toLowerCase()] ?? null));
+  const isKnown = (k) => (roles[k] === ELEMENT ? identifiers.indexOf(identifiers[k]) === k
+    : roles.indexOf(roles[k]) === k && !(roles[k] === MESSAGE && roles.includes(ELEMENT)));
+  return headings.map((heading, k) => {
+    const example = columnOf(rows, k).find(Boolean) ?? "", isEmpty = !heading && !example;
+    return { heading, identifier: identifiers[k], example, role: isEmpty ? UNUSED : isKnown(k) ? roles[k] : null };
+  });
+}
+// Whether the first row may as well have data: none of its words is a heading for sure, and a number is none for sure
+// where numbers of the same kind stand below it.
+/** @type {(columns: Column[], rows: string[][]) => boolean} */
+function mayBeData(columns, rows) {
+  const isWord = ({ role }) => [MESSAGE, TEXT, COPIES].includes(role);
+  if (columns.some((column) => isWord(column) || IN_BRACKETS.test(column.heading))) return false;
+  return columns.some(({ role }, k) => role === null || columnOf(rows, k).some((field) => DIGITS.test(field)));
+}
+
+/** @type {(text: string) => Table} */
+export function tableOf(text) {
+  const rows = rowsOf(text), [first = [], ...others] = rows;
+  const count = rows.reduce((most, row) => Math.max(most, row.length), 0);
+  const headings = Array.from({ length: count }, (_, k) => (first[k] ?? "").trim());
+  const columns = columnsOf(headings, others);
+  return { rows, columns, mayBeData: mayBeData(columns, others) };
+}
+// Whether it has to be asked what the columns are.
+/** @type {(table: Table) => boolean} */
+export const isOpen = ({ columns, mayBeData: may }) => may || columns.some(({ role }) => role === null);
+// Whether a first row that may have data most likely has: headings seldom have digits.
+/** @type {(table: Table) => boolean} */
+export const isLikelyData = ({ columns, mayBeData: may }) => may && columns.some(({ heading }) => /\d/.test(heading));
+// What the columns are as far as it is known; else what they most likely are: the first that isn't known is the
+// message, where nothing else makes one.
+/** @type {(table: Table, isData: boolean) => Meaning} */
+export function likely({ columns }, isData) {
+  const known = columns.map(({ role }) => (isData ? null : role));
+  const hasMessage = known.includes(ELEMENT) || known.includes(MESSAGE), first = hasMessage ? -1 : known.indexOf(null);
+  return { isData, roles: known.map((role, k) => role ?? (k === first ? MESSAGE : UNUSED)) };
+}
+// Why columns that mean this make no symbols, or "".
+/** @type {(meaning: Meaning) => string} */
+export function whyNoMessage({ roles }) {
+  const count = (role) => roles.filter((each) => each === role).length;
+  if (!count(ELEMENT) && count(MESSAGE) !== 1) return "One column has to be the message.";
+  if (count(ELEMENT) && count(MESSAGE)) return "Identifiers make the message, so no other column can be it.";
+  if (count(TEXT) > 1) return "Only one column can stand below the symbol.";
+  return count(COPIES) > 1 ? "Only one column can say how many copies there are." : "";
+}
+
+// ---- The lines
+
+const spelledValue = (field) => field.trim().replace(/[\\]/g, "\\\\").replace(/[(]/g, "\\(");
+const MOST_COPIES = 9999;
+/** @type {(field: string) => { copies: number, why?: string }} */
+function copiesOf(field) {
+  const digits = field.trim() || "1", copies = Number(digits);
+  const isOne = /^\d+$/.test(digits) && copies <= MOST_COPIES;
+  return isOne ? { copies } : { copies: 1, why: `${digits} is no number of copies` };
+}
+// The lines of a table whose columns mean this.
+/** @type {(table: Table, meaning: Meaning) => Line[]} */
+export function linesOf({ rows, columns }, { isData, roles }) {
+  const [message, text, copies] = [MESSAGE, TEXT, COPIES].map((role) => roles.indexOf(role));
+  const element = (field, k) =>
+    (roles[k] === ELEMENT && field.trim() ? `(${columns[k].identifier})${spelledValue(field)}` : "");
+  return (isData ? rows : rows.slice(1)).map((row) => {
+    const own = message < 0 ? row.map(element).join("") : row[message] ?? "";
+    const below = text < 0 ? null : row[text] ?? "";
+    return { message: own, text: below, ...(copies < 0 ? { copies: 1 } : copiesOf(row[copies] ?? "")) };
+  });
 }

@@ -4,6 +4,7 @@ import { MOST_OF_SHEET, MOST_TEXT } from "./common.mjs";
 import { $, field, fieldOf, hint } from "./dom.mjs";
 import { showTask } from "./flow.mjs";
 import { isGrid } from "./grids.mjs";
+import { listChanged } from "./lines.mjs";
 import { beginEntry } from "./link.mjs";
 import { tooMuch } from "./messages.mjs";
 import { readGrid, readPicture, writeMessage } from "./source.mjs";
@@ -90,8 +91,11 @@ async function takeFile(file, note, isSheet = false) {
 // The lines of a file take the place of those that stand on the sheet.
 /** @type {(name: string, text: string, why: string, note: string) => void} */
 function takeLines(name, text, why, note) {
-  if (!why) field("messages").value = text;
-  if (!why) field("lines-as").value = /\.csv$/i.test(name) ? "csv" : "messages";
+  if (!why) {
+    field("messages").value = text;
+    field("lines-as").value = /\.csv$/i.test(name) ? "csv" : "messages";
+    listChanged();
+  }
   hint("sheet-hint", why || `The lines of ${name}.${note}`, Boolean(why), "messages");
 }
 function pasted(event) {

@@ -143,6 +143,10 @@ export function readIdentifiers(text) {
 }
 /** @type {(parts: Part[]) => number} */
 const mostOf = (parts) => parts.reduce((sum, { most }) => sum + most, 0);
+/** @type {(digits: string) => boolean} */
+export const isIdentifier = (digits) => known.has(digits);
+/** @type {(identifier: string) => string} */
+export const nameOfIdentifier = (identifier) => known.get(identifier)?.name ?? "";
 // The identifier at the beginning of a text.
 const identifierAt = (text) => [2, 3, 4].map((length) => text.slice(0, length)).find((some) => known.has(some));
 

@@ -32,17 +32,17 @@ export function stockNow() {
   return { why: `A label has ${LEAST_LABEL} to ${MOST_LABEL} mm on each side.` };
 }
 // Where symbols stand on labels, each in the middle of one with its text below, page by page; or why one doesn't fit.
-/** @type {(entries: { grid: import("./common.mjs").Grid, text: string }[], stock: Stock, module: number) =>
+/** @type {(entries: import("./entries.mjs").Entry[], stock: Stock, module: number) =>
     { why?: string, pages?: import("./pdf.mjs").Page[] }} */
 export function laidOut(entries, { page: [width, height], columns, rows, ...label }, module) {
   const left = (width - (columns - 1) * label.across - label.width) / 2, top = (height - rows * label.height) / 2;
   const pages = [];
-  for (const [k, { grid, text }] of entries.entries()) {
+  for (const [k, { grid, text, number }] of entries.entries()) {
     const { rows: down, columns: wide } = withQuiet(grid), below = text ? TEXT_HEIGHT : 0;
     const [across, high] = [wide * module, down * module];
     if (across > label.width || high + below > label.height) {
       const size = `${+across.toFixed(2)} × ${+high.toFixed(2)} mm${text ? ` and ${TEXT_HEIGHT} mm of text` : ""}`;
-      return { why: `Message ${k + 1} takes ${size}, and a label is ${label.width} × ${label.height} mm. `
+      return { why: `Message ${number} takes ${size}, and a label is ${label.width} × ${label.height} mm. `
         + "Take narrower modules or larger labels." };
     }
     const at = k % (columns * rows), column = at % columns, row = Math.floor(at / columns);

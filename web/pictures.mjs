@@ -2,6 +2,7 @@
 import { bitmapOf } from "./bitmap.mjs";
 import { extent, greyOf, squareSymbol } from "./squares.mjs";
 import { photographed } from "./photograph.mjs";
+import { hasQrCode } from "./qr.mjs";
 
 const MOST_PIXELS = 4e7;
 const LENGTHS = [1400, 2800]; // pixels of the longer side: what is looked at first, and then, if the picture has more
@@ -50,5 +51,7 @@ export async function symbolInPicture(lib, { file, bitmap: given }, tell) {
     unread ??= squares.modules ? squares : null;
     if (scale === 1) break;
   }
-  return unread ?? { why: `No symbol that can be read was found in the picture.${little}` };
+  if (unread) return unread;
+  const other = hasQrCode(greyAt(bitmap, LENGTHS[0])) ? " It shows a QR code, which isn’t a Data Matrix symbol." : "";
+  return { why: `No symbol that can be read was found in the picture.${other}${little}` };
 }

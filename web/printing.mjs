@@ -1,24 +1,19 @@
 // Printing: the symbol at its size with its text, on one page; or a sheet of many messages; or each on a label as large
 // as itself.
-import { FNC1, SHORTER, plural, shapeName, shapeWords } from "./common.mjs";
-import { linesOfCsv } from "./csv.mjs";
+import { SHORTER, plural, shapeName, shapeWords } from "./common.mjs";
 import { $, field, hint, made } from "./dom.mjs";
-import { elementsOf } from "./elements.mjs";
-import { desks } from "./flow.mjs";
+import { copied, entriesNow, wrongGs1 } from "./entries.mjs";
 import { readable } from "./gs1.mjs";
 import { laidOut, stockNow } from "./labels.mjs";
-import { brokenWords, isBroken } from "./order.mjs";
+import { versionNow } from "./lines.mjs";
 import { paperNow, setPage, setPageSize, tooWide } from "./paper.mjs";
 import { pdfOf } from "./pdf.mjs";
-import { howIn } from "./sizes.mjs";
-import { itemsNow, profileNow } from "./source.mjs";
+import { profileNow } from "./source.mjs";
 import { VALID, WORKING, mark } from "./state.mjs";
 import { QUIET } from "./symbol.mjs";
 import { drawingOf, given, giving, millimetres, pageOf, pngOf, save, sizeNow, svgOf, toast } from "./taking.mjs";
-import { tooLong } from "./words.mjs";
 import { zipOf } from "./zip.mjs";
 
-const MOST_ON_SHEET = 500;
 const LINE = 5.5, CHARACTER = 2.5; // millimetres of the text below a symbol, a little more than they are
 let isSheet = false;
 
@@ -36,15 +31,6 @@ function layOut(className, figures, width, height) {
 }
 const captionOf = (textContent) => made("figcaption", { textContent });
 const noteOf = (textContent) => made("p", { textContent });
-
-// What is wrong with GS1 data, in words, or "".
-/** @type {(items: number[] | null) => string} */
-function wrongGs1(items) {
-  const wrong = items?.[0] === FNC1 ? elementsOf(items).find(({ fault }) => fault) : null;
-  if (!wrong) return "";
-  const identifier = wrong.identifier && `(${wrong.identifier}) `;
-  return `It isn’t right as GS1 data: ${identifier}${wrong.name}, ${wrong.fault}.`;
-}
 
 // ---- One symbol
 
@@ -81,38 +67,7 @@ function printOne() {
 
 // ---- Many symbols
 
-/** @typedef {{ grid: Grid, text: string }} Entry */
-const isCsv = () => field("lines-as").value === "csv";
-/** @type {() => import("./csv.mjs").Line[]} */
-function linesNow() {
-  const { value } = field("messages");
-  if (isCsv()) return linesOfCsv(value);
-  return value.split("\n").filter((line) => line.trim()).map((message) => ({ message, text: null }));
-}
-// Why a message of many isn't taken, or "".
-/** @type {(read: import("./messages.mjs").Taken) => string} */
-function whyNotOnSheet({ items, column, why }) {
-  return items ? wrongGs1(items) : column ? `column ${column} ${why}` : why;
-}
-// The symbols of all lines, with their texts; or why there are none.
-/** @type {() => Promise<{ why?: string, entries?: Entry[] }>} */
-async function entriesNow() {
-  const lines = linesNow(), count = plural(lines.length, "message", "messages");
-  const reads = lines.slice(0, MOST_ON_SHEET).map(({ message }) => itemsNow(message));
-  const faults = reads.map(whyNotOnSheet), bad = faults.findIndex(Boolean);
-  if (!lines.length) return { why: isCsv() ? "Enter headings, and below them a row for each message."
-    : "Enter a message on each line." };
-  if (lines.length > MOST_ON_SHEET) return { why: `${count}, and a sheet takes no more than ${MOST_ON_SHEET}.` };
-  if (bad >= 0) return { why: `Message ${bad + 1}: ${faults[bad]}` };
-  const how = howIn(profileNow()), messages = reads.map(({ items }) => items);
-  const symbols = await desks.quick.ask("sheet", { messages, how }, "sheet");
-  if (!symbols || isBroken(symbols)) return { why: brokenWords(symbols ?? { stopped: true }) };
-  const long = symbols.findIndex((grid) => !grid);
-  if (long >= 0) return { why: `Message ${long + 1}: ${tooLong(how)}` };
-  const hasText = field("label-text").checked;
-  const textOf = ({ message, text }) => (hasText ? text ?? message : "");
-  return { entries: symbols.map((grid, k) => ({ grid, text: textOf(lines[k]) })) };
-}
+/** @typedef {import("./entries.mjs").Entry} Entry */
 // The pages of labels that are chosen; none if symbols follow one another; or why there are none.
 /** @type {(entries: Entry[]) => { why?: string, pages?: import("./pdf.mjs").Page[] | null }} */
 function pagesNow(entries) {
@@ -143,22 +98,30 @@ function layOutLabels(pages) {
 function layOutSheet(entries) {
   const sizes = entries.map(({ grid }) => sizeNow(grid)), widths = sizes.map(({ width }) => width);
   const wide = widths.findIndex(tooWide);
-  if (wide >= 0) return `Message ${wide + 1} makes a symbol that is ${widths[wide]} mm wide: ${tooWide(widths[wide])}`;
+  if (wide >= 0) return `Message ${entries[wide].number} makes a symbol that is ${widths[wide]} mm wide: `
+    + tooWide(widths[wide]);
   const figures = entries.map(({ grid, text }) => figure(grid, text ? [captionOf(text)] : []));
   layOut("sheet", figures, Math.max(...widths), Math.max(...sizes.map(({ height }) => height)));
   return "";
 }
-// Does something with all symbols and their pages, and says how many there are, or why not.
-/** @type {(act: (entries: Entry[], pages: import("./pdf.mjs").Page[] | null) => any, where: string) => any} */
-const withAll = (act, where) => async () => {
-  const profile = profileNow(), { why, entries } = await entriesNow();
-  const laid = entries ? pagesNow(entries) : { why };
-  const fault = laid.why || await act(entries, laid.pages);
-  hint("sheet-hint", fault || "", Boolean(fault), "messages");
-  if (fault) return false;
+// What is given, in words: how many symbols, and how many rows want no copy.
+/** @type {(count: number, none: number, where: string, profile: number) => string} */
+function givenWords(count, none, where, profile) {
   const how = profile === SHORTER ? ", stored as bytes where that is smaller" : "";
-  hint("sheet-hint", `${plural(entries.length, "symbol is", "symbols are")} ${where}${how}.`, false, "messages");
-  return true;
+  const left = none ? ` ${plural(none, "row wants", "rows want")} 0 copies.` : "";
+  return `${plural(count, "symbol is", "symbols are")} ${where}${how}.${left}`;
+}
+// Does something with all symbols and their pages, and says how many there are, or why not; unless the list is another
+// one by then.
+/** @type {(act: (entries: Entry[], pages: import("./pdf.mjs").Page[] | null) => any, where: string,
+    hasCopies?: boolean) => any} */
+const withAll = (act, where, hasCopies = true) => async () => {
+  const own = versionNow(), profile = profileNow(), { why, entries: lines = [] } = await entriesNow();
+  const wanted = lines.filter(({ copies }) => copies), entries = hasCopies ? copied(wanted) : wanted;
+  const laid = why ? { why } : pagesNow(entries), fault = laid.why || await act(entries, laid.pages);
+  const said = fault || givenWords(entries.length, lines.length - wanted.length, where, profile);
+  if (own === versionNow()) hint("sheet-hint", said, Boolean(fault), "messages");
+  return !fault;
 };
 const layAll = withAll((entries, pages) => (pages ? layOutLabels(pages) : layOutSheet(entries)), "on the sheet");
 async function printSheet() {
@@ -166,15 +129,16 @@ async function printSheet() {
   isSheet = true;
   window.print();
 }
-const fileName = (k, grid, ending) => `${String(k + 1).padStart(3, "0")}-symbol-${shapeName(grid)}.${ending}`;
+/** @type {(entry: Entry, ending: string) => string} */
+const fileName = ({ number, grid }, ending) => `${String(number).padStart(3, "0")}-symbol-${shapeName(grid)}.${ending}`;
 // Saves a file for each symbol with its text, in one archive.
 /** @type {(ending: string, bytesOf: (grid: Grid, text: string) => Uint8Array | Promise<Uint8Array>) => any} */
 const zipping = (ending, bytesOf) => withAll(async (entries) => {
   const files = [];
-  for (const [k, { grid, text }] of entries.entries())
-    files.push({ name: fileName(k, grid, ending), bytes: await bytesOf(grid, text) });
+  for (const entry of entries)
+    files.push({ name: fileName(entry, ending), bytes: await bytesOf(entry.grid, entry.text) });
   save(zipOf(files), `symbols-${ending}.zip`);
-}, "in the archive");
+}, "in the archive", false);
 const savePdf = withAll((entries, pages) => {
   save(pdfOf(pages ?? entries.map(({ grid, text }) => pageOf(grid, text))), "symbols.pdf");
 }, "in the PDF");

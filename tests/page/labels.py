@@ -17,9 +17,11 @@ from tests.page.stage import (
     push,
     put,
     run,
+    settle,
     shown,
     text_of,
     unfold,
+    usable,
     wait_for,
     write,
     written,
@@ -177,7 +179,13 @@ CSV = {
         ["(01)09506000134352(17)271231(10)AB-42", '(01)09506000134352(10)x;"\\(1)"'],
     ),
     "a column of messages": ('text,Message\nfirst,123\n"a, b","4""5"\n\n', ["123", '4"5'], ["first", "a, b"]),
-    "other headings": ("part\tplace\r\nA1\tleft\r\nB2\tright", ["A1", "B2"], ["A1", "B2"]),
+    "identifiers with texts and copies": (
+        "01,17,10,text,qty\n09506000134352,271231,AB-42,first,2\n09506000134352,,C,second,\n09506000134352,,D,none,0\n",
+        ["\\F010950600013435217271231" + "10AB-42"] * 2 + ["\\F0109506000134352" + "10C"],
+        ["first", "first", "second"],
+    ),
+    "a message with copies": ("Quantity\tMESSAGE\r\n3\tA1\r\n1\tB2", ["A1"] * 3 + ["B2"], ["A1"] * 3 + ["B2"]),
+    "an empty column": ("message,\nA1,\nB2,", ["A1", "B2"], ["A1", "B2"]),
 }
 
 
@@ -201,8 +209,13 @@ def by_columns():
     for text, why in (
         ("(01)\n123", "Message 1: It isn’t right as GS1 data: (01) GTIN, too short: 14 digits are due."),
         ("(01),(98)\n09506000134352,", ""),
-        ("part\n", "Enter headings, and below them a row for each message."),
-        ("part\ncaf\u00e9", "Message 1: column 4 is \u00e9, which has no spelling of its own"),
+        ("message\n", "Enter headings, and below them a row for each message."),
+        ("message\ncaf\u00e9", "Message 1: column 4 is \u00e9, which has no spelling of its own"),
+        ("message,qty\nA,two", "Message 1: two is no number of copies."),
+        ("message,qty\nA,0", "Each row has 0 copies."),
+        ("message,qty\nA,501", "501 labels, and a sheet takes no more than 500."),
+        ("message,text\nA,1\n,2", "Message 2: its row has no message."),
+        ("message,qty\nA,1\nB,0", "1 symbol is in the PDF. 1 row wants 0 copies."),
     ):
         put("messages", text)
         push("many-pdf")
@@ -211,6 +224,153 @@ def by_columns():
     chosen("stock", "none")
     paper_is("a4", "0.5")
     put("messages", "")
+
+
+def files():
+    """The files that were saved."""
+    return sorted(file.name for file in on.folder.iterdir() if file.name.startswith("symbols"))
+
+
+def drawn_in(where):
+    """The grids of the drawings in an element, by their paths of runs of dark modules."""
+    paths = run("return [...document.querySelectorAll(`${arguments[0]} svg`)].map((svg) => "
+                "[svg.getAttribute('viewBox'), svg.querySelectorAll('path')[1].getAttribute('d')])", where)
+    grids = []
+    for box, path in paths:
+        rows = [["0"] * (int(box.split()[2]) - 4) for _ in range(int(float(box.split()[3])) - 4)]
+        for column, row, length in re.findall(r"M(\d+) (\d+)h(\d+)", path):
+            for k in range(int(length)):
+                rows[int(row)][int(column) + k] = "1"
+        grids.append("\n".join("".join(row) for row in rows))
+    return grids
+
+
+SAY_FIRST = "Say first what the columns are, and then “Take them so”."
+MAY_BE = "The first row may have headings or data."
+ASKED = [
+    # (a name, a text, what is asked, what is chosen: the first row, and the columns; the messages and texts)
+    ("no headings", "PART-0001\nPART-0002\nPART-0003", f"{MAY_BE} It isn’t known what PART-0001 may be.", "data", {},
+     ["PART-0001", "PART-0002", "PART-0003"], []),
+    ("a heading that isn't known", "part\nA1\nB2", f"{MAY_BE} It isn’t known what part may be.", "headings", {},
+     ["A1", "B2"], []),
+    ("one beside those that are", "01,lot\n09506000134352,A", f"{MAY_BE} It isn’t known what lot may be.", "headings",
+     {}, ["\\F0109506000134352"], []),
+    ("two of a kind", "message,message,text\nA,B,C", "It isn’t known what message may be.", None, {}, ["A"], ["C"]),
+    ("a message beside identifiers", "(01),message\n09506000134352,A", "It isn’t known what message may be.", None,
+     {1: "text"}, ["\\F0109506000134352"], ["A"]),
+    ("fields without a heading", "message\nA,B\nC", "It isn’t known what column 2 may be.", None, {1: "text"},
+     ["A", "C"], ["B"]),
+    ("numbers that may be identifiers or data", "10\n20\n30", MAY_BE, "data", {}, ["10", "20", "30"], []),
+    ("which are identifiers", "10\n20\n30", MAY_BE, "headings", {}, ["\\F1020", "\\F1030"], []),
+    ("the second column is the message", "place,part,number\nleft,A1,2",
+     f"{MAY_BE} It isn’t known what place, part, number may be.", "headings", {0: "text", 1: "message", 2: "copies"},
+     ["A1", "A1"], ["left", "left"]),
+]
+CHOOSE = """
+    const choice = document.querySelectorAll('#columns-are select')[arguments[0]];
+    choice.value = arguments[1];
+    choice.dispatchEvent(new Event('change', { bubbles: true }))"""
+
+
+def asked_about_columns():
+    """What a heading leaves open is asked, and before it is answered nothing is given."""
+    write("123456")
+    unfold("sheet")
+    chosen("lines-as", "csv")
+    chosen("stock", "50x30")
+    paper_is("a4", "0.4")
+    run("globalThis.printed = 0; window.print = () => { printed++; }")
+    for file in files():
+        (on.folder / file).unlink()
+    for name, text, question, first, columns, messages, texts in ASKED:
+        put("messages", "message\nanother list")
+        put("messages", text)
+        count.expect(f"{name}: is asked", (find("columns").is_displayed(),
+                     text_of("columns-question").split(" Known headings")[0]), (True, question))
+        count.expect(f"{name}: whether the first row is", find("first-row").is_displayed(), first is not None)
+        for button in ("many-pdf", "many-png", "many-svg", "print-sheet"):
+            push(button)
+            count.expect(f"{name}: {button} before", (text_of("sheet-hint"), files(), run("return printed")),
+                         (SAY_FIRST, [], 0))
+        if first:
+            push(f"first-{first}")
+        for column, role in columns.items():
+            run(CHOOSE, column, role)
+        push("columns-taken")
+        pages = pages_of(saved("symbols.pdf", "many-pdf"))
+        count.expect(f"{name}: symbols", [rows for _, some, _ in pages for *_, rows in some],
+                     [written(message) for message in messages])
+        if texts:
+            count.expect(f"{name}: texts", [each for *_, some in pages for each in some], texts)
+        (on.folder / "symbols.pdf").unlink()
+    put("messages", "part,place\nA1,left")
+    push("first-headings")
+    for column, role, why in ((0, "left out", "One column has to be the message."),
+                              (0, "message", ""), (1, "message", "One column has to be the message."),
+                              (1, "text", "")):
+        run(CHOOSE, column, role)
+        if find("columns-taken").is_displayed():
+            push("columns-taken")
+        else:
+            push("many-pdf")
+        if why:
+            count.expect(f"column {column} as {role}", (text_of("sheet-hint"), files()), (why, []))
+    put("messages", "part,place\nA1,left\nB2,right")
+    pages = pages_of(saved("symbols.pdf", "many-pdf"))
+    count.expect("the answer stays while the headings do", [texts for *_, texts in pages], [["left"], ["right"]])
+    chosen("lines-as", "messages")
+    chosen("stock", "none")
+    paper_is("a4", "0.5")
+    put("messages", "")
+
+
+TOLD = "return [...document.querySelectorAll(arguments[0])].map((it) => it.textContent)"
+
+
+def labels_shown():
+    """The first labels are shown as they will be, and the others in turn; what was said of a list goes with it."""
+    write("123456")
+    unfold("sheet")
+    shown_now = lambda: (text_of("labels-shown"), drawn_in("#labels-are"))
+    lines = [f"label {k}" for k in range(1, 9)]
+    put("messages", "\n".join(lines))
+    for first in (0, 3, 6):
+        some = lines[first:first + 3]
+        count.expect_soon(f"labels from {first + 1} on", shown_now,
+                          (f"{first + 1} to {first + len(some)} of 8", [written(line) for line in some]))
+        told = run(TOLD, "#labels-are :is(figcaption, code)")
+        count.expect("their texts, and what they say", told, [line for line in some for _ in range(2)])
+        count.expect("what can be leafed to", (usable("labels-back"), usable("labels-on")), (first > 0, first < 6))
+        push("labels-on")
+    push("labels-back")
+    count.expect_soon("and back", lambda: text_of("labels-shown"), "4 to 6 of 8")
+    for name, change in (
+        ("a line is added", lambda: put("messages", "\n".join([*lines, "one more"]))),
+        ("the lines become CSV", lambda: chosen("lines-as", "csv")),
+        ("they become messages again", lambda: chosen("lines-as", "messages")),
+        ("the text goes", lambda: run("document.getElementById('label-text').click()")),
+        ("it comes back", lambda: run("document.getElementById('label-text').click()")),
+        ("labels are chosen", lambda: chosen("stock", "50x30")),
+        ("none are", lambda: chosen("stock", "none")),
+    ):
+        saved("symbols.pdf", "many-pdf") if name != "they become messages again" else None
+        change()
+        count.expect(f"what was given, when {name}", text_of("sheet-hint"), "")
+    put("messages", "one\ncaf\u00e9\n(01)123")
+    unspelled = "column 4 is \u00e9, which has no spelling of its own"
+    count.expect_soon("lines that aren't taken", shown_now, (f"1 to 3 of 3. Message 2: {unspelled}", [written("one")]))
+    told = run(TOLD, "#labels-are p")
+    count.expect("what is told of each", told, ["1: one", f"2: {unspelled}",
+                 "3: It isn’t right as GS1 data: (01) GTIN, too short: 14 digits are due."])
+    put("messages", "one")
+    run("""document.getElementById('many-pdf').click();
+           const field = document.getElementById('messages');
+           field.value = 'two';
+           field.dispatchEvent(new Event('input', { bubbles: true }))""")
+    settle()
+    count.expect("what is given when the list has changed", text_of("sheet-hint"), "")
+    put("messages", "")
+    count.expect_soon("no labels without a list", lambda: find("labels").is_displayed(), False)
 
 
 def in_archives():
@@ -271,4 +431,4 @@ def in_archives():
     paper_is("a4", "0.5")
 
 
-PARTS = [on_labels, labels_printed, by_columns, in_archives]
+PARTS = [on_labels, labels_printed, by_columns, asked_about_columns, labels_shown, in_archives]

@@ -34,6 +34,7 @@ PARTS = [
     damage.another_message,
     texts.pasted,
     pictures.pictures,
+    pictures.other_codes,
     texts.compared,
     pictures.saved,
     texts.spellings,

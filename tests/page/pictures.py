@@ -163,6 +163,32 @@ def pictures():
     push("tab-make")
 
 
+# A QR code of version 1, which says `A QR code`: of each row its modules as a number, as zint draws it.
+QR = """FED3F8 821208 BABAE8 BA8AE8 BA4AE8 82DA08 FEABF8 00A800 57D768 1C59D8 638738 3912C8 7EE968 00AD40 FECDB0 82A480
+BA0670 BAF198 BA6988 82C7C0 FE38D0"""
+
+
+def other_codes():
+    """A QR code is called one, and nothing else is."""
+    push("tab-read")
+    code = "\n".join(f"{int(row, 16):024b}"[:21] for row in QR.split())
+    told = "No symbol that can be read was found in the picture."
+    for name, scale, around, light, dark, quarters in (
+        ("as zint draws it", 4, 4, 255, 0, 0),
+        ("small and grey", 2, 2, 200, 90, 1),
+        ("large and upside down", 17, 1, 255, 0, 2),
+    ):
+        rows = turned(code, quarters, False, False).split("\n")
+        said = opened("qr.png", png(rows, scale, around, light, dark))
+        count.expect(f"a QR code {name}", said,
+                     f"qr.png: {told} It shows a QR code, which isn’t a Data Matrix symbol.")
+    without = code.split("\n")
+    for row in range(7):  # without the pattern in the first corner
+        without[row] = "0" * 7 + without[row][7:]
+    count.expect("what has two of its patterns", opened("two.png", png(without, 4, 4)), f"two.png: {told}")
+    push("tab-make")
+
+
 def saved():
     write("123456")
     put("millimetres", "0.4")
