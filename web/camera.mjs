@@ -1,43 +1,67 @@
-// The camera, where the browser allows one: a picture each half second, until a symbol in one is read, or something
-// else is entered or shown.
+// The camera, where the browser allows one: it looks as long as it is on, outlines what it sees, and lists what it has
+// read; until Stop is pressed, or something else is entered or shown.
 import { $, hint } from "./dom.mjs";
 import { whenShown } from "./flow.mjs";
+import { addSights, choose, clearSights, drawOutlines, isKeepingSights } from "./found.mjs";
 import { whenEntered } from "./order.mjs";
-import { lookAt, showFound } from "./source.mjs";
+import { askFrame } from "./source.mjs";
 import { panes } from "./state.mjs";
 
-const EACH = 500; // milliseconds
+const EACH = 100, MOST_TIME_OF_FRAME = 600, MOST_IN_FRAME = 24; // milliseconds, and symbols
 const LENGTH = 1280; // pixels of the longer side that are asked for
 const WANTED = { video: { facingMode: "environment", width: { ideal: LENGTH } }, audio: false };
 /** @type {{ stream: MediaStream | null } | null} the one that is on, with its stream once the browser allows one */
 let session = null;
 
 const video = () => /** @type {HTMLVideoElement} */ ($("video"));
-async function frame() {
-  const { videoWidth: width, videoHeight: height } = video();
-  if (!width) return null;
-  const canvas = new OffscreenCanvas(width, height);
-  canvas.getContext("2d").drawImage(video(), 0, 0);
-  return canvas.convertToBlob({ type: "image/png" });
-}
 const wait = (time) => new Promise((resolve) => setTimeout(resolve, time));
 
 async function watch(own) {
   while (session === own) {
-    const begun = performance.now(), file = await frame();
-    const symbol = file && session === own ? await lookAt(file, "camera") : null;
+    const { videoWidth: width, videoHeight: height } = video();
+    const bitmap = width ? await createImageBitmap(video()) : null;
     if (session !== own) return;
-    if (symbol?.isRead) { stopCamera(); showFound(symbol, "The camera"); return; }
-    if (symbol?.stopped) { stopCamera("The camera is off."); return; }
-    await wait(Math.max(50, EACH - (performance.now() - begun)));
+    const sights = bitmap && await askFrame({ bitmap, most: MOST_IN_FRAME, time: MOST_TIME_OF_FRAME }, "camera");
+    if (session !== own) return;
+    if (sights?.stopped) { stopCamera("The camera is off."); return; }
+    if (sights?.symbols) seeFrame(sights, { width, height });
+    await wait(EACH);
   }
 }
+function seeFrame({ symbols, unread }, size) {
+  drawOutlines($("in-camera"), [...symbols, ...unread], size);
+  const fresh = addSights(symbols);
+  if (fresh.length) choose(fresh[fresh.length - 1]);
+}
+
+// ---- The light
+
+const trackOf = (own) => own?.stream?.getVideoTracks()[0];
+function showTorch(own) {
+  /** @type {any} */
+  const can = trackOf(own)?.getCapabilities?.() ?? {};
+  $("torch").hidden = !can.torch;
+  $("torch").setAttribute("aria-pressed", "false");
+}
+async function turnTorch() {
+  const isOn = $("torch").getAttribute("aria-pressed") !== "true";
+  /** @type {any} */
+  const wanted = { advanced: [{ torch: isOn }] };
+  try {
+    await trackOf(session).applyConstraints(wanted);
+    $("torch").setAttribute("aria-pressed", String(isOn));
+  } catch { hint("picture-hint", "The light of this device can’t be switched.", true); }
+}
+
+// ---- On and off
+
 const endStream = (stream) => { for (const track of stream?.getTracks() ?? []) track.stop(); };
 function stopCamera(words = "") {
   if (!session) return;
   endStream(session.stream);
   session = null;
   video().srcObject = null;
+  $("in-camera").replaceChildren();
   $("viewfinder").hidden = true;
   if (words) hint("picture-hint", words);
 }
@@ -56,17 +80,22 @@ async function startCamera() {
     hint("picture-hint", isForbidden ? words : none, true);
     return;
   }
+  clearSights();
   video().srcObject = own.stream;
   $("viewfinder").hidden = false;
-  hint("picture-hint", "Hold a symbol before the camera, so that it fills a good part of the picture.");
+  showTorch(own);
+  hint("picture-hint", "Hold symbols before the camera. What is read is listed, until you stop it.");
   await video().play().catch(() => {}); // it has been stopped by then
   watch(own);
 }
 export function wireCamera() {
   $("camera").hidden = !navigator.mediaDevices?.getUserMedia;
   $("camera").addEventListener("click", startCamera);
+  $("torch").addEventListener("click", turnTorch);
   $("camera-off").addEventListener("click", () => { stopCamera("The camera is off."); $("camera").focus(); });
-  whenEntered((it) => { if (it === panes.read) stopCamera("The camera is off, since something else was entered."); });
+  whenEntered((it) => {
+    if (it === panes.read && !isKeepingSights()) stopCamera("The camera is off, since something else was entered.");
+  });
   whenShown((task) => { if (task !== "read") stopCamera("The camera is off, since another task was opened."); });
   document.addEventListener("visibilitychange", () => {
     if (document.hidden) stopCamera("The camera is off, since the page was out of sight.");

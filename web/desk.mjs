@@ -27,10 +27,10 @@ export class Desk {
   waiting = [];
   count = 0; // of all questions
 
-  /** @param {string} script @param {Uint8Array} library */
-  constructor(script, library) {
+  /** @param {string} script @param {{ library: Uint8Array, sampler: Uint8Array }} code of the modules */
+  constructor(script, code) {
     this.script = script;
-    this.library = library;
+    this.code = code;
     allDesks.push(this);
   }
   // Starts a worker with the library; what it says of the library, or { failed }.
@@ -41,7 +41,7 @@ export class Desk {
       event.preventDefault();
       this.end({ failed: event.message || "the worker broke off" });
     };
-    this.ready = this.ask("load", this.library, "load");
+    this.ready = this.ask("load", this.code, "load");
     return this.ready;
   }
   // `tell` is given what the worker says of this question meanwhile.
@@ -88,5 +88,7 @@ export class Desk {
     for (const question of asked) question.resolve(answer);
     wake();
   }
+  // Ends the worker, if it has nothing to do; the next question starts another.
+  retire() { if (!this.running && !this.waiting.length) this.end(null); }
   stop() { if (this.running) this.end({ stopped: true }); }
 }

@@ -13,18 +13,20 @@ const MOST_ACTS = 500; // that can be undone
 
 /** @type {{ quick: Desk | null, pictures: Desk | null, readsFiles: boolean }} */
 export const desks = { quick: null, pictures: null, readsFiles: true }; // the workers do
-export function openDesks(script, library) {
-  desks.quick = new Desk(script, library);
-  desks.pictures = new Desk(script, library);
+export function openDesks(script, code) {
+  desks.quick = new Desk(script, code);
+  desks.pictures = new Desk(script, code);
   return desks.quick.start();
 }
 
-// Another symbol was written or opened.
-/** @type {(it: Mark, symbol: import("./common.mjs").Grid & { items?: number[] | null, seen: any }) => void} */
-export function take(it, { items = null, seen, ...grid }) {
-  it.hold(grid, items);
+// Another symbol was written or opened; where it was found, it has doubtful modules and a limit of its own.
+/** @type {(it: Mark, symbol: import("./common.mjs").Grid & { items?: number[] | null, doubtful?: Uint8Array | null,
+    limit?: number | null, seen: any }) => void} */
+export function take(it, { items = null, doubtful = null, limit, seen, ...grid }) {
+  it.hold(grid, items, doubtful);
   keepMap(seen, seen.map);
-  if (it.limit !== null) { it.seen = seen; look(it); return; }
+  if (limit !== undefined) [it.limit, it.limitWhy] = [limit, ""];
+  else if (it.limit !== null) { it.seen = seen; look(it); return; }
   validate(it, seen);
   if (it === mark()) { field("which-undamaged").checked = true; drawAll(); }
   tellLink();
@@ -72,7 +74,7 @@ export const redo = () => inTurn(mark(), (it) => goBack(it, it.future, it.past))
 export const undoAll = () => inTurn(mark(), (it) => {
   if (!isChanged(it)) return;
   begin(it);
-  it.goTo({ modules: it.original.slice(), doubtful: null });
+  it.goTo({ modules: it.original.slice(), doubtful: it.doubted });
   look(it);
 });
 // Tells the reader that all that was turned over is doubtful.

@@ -75,6 +75,9 @@ const STANDS = [false, true].flatMap((inverted) => [false, true].flatMap((mirror
 // The ways in which a grid of this shape can stand, upright first: all sixteen if it is a square, half of them if not.
 /** @type {(lib: Library, shape: import("./common.mjs").Shape) => Stand[]} */
 const standsOf = (lib, shape) => STANDS.filter(({ quarters }) => lib.sizeOf(shapeOf(shape, quarters)));
+// Whether there is a size that has this shape, upright or on its side.
+/** @type {(lib: Library, shape: import("./common.mjs").Shape) => boolean} */
+export const hasShape = (lib, shape) => standsOf(lib, shape).length > 0;
 /** @type {(stand: Stand) => string} */
 export function standsHow({ quarters, mirrored, inverted }) {
   const ways = ["", "a quarter to the right", "upside down", "a quarter to the left"];

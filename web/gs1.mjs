@@ -1,7 +1,7 @@
 // GS1 messages: element strings as people write them, with identifiers in parentheses, and as a symbol holds them. The
 // identifiers are those of the library's table, which is packed into the page.
 import { FNC1, isSame, plural } from "./common.mjs";
-import { parse, spelled, spelledItem, tooMuch, visibleUtf8Of } from "./messages.mjs";
+import { parse, spelled, spelledItem, tooMuch, utf8Of, visibleUtf8Of } from "./messages.mjs";
 
 /** @typedef {{ charset: string, least: number, most: number, check?: string, mayLack: boolean }} Part of a value */
 /** @typedef {{ isFixed: boolean, hasDecimals: boolean, parts: Part[], name: string }} Entry of the table */
@@ -229,6 +229,9 @@ export function elementString(items) {
 // A message as people read it: as an element string, as text in UTF-8, or as it is spelled.
 /** @type {(items: number[]) => string} */
 export const readable = (items) => elementString(items) || visibleUtf8Of(items) || spelled(items);
+// The same as people would type it.
+/** @type {(items: number[]) => string} */
+export const typed = (items) => elementString(items) || utf8Of(items) || spelled(items);
 // What a reader would take apart otherwise than it was written, in words, or "": a value of fixed length runs into what
 // follows it if it has another.
 function misread(elements, items) {

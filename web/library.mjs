@@ -1,9 +1,8 @@
 // The proved library, lowered from 64-bit memory to 32 bits, whose interface is that of library/ecc200.h. Addresses and
 // lengths stay 64 bits wide, so they are BigInts; pages of its memory are counted in ordinary numbers. For everything
 // about Data Matrix symbols (sizes, places, codewords, correction, messages, borders, normal forms) the page asks it.
-import {
-  ABI, BIT, MOST_BLOCKS, MOST_CODEWORDS, MOST_COLUMNS, MOST_ITEMS, MOST_ROWS, SIZE_COUNT, WIDE,
-} from "./common.mjs";
+import { ABI, BIT, MOST_COLUMNS, MOST_ITEMS, MOST_ROWS, SIZE_COUNT, WIDE } from "./common.mjs";
+import { LAYOUT } from "./layouts.mjs";
 
 /** @typedef {import("./common.mjs").Shape} Shape */
 /** @typedef {import("./common.mjs").Grid} Grid */
@@ -20,13 +19,10 @@ import {
 /** @typedef {{ kind: Uint8Array, word: Uint16Array, bit: Uint8Array, modules: number[][] }} Places */
 
 // In the memory that the caller adds: after the modules of a symbol come its doubtful ones, how a message is written,
-// items, one more than a message has, and then what a call writes, of which the largest has 10 bytes and 4 for each
-// module.
-const MOST_MODULES = MOST_ROWS * MOST_COLUMNS, DOUBTFUL = MOST_MODULES, HOW = 2 * MOST_MODULES, ITEMS = HOW + 8;
-const OUT = ITEMS + 2 * (MOST_ITEMS + 1), PAGE = 65536, PAGES = Math.ceil((OUT + 10 + 4 * MOST_MODULES) / PAGE);
-// Where the members of what a call writes stand: all begin with a fault, rows and columns.
-const SHAPE_AT = 6, COUNTS_AT = 10, MODULES_AT = 10, PLACES_AT = 10, BLOCKS_AT = 16;
-const LISTS_AT = BLOCKS_AT + 3 * MOST_BLOCKS, SIZE_LENGTH = 13;
+// items, one more than a message has, and then what a call writes, of which a table of places is the largest.
+const MOST_MODULES = MOST_ROWS * MOST_COLUMNS, DOUBTFUL = MOST_MODULES, HOW = 2 * MOST_MODULES;
+const ITEMS = HOW + LAYOUT.how.size, OUT = ITEMS + 2 * (MOST_ITEMS + 1), PAGE = 65536;
+const PAGES = Math.ceil((OUT + LAYOUT.place_table.size) / PAGE);
 
 /** @type {(shape: Shape) => string} */
 const keyOf = ({ rows, columns }) => `${rows} ${columns}`;
@@ -34,10 +30,10 @@ const keyOf = ({ rows, columns }) => `${rows} ${columns}`;
 export class Library {
   /** @type {Map<string, Places>} */
   maps = new Map();
-  /** @type {(bytes: BufferSource) => Promise<Library>} */
-  static async load(bytes) {
-    const { instance } = await WebAssembly.instantiate(bytes, {});
-    return new Library(instance.exports);
+  /** @type {(code: BufferSource | WebAssembly.Module) => Promise<Library>} */
+  static async load(code) {
+    const module = code instanceof WebAssembly.Module ? code : await WebAssembly.compile(code);
+    return new Library((await WebAssembly.instantiate(module, {})).exports);
   }
   /** @param {any} exports */
   constructor(exports) {
@@ -66,20 +62,20 @@ export class Library {
   }
   /** @type {() => Grid} */
   symbol() {
-    const [rows, columns] = this.numbers(this.outAt + SHAPE_AT, 2);
-    return { rows, columns, modules: this.bytes(this.outAt + MODULES_AT, rows * columns).slice() };
+    const [rows, columns] = this.numbers(this.outAt + LAYOUT.symbol.rows, 2);
+    return { rows, columns, modules: this.bytes(this.outAt + LAYOUT.symbol.modules, rows * columns).slice() };
   }
-  // Of each block what was corrected, what is erased, and what is left.
-  blockCounts(blocks) {
-    const list = (k) => Array.from(this.bytes(this.outAt + BLOCKS_AT + k * MOST_BLOCKS, blocks));
-    return { corrected: list(0), erased: list(1), left: list(2) };
+  // Of each block what was corrected, what is erased, and what is left, of a reading or an inspection.
+  blockCounts({ corrected, erased, left }, blocks) {
+    const [a, b, c] = [corrected, erased, left].map((at) => Array.from(this.bytes(this.outAt + at, blocks)));
+    return { corrected: a, erased: b, left: c };
   }
   /** @type {() => Size[]} */
   sizeTable() {
     this.c.ecc200_sizes(this.out);
     return Array.from({ length: SIZE_COUNT }, (_, k) => {
       const [rows, columns, regionRows, regionColumns, down, across, , , data, check, blocks, limit, extension] =
-        this.numbers(this.outAt + 2 * SIZE_LENGTH * k, SIZE_LENGTH);
+        this.numbers(this.outAt + LAYOUT.size.size * k, LAYOUT.size.size / 2);
       return { rows, columns, regionRows, regionColumns, down, across, data, check, blocks, limit,
         isExtension: extension === 1 };
     });
@@ -91,9 +87,9 @@ export class Library {
   /** @type {(grid: Grid, limit: number, doubtful?: Uint8Array | null) => Answer} */
   read(grid, limit, doubtful = null) {
     if (this.c.ecc200_read(...this.given(grid, doubtful), limit, WIDE, this.out)) return this.fault();
-    const [border, blocks, count] = this.numbers(this.outAt + COUNTS_AT, 3);
-    const items = Array.from(this.numbers(this.outAt + LISTS_AT, count));
-    return { border, items, ...this.blockCounts(blocks) };
+    const { reading } = LAYOUT, [border, blocks, count] = this.numbers(this.outAt + reading.border_faults, 3);
+    const items = Array.from(this.numbers(this.outAt + reading.items, count));
+    return { border, items, ...this.blockCounts(reading, blocks) };
   }
   /** @type {(items: number[], how: How) => Partial<Grid> & { fault?: Fault }} */
   write(items, { form, shape, rows, columns }) {
@@ -103,18 +99,20 @@ export class Library {
     const given = [BigInt(this.itemsAt), BigInt(some.length), BigInt(this.howAt), this.out];
     return this.c.ecc200_write(...given) ? this.fault() : this.symbol();
   }
-  /** @type {(grid: Grid, limit: number, profile: number) => Partial<Grid> & { fault?: Fault }} */
-  normal(grid, limit, profile) {
-    const isFault = this.c.ecc200_normal(...this.given(grid, null), limit, WIDE, profile, this.out);
+  /** @type {(grid: Grid, limit: number, profile: number, doubtful?: Uint8Array | null) =>
+      Partial<Grid> & { fault?: Fault }} */
+  normal(grid, limit, profile, doubtful = null) {
+    const isFault = this.c.ecc200_normal(...this.given(grid, doubtful), limit, WIDE, profile, this.out);
     return isFault ? this.fault() : this.symbol();
   }
   // The grid has a size that there is, so that there is no fault.
   /** @type {(grid: Grid, doubtful?: Uint8Array | null) => Inspection} */
   inspect(grid, doubtful = null) {
     if (this.c.ecc200_inspect(...this.given(grid, doubtful), this.out)) throw new Error("no size has this shape");
-    const [border, blocks, count] = this.numbers(this.outAt + COUNTS_AT, 3);
-    const list = (k) => this.bytes(this.outAt + LISTS_AT + k * MOST_CODEWORDS, count).slice();
-    return { border, ...this.blockCounts(blocks), held: list(0), mended: list(1) };
+    const { inspection } = LAYOUT, [border, blocks, count] = this.numbers(this.outAt + inspection.border_faults, 3);
+    const list = (at) => this.bytes(this.outAt + at, count).slice();
+    return { border, ...this.blockCounts(inspection, blocks), held: list(inspection.held),
+      mended: list(inspection.mended) };
   }
   // What each module of a symbol of this shape is: its kind and, for a bit, its codeword and number; and the modules
   // of each codeword.
@@ -127,9 +125,9 @@ export class Library {
     const kind = new Uint8Array(all), word = new Uint16Array(all), bit = new Uint8Array(all);
     const modules = Array.from({ length: data + check }, () => []);
     for (let k = 0; k < all; k++) {
-      const at = this.outAt + PLACES_AT + 4 * k;
-      [word[k]] = this.numbers(at, 1);
-      [bit[k], kind[k]] = this.bytes(at + 2, 2);
+      const { place, place_table: table } = LAYOUT, at = this.outAt + table.places + place.size * k;
+      [word[k]] = this.numbers(at + place.codeword, 1);
+      [bit[k], kind[k]] = this.bytes(at + place.bit, 2);
       if (kind[k] === BIT) modules[word[k]].push(k);
     }
     this.maps.set(key, { kind, word, bit, modules });

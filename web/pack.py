@@ -1,6 +1,6 @@
 #!/usr/bin/env python3
-"""Packs the page, its styles, its modules and the library into one HTML file that opens from disk:
-pack.py LIBRARY.wasm PAGE.html
+"""Packs the page, its styles, its modules, the library and the sampler into one HTML file that opens from disk:
+pack.py LIBRARY.wasm SAMPLER.wasm PAGE.html
 
 The file fetches nothing: its policy, which the browser enforces, lets it run its own scripts and workers made of them,
 and make no connection. The modules of the page become one script, those of its worker another, which the page starts
@@ -73,7 +73,7 @@ def hash_of(script):
     return f"'sha256-{base64.b64encode(hashlib.sha256(script.encode()).digest()).decode()}'"
 
 
-def packed(library, modules):
+def packed(library, sampler, modules):
     page, looks, fallback = ((HERE / name).read_text(encoding="utf-8")
                              for name in ("index.html", "style.css", "fallback.js"))
     assert all(page.count(line) == 1 for line in (LOOKS, SCRIPT, FALLBACK, CHARSET))
@@ -83,12 +83,12 @@ def packed(library, modules):
               "form-action 'none'")
     page = page.replace(CHARSET, f'{CHARSET}\n<meta http-equiv="Content-Security-Policy" content="{policy}">')
     page = page.replace(LOOKS, f"<style>\n{looks}</style>").replace(FALLBACK, f"<script>{fallback}</script>")
-    plain = {"library": base64.b64encode(library).decode(), "worker": joined(modules, "worker.mjs"),
-             "identifiers": IDENTIFIERS.read_text(encoding="utf-8")}
+    plain = {"library": base64.b64encode(library).decode(), "sampler": base64.b64encode(sampler).decode(),
+             "worker": joined(modules, "worker.mjs"), "identifiers": IDENTIFIERS.read_text(encoding="utf-8")}
     parts = [f'<script type="text/plain" id="{name}">{text}</script>' for name, text in plain.items()]
     return page.replace(SCRIPT, "\n".join([*parts, f'<script type="module">{script}</script>']))
 
 
 if __name__ == "__main__":
-    wasm, out = map(pathlib.Path, sys.argv[1:])
-    out.write_text(packed(wasm.read_bytes(), sources()), encoding="utf-8")
+    proved, finder, out = map(pathlib.Path, sys.argv[1:])
+    out.write_text(packed(proved.read_bytes(), finder.read_bytes(), sources()), encoding="utf-8")

@@ -9,6 +9,7 @@ import { isWorking, stopAll, whenChanged, workingSince } from "./desk.mjs";
 import { $ } from "./dom.mjs";
 import { wireDropping } from "./dropping.mjs";
 import { desks, openDesks, wireDetails } from "./flow.mjs";
+import { wireFound } from "./found.mjs";
 import { readIdentifiers } from "./gs1.mjs";
 import { gridText } from "./grids.mjs";
 import { wireLesson } from "./lesson.mjs";
@@ -47,14 +48,15 @@ async function idle() {
 }
 async function startPage() {
   readIdentifiers($("identifiers").textContent);
-  const library = Uint8Array.from(atob($("library").textContent.trim()), (c) => c.charCodeAt(0));
+  const bytesOf = (id) => Uint8Array.from(atob($(id).textContent.trim()), (c) => c.charCodeAt(0));
+  const code = { library: bytesOf("library"), sampler: bytesOf("sampler") };
   const script = new Blob([$("worker").textContent], { type: "text/javascript" });
-  const loaded = await openDesks(URL.createObjectURL(script), library);
+  const loaded = await openDesks(URL.createObjectURL(script), code);
   if (loaded.failed !== undefined) throw new Error(loaded.failed);
   desks.readsFiles = loaded.readsFiles;
   listSizes(loaded.sizes);
   wireBusy(); wireDetails(); wireDamage(); wireSource(); wireDropping();
-  wireTaking(); wireLines(); wirePreview(); wirePrinting(); wireLesson(); wireCamera();
+  wireTaking(); wireLines(); wirePreview(); wirePrinting(); wireLesson(); wireCamera(); wireFound();
   const items = Array.from("Mitsubadoor", (c) => c.charCodeAt(0));
   const how = { form: ASCII, shape: SQUARE, rows: 0, columns: 0 };
   drawSmall($("logo"), await desks.quick.ask("write", { items, how, hasLook: false }, "logo"));

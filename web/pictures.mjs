@@ -1,23 +1,40 @@
-// The symbol in a picture, which is looked at in a size that is read in bounded time.
+// The symbols in a picture: found by the sampler, in bounded time, or taken as they are where the picture is a grid.
 import { bitmapOf } from "./bitmap.mjs";
-import { extent, greyOf, squareSymbol } from "./squares.mjs";
-import { photographed } from "./photograph.mjs";
+import { luminanceOf } from "./ecc200.mjs";
+import { found, hasBorder, hasShape } from "./grids.mjs";
+import { SAMPLER } from "./layouts.mjs";
+import { extent, gridsOfPixels } from "./pixels.mjs";
 import { hasQrCode } from "./qr.mjs";
 
-const MOST_PIXELS = 4e7;
-const LENGTHS = [1400, 2800]; // pixels of the longer side: what is looked at first, and then, if the picture has more
+/** @typedef {import("./ecc200.mjs").Ecc200} Ecc200 */
+/** @typedef {import("./common.mjs").Grid} Grid */
+/** @typedef {Grid & { corners: import("./sampler.mjs").Point[], isRead: boolean, how: string, items: number[],
+    border: number, corrected: number[], erased: number[], doubtful: Uint8Array | null, limit: number | null,
+    fault: any, isExact?: boolean }} Sighted a symbol in a picture; its limit is null where that is the usual one; it is
+    exact if the picture is its grid */
+/** @typedef {{ grey: Uint8Array, width: number, height: number, scale: number, contrast: number,
+    isOneColour: boolean, view: ImageBitmap }} Look at a picture: `scale` of its pixels each way make one */
+/** @typedef {{ why?: string, symbols: Sighted[], unread: Sighted[], isComplete: boolean, notes: string, left: number,
+    width: number, height: number, view?: ImageBitmap }} Sights in a picture; how much of its time is left */
+const MOST_PIXELS = 4e7, MOST_SAMPLED = 1.6e7; // of a picture, and of what is looked at
+const SHOWN_LENGTH = 1024, LENGTH_OF_CODES = 1400; // pixels of the longer side: shown, and searched for other codes
+const MOST_TIME = 3000, MOST_SYMBOLS = 400, MOST_UNREAD = 8; // milliseconds for a picture
 // Of 255: below the first nothing is told apart, below the second greys are spread.
 const NO_CONTRAST = 4, LITTLE_CONTRAST = 32;
 
-function greyAt(bitmap, length) {
-  const scale = Math.min(1, length / Math.max(bitmap.width, bitmap.height));
-  const width = Math.max(1, Math.round(bitmap.width * scale)), height = Math.max(1, Math.round(bitmap.height * scale));
-  const pen = new OffscreenCanvas(width, height).getContext("2d", { willReadFrequently: true });
+// ---- The picture
+
+/** @type {(bitmap: ImageBitmap, share: number) => { width: number, height: number, scale: number }} */
+function sizeAt({ width, height }, share) {
+  const scaled = (length) => Math.max(1, Math.round(length * share));
+  return { width: scaled(width), height: scaled(height), scale: 1 / share };
+}
+const canvasOf = (bitmap, { width, height }) => {
+  const canvas = new OffscreenCanvas(width, height), pen = canvas.getContext("2d", { willReadFrequently: true });
   pen.imageSmoothingQuality = "high";
   pen.drawImage(bitmap, 0, 0, width, height);
-  const pixels = pen.getImageData(0, 0, width, height), grey = greyOf(pixels), contrast = spread(grey);
-  return { grey, contrast, isOneColour: contrast === 0 && isOneColour(pixels), width, height, scale };
-}
+  return { canvas, pen };
+};
 const isOneColour = ({ data }) => new Uint32Array(data.buffer).every((pixel, _, all) => pixel === all[0]);
 // Spreads greys that differ little over the whole range; by how much they differed.
 function spread(grey) {
@@ -26,32 +43,118 @@ function spread(grey) {
   for (let k = 0; k < grey.length; k++) grey[k] = ((grey[k] - least) * 255) / contrast;
   return contrast;
 }
+/** @type {(bitmap: ImageBitmap) => Look} */
+function lookOf(bitmap) {
+  const size = sizeAt(bitmap, Math.min(1, Math.sqrt(MOST_SAMPLED / (bitmap.width * bitmap.height))));
+  const pixels = canvasOf(bitmap, size).pen.getImageData(0, 0, size.width, size.height);
+  const grey = luminanceOf(pixels), contrast = spread(grey);
+  const small = sizeAt(bitmap, Math.min(1, SHOWN_LENGTH / Math.max(bitmap.width, bitmap.height)));
+  const view = canvasOf(bitmap, small).canvas.transferToImageBitmap();
+  return { ...size, grey, contrast, isOneColour: contrast === 0 && isOneColour(pixels), view };
+}
 function alike({ contrast, isOneColour: isOne }) {
   if (isOne) return "The picture has only one colour.";
   return `All of the picture is about equally bright: its greys differ by ${contrast} of 255.`;
 }
 
-// The symbol in a picture: { modules, isRead, how, isPhotograph }, or { why }.
-/** @type {(lib: import("./library.mjs").Library, given: { file?: Blob, bitmap?: ImageBitmap }, tell: any) =>
-    Promise<any>} */
-export async function symbolInPicture(lib, { file, bitmap: given }, tell) {
+// ---- What stands in it
+
+// How a symbol stands, by its corners.
+/** @type {(symbol: import("./sampler.mjs").Found) => string} */
+function standing({ corners, isInverted, isMirrored }) {
+  const [from, to] = isMirrored ? [corners[1], corners[0]] : corners;
+  const angle = Math.round((Math.atan2(to.y - from.y, to.x - from.x) * 180) / Math.PI), size = Math.abs(angle);
+  const by = size === 90 ? "a quarter" : `by ${size}°`, side = angle > 0 ? "right" : "left";
+  const turned = size < 3 ? "" : size === 180 ? "turned upside down" : `turned ${by} to the ${side}`;
+  const ways = [isInverted && "inverted, light for dark", isMirrored && "mirrored left to right", turned];
+  return ways.filter(Boolean).join(", and ");
+}
+/** @type {(lib: import("./library.mjs").Library, scale: number) => (symbol: import("./sampler.mjs").Found) =>
+    Sighted} */
+const sightedBy = (lib, scale) => (symbol) => {
+  const { rows, columns, modules, doubtful, items, border, corrected, erased, fault, hasMargin, limit } = symbol;
+  const corners = symbol.corners.map(({ x, y }) => ({ x: x * scale, y: y * scale }));
+  return { rows, columns, modules, doubtful, items, border, corrected, erased, fault, corners,
+    isRead: !fault && hasMargin, how: standing(symbol), limit: limit === lib.usualLimit(symbol) ? null : limit };
+};
+// The symbols of a look, as many as are wanted.
+/** @type {(ecc200: Ecc200, look: Look, most: number, milliseconds: number) => Sights} */
+function sampled({ library, sampler }, look, most, milliseconds) {
+  const { grey, width, height, scale } = look, begun = performance.now(), sighted = sightedBy(library, scale);
+  const { symbols, unread, ended, hasNoMemory } =
+    sampler.find(grey, width, height, { most, mostUnread: MOST_UNREAD, milliseconds });
+  return { symbols: symbols.map(sighted), unread: unread.map(sighted), isComplete: ended === SAMPLER.WHOLE,
+    notes: "", left: milliseconds - (performance.now() - begun), width: width * scale, height: height * scale,
+    why: hasNoMemory ? "There is no memory for this picture." : "" };
+}
+// The symbol of a picture that is a grid; one that isn't read has the border of a symbol at least; null if there is
+// none.
+/** @type {(ecc200: Ecc200, look: Look) => Sighted | null} */
+function gridSymbol({ library }, { grey, width, scale }) {
+  const all = gridsOfPixels(grey, width).filter(({ grid }) => hasShape(library, grid));
+  const some = all.map(({ grid, frame }) => ({ ...found(library, grid), grid, frame }));
+  const symbol = some.find(({ isRead }) => isRead) ?? some.find(({ grid }) => hasBorder(library, grid));
+  if (!symbol) return null;
+  const { frame: { left, top, width: wide, height: high }, isRead, how, rows, columns, modules } = symbol;
+  const corners = [[left, top], [left + wide, top], [left + wide, top + high], [left, top + high]]
+    .map(([x, y]) => ({ x: x * scale, y: y * scale }));
+  const { items = [], border = 0, corrected = [], erased = [], fault = null } =
+    library.read(symbol, library.usualLimit(symbol));
+  return { rows, columns, modules, corners, isRead, how, items, border, corrected, erased, doubtful: null, limit: null,
+    fault };
+}
+// A picture of which every n-th pixel is left, if it is large.
+function smaller({ grey, width, height }) {
+  const step = Math.ceil(Math.max(width, height) / LENGTH_OF_CODES), across = Math.floor(width / step);
+  const down = Math.floor(height / step);
+  const at = (k) => Math.floor(k / across) * step * width + (k % across) * step;
+  return { grey: Uint8Array.from({ length: across * down }, (_, k) => grey[at(k)]), width: across, height: down };
+}
+
+// ---- Questions
+
+const NEAR = 3; // pixels
+const isNear = (one, other) => Math.hypot(one.x - other.x, one.y - other.y) < NEAR;
+
+/** @type {{ look: Look, sights: Sights } | null} the picture that was looked at last, if not all is said of it */
+let kept = null;
+const nothing = (why) => ({ why, symbols: [], unread: [], isComplete: true, notes: "", left: 0, width: 0, height: 0 });
+const NONE_FOUND = "No symbol that can be read was found in the picture.";
+
+// The first symbol in a picture, or why there is none; with a small picture to be shown, unless it is of the camera.
+/** @type {(ecc200: Ecc200, given: { file?: Blob, bitmap?: ImageBitmap, most?: number, time?: number }, tell: any) =>
+    Promise<Sights>} */
+export async function firstInPicture(ecc200, { file, bitmap: given, most = 1, time = MOST_TIME }, tell) {
+  kept = null;
   const { bitmap, why = "" } = given ? { bitmap: given } : await bitmapOf(file);
-  if (!bitmap) return { why };
-  if (bitmap.width * bitmap.height > MOST_PIXELS) return { why: "The picture has more than 40 million pixels." };
-  let unread = null, little = "";
-  for (const length of LENGTHS) {
-    const seen = greyAt(bitmap, length), { grey, contrast: range, width, height, scale } = seen;
-    if (range < NO_CONTRAST) return { why: alike(seen) };
-    if (range < LITTLE_CONTRAST) little = ` Its contrast is low: its greys differ by ${range} of 255.`;
-    const squares = squareSymbol(lib, grey, width, height);
-    if (squares.isRead) return squares;
-    tell(length === LENGTHS[0] ? "looking for symbols" : "looking closer");
-    const symbol = photographed(lib, grey, width, height);
-    if (symbol) return { ...symbol, isPhotograph: true };
-    unread ??= squares.modules ? squares : null;
-    if (scale === 1) break;
-  }
-  if (unread) return unread;
-  const other = hasQrCode(greyAt(bitmap, LENGTHS[0])) ? " It shows a QR code, which isn’t a Data Matrix symbol." : "";
-  return { why: `No symbol that can be read was found in the picture.${other}${little}` };
+  if (!bitmap) return nothing(why);
+  if (bitmap.width * bitmap.height > MOST_PIXELS) return nothing("The picture has more than 40 million pixels.");
+  const look = lookOf(bitmap);
+  if (look.contrast < NO_CONTRAST) return { ...nothing(alike(look)), view: look.view };
+  tell("looking for symbols");
+  const grid = gridSymbol(ecc200, look), isGrid = grid?.isRead;
+  const sights = isGrid ? { ...nothing(""), symbols: [grid], width: bitmap.width, height: bitmap.height }
+    : sampled(ecc200, look, most, time);
+  if (!isGrid && grid && !sights.symbols.length) sights.unread = [{ ...grid, isExact: true }];
+  kept = { look, sights };
+  return { ...sights, ...(sights.symbols.length ? {} : remarked(look, sights)), view: look.view };
+}
+// What is said of a picture in which nothing is read. What looks like a symbol there, in a QR code, is none.
+/** @type {(look: Look, sights: Sights) => Partial<Sights>} */
+function remarked(look, { unread, why }) {
+  const isQr = hasQrCode(smaller(look)), { contrast } = look;
+  const other = isQr ? " It shows a QR code, which isn’t a Data Matrix symbol." : "";
+  const notes = contrast < LITTLE_CONTRAST ? ` Its contrast is low: its greys differ by ${contrast} of 255.` : "";
+  return { notes, unread: isQr ? [] : unread, why: why || `${NONE_FOUND}${other}${notes}` };
+}
+// All symbols in the picture that was looked at last, in what is left of its time; null if it is another one by now.
+/** @type {(ecc200: Ecc200) => Sights | null} */
+export function restOfPicture(ecc200) {
+  if (!kept) return null;
+  const { look, sights } = kept;
+  kept = null;
+  if (sights.left <= 0 || sights.isComplete) return sights;
+  const rest = sampled(ecc200, look, MOST_SYMBOLS, sights.left);
+  const isThere = ({ corners }) => rest.symbols.some((other) => isNear(corners[0], other.corners[0]));
+  return { ...rest, symbols: [...sights.symbols.filter((symbol) => !isThere(symbol)), ...rest.symbols] };
 }

@@ -4,6 +4,7 @@ import { ASCII, MOST_TEXT, SHORTER, TOO_LONG, plural, shapeWords } from "./commo
 import { $, allOf, field, fieldOf, hint, made, withCode } from "./dom.mjs";
 import { C40, EDIFACT, TURNED } from "./examples.mjs";
 import { begin, desks, setLimit, showTask, take, whenShown } from "./flow.mjs";
+import { isShown, keepingSights, showSights, whyUnread } from "./found.mjs";
 import { gridText } from "./grids.mjs";
 import { itemsOf, whyNot } from "./gs1.mjs";
 import { beginEntry, tellLink } from "./link.mjs";
@@ -106,7 +107,8 @@ function takeGrid(symbol) {
   takeSymbol(symbol);
 }
 /** @type {(symbol: any) => void} */
-const takeSymbol = ({ modules, rows, columns, seen }) => take(panes.read, { modules, rows, columns, seen });
+const takeSymbol = ({ modules, rows, columns, doubtful, limit, seen }) =>
+  take(panes.read, { modules, rows, columns, doubtful, limit, seen });
 export function readGrid(text = field("grid").value) {
   const it = panes.read;
   if (!text.trim()) {
@@ -151,6 +153,9 @@ export async function lookAt(file, lane, { kind = "picture", more = (question) =
   const question = await questionOf(file), { why, bitmap } = question;
   return why ? { why } : desks.pictures.ask(kind, more(question), lane, { transfer: bitmap ? [bitmap] : [], tell });
 }
+// Asks what stands in a frame of the camera.
+/** @type {(given: { bitmap: ImageBitmap, most: number, time: number }, lane: string) => Promise<any>} */
+export const askFrame = (given, lane) => desks.pictures.ask("picture", given, lane, { transfer: [given.bitmap] });
 export const pending = { pictures: 0, last: null };
 /** @type {(file: File, note?: string) => Promise<void>} */
 export async function readPicture(file, note = "") {
@@ -161,30 +166,51 @@ export async function readPicture(file, note = "") {
   pending.pictures++;
   const tell = (progress) => { if (pending.last === file) hint("picture-hint", `Looking at ${name}: ${progress}…`); };
   const question = () => lookAt(file, "picture", { tell }).finally(() => { pending.pictures--; });
-  const looking = enter(it, question, (symbol) => takePicture(symbol, name, note));
+  const looking = enter(it, question, (sights) => takePicture(sights, name, note));
   hint("picture-hint", `Looking at ${name}…`);
   const isTaken = await looking;
   if (isTaken || pending.last !== file) return;
   hint("picture-hint", `${name} was given up, since something else was entered meanwhile.`);
 }
-// What the camera has found.
-export const showFound = (symbol, name) => enter(panes.read, () => symbol, () => takePicture(symbol, name));
-/** @type {(symbol: any, name: string, note?: string) => void} */
-function takePicture(symbol, name, note = "") {
-  const it = panes.read;
-  if (!symbol.modules) {
-    const why = isBroken(symbol) ? brokenWords(symbol) : symbol.why;
+/** @type {(sights: any, name: string, note: string) => void} */
+function takePicture(sights, name, note) {
+  const it = panes.read, { symbols = [], unread = [], view } = sights;
+  const symbol = symbols[0] ?? unread.find(({ isExact }) => isExact);
+  if (view) showSights(sights, symbol);
+  if (!symbol) {
+    const why = isBroken(sights) ? brokenWords(sights) : `${sights.why}${likest(unread[0])}`;
     hint("picture-hint", `${name}: ${why}${note}`, true);
-    refuse(it, `${name}: ${why}`);
-    return;
+    keepingSights(() => refuse(it, `${name}: ${why}`));
+  } else {
+    hint("picture-hint", `${name}: ${pictureWords(symbol)}${sights.notes}${note}`);
+    field("grid").value = gridText(symbol);
+    hint("grid-hint", "The grid of the picture.", false, "grid");
+    takeSymbol(symbol);
   }
-  const how = symbol.how ? `, ${symbol.how}` : "";
-  const words = symbol.isPhotograph ? `Found in the picture${how}, and shown upright.` : stood(symbol, "The symbol is");
-  hint("picture-hint", `${name}: ${shapeWords(symbol)}. ${words}${note}`);
-  field("grid").value = gridText(symbol);
-  hint("grid-hint", "The grid of the picture.", false, "grid");
-  takeSymbol(symbol);
+  if (sights.left > 0 && !sights.isComplete) takeRest(name, symbol, note); else retire(sights);
 }
+// What looks most like a symbol where none is read, in words.
+/** @type {(symbol: any) => string} */
+const likest = (symbol) => (symbol ? ` What looks most like one is outlined: ${shapeWords(symbol)}. ${whyUnread(symbol)}`
+  : "");
+/** @type {(symbol: any) => string} */
+function pictureWords(symbol) {
+  const stands = symbol.how ? `The symbol is ${symbol.how}, and shown upright.` : "Read as it stands.";
+  return `${shapeWords(symbol)}. ${symbol.isRead ? stands : stood(symbol, "")}`;
+}
+// All that stands in the picture that was looked at last.
+/** @type {(name: string, first: any, note: string) => Promise<void>} */
+async function takeRest(name, first, note) {
+  const { last } = pending, sights = await desks.pictures.ask("rest", null, "rest");
+  if (!sights || isBroken(sights) || pending.last !== last || !isShown(first)) return;
+  const [{ x, y }] = first.corners, isFirst = ({ corners: [at] }) => Math.hypot(at.x - x, at.y - y) < NEAR;
+  showSights(sights, sights.symbols.find(isFirst) ?? null);
+  if (sights.symbols.length > 1) hint("picture-hint", `${name}: ${sights.symbols.length} symbols.${note}`);
+  retire(sights);
+}
+const NEAR = 3; // pixels
+// The worker's memory never shrinks: after a large picture another worker begins.
+const retire = ({ isLarge }) => { if (isLarge) desks.pictures.retire(); };
 
 // ---- From a link
 

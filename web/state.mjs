@@ -1,6 +1,6 @@
 // What the page has at hand: the task that is open, and for messages and for what is read a symbol each, with its
 // damage and what is read of it.
-import { BIT, isSameShape, shapeName } from "./common.mjs";
+import { BIT, isSame, isSameShape, shapeName } from "./common.mjs";
 
 /** @typedef {import("./common.mjs").Shape} Shape */
 /** @typedef {import("./common.mjs").Grid} Grid */
@@ -28,6 +28,8 @@ export class Mark {
   original = null;
   /** @type {Uint8Array | null} which modules the reader is told to be doubtful, if some are */
   doubtful = null;
+  /** @type {Uint8Array | null} which modules were doubtful as it was opened, if some were */
+  doubted = null;
   /** @type {number[] | null} the message that was written, if one was */
   items = null;
   /** @type {number | null} how many border modules may be wrong, if not as many as usual */
@@ -50,18 +52,18 @@ export class Mark {
   constructor(name) { this.name = name; }
   // The symbol goes, with all that was done to it.
   empty() {
-    [this.modules, this.original, this.doubtful, this.items, this.seen] = [null, null, null, null, null];
+    [this.modules, this.original, this.doubtful, this.doubted, this.items, this.seen] = Array(6).fill(null);
     [this.rows, this.columns] = [0, 0];
     [this.limit, this.limitWhy, this.past, this.future] = [null, "", [], []];
     [this.cursor, this.byKeys, this.module, this.word] = [0, false, null, null];
     [this.stage, this.why] = [EMPTY, ""];
   }
   // Another symbol takes its place.
-  /** @type {(grid: Grid, items: number[] | null) => void} */
-  hold({ modules, rows, columns }, items) {
+  /** @type {(grid: Grid, items: number[] | null, doubtful: Uint8Array | null) => void} */
+  hold({ modules, rows, columns }, items, doubtful) {
     if (!isSameShape(this, { rows, columns })) [this.limit, this.limitWhy, this.cursor] = [null, "", 0];
     [this.rows, this.columns, this.modules, this.original] = [rows, columns, modules.slice(), modules.slice()];
-    [this.items, this.doubtful] = [items, null];
+    [this.items, this.doubtful, this.doubted] = [items, doubtful, doubtful];
     [this.past, this.future, this.module, this.word] = [[], [], null, null];
   }
   // What an act changes, as it is now, and as it was.
@@ -107,7 +109,8 @@ export const isDamaged = ({ modules, original }) =>
   Boolean(modules) && modules.some((module, k) => module !== original[k]);
 // Whether there is something to be undone: damage, or doubtful modules.
 /** @type {(it: Mark) => boolean} */
-export const isChanged = (it) => isDamaged(it) || it.doubtful !== null;
+export const isChanged = (it) => isDamaged(it) || !isSame(it.doubtful ?? NO_DOUBT, it.doubted ?? NO_DOUBT);
+const NO_DOUBT = new Uint8Array(0);
 /** @type {(it: Mark) => number[]} */
 export const doubtsOf = ({ doubtful }) => (doubtful ? [...doubtful.keys()].filter((k) => doubtful[k]) : []);
 /** @type {(it: { modules: Uint8Array, original: Uint8Array }) => number[]} */

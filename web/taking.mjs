@@ -2,9 +2,8 @@
 import { shapeName } from "./common.mjs";
 import { $, field, hint, made, shape } from "./dom.mjs";
 import { gridText } from "./grids.mjs";
-import { elementString } from "./gs1.mjs";
+import { typed } from "./gs1.mjs";
 import { linkNow } from "./link.mjs";
-import { spelled, utf8Of } from "./messages.mjs";
 import { settled } from "./order.mjs";
 import { tooWide, wirePaper } from "./paper.mjs";
 import { SIZE, TEXT_HEIGHT, fittedText, pdfOf } from "./pdf.mjs";
@@ -55,6 +54,11 @@ async function isCopied(text) {
   }
 }
 const NOT_COPIED = "This browser doesn’t let the page copy. Save the symbol instead.";
+// Copies a text, and says that it is copied, or that it can't be.
+/** @type {(text: string, done: string) => Promise<void>} */
+export async function copyText(text, done) {
+  toast(await isCopied(text) ? done : "This browser doesn’t let the page copy. Select the message instead.");
+}
 async function copySymbol({ grid, isDamagedOne }) {
   const isDone = await isCopied(gridText(grid));
   toast(isDone ? `Copied: ${isDamagedOne ? "the damaged symbol" : "the symbol"}, a line for each row` : NOT_COPIED);
@@ -63,8 +67,7 @@ async function copySymbol({ grid, isDamagedOne }) {
 async function copyMessage() {
   const { fault, items } = mark().seen.answer;
   if (fault) return;
-  const isDone = await isCopied(elementString(items) || utf8Of(items) || spelled(items));
-  toast(isDone ? "Copied: the message" : "This browser doesn’t let the page copy. Select the message instead.");
+  await copyText(typed(items), "Copied: the message");
 }
 const LONG = 8000; // characters of a link that some programs don't take whole
 const LINK_NOT_COPIED = "This browser doesn’t let the page copy. The link is in the address bar.";

@@ -2,15 +2,18 @@
 // }, its answer { number, answer } or, if something went wrong, { number, failed }.
 import { readsFiles } from "./bitmap.mjs";
 import { ASCII, SHORTER, SQUARE, TOO_LONG, messageOf } from "./common.mjs";
+import { Ecc200 } from "./ecc200.mjs";
 import { damaged, examine, mostThatFit, plainMap } from "./examine.mjs";
 import { found, gridFrom } from "./grids.mjs";
-import { Library } from "./library.mjs";
-import { symbolInPicture } from "./pictures.mjs";
+import { firstInPicture, restOfPicture } from "./pictures.mjs";
 
 /** @typedef {import("./common.mjs").Grid} Grid */
-/** @type {Library} */
+/** @type {Ecc200} */
+let ecc200;
+/** @type {import("./library.mjs").Library} */
 let lib;
 const PROFILES = [ASCII, SHORTER];
+const LARGE = 1.2e8; // bytes of the sampler's memory, which never shrinks: the worker is ended after more
 // In the smallest square.
 const squarely = (form) => ({ form, shape: SQUARE, rows: 0, columns: 0 });
 
@@ -18,14 +21,15 @@ const squarely = (form) => ({ form, shape: SQUARE, rows: 0, columns: 0 });
 /** @type {(grid: Grid, doubtful?: Uint8Array | null, limit?: number | null) => import("./examine.mjs").Seen} */
 const seen = (grid, doubtful = null, limit = null) =>
   ({ ...examine(lib, grid, doubtful, limit), map: plainMap(lib.map(grid)) });
-const shownOf = (symbol) => (symbol.modules ? { ...symbol, seen: seen(symbol) } : symbol);
+const shownOf = (symbol) =>
+  (symbol.modules ? { ...symbol, seen: seen(symbol, symbol.doubtful ?? null, symbol.limit ?? null) } : symbol);
 
 // A symbol with its normal grids under both profiles, where it has them.
 function judged(symbol) {
   if (!symbol.modules) return symbol;
   const shown = shownOf(symbol), { limit, answer } = shown.seen;
   const under = (profile) => {
-    const normal = lib.normal(symbol, limit, profile);
+    const normal = lib.normal(symbol, limit, profile, symbol.doubtful ?? null);
     return normal.fault ? null : normal;
   };
   return { ...shown, normals: answer.fault ? PROFILES.map(() => null) : PROFILES.map(under) };
@@ -34,11 +38,23 @@ const gridGiven = (text) => {
   const { why, grid } = gridFrom(text, lib);
   return grid ? found(lib, grid) : { why };
 };
-const picture = (given) => symbolInPicture(lib, given, (progress) => postMessage({ progress }));
+// What was found in a picture; with what is shown of the first symbol that is wanted, and of what isn't read.
+/** @type {(sights: import("./pictures.mjs").Sights | null, most: number) => any} */
+const sightsShown = (sights, most) => sights && { ...sights, unread: sights.unread.map(shownOf),
+  symbols: sights.symbols.map((symbol, k) => (k < most ? shownOf(symbol) : symbol)),
+  isLarge: ecc200.sampler.size > LARGE };
+const picture = async (given) =>
+  sightsShown(await firstInPicture(ecc200, given, (progress) => postMessage({ progress })), 1);
+// The first symbol of them, or the grid that the picture is, or why there is none.
+const oneOf = ({ symbols, unread, why }) => {
+  const { fault, ...symbol } = symbols[0] ?? unread.find(({ isExact }) => isExact) ?? { why };
+  return symbol;
+};
 
 const ANSWERS = {
-  async load(bytes) {
-    lib = await Library.load(bytes);
+  async load({ library, sampler }) {
+    ecc200 = await Ecc200.load(library, sampler);
+    lib = ecc200.library;
     return { readsFiles: await readsFiles(), sizes: [...lib.sizes.values()] };
   },
   // The symbol of items, the shapes that both profiles take, and if no size holds them how many would fit.
@@ -53,10 +69,11 @@ const ANSWERS = {
   damage: ({ act, original, grid, doubtful, limit }) =>
     seen(damaged(lib, act, grid, original, doubtful), doubtful, limit),
   grid: (text) => shownOf(gridGiven(text)),
-  picture: async (given) => shownOf(await picture(given)),
+  picture,
+  rest: () => sightsShown(restOfPicture(ecc200), 0),
   // What stands in one side of the comparison: items, the text of a grid, or a picture.
   async judge({ items, grid, picture: image }) {
-    if (image) return judged(await picture(image));
+    if (image) return judged(oneOf(await picture(image)));
     if (grid !== undefined) return judged(gridGiven(grid));
     const symbol = PROFILES.map((form) => lib.write(items, squarely(form))).find(({ fault }) => !fault);
     if (!symbol) return { fault: lib.write(items, squarely(ASCII)).fault };
@@ -69,7 +86,8 @@ const ANSWERS = {
 
 addEventListener("message", async ({ data: { number, kind, given } }) => {
   try {
-    postMessage({ number, answer: await ANSWERS[kind](given) });
+    const answer = await ANSWERS[kind](given);
+    postMessage({ number, answer }, { transfer: answer?.view ? [answer.view] : [] });
   } catch (why) {
     postMessage({ number, failed: messageOf(why) });
   }

@@ -51,7 +51,7 @@ def tried(file, parts):
     count.expect("console", [entry["message"] for entry in on.page.get_log("browser")], [])
 
 
-def planted(library, word):
+def planted(library, sampler, word):
     """Each bug of bugs.txt, planted in a module of the page, which is packed anew: whether the test fails, and at
     what."""
     sound, passed, failed = pack.sources(), 0, 0
@@ -66,7 +66,7 @@ def planted(library, word):
             assert len(found) == 1, f"{name}: {old} stands {len(found)} times in the modules"
             spoilt[found[0]] = spoilt[found[0]].replace(old, new)
         file = on.folder / "spoilt.html"
-        file.write_text(pack.packed(library.read_bytes(), spoilt), encoding="utf-8")
+        file.write_text(pack.packed(library.read_bytes(), sampler.read_bytes(), spoilt), encoding="utf-8")
         try:
             tried(file, sorted(PARTS, key=lambda part: part.__name__ != first))
             print(f"NOT CAUGHT: {name}", flush=True)
@@ -119,7 +119,7 @@ def main():
     options.add_argument("word", metavar="WORD", nargs="?", default="")
     options.add_argument("--pictures", metavar="FOLDER", type=pathlib.Path)
     given = options.parse_args()
-    if problem := needs.lacking("chromium", "chromedriver", "wasm-opt", "node") or (
+    if problem := needs.lacking("chromium", "chromedriver", "node", *needs.PAGE) or (
         "" if webdriver else "selenium isn't installed"
     ):
         sys.exit(problem)
@@ -134,7 +134,8 @@ def main():
             load(places.path("web", "out", "mitsubadoor.html"))
             in_pictures()
             return 0
-        passed, failed = planted(pathlib.Path(places.path("web", "out", "lowered.wasm")), given.word)
+        code = [pathlib.Path(places.path("web", "out", name)) for name in ("lowered.wasm", "sampler.wasm")]
+        passed, failed = planted(*code, given.word)
     finally:
         browser.end()
         shutil.rmtree(on.folder, ignore_errors=True)

@@ -74,19 +74,19 @@ def turned_about():
     push("tab-read")
     rows = written("Turned about").split("\n")
     side, scale = len(rows), 7
-    for name, dark, light, mirrored, specks in (
-        ("slanted.png", 40, 220, False, 0),
-        ("slanted-light.png", 220, 60, False, 0),
-        ("slanted-mirrored.png", 40, 220, True, 0),
-        ("slanted-specked.png", 40, 220, False, 19),
+    for name, dark, light, mirrored, specks, how in (
+        ("slanted.png", 40, 220, False, 0, "turned by 25° to the right"),
+        ("slanted-light.png", 220, 60, False, 0, "inverted, light for dark, and turned by 25° to the right"),
+        ("slanted-mirrored.png", 40, 220, True, 0, "mirrored left to right, and turned by 25° to the right"),
+        ("slanted-specked.png", 40, 220, False, 19, "turned by 25° to the right"),
     ):
         grid = [row[::-1] for row in rows] if mirrored else rows
         body = slanted(grid, scale, dark, light, specks)
         said = opened(name, body)
         count.expect(
             name,
-            (shown()["state"], shown()["says"], said.startswith(f"{name}: {side} × {side}. Found in the picture")),
-            ("Read", "Turned about", True),
+            (shown()["state"], shown()["says"], said),
+            ("Read", "Turned about", f"{name}: {side} × {side}. The symbol is {how}, and shown upright."),
         )
 
 
@@ -114,46 +114,76 @@ def slanted(rows, scale, dark, light, specks):
     return chunks(width, width, b"".join(lines))
 
 
+CAMERA = """
+    globalThis.shown = [];
+    globalThis.lit = [];
+    const canvas = Object.assign(document.createElement('canvas'), { width: 640, height: 480 });
+    const pen = canvas.getContext('2d');
+    const imageOf = (body) => Object.assign(new Image(), { src: 'data:image/png;base64,' + body });
+    globalThis.pictures = arguments[0].map(imageOf);
+    globalThis.painter = setInterval(() => {
+        pen.fillStyle = '#bbb';
+        pen.fillRect(0, 0, 640, 480);
+        for (const k of globalThis.shown) pen.drawImage(pictures[k], 20 + 310 * k, 60);
+    }, 50);
+    const stream = canvas.captureStream(20);
+    globalThis.track = stream.getVideoTracks()[0];
+    track.getCapabilities = () => ({ torch: arguments[1] });
+    track.applyConstraints = async ({ advanced: [{ torch }] }) => { lit.push(torch); };
+    const value = { getUserMedia: async () => stream };
+    Object.defineProperty(navigator, 'mediaDevices', { configurable: true, value });
+    document.getElementById('camera').hidden = false;
+    document.getElementById('camera').click();"""
+LISTED = "return [...document.querySelectorAll('#found-are :is(code, span)')].map((it) => it.textContent)"
+
+
 def camera():
-    """A camera that shows a symbol after a while."""
+    """A camera that shows a symbol after a while, and then another beside it: it looks on, outlines what it sees and
+    lists each once; the light, where the device has one."""
     push("tab-read", "example-c40")
-    file = png(written("by the camera").split("\n"), 12, 4)
-    run(
-        """globalThis.shows = false;
-           const canvas = Object.assign(document.createElement('canvas'), { width: 480, height: 480 });
-           const pen = canvas.getContext('2d'), image = new Image();
-           image.src = 'data:image/png;base64,' + arguments[0];
-           globalThis.painter = setInterval(() => {
-               pen.fillStyle = '#bbb';
-               pen.fillRect(0, 0, 480, 480);
-               if (globalThis.shows) pen.drawImage(image, 60, 60);
-           }, 50);
-           const stream = canvas.captureStream(20);
-           globalThis.track = stream.getVideoTracks()[0];
-           const value = { getUserMedia: async () => stream };
-           Object.defineProperty(navigator, 'mediaDevices', { configurable: true, value });""",
-        base64.b64encode(file).decode(),
-    )
+    messages = ["by the camera", "and one more"]
+    files = [base64.b64encode(png(written(message).split("\n"), 12, 3)).decode() for message in messages]
     asked = lambda: run("return mitsubadoor.desks.pictures.count")
     before = asked()
-    run("document.getElementById('camera').hidden = false; document.getElementById('camera').click()")
+    run(CAMERA, files, True)
     wait_for(lambda: asked() > before + 1)
     count.expect(
         "the camera looks on", (find("viewfinder").is_displayed(), shown()["says"]), (True, "Every answer is proved.")
     )
-    run("globalThis.shows = true")
-    wait_for(lambda: shown()["says"] == "by the camera")
+    for k, message in enumerate(messages):
+        run("globalThis.shown = arguments[0]", list(range(k + 1)))
+        says = lambda: (shown()["state"], shown()["says"])
+        count.expect_soon(f"the camera reads {message!r}", says, ("Read", message))
+        count.expect_soon("what is listed", lambda: run(LISTED), messages[: k + 1])
+        outlines = "return document.querySelectorAll('#in-camera polygon').length"
+        count.expect_soon("what is outlined", lambda: run(outlines), k + 1)
+    before = asked()
+    wait_for(lambda: asked() > before + 2)
+    count.expect("each is listed once", run(LISTED), messages)
+    count.expect("the camera is on all the time", (find("viewfinder").is_displayed(), run("return track.readyState")),
+                 (True, "live"))
+    push_soon("torch")
+    count.expect("the light is on", (run("return lit"), find("torch").get_attribute("aria-pressed")), ([True], "true"))
+    push_soon("torch")
+    count.expect("and off", (run("return lit"), find("torch").get_attribute("aria-pressed")), ([True, False], "false"))
+    run("document.getElementById('camera-off').click()")
     settle()
-    count.expect(
-        "the camera reads",
-        (shown()["state"], shown()["says"], text_of("picture-hint").startswith("The camera: ")),
-        ("Read", "by the camera", True),
-    )
-    count.expect(
-        "the camera is off", (find("viewfinder").is_displayed(), run("return track.readyState")), (False, "ended")
-    )
-    run("clearInterval(painter); delete navigator.mediaDevices")
+    count.expect("the list stays when it is off", (run(LISTED), run("return track.readyState")), (messages, "ended"))
+    run("clearInterval(painter)")
+    run(CAMERA, files, False)
+    wait_for(lambda: find("viewfinder").is_displayed())
+    count.expect("without a light", find("torch").is_displayed(), False)
+    count.expect("the camera begins another list", run(LISTED), [])
+    run("document.getElementById('camera-off').click(); clearInterval(painter); delete navigator.mediaDevices")
+    settle()
     write("123456")
+
+
+def push_soon(name):
+    """Pushes a button while the camera goes on, so that the page is never idle."""
+    before = run("return lit.length")
+    run("document.getElementById(arguments[0]).click()", name)
+    wait_for(lambda: run("return lit.length") > before)
 
 
 SLOW_CAMERA = """

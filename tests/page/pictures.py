@@ -54,20 +54,6 @@ def chunks(width, height, lines):
     )
 
 
-def specked(rows, others, scale):
-    """The picture of a grid in which the pixels that are looked at for another side show another grid: both sides fit
-    it about equally well."""
-    width, side = len(rows) * scale, len(others)
-    pixels = [[row[x // scale] for x in range(width)] for row in rows for _ in range(scale)]
-    looked_at = [[int((k + (0.2 + 0.6 * (look + 0.5) / 5)) * (width / side)) for look in range(5)] for k in range(side)]
-    for row, lines in zip(others, looked_at):
-        for module, columns in zip(row, looked_at):
-            for y in lines:
-                for x in columns:
-                    pixels[y][x] = module
-    return png(["".join(row) for row in pixels], 1, 8)
-
-
 def opened(name, body):
     """Opens a picture, and returns what the page says about it."""
     file = on.folder / name
@@ -77,6 +63,10 @@ def opened(name, body):
     wait_for(lambda: text_of("picture-hint"))
     settle()
     return text_of("picture-hint")
+
+
+# What follows where something looks like a symbol and isn't read.
+LIKEST = " What looks most like one is outlined: "
 
 
 def pictures():
@@ -114,15 +104,9 @@ def pictures():
             f"picture {name}: said",
             said,
             f"{name}: {side} × {side}. "
-            + (f"The symbol is {how}: found by trying, and shown upright." if how else "Read as it stands."),
+            + (f"The symbol is {how}, and shown upright." if how else "Read as it stands."),
         )
     rows = written("123456").split("\n")
-    said = opened("specked.png", specked(rows, written("12345678").split("\n"), 47))
-    count.expect(
-        "of two sides that fit about equally well the smaller is taken",
-        (shown()["says"], said),
-        ("123456", "specked.png: 10 × 10. Read as it stands."),
-    )
     spoilt = [
         rows[0],
         *(row[0] + row[1:9].translate(str.maketrans("01", "10")) + row[9] for row in rows[1:5]),
@@ -153,7 +137,7 @@ def pictures():
         ("text.png", b"no picture", "The file can’t be opened as a picture."),
         ("half.png", whole[: len(whole) // 2], "The file is cut off: the end of the picture is missing."),
     ):
-        count.expect(f"{name} is no symbol", opened(name, body), f"{name}: {why}")
+        count.expect(f"{name} is no symbol", opened(name, body).split(LIKEST)[0], f"{name}: {why}")
         count.expect(
             f"{name}: no verdict of the one before",
             (shown()["state"], shown()["says"], usable("save-png")),
@@ -185,7 +169,8 @@ def other_codes():
     without = code.split("\n")
     for row in range(7):  # without the pattern in the first corner
         without[row] = "0" * 7 + without[row][7:]
-    count.expect("what has two of its patterns", opened("two.png", png(without, 4, 4)), f"two.png: {told}")
+    count.expect("what has two of its patterns", opened("two.png", png(without, 4, 4)).split(LIKEST)[0],
+                 f"two.png: {told}")
     push("tab-make")
 
 

@@ -245,7 +245,7 @@ def in_all_ways():
                 (said, grid(), shown()["says"]),
                 (
                     f"{name}.png: {words_of(name)}. "
-                    + (f"The symbol is {how}: found by trying, and shown upright." if how else "Read as it stands."),
+                    + (f"The symbol is {how}, and shown upright." if how else "Read as it stands."),
                     text,
                     line,
                 ),
@@ -281,7 +281,9 @@ def at_an_angle():
         text = written_in(line, name)
         rows = turned(text, 0, mirror in how, inverse in how).split("\n")
         said = opened(f"{name}.png", slanted(rows, 9, degrees, 20 if inverse in how else 235))
-        found = f"{name}.png: {words_of(name)}. Found in the picture{how and f', {how}'}, and shown upright."
+        side = "left" if degrees < 0 else "right"
+        stands = ", and ".join(filter(None, [how, f"turned by {abs(degrees)}° to the {side}"]))
+        found = f"{name}.png: {words_of(name)}. The symbol is {stands}, and shown upright."
         count.expect(f"{name} at {degrees} degrees", (shown()["says"], grid(), said), (line, text, found))
     push("tab-make")
 

@@ -61,7 +61,8 @@ def damaged(named, symbol, modules):
 
 
 @needs.library
-@needs.programs("cc", "node", "wasm-opt")
+@needs.page
+@needs.programs("cc")
 class Module(Case):
     @classmethod
     def setUpClass(cls):

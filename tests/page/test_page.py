@@ -17,7 +17,8 @@ PAGE = places.path("web", "out", "mitsubadoor.html")
 
 @needs.program
 @needs.module("selenium")
-@needs.programs("chromium", "chromedriver", "wasm-opt", "node")
+@needs.page
+@needs.programs("chromium", "chromedriver")
 class Page(Case):
     restarts = 1
 

@@ -15,7 +15,7 @@ WRONG = [
     ("gs1.mjs", "name: entry.name, items: value", "name: entry.title, items: value"),
     ("paper.mjs", 'PAPERS[field("paper-size").value]', 'PAPERS[$("paper-size").value]'),
     ("desk.mjs", "failed: messageOf(why) }", "failed: why.message }"),
-    ("squares.mjs", "found(lib, grid);", "found(lib, grid.modules);"),
+    ("pixels.mjs", "gridIn(dark, width, frame)", "gridIn(grey, frame, width)"),
 ]
 
 

@@ -18,7 +18,8 @@ DAMAGE = {"corrected": (12, 57), "refused": range(11, 19)}  # modules of the sym
 
 @needs.program
 @needs.module("selenium")
-@needs.programs("WebKitWebDriver", "Xvfb", "wasm-opt", "node")
+@needs.page
+@needs.programs("WebKitWebDriver", "Xvfb")
 class WebKit(Case):
     @classmethod
     def setUpClass(cls):

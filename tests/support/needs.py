@@ -16,7 +16,11 @@ PACKAGES = {
     "Xvfb": "xvfb", "chromedriver": "chromium-driver", "tsc": "node-typescript", "qemu-aarch64": "qemu-user",
     "qemu-riscv64": "qemu-user", "aarch64-linux-gnu-g++": "g++-aarch64-linux-gnu",
     "riscv64-linux-gnu-g++": "g++-riscv64-linux-gnu", "x86_64-w64-mingw32-g++": "g++-mingw-w64-x86-64",
+    "wasm-ld": "lld",
 }
+# What `make page` needs besides the library.
+PAGE = ("wasm-opt", "clang", "wasm-ld")
+WASI_LIBC = "/usr/lib/wasm32-wasi/libc.a"
 PATH = os.pathsep.join([os.environ.get("PATH", os.defpath), "/usr/sbin"])
 
 
@@ -33,6 +37,12 @@ def lacking(*programs):
 def programs(*names):
     """Skips a class or a case where one of these programs isn't installed."""
     return unittest.skipUnless(has(*names), lacking(*names))
+
+
+def page(kind):
+    """Skips a class or a case where something isn't installed that `make page` needs."""
+    has_libc = unittest.skipUnless(os.path.isfile(WASI_LIBC), "wasi-libc isn't installed (Debian package wasi-libc)")
+    return programs(*PAGE, "node")(has_libc(kind))
 
 
 def module(name):

@@ -1,0 +1,113 @@
+// Data Matrix ECC 200 for programs in JavaScript: reads symbols in pictures and grids, writes messages as symbols, by
+// the proved library and the sampler in WebAssembly. docs/JAVASCRIPT.md tells how it is used. The page stands on it.
+import { ANY, ASCII, EXTENDED, FNC1, ONE, RECTANGLE, SHORTER, SQUARE } from "./common.mjs";
+import { CODE_WORDS, SAMPLER } from "./layouts.mjs";
+import { Library } from "./library.mjs";
+import { Sampler } from "./sampler.mjs";
+
+/** @typedef {import("./common.mjs").Grid} Grid */
+/** @typedef {import("./library.mjs").Fault} Fault */
+/** @typedef {import("./sampler.mjs").Found} Found */
+/** @typedef {{ data: ArrayLike<number>, width: number, height: number }} Picture as an ImageData has it: red, green,
+    blue and opacity of each pixel; or its luminance alone, 0 black and 255 white */
+/** @typedef {{ items: number[], isGs1: boolean, bytes: Uint8Array, text: string | null }} Message its items, 0 to 255,
+    and 256 for FNC1; whether FNC1 is the first; its bytes without that, others as the byte 29; and these as text in
+    UTF-8, if they are that */
+/** @typedef {Found & Message} Symbol */
+/** @typedef {{ symbols: Symbol[], unread: Found[], isComplete: boolean }} Finding */
+/** @typedef {{ form?: string, shape?: string, rows?: number, columns?: number }} Form in which a message is written:
+    `ascii`, or `shorter` for bytes where that takes fewer codewords; in the smallest `square`, `rectangle` of ISO/IEC
+    16022, `extended` one of ISO/IEC 21471 too, or in `any`; or in the size of these rows and columns */
+/** @type {Record<string, number>} */
+const FORMS = { ascii: ASCII, shorter: SHORTER };
+/** @type {Record<string, number>} */
+const SYMBOL_SHAPES = { square: SQUARE, rectangle: RECTANGLE, extended: EXTENDED, any: ANY };
+const GROUP_SEPARATOR = 29;
+
+// What can't be read or written: a code of library/ecc200.h, with the value and the place that it tells.
+export class Refused extends Error {
+  /** @param {Fault} fault */
+  constructor({ code, value, place }) {
+    super(CODE_WORDS[code] ?? `code ${code}`);
+    this.name = "Refused";
+    this.code = code;
+    this.value = value;
+    this.place = place;
+  }
+}
+// The luminance of each pixel, as on white paper where it is transparent.
+/** @type {(picture: Picture) => Uint8Array} */
+export function luminanceOf({ data, width, height }) {
+  const count = width * height;
+  if (data.length === count) return data instanceof Uint8Array ? data : Uint8Array.from(data);
+  if (data.length !== 4 * count) throw new TypeError("a picture has four numbers for each pixel, or one");
+  const grey = new Uint8Array(count);
+  for (let k = 0, p = 0; k < count; k++, p += 4) {
+    const alpha = data[p + 3], light = (299 * data[p] + 587 * data[p + 1] + 114 * data[p + 2] + 500) / 1000;
+    grey[k] = alpha === 255 ? light : (light * alpha + 255 * (255 - alpha)) / 255;
+  }
+  return grey;
+}
+/** @type {(items: number[]) => Message} */
+function messageIn(items) {
+  const isGs1 = items[0] === FNC1, own = isGs1 ? items.slice(1) : items;
+  const bytes = Uint8Array.from(own, (item) => (item === FNC1 ? GROUP_SEPARATOR : item));
+  let text = null;
+  try { text = new TextDecoder("utf-8", { fatal: true, ignoreBOM: true }).decode(bytes); } catch { /* it isn't */ }
+  return { items, isGs1, bytes, text };
+}
+/** @type {(message: string | ArrayLike<number>) => number[]} */
+const itemsGiven = (message) =>
+  Array.from(typeof message === "string" ? new TextEncoder().encode(message) : message);
+
+export class Ecc200 {
+  // From the library and the sampler: their bytes, or what is compiled of them.
+  /** @type {(library: BufferSource | WebAssembly.Module, sampler: BufferSource | WebAssembly.Module) =>
+      Promise<Ecc200>} */
+  static async load(library, sampler) {
+    const proved = await Library.load(library);
+    return new Ecc200(proved, await Sampler.load(sampler, proved));
+  }
+  /** @param {Library} library @param {Sampler} sampler */
+  constructor(library, sampler) {
+    this.library = library;
+    this.sampler = sampler;
+  }
+  // The symbols in a picture, those that were found and not read, and whether all of it was searched.
+  /** @type {(picture: Picture, search?: import("./sampler.mjs").Search) => Finding} */
+  read(picture, search = {}) {
+    const { width, height } = picture;
+    if (![width, height].every((side) => Number.isInteger(side) && side > 0 && side <= SAMPLER.MOST_SIDE))
+      throw new RangeError(`a picture has 1 to ${SAMPLER.MOST_SIDE} pixels on each side`);
+    const { symbols, unread, ended, hasNoMemory } = this.sampler.find(luminanceOf(picture), width, height, search);
+    if (hasNoMemory) throw new RangeError("there is no memory for this picture");
+    return { symbols: symbols.map((it) => ({ ...it, ...messageIn(it.items) })), unread,
+      isComplete: ended === SAMPLER.WHOLE };
+  }
+  // The modules of a message: of text, in UTF-8, of bytes, or of items.
+  /** @type {(message: string | ArrayLike<number>, form?: Form) => Grid} */
+  write(message, { form = "ascii", shape = "square", rows = 0, columns = 0 } = {}) {
+    const how = { form: FORMS[form], shape: rows || columns ? ONE : SYMBOL_SHAPES[shape], rows, columns };
+    const { fault, ...symbol } = this.library.write(itemsGiven(message), how);
+    if (fault) throw new Refused(fault);
+    return /** @type {Grid} */ (symbol);
+  }
+  // What an upright grid says, of which these modules are doubtful, with at most so many wrong border modules.
+  /** @type {(grid: Grid, more?: { limit?: number, doubtful?: Uint8Array | null }) =>
+      Message & import("./library.mjs").Answer} */
+  readGrid(grid, { limit = this.library.usualLimit(grid), doubtful = null } = {}) {
+    const { fault, ...answer } = this.library.read(grid, limit, doubtful);
+    if (fault) throw new Refused(fault);
+    return { ...answer, ...messageIn(answer.items) };
+  }
+  // The normal symbol of what an upright grid says.
+  /** @type {(grid: Grid, more?: { limit?: number, form?: string }) => Grid} */
+  normal(grid, { limit = this.library.usualLimit(grid), form = "ascii" } = {}) {
+    const { fault, ...symbol } = this.library.normal(grid, limit, FORMS[form]);
+    if (fault) throw new Refused(fault);
+    return /** @type {Grid} */ (symbol);
+  }
+  // The sizes that symbols have.
+  /** @type {() => import("./library.mjs").Size[]} */
+  sizes() { return [...this.library.sizes.values()]; }
+}

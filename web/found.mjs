@@ -1,0 +1,149 @@
+// What was found in a picture, or by the camera: outlined on it, and listed with what it says, in reading order. One of
+// it is at hand.
+import { plural, shapeWords } from "./common.mjs";
+import { $, hint, made, shape } from "./dom.mjs";
+import { desks, take } from "./flow.mjs";
+import { typed } from "./gs1.mjs";
+import { brokenWords, enter, isBroken, refuse, whenEntered } from "./order.mjs";
+import { panes } from "./state.mjs";
+import { copyText, save } from "./taking.mjs";
+import { borne, refusal } from "./words.mjs";
+
+/** @typedef {import("./pictures.mjs").Sighted & { seen?: import("./examine.mjs").Seen }} Sighted */
+/** @typedef {{ symbols: Sighted[], unread: Sighted[], isComplete: boolean, width: number, height: number,
+    view?: ImageBitmap }} Sights */
+/** @type {{ list: Sighted[], isComplete: boolean, chosen: Sighted | null }} */
+const scene = { list: [], isComplete: true, chosen: null };
+let isOwn = false; // whether what is entered is chosen here
+const LEAST_SPARE = "Too few corrections are left unused to tell whether that is right.";
+
+// ---- What it says
+
+/** @type {(symbol: Sighted) => string} */
+const saidBy = ({ items }) => typed(items);
+/** @type {(symbol: Sighted) => string} */
+export const whyUnread = ({ fault, seen }) => (fault ? refusal(fault, seen) : LEAST_SPARE);
+/** @type {(symbol: Sighted) => string} */
+function remarksOn(symbol) {
+  const { how, isRead, corrected, erased, border } = symbol;
+  const parts = [shapeWords(symbol), how, isRead ? borne({ corrected, erased, border }) : ""];
+  return parts.filter(Boolean).join("; ");
+}
+/** @type {(symbol: Sighted) => object} */
+const recordOf = (symbol) => {
+  const { rows, columns, isRead, items, corners, how, limit, doubtful, corrected, erased, border } = symbol;
+  const place = corners.map(({ x, y }) => [x, y].map((at) => Math.round(10 * at) / 10));
+  if (!isRead) return { read: false, why: whyUnread(symbol), rows, columns, corners: place, stands: how };
+  return { read: true, text: saidBy(symbol), items, rows, columns, corners: place, stands: how, corrected, erased,
+    border, borderLimit: limit, doubtful: doubtful ? [...doubtful.keys()].filter((k) => doubtful[k]) : [] };
+};
+
+// ---- Drawing
+
+/** @type {(svg: Element, list: Sighted[], size: { width: number, height: number }, chosen?: Sighted | null,
+    act?: ((symbol: Sighted) => void) | null) => void} */
+export function drawOutlines(svg, list, { width, height }, chosen = null, act = null) {
+  svg.setAttribute("viewBox", `0 0 ${width} ${height}`);
+  const outline = (symbol) => {
+    const points = symbol.corners.map(({ x, y }) => `${x},${y}`).join(" ");
+    const name = `${symbol.isRead ? "" : "unread "}${symbol === chosen ? "chosen" : ""}`.trim();
+    const polygon = shape("polygon", { points, "vector-effect": "non-scaling-stroke", class: name });
+    if (act) polygon.addEventListener("click", () => act(symbol));
+    return polygon;
+  };
+  svg.replaceChildren(...list.map(outline));
+}
+/** @type {(symbol: Sighted) => Node} */
+function entryOf(symbol) {
+  const says = symbol.isRead ? saidBy(symbol) || "the empty message" : `Not read. ${whyUnread(symbol)}`;
+  const words = made(symbol.isRead ? "code" : "span", { textContent: says });
+  const button = made("button", { className: symbol.isRead ? "" : "unread" }, words,
+    made("small", { textContent: remarksOn(symbol) }));
+  button.setAttribute("aria-pressed", String(symbol === scene.chosen));
+  button.addEventListener("click", () => choose(symbol));
+  return made("li", {}, button);
+}
+function drawList() {
+  const { list, isComplete, chosen } = scene, read = list.filter(({ isRead }) => isRead).length;
+  $("found").hidden = list.length - read === 0 && read < 2 && isComplete;
+  $("found-title").textContent = plural(read, "symbol is read", "symbols are read");
+  const unread = list.length - read, more = isComplete ? "" : "There may be more: the time for a picture was over.";
+  const not = unread ? `${plural(unread, "is", "are")} seen and not read.` : "";
+  hint("found-hint", [not, more].filter(Boolean).join(" "));
+  $("found-are").replaceChildren(...list.map(entryOf));
+  const size = { width: Number($("outlines").dataset.width) || 1, height: Number($("outlines").dataset.height) || 1 };
+  drawOutlines($("outlines"), list, size, chosen, choose);
+}
+/** @type {(view: ImageBitmap, size: { width: number, height: number }) => void} */
+function drawView(view, { width, height }) {
+  const canvas = /** @type {HTMLCanvasElement} */ ($("view"));
+  [canvas.width, canvas.height] = [view.width, view.height];
+  canvas.getContext("bitmaprenderer").transferFromImageBitmap(view);
+  Object.assign($("outlines").dataset, { width: String(width || view.width), height: String(height || view.height) });
+  $("scene").hidden = false;
+}
+
+// ---- What is found
+
+// Shows what stands in a picture; `chosen` is at hand.
+/** @type {(sights: Sights, chosen?: Sighted | null) => void} */
+export function showSights({ symbols, unread, isComplete, width, height, view }, chosen = null) {
+  if (view) drawView(view, { width, height });
+  Object.assign(scene, { list: [...symbols, ...unread], isComplete, chosen });
+  drawList();
+}
+// Adds to the list what the camera sees for the first time; returns that.
+/** @type {(symbols: Sighted[]) => Sighted[]} */
+export function addSights(symbols) {
+  const known = new Set(scene.list.map(saidBy)), fresh = symbols.filter((symbol) => !known.has(saidBy(symbol)));
+  if (!fresh.length) return fresh;
+  scene.list.push(...fresh);
+  scene.chosen = fresh[fresh.length - 1];
+  drawList();
+  $("found").hidden = false;
+  return fresh;
+}
+export function clearSights() {
+  Object.assign(scene, { list: [], isComplete: true, chosen: null });
+  $("scene").hidden = true;
+  drawList();
+}
+/** @type {(symbol: Sighted) => boolean} */
+export const isShown = (symbol) => scene.list.includes(symbol);
+export const isKeepingSights = () => isOwn;
+// Does something by which the list stays as it is.
+/** @type {(act: () => any) => any} */
+export function keepingSights(act) {
+  isOwn = true;
+  try { return act(); } finally { isOwn = false; }
+}
+/** @type {(symbol: Sighted) => void} */
+export function choose(symbol) {
+  const { rows, columns, modules, doubtful, limit } = symbol, it = panes.read;
+  scene.chosen = symbol;
+  drawList();
+  const question = () => desks.quick.ask("look", { grid: { rows, columns, modules }, doubtful, limit }, "found");
+  keepingSights(() => enter(it, question, (seen) => {
+    if (isBroken(seen)) refuse(it, brokenWords(seen));
+    else take(it, { rows, columns, modules, doubtful, limit, seen });
+  }));
+}
+const quoted = (field) => (/[",\n]/.test(field) ? `"${field.replace(/"/g, '""')}"` : field);
+function csvOf(list) {
+  const rows = list.map((symbol, k) => [String(k + 1), symbol.isRead ? saidBy(symbol) : "", shapeWords(symbol),
+    symbol.isRead ? "" : whyUnread(symbol)]);
+  const all = [["number", "message", "modules", "not read"], ...rows];
+  return all.map((row) => `${row.map(quoted).join(",")}\n`).join("");
+}
+export function wireFound() {
+  whenEntered((it) => { if (it === panes.read && !isOwn) clearSights(); });
+  const read = () => scene.list.filter(({ isRead }) => isRead);
+  const file = (text, type) => new Blob([text], { type });
+  $("found-copy").addEventListener("click", () => copyText(read().map((it) => `${saidBy(it)}\n`).join(""),
+    `Copied: ${plural(read().length, "message", "messages")}`));
+  $("found-csv").addEventListener("click", () => save(file(csvOf(scene.list), "text/csv"), "found.csv"));
+  $("found-json").addEventListener("click", () => {
+    const all = { complete: scene.isComplete, symbols: scene.list.map(recordOf) };
+    save(file(`${JSON.stringify(all, null, 1)}\n`, "application/json"), "found.json");
+  });
+}

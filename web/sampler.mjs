@@ -1,0 +1,137 @@
+// The sampler, which finds symbols in pictures: sampler/*.c, compiled for WebAssembly. It has a memory of its own, in
+// which its stack comes first, so that a stack that runs over traps; and it asks the proved library as natively.
+import { LAYOUT, SAMPLER } from "./layouts.mjs";
+
+/** @typedef {import("./library.mjs").Library} Library */
+/** @typedef {import("./library.mjs").Fault} Fault */
+/** @typedef {import("./common.mjs").Grid} Grid */
+/** @typedef {{ x: number, y: number }} Point in pixels from the left and from the top of the picture */
+/** @typedef {Grid & { doubtful: Uint8Array | null, corners: Point[], isInverted: boolean, isMirrored: boolean,
+    limit: number, items: number[], border: number, corrected: number[], erased: number[], left: number[],
+    fault: Fault | null, hasMargin: boolean }} Found a symbol, upright: which of its modules are doubtful, if some are;
+    its corners from the top left one to the right; whether it is light on dark, and shown in a mirror; how many wrong
+    border modules it was read with, at most; what it says, how many are wrong, and of each block what was corrected, is
+    erased, and is left; or why it isn't read: by its fault, or since too few corrections are left unused */
+/** @typedef {{ symbols: Found[], unread: Found[], ended: number, hasNoMemory: boolean }} Finding why the search ended:
+    a number of SAMPLER, WHOLE if nothing was left out */
+/** @typedef {{ most?: number, mostUnread?: number, milliseconds?: number, leastSide?: number, margin?: number }} Search
+    how many symbols to find at most, and to tell of that aren't read; how long to try; the fewest modules of a side;
+    how many corrections each block must leave unused */
+const { sample: SAMPLE, sample_search: SEARCH, reading: READING, fault: FAULT, place_table: TABLE, place: PLACE,
+  size_table: SIZES, sample_point: POINT } = LAYOUT;
+const { READ, REFUSED, WHOLE } = SAMPLER;
+const NANOSECONDS = 1e6; // of a millisecond
+const MOST_BYTES = 2 ** 31; // of one piece of memory; more than that isn't there, and a length has 32 bits
+/** @type {Finding} */
+const NOTHING = { symbols: [], unread: [], ended: WHOLE, hasNoMemory: true };
+
+export class Sampler {
+  /** @type {(code: BufferSource | WebAssembly.Module, library: Library) => Promise<Sampler>} */
+  static async load(code, library) {
+    const sampler = new Sampler(library), imports = { env: sampler.calls(), wasi_snapshot_preview1: sampler.clock() };
+    const module = code instanceof WebAssembly.Module ? code : await WebAssembly.compile(code);
+    sampler.c = (await WebAssembly.instantiate(module, imports)).exports;
+    if (sampler.c.ecc200_sample_abi() !== SAMPLER.ABI) throw new Error("the sampler has another interface than this");
+    return sampler;
+  }
+  /** @param {Library} library */
+  constructor(library) {
+    this.library = library;
+    /** @type {any} */
+    this.c = null;
+  }
+  get buffer() { return this.c.memory.buffer; }
+  get size() { return this.buffer.byteLength; }
+  bytes(at, count) { return new Uint8Array(this.buffer, at, count); }
+
+  // ---- What the sampler asks for
+
+  // The calls of ecc200.h, of which inputs and output are copied from one memory to the other.
+  calls() {
+    const { library } = this, { c } = library;
+    const given = (at, from, count) => library.bytes(at, count).set(this.bytes(from, count));
+    const taken = (to, count) => this.bytes(to, count).set(library.bytes(library.outAt, count));
+    const itemsOf = () => library.numbers(library.outAt + READING.item_count, 1)[0];
+    return {
+      ecc200_read: (modules, count, doubtful, doubtfulCount, rows, columns, limit, extent, out) => {
+        given(library.modulesAt, modules, count);
+        given(library.doubtfulAt, doubtful, doubtfulCount);
+        const code = c.ecc200_read(BigInt(library.modulesAt), BigInt(count), BigInt(library.doubtfulAt),
+          BigInt(doubtfulCount), rows, columns, limit, extent, library.out);
+        taken(out, code ? FAULT.size : READING.items + 2 * itemsOf());
+        return code;
+      },
+      ecc200_usual_limit: c.ecc200_usual_limit,
+      ecc200_sizes: (out) => { c.ecc200_sizes(library.out); taken(out, SIZES.size); },
+      ecc200_places: (rows, columns, out) => {
+        const code = c.ecc200_places(rows, columns, library.out);
+        taken(out, code ? FAULT.size : TABLE.places + PLACE.size * rows * columns);
+        return code;
+      },
+    };
+  }
+  // The one call of WASI that its clock makes.
+  clock() {
+    return {
+      clock_time_get: (_, __, out) => {
+        new DataView(this.buffer).setBigUint64(out, BigInt(Math.round(performance.now() * NANOSECONDS)), true);
+        return 0;
+      },
+    };
+  }
+
+  // ---- A picture
+
+  // The symbols of a picture, of its luminance row by row: 0 is black, 255 white.
+  /** @type {(luminance: ArrayLike<number>, width: number, height: number, search?: Search) => Finding} */
+  find(luminance, width, height, { most = 1, mostUnread = 0, milliseconds = SAMPLER.USUAL_TIME, leastSide = 0,
+    margin = 0 } = {}) {
+    const wanted = [luminance.length, SEARCH.size, most * SAMPLE.size, mostUnread * SAMPLE.size];
+    if (wanted.some((size) => size > MOST_BYTES)) return NOTHING;
+    const rooms = wanted.map((size) => this.c.malloc(Math.max(1, size)) >>> 0), [picture, search, read, unread] = rooms;
+    try {
+      if (rooms.includes(0)) return NOTHING;
+      this.bytes(picture, luminance.length).set(luminance);
+      const view = new DataView(this.buffer), long = (at, value) => view.setUint32(search + at, value, true);
+      const short = (at, value) => view.setUint16(search + at, value, true);
+      long(SEARCH.milliseconds, milliseconds);
+      short(SEARCH.least_side, leastSide);
+      short(SEARCH.margin, margin);
+      long(SEARCH.symbols, read);
+      long(SEARCH.room, most);
+      long(SEARCH.unread, unread);
+      long(SEARCH.unread_room, mostUnread);
+      const code = this.c.ecc200_sample_find(picture, width, height, width, search);
+      return this.findingAt(search, read, unread, code);
+    } finally {
+      for (const room of rooms) this.c.free(room);
+    }
+  }
+  /** @type {(search: number, read: number, unread: number, code: number) => Finding} */
+  findingAt(search, read, unread, code) {
+    const view = new DataView(this.buffer), count = (at) => view.getUint32(search + at, true);
+    const all = (at, many) => Array.from({ length: many }, (_, k) => this.foundAt(at + k * SAMPLE.size));
+    return { symbols: all(read, count(SEARCH.count)), unread: all(unread, count(SEARCH.unread_count)),
+      ended: view.getUint16(search + SEARCH.ended, true), hasNoMemory: code === SAMPLER.NO_MEMORY };
+  }
+  /** @type {(at: number) => Found} */
+  foundAt(at) {
+    const view = new DataView(this.buffer), number = (place) => view.getUint16(at + place, true);
+    const rows = number(SAMPLE.rows), columns = number(SAMPLE.columns), why = number(SAMPLE.unread);
+    const grid = (place) => this.bytes(at + place, rows * columns).slice(), doubtful = grid(SAMPLE.doubtful);
+    const coordinate = (k, of) => view.getFloat64(at + SAMPLE.corners + k * POINT.size + of, true);
+    const isRefused = why === REFUSED, ofReading = (member) => (isRefused ? 0 : number(SAMPLE.reading + member));
+    const of = (member) => number(SAMPLE.reading + READING.fault + member), blocks = ofReading(READING.block_count);
+    const inBlocks = (member) => [...this.bytes(at + SAMPLE.reading + member, blocks)];
+    return {
+      rows, columns, modules: grid(SAMPLE.modules), doubtful: doubtful.includes(1) ? doubtful : null,
+      corners: [0, 1, 2, 3].map((k) => ({ x: coordinate(k, POINT.x), y: coordinate(k, POINT.y) })),
+      isInverted: view.getUint8(at + SAMPLE.inverted) === 1, isMirrored: view.getUint8(at + SAMPLE.mirrored) === 1,
+      limit: number(SAMPLE.border_limit), hasMargin: why === READ || why === REFUSED,
+      items: Array.from({ length: ofReading(READING.item_count) }, (_, k) => ofReading(READING.items + 2 * k)),
+      border: ofReading(READING.border_faults), corrected: inBlocks(READING.corrected),
+      erased: inBlocks(READING.erased), left: inBlocks(READING.left),
+      fault: isRefused ? { code: of(FAULT.code), value: of(FAULT.value), place: of(FAULT.place) } : null,
+    };
+  }
+}
