@@ -1,8 +1,27 @@
 """What stands in pictures: symbols as the sampler read them, all of them, in reading order, and what isn't read."""
+import csv
+import io
+import json
 import random
 
-from tests.page.pictures import opened, png
-from tests.page.stage import count, grid, push, run, settle, shown, text_of, turned, wait_for, write, written
+from tests.page.pictures import chunks, opened, png
+from tests.page.stage import (
+    Keys,
+    count,
+    find,
+    grid,
+    on,
+    push,
+    put,
+    run,
+    settle,
+    shown,
+    text_of,
+    unfold,
+    wait_for,
+    write,
+    written,
+)
 
 LIMIT = 27  # of wrong border modules of a side of 22, if each block leaves a correction unused; usually it is 5
 
@@ -60,4 +79,162 @@ def handed_on():
     write("123456")
 
 
-PARTS = [handed_on]
+# ---- All of them
+
+
+def scene(width, height, placed, turn=(1.0, 0.0), scale=4, light=225, dark=30):
+    """The picture of grids whose upper left corners are at these places, all of it turned by an angle of this cosine
+    and sine about its middle."""
+    cosine, sine = turn
+    lines = []
+    for y in range(height):
+        line = bytearray(b"\0" + bytes([light]) * width)
+        for x in range(width):
+            across, down = x - width / 2, y - height / 2
+            u, v = across * cosine + down * sine + width / 2, down * cosine - across * sine + height / 2
+            for rows, (left, top) in placed:
+                c, r = int((u - left) // scale), int((v - top) // scale)
+                if 0 <= r < len(rows) and 0 <= c < len(rows[0]) and rows[r][c] == "1":
+                    line[1 + x] = dark
+        lines.append(bytes(line))
+    return chunks(width, height, b"".join(lines))
+
+
+def beyond(rows):
+    """The rows of a symbol with a whole border, of which one half is inverted."""
+    side = len(rows)
+    return [row if r in (0, side - 1) or r > side // 2 else
+            row[0] + row[1:-1].translate(str.maketrans("01", "10")) + row[-1] for r, row in enumerate(rows)]
+
+
+LISTED = """
+    return [...document.querySelectorAll("#found-are button")].map((it) =>
+        [it.firstChild.textContent, it.lastChild.textContent, it.getAttribute("aria-pressed")]);"""
+OUTLINED = """
+    return [...document.querySelectorAll("#outlines polygon")].map((it) =>
+        [it.getAttribute("class"), it.getAttribute("points").split(" ").map((at) => at.split(",").map(Number))]);"""
+
+
+def all_symbols():
+    """Every symbol of a picture is outlined on it and listed in reading order, also where the picture is turned; one of
+    them is at hand; what isn't read is listed with its reason."""
+    push("tab-read")
+    messages = [f"symbol {k}" for k in range(1, 7)]
+    places = [(40 + 130 * (k % 3) + 9 * (k % 2), 30 + 120 * (k // 3) + 11 * (k % 2)) for k in range(6)]
+    grids = [written(message).split("\n") for message in messages]
+    for name, turn in (("upright", (1.0, 0.0)), ("turned", (0.9848, 0.1736))):
+        said = opened(f"{name}.png", scene(430, 290, list(zip(grids, places)), turn))
+        count.expect_soon(f"{name}: what is said", lambda: text_of("picture-hint"), f"{name}.png: 6 symbols.")
+        listed = run(LISTED)
+        count.expect(f"{name}: what is listed", [says for says, _, _ in listed], messages)
+        count.expect("how many", (text_of("found-title"), text_of("found-hint")), ("6 symbols are read", ""))
+        chosen = [says for says, _, is_chosen in listed if is_chosen == "true"]
+        count.expect("one is at hand", chosen, [shown()["says"]])
+        far = [abs(one - other) for (_, points), (left, top), rows in zip(run(OUTLINED), places, grids)
+               for corner, wanted in zip(points, corners_of(left, top, 4 * len(rows), turn)) for one, other in
+               zip(corner, wanted)]
+        count.expect(f"{name}: outlines", (len(far), [each for each in far if each > 2]), (48, []))
+        view = run("const { width, height } = document.getElementById('view'); return [width, height]")
+        count.expect("the picture", (find("scene").is_displayed(), view), (True, [430, 290]))
+    for k in (3, 0):
+        run("document.querySelectorAll('#found-are button')[arguments[0]].click()", k)
+        settle()
+        count.expect(f"number {k + 1} is chosen", (shown()["says"], grid(), run(LISTED)[k][2]),
+                     (messages[k], written(messages[k]), "true"))
+    run("document.querySelectorAll('#outlines polygon')[4].dispatchEvent(new MouseEvent('click', { bubbles: true }))")
+    settle()
+    count.expect("number 5, on the picture", (shown()["says"], len(run(LISTED))), (messages[4], 6))
+    given_away(messages)
+    put("grid", written("typed"))
+    count.expect("what is typed takes the place of the picture",
+                 (shown()["says"], find("scene").is_displayed(), find("found").is_displayed()), ("typed", False, False))
+    push("tab-make")
+    write("123456")
+
+
+def corners_of(left, top, length, turn):
+    """The corners of a square in a picture of 430 by 290 pixels that is turned."""
+    cosine, sine = turn
+    for x, y in ((left, top), (left + length, top), (left + length, top + length), (left, top + length)):
+        across, down = x - 215, y - 145
+        yield across * cosine - down * sine + 215, down * cosine + across * sine + 145
+
+
+def given_away(messages):
+    """All messages are copied, and the list is saved."""
+    push("found-copy")
+    count.expect_soon("what is copied", lambda: text_of("toast"), f"Copied: {len(messages)} messages")
+    count.expect("the clipboard", pasted(), "".join(f"{message}\n" for message in messages))
+    for ending in ("csv", "json"):
+        (on.folder / f"found.{ending}").unlink(missing_ok=True)
+    push("found-csv", "found-json")
+    file = lambda ending: on.folder / f"found.{ending}"
+    wait_for(lambda: file("csv").exists() and file("json").exists() and file("json").stat().st_size)
+    rows = list(csv.reader(io.StringIO(file("csv").read_text())))
+    count.expect("the CSV", (rows[0], [row[1] for row in rows[1:]]),
+                 (["number", "message", "modules", "not read"], messages))
+    told = json.loads(file("json").read_text())
+    count.expect("the JSON", (told["complete"], [each["text"] for each in told["symbols"]],
+                              {each["read"] for each in told["symbols"]}), (True, messages, {True}))
+    count.expect("its items", [each["items"] for each in told["symbols"]], [list(each.encode()) for each in messages])
+
+
+def pasted():
+    """What is in the clipboard, by way of a field."""
+    run("document.getElementById('messages').value = ''; document.getElementById('sheet').hidden = false")
+    unfold("sheet")
+    push("tab-make")
+    find("messages").send_keys(Keys.CONTROL, "v", Keys.NULL)
+    text = find("messages").get_attribute("value")
+    put("messages", "")
+    push("tab-read")
+    return text
+
+
+def unread():
+    """Of two symbols one is damaged beyond correction: it is outlined and listed with the reason, and can be shown."""
+    push("tab-read")
+    rows, spoilt = written("whole").split("\n"), beyond(written("damaged beyond what can be corrected").split("\n"))
+    opened("one.png", scene(330, 190, [(rows, (30, 40)), (spoilt, (150, 40))]))
+    count.expect_soon("what is said of both", lambda: text_of("found-hint"), "1 is seen and not read.")
+    listed = run(LISTED)
+    why = "More than 12 codewords are wrong. The 24 check codewords correct no more than that, and nothing is guessed."
+    count.expect("what is listed", [says for says, _, _ in listed], ["whole", f"Not read. {why}"])
+    count.expect("what is outlined", [name for name, _ in run(OUTLINED)], ["chosen", "unread"])
+    run("document.querySelectorAll('#found-are button')[1].click()")
+    settle()
+    count.expect("the one that isn't read", (shown()["state"], grid()), ("Refused", "\n".join(spoilt)))
+    opened("alone.png", scene(230, 190, [(spoilt, (50, 40))], (0.9848, 0.1736)))
+    none = "No symbol that can be read was found in the picture. What looks most like one is outlined"
+    count.expect("alone", (text_of("picture-hint"), shown()["state"], [name for name, _ in run(OUTLINED)][:1]),
+                 (f"alone.png: {none}: 24 × 24. {why}", "Nothing is read", ["unread"]))
+    push("tab-make")
+    write("123456")
+
+
+def large():
+    """After a large picture another worker begins, so that its memory is given back."""
+    push("tab-read")
+    rows = written("in a large picture").split("\n")
+    width, height = 4100, 3900
+    lines = []
+    for y in range(height):
+        r = (y - 900) // 40
+        row = rows[r] if 0 <= r < len(rows) else None
+        line = bytearray(b"\0" + bytes([225]) * width)
+        if row:
+            for c, module in enumerate(row):
+                if module == "1":
+                    line[1 + 1200 + 40 * c : 1 + 1240 + 40 * c] = bytes([30]) * 40
+        line[1 + y % 7] = 130  # a third colour, so that it is no grid
+        lines.append(bytes(line))
+    opened("large.png", chunks(width, height, b"".join(lines)))
+    count.expect("a large picture", (shown()["state"], shown()["says"]), ("Read", "in a large picture"))
+    count.expect_soon("its worker is ended", lambda: run("return mitsubadoor.desks.pictures.worker"), None)
+    opened("next.png", png(written("the next one").split("\n"), 5, 2))
+    count.expect("the next picture", (shown()["state"], shown()["says"]), ("Read", "the next one"))
+    push("tab-make")
+    write("123456")
+
+
+PARTS = [handed_on, all_symbols, unread, large]
