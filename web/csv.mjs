@@ -85,6 +85,11 @@ export function likely({ columns }, isData) {
   const hasMessage = known.includes(ELEMENT) || known.includes(MESSAGE), first = hasMessage ? -1 : known.indexOf(null);
   return { isData, roles: known.map((role, k) => role ?? (k === first ? MESSAGE : UNUSED)) };
 }
+// Whether columns can be all of this.
+/** @type {(columns: Column[], roles: any) => boolean} */
+export const canMean = (columns, roles) => Array.isArray(roles) && roles.length === columns.length
+  && roles.every((role, k) =>
+    [MESSAGE, TEXT, COPIES, UNUSED].includes(role) || (role === ELEMENT && columns[k].identifier !== ""));
 // Why columns that mean this make no symbols, or "".
 /** @type {(meaning: Meaning) => string} */
 export function whyNoMessage({ roles }) {
@@ -105,15 +110,15 @@ function copiesOf(field) {
   const isOne = /^\d+$/.test(digits) && copies <= MOST_COPIES;
   return isOne ? { copies } : { copies: 1, why: `${digits} is no number of copies` };
 }
-// The lines of a table whose columns mean this.
-/** @type {(table: Table, meaning: Meaning) => Line[]} */
-export function linesOf({ rows, columns }, { isData, roles }) {
+// The lines of a table whose columns mean this; with so many copies of each, where no column says how many.
+/** @type {(table: Table, meaning: Meaning, each: number) => Line[]} */
+export function linesOf({ rows, columns }, { isData, roles }, each) {
   const [message, text, copies] = [MESSAGE, TEXT, COPIES].map((role) => roles.indexOf(role));
   const element = (field, k) =>
     (roles[k] === ELEMENT && field.trim() ? `(${columns[k].identifier})${spelledValue(field)}` : "");
   return (isData ? rows : rows.slice(1)).map((row) => {
     const own = message < 0 ? row.map(element).join("") : row[message] ?? "";
     const below = text < 0 ? null : row[text] ?? "";
-    return { message: own, text: below, ...(copies < 0 ? { copies: 1 } : copiesOf(row[copies] ?? "")) };
+    return { message: own, text: below, ...(copies < 0 ? { copies: each } : copiesOf(row[copies] ?? "")) };
   });
 }

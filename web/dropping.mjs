@@ -1,9 +1,10 @@
 // Pasting and dropping: pictures, files of text, and text. What is too much for a field isn't let into it, since even
 // to lay it out takes long.
 import { MOST_OF_SHEET, MOST_TEXT } from "./common.mjs";
-import { $, field, fieldOf, hint } from "./dom.mjs";
+import { $, field, fieldOf, folded, hint } from "./dom.mjs";
 import { showTask } from "./flow.mjs";
 import { isGrid } from "./grids.mjs";
+import { hasLabelsAlone, labelsIn, mayHoldLabels, takeLabels } from "./labelfile.mjs";
 import { listChanged } from "./lines.mjs";
 import { beginEntry } from "./link.mjs";
 import { tooMuch } from "./messages.mjs";
@@ -13,8 +14,10 @@ import { toast } from "./taking.mjs";
 
 /** @typedef {{ picture?: File, file?: File, text?: string, note?: string, why?: string }} Brought */
 const BYTES = 4; // of a character, at most
+const MOST_BYTES_OF_LABELS = 5e7; // of a file of labels that is opened again
 const isPicture = ({ type }) => type.startsWith("image/");
-const isText = ({ type, name }) => type.startsWith("text/") || (!type && /\.(txt|csv|grid)$/i.test(name));
+const isText = ({ type, name }) =>
+  type.startsWith("text/") || (!type && /\.(txt|csv|grid)$/i.test(name)) || mayHoldLabels(name);
 
 // What is dropped or pasted: the first picture, or else the first file of text, or else the text; and a note on what
 // isn't looked at.
@@ -81,12 +84,34 @@ function refuseBrought(why) {
 const entered = () => [panes.write.entered, panes.read.entered, field("messages").value].join();
 /** @type {(file: File, note: string, isSheet?: boolean) => Promise<void>} */
 async function takeFile(file, note, isSheet = false) {
-  const before = entered(), { text, why } = await textOfFile(file, isSheet ? MOST_OF_SHEET : MOST_TEXT);
+  const before = entered(), labels = mayHoldLabels(file.name) ? await labelsOf(file) : null;
+  const { text, why } = labels ? { text: "", why: "" } : await textAlone(file, isSheet ? MOST_OF_SHEET : MOST_TEXT);
   if (entered() !== before) toast(`${file.name} was given up, since something else was entered meanwhile.`);
+  else if (labels) openLabels(file.name, labels, note);
   else if (isSheet) takeLines(file.name, text, why, note);
   else if (why) refuseBrought(why);
   else takeText(text);
   if (note && !isSheet && !why) hint("picture-hint", `${file.name}:${note}`);
+}
+// The list of labels that a file holds, if it isn't too large.
+/** @type {(file: File) => Promise<import("./labelfile.mjs").Labels | null>} */
+async function labelsOf(file) {
+  if (file.size > MOST_BYTES_OF_LABELS) return null;
+  const labels = labelsIn(new Uint8Array(await file.arrayBuffer()));
+  return labels && !tooMuch(labels.messages, MOST_OF_SHEET) ? labels : null;
+}
+// The text of a file that has no list of labels, or why it isn't taken.
+/** @type {(file: File, most: number) => Promise<{ text?: string, why?: string }>} */
+const textAlone = async (file, most) =>
+  (hasLabelsAlone(file.name) ? { why: `${file.name} holds no list of labels.` } : textOfFile(file, most));
+// The list that a file holds takes the place of the one on the sheet, with how its labels look.
+/** @type {(name: string, labels: import("./labelfile.mjs").Labels, note: string) => void} */
+function openLabels(name, labels, note) {
+  showTask("make");
+  folded("sheet").open = true;
+  takeLabels(labels);
+  writeMessage();
+  hint("sheet-hint", `The labels of ${name}.${note}`, false, "messages");
 }
 // The lines of a file take the place of those that stand on the sheet.
 /** @type {(name: string, text: string, why: string, note: string) => void} */

@@ -1,6 +1,6 @@
 // The list of many messages: what is entered, line by line or in columns, and what has to be asked about the columns.
 import {
-  COPIES, ELEMENT, MESSAGE, TEXT, UNUSED, isLikelyData, isOpen, likely, linesOf, tableOf, whyNoMessage,
+  COPIES, ELEMENT, MESSAGE, TEXT, UNUSED, canMean, isLikelyData, isOpen, likely, linesOf, tableOf, whyNoMessage,
 } from "./csv.mjs";
 import { $, field, hint, made, withCode } from "./dom.mjs";
 import { nameOfIdentifier } from "./gs1.mjs";
@@ -28,17 +28,37 @@ function askedNow() {
   askedLast.table = table;
   return askedLast;
 }
+// How many copies of each line there are, where no column says that.
+function copiesOfEach() {
+  const { value } = field("copies"), copies = Number(value);
+  return value !== "" && Number.isInteger(copies) && copies >= 1 ? copies : 1;
+}
 /** @type {() => Line[]} */
 export function linesNow() {
-  if (isCsv()) { const { table, meaning } = askedNow(); return linesOf(table, meaning); }
+  if (isCsv()) { const { table, meaning } = askedNow(); return linesOf(table, meaning, copiesOfEach()); }
   const lines = field("messages").value.split("\n").filter((line) => line.trim());
-  return lines.map((message) => ({ message, text: null, copies: 1 }));
+  return lines.map((message) => ({ message, text: null, copies: copiesOfEach() }));
 }
 // Why nothing is given yet: what has to be said first, or "".
 export function whyNotYet() {
   if (!isCsv()) return "";
   const { meaning, isAnswered } = askedNow();
   return isAnswered ? whyNoMessage(meaning) : "Say first what the columns are, and then “Take them so”.";
+}
+
+// What the columns are, if that is known or answered.
+/** @type {() => import("./csv.mjs").Meaning | null} */
+export function columnsMeanNow() {
+  const { meaning, isAnswered } = askedNow();
+  return isAnswered ? meaning : null;
+}
+// Answers the question as it was answered before, if that fits the columns.
+/** @type {(meaning: import("./csv.mjs").Meaning) => void} */
+export function takeMeaning({ isData, roles }) {
+  const it = askedNow(), { columns, mayBeData } = it.table;
+  if (!canMean(columns, roles) || (isData && !mayBeData)) return;
+  Object.assign(it, { meaning: { isData, roles }, isAnswered: !whyNoMessage({ isData, roles }) });
+  listChanged();
 }
 
 // ---- The question
@@ -89,7 +109,7 @@ function answerQuestion() {
   hint("sheet-hint", why, Boolean(why));
 }
 const LOOKS = ["kind-message", "kind-text", "profile-0", "profile-1", "shape", "size", "millimetres", "paper-size",
-  "stock", "label-width", "label-height", "label-text", "lines-as"];
+  "stock", "label-width", "label-height", "label-text", "lines-as", "copies"];
 export function wireLines() {
   $("messages").addEventListener("input", listChanged);
   for (const id of LOOKS) $(id).addEventListener("change", listChanged);

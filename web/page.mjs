@@ -19,6 +19,7 @@ import { spelled } from "./messages.mjs";
 import { wirePreview } from "./preview.mjs";
 import { wirePrinting } from "./printing.mjs";
 import { pending, restore, wireSource } from "./source.mjs";
+import { wireSerial } from "./serial.mjs";
 import { listSizes } from "./sizes.mjs";
 import { mark, panes, store } from "./state.mjs";
 import { drawSmall } from "./symbol.mjs";
@@ -56,7 +57,7 @@ async function startPage() {
   desks.readsFiles = loaded.readsFiles;
   listSizes(loaded.sizes);
   wireBusy(); wireDetails(); wireDamage(); wireSource(); wireDropping();
-  wireTaking(); wireLines(); wirePreview(); wirePrinting(); wireLesson(); wireCamera(); wireFound();
+  wireTaking(); wireLines(); wireSerial(); wirePreview(); wirePrinting(); wireLesson(); wireCamera(); wireFound();
   const items = Array.from("Mitsubadoor", (c) => c.charCodeAt(0));
   const how = { form: ASCII, shape: SQUARE, rows: 0, columns: 0 };
   drawSmall($("logo"), await desks.quick.ask("write", { items, how, hasLook: false }, "logo"));

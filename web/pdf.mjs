@@ -44,10 +44,13 @@ function contentOf({ height, placed }) {
   const drawn = placed.map((each) => symbolDrawn(each, height) + textDrawn(each, height));
   return `${number(1 / MILLIMETRES)} 0 0 ${number(1 / MILLIMETRES)} 0 0 cm\n0 0 0 rg\n${drawn.join("")}`;
 }
-/** @type {(pages: Page[]) => Blob} */
-export function pdfOf(pages) {
+// Of pages, with bytes that are kept in its catalog under the name `Labels`, which no reader shows.
+/** @type {(pages: Page[], kept?: Uint8Array) => Blob} */
+export function pdfOf(pages, kept = new Uint8Array(0)) {
   const first = 4, kids = pages.map((_, k) => `${first + 2 * k} 0 R`).join(" ");
-  const objects = ["<< /Type /Catalog /Pages 2 0 R >>", `<< /Type /Pages /Kids [${kids}] /Count ${pages.length} >>`,
+  const hex = Array.from(kept, (byte) => byte.toString(16).padStart(2, "0")).join("");
+  const labels = hex && ` /Labels <${hex}>`;
+  const objects = [`<< /Type /Catalog /Pages 2 0 R${labels} >>`, `<< /Type /Pages /Kids [${kids}] /Count ${pages.length} >>`,
     "<< /Type /Font /Subtype /Type1 /BaseFont /Courier /Encoding /WinAnsiEncoding >>"];
   for (const [k, page] of pages.entries()) {
     const width = number(page.width / MILLIMETRES), height = number(page.height / MILLIMETRES);

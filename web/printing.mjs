@@ -4,6 +4,7 @@ import { SHORTER, plural, shapeName, shapeWords } from "./common.mjs";
 import { $, field, hint, made } from "./dom.mjs";
 import { copied, entriesNow, wrongGs1 } from "./entries.mjs";
 import { readable } from "./gs1.mjs";
+import { labelsFile, labelsText } from "./labelfile.mjs";
 import { laidOut, stockNow } from "./labels.mjs";
 import { versionNow } from "./lines.mjs";
 import { paperNow, setPage, setPageSize, tooWide } from "./paper.mjs";
@@ -137,10 +138,10 @@ const zipping = (ending, bytesOf) => withAll(async (entries) => {
   const files = [];
   for (const entry of entries)
     files.push({ name: fileName(entry, ending), bytes: await bytesOf(entry.grid, entry.text) });
-  save(zipOf(files), `symbols-${ending}.zip`);
+  save(zipOf([...files, labelsFile()]), `symbols-${ending}.zip`);
 }, "in the archive", false);
 const savePdf = withAll((entries, pages) => {
-  save(pdfOf(pages ?? entries.map(({ grid, text }) => pageOf(grid, text))), "symbols.pdf");
+  save(pdfOf(pages ?? entries.map(({ grid, text }) => pageOf(grid, text)), labelsFile().bytes), "symbols.pdf");
 }, "in the PDF");
 export function wirePrinting() {
   addEventListener("beforeprint", fillPaper);
@@ -149,6 +150,10 @@ export function wirePrinting() {
   $("print-sheet").addEventListener("click", printSheet);
   $("stock").addEventListener("change", () => { $("own-size").hidden = field("stock").value !== "own"; });
   $("many-pdf").addEventListener("click", savePdf);
+  $("save-list").addEventListener("click", () => {
+    save(new Blob([labelsText()], { type: "application/json" }), "labels.json");
+    hint("sheet-hint", "The list is saved, with how its labels look. It can be opened again.");
+  });
   $("many-png").addEventListener("click", zipping("png", pngOf));
   $("many-svg").addEventListener("click",
     zipping("svg", (grid, text) => new TextEncoder().encode(svgOf(grid, text))));

@@ -9,7 +9,8 @@ export function crcOf(bytes) {
   }
   return ~crc >>> 0;
 }
-const LOCAL = 0x04034b50, CENTRAL = 0x02014b50, END = 0x06054b50, VERSION = 20, UTF8 = 0x800;
+const LOCAL = 0x04034b50, CENTRAL = 0x02014b50, END = 0x06054b50, NEEDED = 20, UTF8 = 0x800;
+const HEAD = 30; // bytes in front of the name of a file
 const DATE = (46 << 9) | (1 << 5) | 1; // 1 January 2026: files that are made twice are the same
 
 // Numbers of two or four bytes, the lowest first: each as [size, number].
@@ -23,6 +24,19 @@ function record(...numbers) {
   }
   return bytes;
 }
+// The files that stand in such an archive.
+/** @type {(all: Uint8Array) => { name: string, bytes: Uint8Array }[]} */
+export function filesIn(all) {
+  const view = new DataView(all.buffer, all.byteOffset, all.length), files = [];
+  for (let at = 0; at + HEAD <= all.length && view.getUint32(at, true) === LOCAL;) {
+    const size = view.getUint32(at + 18, true), from = at + HEAD + view.getUint16(at + 26, true);
+    const begin = from + view.getUint16(at + 28, true);
+    const name = new TextDecoder().decode(all.subarray(at + HEAD, from));
+    files.push({ name, bytes: all.subarray(begin, begin + size) });
+    at = begin + size;
+  }
+  return files;
+}
 /** @type {(files: { name: string, bytes: Uint8Array }[]) => Blob} */
 export function zipOf(files) {
   const parts = [], central = [];
@@ -30,11 +44,11 @@ export function zipOf(files) {
   for (const { name, bytes } of files) {
     const called = new TextEncoder().encode(name), size = bytes.length;
     /** @type {[number, number][]} */
-    const about = [[2, VERSION], [2, UTF8], [2, 0], [2, 0], [2, DATE], [4, crcOf(bytes)], [4, size], [4, size],
+    const about = [[2, NEEDED], [2, UTF8], [2, 0], [2, 0], [2, DATE], [4, crcOf(bytes)], [4, size], [4, size],
       [2, called.length], [2, 0]];
     const head = record([4, LOCAL], ...about);
     parts.push(head, called, bytes);
-    central.push(record([4, CENTRAL], [2, VERSION], ...about, [2, 0], [2, 0], [2, 0], [4, 0], [4, at]), called);
+    central.push(record([4, CENTRAL], [2, NEEDED], ...about, [2, 0], [2, 0], [2, 0], [4, 0], [4, at]), called);
     at += head.length + called.length + size;
   }
   const length = central.reduce((sum, part) => sum + part.length, 0), count = files.length;

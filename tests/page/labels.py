@@ -1,6 +1,7 @@
 """Labels: many symbols on stock sizes, measured in the PDF that is saved and in the one that is printed; CSV with one
 column a field; and files of many symbols in one archive."""
 import io
+import json
 import re
 import struct
 import zipfile
@@ -373,6 +374,106 @@ def labels_shown():
     count.expect_soon("no labels without a list", lambda: find("labels").is_displayed(), False)
 
 
+def serial_numbers():
+    """Serial numbers are added to the list, and each line is had in copies."""
+    write("123456")
+    unfold("sheet", "serial")
+    chosen("stock", "50x30")
+    paper_is("a4", "0.4")
+    put("messages", "first")
+    for name, value in (("before", "SN-"), ("behind", "/A"), ("first", "0998"), ("count", "3")):
+        put(f"serial-{name}", value)
+    push("serial-add")
+    lines = lambda: find("messages").get_attribute("value").split("\n")
+    count.expect("numbers that are added", (lines(), text_of("sheet-hint")),
+                 (["first", "SN-0998/A", "SN-0999/A", "SN-1000/A"], "3 lines are added."))
+    push("serial-add")
+    count.expect("the next ones", lines()[4:], ["SN-1001/A", "SN-1002/A", "SN-1003/A"])
+    put("copies", "2")
+    pages = pages_of(saved("symbols.pdf", "many-pdf"))
+    wanted = [written(line) for line in lines() for _ in range(2)]
+    count.expect("copies of each", ([rows for _, some, _ in pages for *_, rows in some], text_of("sheet-hint")),
+                 (wanted, "14 symbols are in the PDF."))
+    for name, value, why in (
+        ("serial-first", "12a", "The first number has 1 to 30 digits."),
+        ("serial-first", "9", ""),
+        ("serial-count", "1001", "From 1 to 1000 can be added."),
+        ("serial-count", "0", "From 1 to 1000 can be added."),
+        ("serial-count", "1000", "1,007 lines, and no more than 1,000 are taken."),
+    ):
+        put(name, value)
+        before = lines()
+        if why:
+            push("serial-add")
+            count.expect(f"{name} {value}", (text_of("sheet-hint"), lines()), (why, before))
+    put("serial-count", "2")
+    chosen("lines-as", "csv")
+    push("serial-add")
+    why = "Serial numbers are added to lines that are messages, and not to CSV."
+    count.expect("in CSV", text_of("sheet-hint"), why)
+    chosen("lines-as", "messages")
+    put("messages", "")
+    put("copies", "1")
+
+
+def opened_again():
+    """A list that was saved, by itself or in a file of labels, gives the same labels again."""
+    write("123456")
+    unfold("sheet")
+    lists = [
+        ("messages", "one\n(01)09506000134352\nthree", {}, "a4-3x7", "0.4"),
+        ("csv", "place,part\nleft,A1\nright,B2", {0: "text", 1: "message"}, "own", "0.3"),
+    ]
+    for kind, text, columns, stock, millimetres in lists:
+        chosen("lines-as", kind)
+        put("messages", text)
+        chosen("stock", stock)
+        paper_is("a4", millimetres)
+        put("label-width", "44.5")
+        push("profile-1")
+        if columns:
+            push("first-headings")
+            for column, role in columns.items():
+                run(CHOOSE, column, role)
+            push("columns-taken")
+        pdf = saved("symbols.pdf", "many-pdf")
+        files = {"labels.json": saved("labels.json", "save-list"), "symbols.pdf": pdf,
+                 "symbols-svg.zip": saved("symbols-svg.zip", "many-svg")}
+        for name, body in files.items():
+            chosen("lines-as", "messages")
+            put("messages", "another list")
+            chosen("stock", "none")
+            paper_is("letter", "1")
+            put("label-width", "60")
+            push("profile-0")
+            (on.folder / f"again-{name}").write_bytes(body)
+            find("lines").send_keys(str(on.folder / f"again-{name}"))
+            count.expect_soon(f"{kind} in {name}", lambda: text_of("sheet-hint"), f"The labels of again-{name}.")
+            state = run("""return ["lines-as", "messages", "stock", "millimetres", "paper-size", "label-width"].map(
+                           (id) => document.getElementById(id).value)""")
+            count.expect(f"{kind} in {name}: what is chosen", (state, find("profile-1").is_selected()),
+                         ([kind, text, stock, millimetres, "a4", "44.5"], True))
+            count.expect(f"{kind} in {name}: the labels", pages_of(saved("symbols.pdf", "many-pdf")), pages_of(pdf))
+    put("messages", "stays")
+    for name, body in (("none.pdf", b"%PDF-1.4\n"), ("none.zip", b"PK\x03\x04" + bytes(40))):
+        (on.folder / name).write_bytes(body)
+        find("lines").send_keys(str(on.folder / name))
+        count.expect_soon(f"{name} is no list", lambda: text_of("sheet-hint"), f"{name} holds no list of labels.")
+    count.expect("what is no list changes nothing", find("messages").get_attribute("value"), "stays")
+    odd = {"labels": 1, "messages": "odd", "columns": 7, "size": "9x9", "choices": {"stock": "none such", "copies": -1}}
+    (on.folder / "odd.json").write_text(json.dumps(odd))
+    find("lines").send_keys(str(on.folder / "odd.json"))
+    count.expect_soon("a list with choices that there aren't", lambda: (text_of("sheet-hint"),
+                      find("stock").get_attribute("value"), find("shape").get_attribute("value")),
+                      ("The labels of odd.json.", "own", "square"))
+    push("profile-0")
+    chosen("lines-as", "messages")
+    chosen("stock", "none")
+    put("label-width", "60")
+    paper_is("a4", "0.5")
+    put("messages", "")
+
+
 def in_archives():
     """Many symbols in one archive, each as it would be saved alone; one symbol, and many without labels, as PDF."""
     write("123456")
@@ -387,9 +488,9 @@ def in_archives():
             count.expect(
                 f"names in the archive of {ending}",
                 (archive.testzip(), names),
-                (None, [f"{k + 1:03}-symbol-{side}.{ending}" for k, side in enumerate(sides)]),
+                (None, [*(f"{k + 1:03}-symbol-{side}.{ending}" for k, side in enumerate(sides)), "labels.json"]),
             )
-            bodies = [archive.read(name) for name in names]
+            bodies = [archive.read(name) for name in names[:-1]]
         count.expect(f"{ending}: what is said", text_of("sheet-hint"), "3 symbols are in the archive.")
         for message, side, body in zip(messages, sides, bodies):
             if ending == "svg":
@@ -431,4 +532,5 @@ def in_archives():
     paper_is("a4", "0.5")
 
 
-PARTS = [on_labels, labels_printed, by_columns, asked_about_columns, labels_shown, in_archives]
+PARTS = [on_labels, labels_printed, by_columns, asked_about_columns, labels_shown, serial_numbers, opened_again,
+         in_archives]

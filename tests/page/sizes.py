@@ -582,7 +582,7 @@ def in_files(lines, grids):
             names = archive.namelist()
             bodies = [archive.read(name) for name in names]
         wanted = [f"{k + 1:03}-symbol-{name_of(text)}.{ending}" for k, text in enumerate(grids)]
-        count.expect(f"names of {ending}", names, wanted)
+        count.expect(f"names of {ending}", names, [*wanted, "labels.json"])
         for line, text, body in zip(lines, grids, bodies):
             rows = text.split("\n")
             wide, high = round((len(rows[0]) + 4) * 0.4, 2), round((len(rows) + 4) * 0.4 + 3, 2)

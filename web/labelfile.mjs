@@ -1,0 +1,72 @@
+// A list of labels with all that says how they look, kept in a file: by itself, and in each file of labels that the
+// page saves, so that any of these can be opened again.
+import { field } from "./dom.mjs";
+import { columnsMeanNow, isCsv, listChanged, takeMeaning } from "./lines.mjs";
+import { chooseSize, sizeChosen } from "./sizes.mjs";
+import { filesIn } from "./zip.mjs";
+
+/** @typedef {{ labels: number, messages: string, columns: import("./csv.mjs").Meaning | null, size: string,
+    choices: Record<string, string | boolean> }} Labels of a version of this form */
+const VERSION = 1, NAME = "labels.json";
+const CHOICES = ["lines-as", "stock", "paper-size", "millimetres", "label-width", "label-height", "copies"];
+const CHECKED = ["label-text", "kind-text", "kind-message", "profile-0", "profile-1"];
+
+/** @type {() => Labels} */
+function labelsNow() {
+  const choices = [...CHOICES.map((id) => [id, field(id).value]), ...CHECKED.map((id) => [id, field(id).checked])];
+  return { labels: VERSION, messages: field("messages").value, columns: isCsv() ? columnsMeanNow() : null,
+    size: sizeChosen(), choices: Object.fromEntries(choices) };
+}
+export const labelsText = () => `${JSON.stringify(labelsNow(), null, 1)}\n`;
+/** @type {() => { name: string, bytes: Uint8Array }} */
+export const labelsFile = () => ({ name: NAME, bytes: new TextEncoder().encode(labelsText()) });
+
+// ---- Opened again
+
+const PDF_START = "%PDF-", ZIP_START = "PK\u0003\u0004";
+/** @type {(name: string) => boolean} */
+export const mayHoldLabels = (name) => /\.(json|pdf|zip)$/i.test(name);
+// Whether a file has nothing else that is taken.
+/** @type {(name: string) => boolean} */
+export const hasLabelsAlone = (name) => /\.(pdf|zip)$/i.test(name);
+// The text of the list that a file holds, or "".
+/** @type {(bytes: Uint8Array) => string} */
+function textIn(bytes) {
+  const start = String.fromCharCode(...bytes.subarray(0, 5));
+  if (start.startsWith(ZIP_START)) {
+    const own = filesIn(bytes).find(({ name }) => name === NAME);
+    return own ? new TextDecoder().decode(own.bytes) : "";
+  }
+  if (start !== PDF_START) return new TextDecoder().decode(bytes);
+  const [, kept = ""] = /\/Labels <([0-9a-f]*)>/.exec(new TextDecoder("latin1").decode(bytes)) ?? [];
+  return new TextDecoder().decode(Uint8Array.from(kept.match(/../g) ?? [], (pair) => parseInt(pair, 16)));
+}
+/** @type {(it: any) => boolean} */
+const areLabels = (it) => it?.labels === VERSION && typeof it.messages === "string" && typeof it.size === "string"
+  && typeof it.choices === "object" && it.choices !== null;
+// The list of labels that a file holds, or null.
+/** @type {(bytes: Uint8Array) => Labels | null} */
+export function labelsIn(bytes) {
+  try {
+    const labels = JSON.parse(textIn(bytes));
+    return areLabels(labels) ? labels : null;
+  } catch { return null; }
+}
+// Chooses a value, if it is one that can be chosen.
+/** @type {(id: string, value: any) => void} */
+function chooseValue(id, value) {
+  const it = field(id), had = it.value;
+  if (typeof value !== "string") return;
+  it.value = value;
+  if (it.value !== value || !it.checkValidity()) it.value = had;
+}
+/** @type {(labels: Labels) => void} */
+export function takeLabels({ messages, columns, size, choices }) {
+  for (const id of CHOICES) chooseValue(id, choices[id]);
+  for (const id of CHECKED) field(id).checked = choices[id] === true;
+  chooseSize(size);
+  field("stock").dispatchEvent(new Event("change"));
+  field("messages").value = messages;
+  listChanged();
+  if (columns && isCsv()) takeMeaning(columns);
+}
