@@ -1,7 +1,7 @@
 // GS1 messages: element strings as people write them, with identifiers in parentheses, and as a symbol holds them. The
 // identifiers are those of the library's table, which is packed into the page.
 import { FNC1, isSame, plural } from "./common.mjs";
-import { parse, spelled, spelledItem, tooMuch, utf8Of, visibleUtf8Of } from "./messages.mjs";
+import { itemsOfText, parse, spelled, spelledItem, tooMuch, utf8Of, visibleUtf8Of } from "./messages.mjs";
 
 /** @typedef {{ charset: string, least: number, most: number, check?: string, mayLack: boolean }} Part of a value */
 /** @typedef {{ isFixed: boolean, hasDecimals: boolean, parts: Part[], name: string }} Entry of the table */
@@ -263,4 +263,12 @@ export function itemsOf(text) {
   const much = tooMuch(text);
   if (much) return { why: much, isTooMuch: true };
   return isElements(text) ? elementsOfText(text) : parse(text);
+}
+// The items of what is typed: of element strings, or of text as it stands, in UTF-8. Of the ways in which it could be
+// spelled only those within a value count, since nothing else is spelled here.
+/** @type {(text: string) => Taken} */
+export function itemsTyped(text) {
+  if (!isElements(text) || tooMuch(text)) return itemsOfText(text);
+  const taken = elementsOfText(text);
+  return taken.ways ? { ...taken, ways: taken.ways.filter((way) => isElements(way.text)) } : taken;
 }

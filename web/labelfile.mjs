@@ -9,11 +9,12 @@ import { filesIn } from "./zip.mjs";
     choices: Record<string, string | boolean> }} Labels of a version of this form */
 const VERSION = 1, NAME = "labels.json";
 const CHOICES = ["lines-as", "stock", "paper-size", "millimetres", "label-width", "label-height", "copies"];
-const CHECKED = ["label-text", "kind-text", "kind-message", "profile-0", "profile-1"];
+const CHOSEN = ["kind-typed", "kind-text", "kind-message", "profile-0", "profile-1"], HAS_TEXT = "label-text";
 
 /** @type {() => Labels} */
 function labelsNow() {
-  const choices = [...CHOICES.map((id) => [id, field(id).value]), ...CHECKED.map((id) => [id, field(id).checked])];
+  const checked = [HAS_TEXT, ...CHOSEN].map((id) => [id, field(id).checked]);
+  const choices = [...CHOICES.map((id) => [id, field(id).value]), ...checked];
   return { labels: VERSION, messages: field("messages").value, columns: isCsv() ? columnsMeanNow() : null,
     size: sizeChosen(), choices: Object.fromEntries(choices) };
 }
@@ -63,7 +64,8 @@ function chooseValue(id, value) {
 /** @type {(labels: Labels) => void} */
 export function takeLabels({ messages, columns, size, choices }) {
   for (const id of CHOICES) chooseValue(id, choices[id]);
-  for (const id of CHECKED) field(id).checked = choices[id] === true;
+  for (const id of CHOSEN) if (choices[id] === true) field(id).checked = true;
+  field(HAS_TEXT).checked = choices[HAS_TEXT] !== false;
   chooseSize(size);
   field("stock").dispatchEvent(new Event("change"));
   field("messages").value = messages;

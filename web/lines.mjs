@@ -108,7 +108,7 @@ function answerQuestion() {
   listChanged();
   hint("sheet-hint", why, Boolean(why));
 }
-const LOOKS = ["kind-message", "kind-text", "profile-0", "profile-1", "shape", "size", "millimetres", "paper-size",
+const LOOKS = ["kind-typed", "kind-message", "kind-text", "profile-0", "profile-1", "shape", "size", "millimetres", "paper-size",
   "stock", "label-width", "label-height", "label-text", "lines-as", "copies"];
 export function wireLines() {
   $("messages").addEventListener("input", listChanged);

@@ -59,7 +59,7 @@ const isThere = ({ stage, isEntering }) => stage === VALID || (stage === WORKING
 function fragment() {
   const { write, read } = panes, fields = new URLSearchParams();
   if (field("message").value.length <= MOST_TEXT) fields.set("message", field("message").value);
-  if (field("kind-text").checked) fields.set("as", "text");
+  if (!field("kind-message").checked) fields.set("as", field("kind-text").checked ? "text" : "typed");
   if (field("profile-1").checked) fields.set("profile", "shorter");
   if (sizeChosen() !== "square") fields.set("size", sizeChosen());
   if (isThere(write) && isDamaged(write)) fields.set("damage", gapsOf(damageOf(write)));
@@ -128,7 +128,7 @@ export function fromFragment(text) {
   };
   return {
     message: fields.get("message") ?? "",
-    isText: fields.get("as") === "text",
+    kind: ["typed", "text"].find((kind) => kind === fields.get("as")) ?? "message",
     isShorter: fields.get("profile") === "shorter",
     size: fields.get("size") ?? "square",
     damage: (count) => placesOf(fields.get("damage"), count),

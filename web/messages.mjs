@@ -19,6 +19,7 @@ export function parse(text, isValue = false) {
   }
   return { items };
 }
+const BACKSLASH = 92;
 const STRAY = "is a backslash that doesn’t begin a spelling; those are \\\\, \\F and \\xHH";
 const TWICE = "with the backslash doubled";
 // A text that is taken as it stands, in UTF-8.
@@ -27,10 +28,10 @@ export function itemsOfText(text) {
   const much = tooMuch(text);
   return much ? { why: much, isTooMuch: true } : { items: [...new TextEncoder().encode(text)] };
 }
-// What bytes are as text in UTF-8, if they are that and more than ASCII; else "".
+// What bytes are as text in UTF-8, if they are that and otherwise spelled than it stands; else "".
 /** @type {(items: number[]) => string} */
 export function utf8Of(items) {
-  if (!items.some((item) => item > 127) || items.includes(FNC1)) return "";
+  if (!items.some((item) => item > 127 || item === BACKSLASH) || items.includes(FNC1)) return "";
   const decoder = new TextDecoder("utf-8", { fatal: true, ignoreBOM: true });
   try { return decoder.decode(Uint8Array.from(items)); } catch { return ""; }
 }

@@ -6,7 +6,7 @@ import { C40, EDIFACT, TURNED } from "./examples.mjs";
 import { begin, desks, setLimit, showTask, take, whenShown } from "./flow.mjs";
 import { isShown, keepingSights, showSights, whyUnread } from "./found.mjs";
 import { gridText } from "./grids.mjs";
-import { itemsOf, whyNot } from "./gs1.mjs";
+import { itemsOf, itemsTyped, whyNot } from "./gs1.mjs";
 import { beginEntry, tellLink } from "./link.mjs";
 import { itemsOfText, tooMuch } from "./messages.mjs";
 import { brokenWords, clear, enter, inTurn, isBroken, refuse, settled } from "./order.mjs";
@@ -19,7 +19,11 @@ import { refusal, stood, tooLong } from "./words.mjs";
 export const profileNow = () => (field("profile-1").checked ? SHORTER : ASCII);
 // What a text that is entered as a message stands for, as it is to be taken.
 /** @type {(text: string) => any} */
-export const itemsNow = (text) => (field("kind-text").checked ? itemsOfText(text) : itemsOf(text));
+export const itemsNow = (text) => KINDS[kindNow()](text);
+// How what is entered can be taken, by the names of index.html and of links.
+/** @type {Record<string, (text: string) => any>} */
+const KINDS = { typed: itemsTyped, text: itemsOfText, message: itemsOf };
+export const kindNow = () => Object.keys(KINDS).find((kind) => field(`kind-${kind}`).checked);
 const STILL = "The symbol that is shown is the one before, and isn’t read.";
 
 // ---- The message
@@ -37,14 +41,16 @@ function offerOne(words, act) {
 /** @type {(ways: { name: string, text: string }[]) => void} */
 function offer(ways) {
   for (const { name, text } of ways) offerOne(`Spell it ${name}`, () => { field("message").value = text; });
-  const isText = field("kind-text");
-  if (ways.length && !isText.checked) offerOne("Take it as text", () => { isText.checked = true; });
 }
-/** @type {(words: string, ways?: { name: string, text: string }[]) => void} */
-function refuseMessage(words, ways = []) {
+// Offers to take what is entered in another way.
+/** @type {(words: string, kind: string) => void} */
+const offerKind = (words, kind) => offerOne(words, () => { field(`kind-${kind}`).checked = true; });
+/** @type {(words: string, ways?: { name: string, text: string }[], mayBeText?: boolean) => void} */
+function refuseMessage(words, ways = [], mayBeText = ways.length > 0) {
   for (const each of [ASCII, SHORTER, "now"]) $(`side-${each}`).textContent = "";
   hint("message-hint", `${words} ${panes.write.modules ? STILL : ""}`, true, "message");
   offer(ways);
+  if (mayBeText) offerKind("Take it as text", "text");
   refuse(panes.write, words);
 }
 /** @type {(shapes: (import("./common.mjs").Shape | null)[]) => void} */
@@ -56,11 +62,21 @@ function showShapes(shapes) {
 const SPELLINGS = "`\\\\` is the backslash, `\\xHH` a byte, `\\F` FNC1.";
 const AS_ELEMENTS = "Taken as GS1 data. To take it as plain text, spell the first bracket as a byte: `\\x28` is ( and "
   + "`\\x5B` is [.";
+const AS_TYPED = "A backslash is one here, and spells nothing.";
 // What there is to know about a message that is taken.
+/** @type {(text: string, read: { isElements?: boolean }) => string} */
 function hintOn(text, { isElements }) {
-  if (isElements) return AS_ELEMENTS;
-  if (!field("kind-text").checked && text.includes("\\")) return SPELLINGS;
-  return "";
+  const kind = kindNow();
+  if (isElements) return kind === "typed" ? "Taken as GS1 data." : AS_ELEMENTS;
+  if (kind === "typed" && /\\(?:F|x[0-9A-Fa-f]{2})/.test(text)) return AS_TYPED;
+  return kind === "message" && text.includes("\\") ? SPELLINGS : "";
+}
+// Offers what else a message may be meant as that is taken.
+/** @type {(text: string, read: { isElements?: boolean }) => void} */
+function offerOthers(text, { isElements }) {
+  if (kindNow() !== "typed") return;
+  if (isElements) offerKind("Take it as text", "text");
+  else if (hintOn(text, { isElements })) offerKind("Take it as spelled", "message");
 }
 
 // Writes the message that is entered.
@@ -68,7 +84,8 @@ export function writeMessage() {
   const it = panes.write, text = field("message").value, read = itemsNow(text);
   fitHeight(field("message"));
   if (!read.items) {
-    refuseMessage(`${whyNot(read)}${read.isTooMuch ? " The link doesn’t keep them." : ""}`, read.ways);
+    const mayBeText = kindNow() === "typed" ? !read.isTooMuch : undefined;
+    refuseMessage(`${whyNot(read)}${read.isTooMuch ? " The link doesn’t keep them." : ""}`, read.ways, mayBeText);
     return;
   }
   const { items } = read, how = howIn(profileNow());
@@ -81,15 +98,16 @@ export function writeMessage() {
     } else {
       const { modules, rows, columns, seen } = written;
       hint("message-hint", withCode(hintOn(text, read)), false, "message");
+      offerOthers(text, read);
       take(it, { modules, rows, columns, items, seen });
     }
     showShapes(written.shapes);
   });
 }
-/** @type {(text: string, isText?: boolean) => void} */
-export function enterMessage(text, isText = false) {
+/** @type {(text: string) => void} */
+function enterMessage(text) {
   field("message").value = text;
-  field(isText ? "kind-text" : "kind-message").checked = true;
+  field("kind-typed").checked = true;
   writeMessage();
 }
 
@@ -227,7 +245,7 @@ function spoil(it, turned, doubtful, { limit, why }) {
 }
 // What an address without a fragment holds.
 const begun = () => ({
-  message: field("message").defaultValue, isText: false, isShorter: false, size: "square", grid: null, task: "make",
+  message: field("message").defaultValue, kind: "typed", isShorter: false, size: "square", grid: null, task: "make",
   pane: "write", damage: () => [], doubtful: () => [], gridDamage: () => [], gridDoubtful: () => [],
   limit: { limit: null, why: "" }, gridLimit: { limit: null, why: "" },
 });
@@ -237,7 +255,7 @@ export async function restore(linked, isFirst) {
   const { write, read } = panes, held = linked?.isBare ? { ...begun(), ...linked } : linked ?? begun();
   if (linked?.isBare && !isFirst) { showTask(linked.task); return; }
   field("message").value = held.message;
-  field(held.isText ? "kind-text" : "kind-message").checked = true;
+  field(`kind-${held.kind}`).checked = true;
   field(held.isShorter ? "profile-1" : "profile-0").checked = true;
   chooseSize(held.size);
   field("grid").value = held.grid ? gridText(held.grid) : "";
@@ -277,14 +295,13 @@ function wireMessage() {
   whenShown((task) => { if (task === "make") fitHeight(field("message")); }); // which has no height out of sight
   $("message").addEventListener("input", () => writeMessage());
   $("message").addEventListener("keydown", (event) => {
-    if (event.key === "Enter" && !field("kind-text").checked) event.preventDefault();
+    if (event.key === "Enter" && kindNow() !== "text") event.preventDefault();
   });
-  for (const id of ["profile-0", "profile-1", "kind-message", "kind-text", "shape", "size"])
+  for (const id of ["profile-0", "profile-1", "kind-typed", "kind-text", "kind-message", "shape", "size"])
     $(id).addEventListener("change", () => writeMessage());
   $("shape").addEventListener("change", showChoice);
   for (const button of allOf("[data-message]")) {
-    const { message, kind } = button.dataset;
-    button.addEventListener("click", () => enterMessage(message, kind === "text"));
+    button.addEventListener("click", () => enterMessage(button.dataset.message));
   }
 }
 export function wireSource() {

@@ -142,7 +142,7 @@ def says_so(name):
 def open_unreadable():
     """Opens the page with a script that no browser can read."""
     file = on.folder / "unreadable.html"
-    file.write_text(pack.packed(b"", {**pack.sources(), "page.mjs": "a word too many"}), encoding="utf-8")
+    file.write_text(pack.packed(b"", b"", {**pack.sources(), "page.mjs": "a word too many"}), encoding="utf-8")
     on.page.get(file.as_uri())
 
 

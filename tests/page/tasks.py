@@ -112,7 +112,7 @@ def text_and_gs1():
     chips = {it.text: it for it in find("pane-make").find_elements("css selector", "[data-message]")}
     chips["Text"].click()
     settle()
-    count.expect("text", (grid(), find("kind-text").is_selected()), (written(spelled(TEXT.encode())), True))
+    count.expect("text", (grid(), find("kind-typed").is_selected()), (written(spelled(TEXT.encode())), True))
     agree("text, as it is read")
     count.expect(
         "text is said",
@@ -121,11 +121,14 @@ def text_and_gs1():
     )
     push("copy-message")
     linked()
-    count.expect("text in the link", (fields()["message"], fields()["as"]), (TEXT, "text"))
+    count.expect("text in the link", (fields()["message"], fields()["as"]), (TEXT, "typed"))
     on.page.refresh()
     started()
     wanted = written(spelled(TEXT.encode())), True
-    count.expect("text after a reload", (grid(), find("kind-text").is_selected()), wanted)
+    count.expect("text after a reload", (grid(), find("kind-typed").is_selected()), wanted)
+    push("kind-text")
+    linked()
+    count.expect("text alone in the link", (fields()["message"], fields()["as"]), (TEXT, "text"))
     put("message", "a\\b (01) \\F\n2")
     count.expect(
         "nothing is spelled in text", (shown()["says"], text_of("message-hint")), ("a\\\\b (01) \\\\F\\x0A2", "")
@@ -146,7 +149,7 @@ def text_and_gs1():
     settle()
     agree("GS1 data, as it is read")
     count.expect(
-        "GS1 data", (grid(), shown()["says"], find("kind-message").is_selected()), (written(LINE), ELEMENTS, True)
+        "GS1 data", (grid(), shown()["says"], find("kind-typed").is_selected()), (written(LINE), ELEMENTS, True)
     )
     push("copy-message", "print")
     for name in ("read", "make", "learn"):
@@ -179,6 +182,55 @@ def text_and_gs1():
     ):
         write(line if not line.startswith("(") else "\\x28" + line[1:])
         agree(f"{line} as it is shown")
+    write("123456")
+
+
+TYPED = [
+    # (what is typed, what the hint says, the program's line, what is read)
+    ("Gr\u00f6\u00dfe", "", "Gr\\xC3\\xB6\\xC3\\x9Fe", "Gr\u00f6\u00dfe"),
+    ("C:\\new", "", "C:\\\\new", "C:\\new"),
+    ("\\F01 \\x41", "A backslash is one here, and spells nothing. Take it as spelled", "\\\\F01 \\\\x41", "\\F01 \\x41"),
+    ("a (b) [c]", "", "a (b) [c]", "a (b) [c]"),
+    ("\u20ac 5", "", "\\xE2\\x82\\xAC 5", "\u20ac 5"),
+    ("(21)A\\(b", "Taken as GS1 data. Take it as text", "\\F21A(b", "(21)A\\(b"),
+]
+
+
+def typed():
+    """What is typed is text as it stands, or GS1 data, and nothing is spelled in it; what is read is shown as text, and
+    so copied; what else it may be meant as is offered."""
+    push("tab-make", "profile-0", "kind-typed")
+    run(COLLECT)
+    for text, hint, line, says in TYPED:
+        put("message", text)
+        count.expect(f"{text!r}", (text_of("message-hint"), grid(), shown()["says"]), (hint, written(line), says))
+        agree(f"{text!r}, as it is read")
+        push("copy-message")
+    count.expect("what is copied", run("return copied"), [says for _, _, _, says in TYPED])
+    put("message", "\\F01 \\x41")
+    find("message-hint").find_element("css selector", "button").click()
+    settle()
+    count.expect("taken as spelled", (find("kind-message").is_selected(), grid()), (True, written("\\F01 A")))
+    push("kind-typed")
+    for text, why in (("(note) of 5", "Column 1 opens a bracket that holds no identifier, such as (01)."),
+                      ("(05)123", "Column 1 begins (05), which is no identifier of GS1’s table.")):
+        put("message", text)
+        hint = text_of("message-hint")
+        count.expect(f"{text!r} is no GS1 data", (hint.startswith(why), hint.endswith("Take it as text"), verdict()),
+                     (True, True, ("Nothing is read", "")))
+        find("message-hint").find_elements("css selector", "button")[-1].click()
+        settle()
+        count.expect(f"{text!r} as text", (find("kind-text").is_selected(), shown()["says"]), (True, text))
+        push("kind-typed")
+    unfold("sheet")
+    put("messages", "message,text\nGr\u00f6\u00dfe 5,Gr\u00f6\u00dfe\n\u00b5m,")
+    run("""const as = document.getElementById('lines-as');
+           as.value = 'csv';
+           as.dispatchEvent(new Event('change'))""")
+    told = lambda: run("return [...document.querySelectorAll('#labels-are code')].map((it) => it.textContent)")
+    count.expect_soon("text in CSV", told, ["Gr\u00f6\u00dfe 5", "\u00b5m"])
+    put("messages", "")
+    run("document.getElementById('lines-as').value = 'messages'")
     write("123456")
 
 
@@ -221,4 +273,4 @@ def damaged_only_where_one_learns():
     push("undo-all", "learn-read", "undo-all", "tab-make")
 
 
-PARTS = [tasks_are_linked, earlier_links, text_and_gs1, damaged_only_where_one_learns]
+PARTS = [tasks_are_linked, earlier_links, text_and_gs1, typed, damaged_only_where_one_learns]
