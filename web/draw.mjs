@@ -98,7 +98,8 @@ function sayRead(it, { items, corrected, erased, left, border }) {
     say("other", "Read as another message", OTHER, items);
     return;
   }
-  const asText = visibleUtf8Of(items) && items.some((item) => item > 127) ? ` It is text in UTF-8, of these bytes: ${spelled(items)}` : "";
+  const isUtf8 = Boolean(visibleUtf8Of(items)) && items.some((item) => item > 127);
+  const asText = isUtf8 ? ` It is text in UTF-8, of these bytes: ${spelled(items)}` : "";
   const within = isSpent || !it.items ? isSpent : " Damage within the limits never changes the message.";
   const why = `${words ? `${words}.${within}` : "Nothing had to be corrected."}${asText}`;
   const wrong = `${plural(faults, "element is", "elements are")} wrong, as the table says.`;

@@ -1,6 +1,7 @@
 #!/usr/bin/env python3
-"""Packs the page, its styles, its modules, the library and the sampler into one HTML file that opens from disk:
-pack.py LIBRARY.wasm SAMPLER.wasm PAGE.html
+"""Packs the page, its styles, its modules, the library and the sampler into one HTML file that opens from disk; and
+those that other programs can use into one module:
+pack.py LIBRARY.wasm SAMPLER.wasm PAGE.html MODULE.mjs
 
 The file fetches nothing: its policy, which the browser enforces, lets it run its own scripts and workers made of them,
 and make no connection. The modules of the page become one script, those of its worker another, which the page starts
@@ -18,6 +19,17 @@ LOOKS = '<link rel="stylesheet" href="style.css">'
 SCRIPT = '<script type="module" src="page.mjs"></script>'
 FALLBACK = '<script src="fallback.js"></script>'
 CHARSET = '<meta charset="utf-8">'
+# What the module for other programs has around its modules.
+HEAD = """// Data Matrix ECC 200 for programs in JavaScript, with the proved library and the sampler inside.
+// Its types are in ecc200.d.mts; docs/JAVASCRIPT.md of Mitsubadoor tells how it is used.
+"""
+OPENED = "\nconst bytesOf = (text) => Uint8Array.from(atob(text), (c) => c.charCodeAt(0));\n"
+GIVEN = """const opened = await Ecc200.load(libraryBytes, samplerBytes);
+const given = (name) => opened[name].bind(opened);
+export const read = given("read"), write = given("write"), readGrid = given("readGrid"), normal = given("normal");
+export const sizes = given("sizes");
+export { FNC1, Refused, luminanceOf };
+"""
 IMPORT = re.compile(r'^import (?:\{[^}]*\} from )?"\./([a-z0-9]+\.mjs)";\n', re.M)
 DECLARED = re.compile(r"^(?:export )?(?:async )?(?:const|let|function|class) "
                       r"(?:\{([^}]*)\}|\[([^\]]*)\]|([\w$]+(?: = [^,;({\[]+(?:, [\w$]+ = [^,;({\[]+)*;)?))", re.M)
@@ -89,6 +101,16 @@ def packed(library, sampler, modules):
     return page.replace(SCRIPT, "\n".join([*parts, f'<script type="module">{script}</script>']))
 
 
+def packed_module(library, sampler, modules):
+    """The module for other programs: one file, which fetches nothing either."""
+    given = {"library": library, "sampler": sampler}
+    letters = {name: base64.b64encode(body).decode() for name, body in given.items()}
+    code = "".join(f'const {name}Bytes = bytesOf("{text}");\n' for name, text in letters.items())
+    return f"{HEAD}{joined(modules, 'ecc200.mjs')}{OPENED}{code}{GIVEN}"
+
+
 if __name__ == "__main__":
-    proved, finder, out = map(pathlib.Path, sys.argv[1:])
-    out.write_text(packed(proved.read_bytes(), finder.read_bytes(), sources()), encoding="utf-8")
+    proved, finder, page, module = map(pathlib.Path, sys.argv[1:])
+    parts_of_both = proved.read_bytes(), finder.read_bytes(), sources()
+    page.write_text(packed(*parts_of_both), encoding="utf-8")
+    module.write_text(packed_module(*parts_of_both), encoding="utf-8")

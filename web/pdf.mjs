@@ -50,7 +50,8 @@ export function pdfOf(pages, kept = new Uint8Array(0)) {
   const first = 4, kids = pages.map((_, k) => `${first + 2 * k} 0 R`).join(" ");
   const hex = Array.from(kept, (byte) => byte.toString(16).padStart(2, "0")).join("");
   const labels = hex && ` /Labels <${hex}>`;
-  const objects = [`<< /Type /Catalog /Pages 2 0 R${labels} >>`, `<< /Type /Pages /Kids [${kids}] /Count ${pages.length} >>`,
+  const objects = [`<< /Type /Catalog /Pages 2 0 R${labels} >>`,
+    `<< /Type /Pages /Kids [${kids}] /Count ${pages.length} >>`,
     "<< /Type /Font /Subtype /Type1 /BaseFont /Courier /Encoding /WinAnsiEncoding >>"];
   for (const [k, page] of pages.entries()) {
     const width = number(page.width / MILLIMETRES), height = number(page.height / MILLIMETRES);

