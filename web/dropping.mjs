@@ -8,6 +8,7 @@ import { hasLabelsAlone, labelsIn, mayHoldLabels, takeLabels } from "./labelfile
 import { listChanged } from "./lines.mjs";
 import { beginEntry } from "./link.mjs";
 import { tooMuch } from "./messages.mjs";
+import { keptIn } from "./pdf.mjs";
 import { readGrid, readPicture, writeMessage } from "./source.mjs";
 import { panes } from "./state.mjs";
 import { toast } from "./taking.mjs";
@@ -16,14 +17,14 @@ import { toast } from "./taking.mjs";
 const BYTES = 4; // of a character, at most
 const MOST_BYTES_OF_LABELS = 5e7; // of a file of labels that is opened again
 const isPicture = ({ type }) => type.startsWith("image/");
-const isText = ({ type, name }) =>
-  type.startsWith("text/") || (!type && /\.(txt|csv|grid)$/i.test(name)) || mayHoldLabels(name);
+const isText = ({ type, name }) => type.startsWith("text/") || (!type && /\.(txt|csv|grid)$/i.test(name));
+const isTextOrLabels = (file) => isText(file) || mayHoldLabels(file.name);
 
 // What is dropped or pasted: the first picture, or else the first file of text, or else the text; and a note on what
 // isn't looked at.
-/** @type {(list: DataTransfer | null) => Brought} */
-export function broughtBy(list) {
-  const files = [...(list?.files ?? [])], picture = files.find(isPicture), file = picture ?? files.find(isText);
+/** @type {(list: DataTransfer | null, isTaken?: (file: File) => boolean) => Brought} */
+export function broughtBy(list, isTaken = isText) {
+  const files = [...(list?.files ?? [])], picture = files.find(isPicture), file = picture ?? files.find(isTaken);
   const text = list?.getData("text") ?? "", count = files.length.toLocaleString("en");
   const note = file && files.length > 1 ? ` It is one of ${count} files, and the others aren’t looked at.` : "";
   if (picture) return { picture, note };
@@ -84,26 +85,27 @@ function refuseBrought(why) {
 const entered = () => [panes.write.entered, panes.read.entered, field("messages").value].join();
 /** @type {(file: File, note: string, isSheet?: boolean) => Promise<void>} */
 async function takeFile(file, note, isSheet = false) {
-  const before = entered(), labels = mayHoldLabels(file.name) ? await labelsOf(file) : null;
-  const { text, why } = labels ? { text: "", why: "" } : await textAlone(file, isSheet ? MOST_OF_SHEET : MOST_TEXT);
+  const before = entered(), { labels = null, grid = "" } = mayHoldLabels(file.name) ? await heldBy(file) : {};
+  const { text, why } = labels || grid ? { text: "", why: "" } : await textAlone(file, isSheet ? MOST_OF_SHEET : MOST_TEXT);
   if (entered() !== before) toast(`${file.name} was given up, since something else was entered meanwhile.`);
   else if (labels) openLabels(file.name, labels, note);
+  else if (grid) takeGridText(grid);
   else if (isSheet) takeLines(file.name, text, why, note);
   else if (why) refuseBrought(why);
   else takeText(text);
   if (note && !isSheet && !why) hint("picture-hint", `${file.name}:${note}`);
 }
-// The list of labels that a file holds, if it isn't too large.
-/** @type {(file: File) => Promise<import("./labelfile.mjs").Labels | null>} */
-async function labelsOf(file) {
-  if (file.size > MOST_BYTES_OF_LABELS) return null;
-  const labels = labelsIn(new Uint8Array(await file.arrayBuffer()));
-  return labels && !tooMuch(labels.messages, MOST_OF_SHEET) ? labels : null;
+// What a file holds that the page saved: a list of labels, or the grid of one symbol.
+/** @type {(file: File) => Promise<{ labels?: import("./labelfile.mjs").Labels, grid?: string }>} */
+async function heldBy(file) {
+  if (file.size > MOST_BYTES_OF_LABELS) return {};
+  const bytes = new Uint8Array(await file.arrayBuffer()), labels = labelsIn(bytes), grid = keptIn(bytes, "Grid");
+  return { labels: labels && !tooMuch(labels.messages, MOST_OF_SHEET) ? labels : null, grid: isGrid(grid) ? grid : "" };
 }
 // The text of a file that has no list of labels, or why it isn't taken.
 /** @type {(file: File, most: number) => Promise<{ text?: string, why?: string }>} */
 const textAlone = async (file, most) =>
-  (hasLabelsAlone(file.name) ? { why: `${file.name} holds no list of labels.` } : textOfFile(file, most));
+  (hasLabelsAlone(file.name) ? { why: `${file.name} holds no labels of this page.` } : textOfFile(file, most));
 // The list that a file holds takes the place of the one on the sheet, with how its labels look.
 /** @type {(name: string, labels: import("./labelfile.mjs").Labels, note: string) => void} */
 function openLabels(name, labels, note) {
@@ -125,7 +127,7 @@ function takeLines(name, text, why, note) {
 }
 function pasted(event) {
   if (event.defaultPrevented) return;
-  const { picture, file, text, note } = broughtBy(event.clipboardData), isMessage = event.target === $("message");
+  const { picture, file, text, note } = broughtBy(event.clipboardData, isTextOrLabels), isMessage = event.target === $("message");
   if (picture) { event.preventDefault(); readPicture(picture, note); return; }
   if (file) { event.preventDefault(); takeFile(file, note, event.target === $("messages")); return; }
   if (!isMessage || !text || !isGrid(text) || text.trim().length < 100) return;
@@ -136,7 +138,7 @@ function dropped(event) {
   document.body.classList.remove("over");
   if (event.defaultPrevented) return;
   event.preventDefault();
-  const { picture, file, text, note, why } = broughtBy(event.dataTransfer);
+  const { picture, file, text, note, why } = broughtBy(event.dataTransfer, isTextOrLabels);
   const { target } = event, isSheet = target === $("messages");
   const much = text && tooMuch(text, isSheet ? MOST_OF_SHEET : MOST_TEXT);
   if (picture) readPicture(picture, note);

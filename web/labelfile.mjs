@@ -3,6 +3,7 @@
 import { field } from "./dom.mjs";
 import { columnsMeanNow, isCsv, listChanged, takeMeaning } from "./lines.mjs";
 import { chooseSize, sizeChosen } from "./sizes.mjs";
+import { keptIn } from "./pdf.mjs";
 import { filesIn } from "./zip.mjs";
 
 /** @typedef {{ labels: number, messages: string, columns: import("./csv.mjs").Meaning | null, size: string,
@@ -38,9 +39,7 @@ function textIn(bytes) {
     const own = filesIn(bytes).find(({ name }) => name === NAME);
     return own ? new TextDecoder().decode(own.bytes) : "";
   }
-  if (start !== PDF_START) return new TextDecoder().decode(bytes);
-  const [, kept = ""] = /\/Labels <([0-9a-f]*)>/.exec(new TextDecoder("latin1").decode(bytes)) ?? [];
-  return new TextDecoder().decode(Uint8Array.from(kept.match(/../g) ?? [], (pair) => parseInt(pair, 16)));
+  return start === PDF_START ? keptIn(bytes, "Labels") : new TextDecoder().decode(bytes);
 }
 /** @type {(it: any) => boolean} */
 const areLabels = (it) => it?.labels === VERSION && typeof it.messages === "string" && typeof it.size === "string"

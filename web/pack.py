@@ -91,7 +91,8 @@ def packed(library, sampler, modules):
     assert all(page.count(line) == 1 for line in (LOOKS, SCRIPT, FALLBACK, CHARSET))
     script = joined(modules, "page.mjs")
     policy = (f"default-src 'none'; script-src {hash_of(fallback)} {hash_of(script)} 'wasm-unsafe-eval'; "
-              "worker-src blob:; style-src 'unsafe-inline'; img-src data: blob:; media-src blob:; base-uri 'none'; "
+              "worker-src blob: 'self'; manifest-src 'self'; style-src 'unsafe-inline'; img-src data: blob:; "
+              "media-src blob:; base-uri 'none'; "
               "form-action 'none'")
     page = page.replace(CHARSET, f'{CHARSET}\n<meta http-equiv="Content-Security-Policy" content="{policy}">')
     page = page.replace(LOOKS, f"<style>\n{looks}</style>").replace(FALLBACK, f"<script>{fallback}</script>")

@@ -12,6 +12,7 @@ import { desks, openDesks, wireDetails } from "./flow.mjs";
 import { wireFound } from "./found.mjs";
 import { readIdentifiers } from "./gs1.mjs";
 import { gridText } from "./grids.mjs";
+import { makeInstallable } from "./install.mjs";
 import { wireLesson } from "./lesson.mjs";
 import { wireLines } from "./lines.mjs";
 import { isLinked, wireLink } from "./link.mjs";
@@ -63,6 +64,7 @@ async function startPage() {
   drawSmall($("logo"), await desks.quick.ask("write", { items, how, hasLook: false }, "logo"));
   await wireLink(restore, toast);
   wireCompare();
+  makeInstallable();
   const forTests = { get mark() { return mark(); }, panes, store, desks, idle, isLinked, spelled, gridText };
   Object.defineProperty(globalThis, "mitsubadoor", { value: forTests });
 }

@@ -39,18 +39,26 @@ function textDrawn({ grid, x, y, module, text, width }, height) {
   const left = x + (columns * module) / 2 - length / 2, base = height - y - rows * module - SIZE;
   return `BT /F ${number(size)} Tf ${number(left)} ${number(base)} Td (${escaped(cut)}) Tj ET\n`;
 }
+/** @type {(text: string) => string} */
+const hexOf = (text) =>
+  Array.from(new TextEncoder().encode(text), (byte) => byte.toString(16).padStart(2, "0")).join("");
+// The text that a PDF of the page keeps by a name, or "".
+/** @type {(pdf: Uint8Array, name: string) => string} */
+export function keptIn(pdf, name) {
+  const found = new RegExp(`/${name} <([0-9a-f]*)>`).exec(new TextDecoder("latin1").decode(pdf));
+  return new TextDecoder().decode(Uint8Array.from(found?.[1].match(/../g) ?? [], (pair) => parseInt(pair, 16)));
+}
 /** @type {(page: Page) => string} */
 function contentOf({ height, placed }) {
   const drawn = placed.map((each) => symbolDrawn(each, height) + textDrawn(each, height));
   return `${number(1 / MILLIMETRES)} 0 0 ${number(1 / MILLIMETRES)} 0 0 cm\n0 0 0 rg\n${drawn.join("")}`;
 }
-// Of pages, with bytes that are kept in its catalog under the name `Labels`, which no reader shows.
-/** @type {(pages: Page[], kept?: Uint8Array) => Blob} */
-export function pdfOf(pages, kept = new Uint8Array(0)) {
+// Of pages, with texts that are kept in its catalog by their names, which no reader shows.
+/** @type {(pages: Page[], kept: Record<string, string>) => Blob} */
+export function pdfOf(pages, kept) {
   const first = 4, kids = pages.map((_, k) => `${first + 2 * k} 0 R`).join(" ");
-  const hex = Array.from(kept, (byte) => byte.toString(16).padStart(2, "0")).join("");
-  const labels = hex && ` /Labels <${hex}>`;
-  const objects = [`<< /Type /Catalog /Pages 2 0 R${labels} >>`,
+  const known = Object.entries(kept).map(([name, text]) => ` /${name} <${hexOf(text)}>`).join("");
+  const objects = [`<< /Type /Catalog /Pages 2 0 R${known} >>`,
     `<< /Type /Pages /Kids [${kids}] /Count ${pages.length} >>`,
     "<< /Type /Font /Subtype /Type1 /BaseFont /Courier /Encoding /WinAnsiEncoding >>"];
   for (const [k, page] of pages.entries()) {

@@ -141,7 +141,7 @@ const zipping = (ending, bytesOf) => withAll(async (entries) => {
   save(zipOf([...files, labelsFile()]), `symbols-${ending}.zip`);
 }, "in the archive", false);
 const savePdf = withAll((entries, pages) => {
-  save(pdfOf(pages ?? entries.map(({ grid, text }) => pageOf(grid, text)), labelsFile().bytes), "symbols.pdf");
+  save(pdfOf(pages ?? entries.map(({ grid, text }) => pageOf(grid, text)), { Labels: labelsText() }), "symbols.pdf");
 }, "in the PDF");
 export function wirePrinting() {
   addEventListener("beforeprint", fillPaper);

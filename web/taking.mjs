@@ -178,7 +178,7 @@ const saving = (ending, type, bodyOf) => async (what) =>
 export function wireTaking() {
   const actions = { copy: copySymbol, "copy-link": copyLink, "copy-message": copyMessage,
     "save-svg": saving("svg", "image/svg+xml", svgOf), "save-png": saving("png", "image/png", pngOf),
-    "save-pdf": saving("pdf", "application/pdf", (grid) => pdfOf([pageOf(grid, "")])) };
+    "save-pdf": saving("pdf", "application/pdf", (grid) => pdfOf([pageOf(grid, "")], { Grid: gridText(grid) })) };
   for (const [id, action] of Object.entries(actions)) $(id).addEventListener("click", giving(action));
   $("millimetres").addEventListener("input", drawPrintSize);
   wirePaper(drawPrintSize);

@@ -2,16 +2,18 @@
 import glob
 import os
 import re
+import shutil
 import tarfile
 
 from tests.packages.common import (ABI, GRID, QUICKLY, VERSION, broken_links, by_cmake, bytecode, check_sums, compiled,
                                    ends_well, has, has_sampler, picture, run, same, shown_options)
+from tests.support import needs
 from tests.support.places import TOP
 
 
 def archived(folder, path):
     """The archives: the sources are the repository's; what is prebuilt works wherever it is unpacked."""
-    if not has_sampler("archives") or not has("wasm-opt", "archives"):
+    if not has_sampler("archives") or not all(has(program, "archives") for program in needs.PAGE):
         return
     yield ends_well("make dist", ["make", "-C", TOP, "dist"], env={**os.environ, **QUICKLY})
     out = os.path.join(TOP, "out", "dist")
@@ -69,8 +71,14 @@ def archived(folder, path):
               "PYTHONDONTWRITEBYTECODE": "1"}
     asked = ["/usr/bin/python3", "-c", "import ecc200; print(ecc200.read(ecc200.write(b'123456')).data)"]
     yield same("the prebuilt Python module", run(asked, env=module, cwd="/"), (0, "b'123456'\n"))
-    yield "the prebuilt page", None if os.path.isfile(os.path.join(unpacked, "share", "ecc200",
-                                                                   "mitsubadoor.html")) else "isn't there"
+    there = set(os.listdir(os.path.join(unpacked, "share", "ecc200")))
+    yield same("the prebuilt page, and the module for JavaScript", {
+        "mitsubadoor.html", "mitsubadoor.webmanifest", "offline.js", "ecc200.mjs", "ecc200.d.mts"
+    } - there, set())
+    if shutil.which("node"):
+        asked = ["node", "--input-type=module", "-e", "import { read, readGrid, write } from "
+                 f"'{unpacked}/share/ecc200/ecc200.mjs'; console.log(readGrid(write('123456')).text)"]
+        yield same("the prebuilt module for JavaScript", run(asked, env={"PATH": path}, cwd="/"), (0, "123456\n"))
 
 
 def needed_packages(files):

@@ -293,8 +293,10 @@ def many_files():
         lambda: (find("pane-make").is_displayed(), shown()["says"]),
         (True, "a message in a file"),
     )
-    drop("body", [("mark.zip", "application/zip", b"PK")])
-    count.expect_soon("neither, above", lambda: text_of("picture-hint"), "mark.zip is neither a picture nor a text.")
+    for name, why in (("mark.doc", "mark.doc is neither a picture nor a text."),
+                      ("mark.zip", "mark.zip holds no labels of this page.")):
+        drop("body", [(name, "application/octet-stream", b"PK")])
+        count.expect_soon(f"{name}, above", lambda: text_of("picture-hint"), why)
     write("123456")
 
 

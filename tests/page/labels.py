@@ -20,6 +20,7 @@ from tests.page.stage import (
     run,
     settle,
     shown,
+    task,
     text_of,
     unfold,
     usable,
@@ -454,11 +455,19 @@ def opened_again():
             count.expect(f"{kind} in {name}: what is chosen", (state, find("profile-1").is_selected()),
                          ([kind, text, stock, millimetres, "a4", "44.5"], True))
             count.expect(f"{kind} in {name}: the labels", pages_of(saved("symbols.pdf", "many-pdf")), pages_of(pdf))
+    write("a PDF of one", size="rectangle")
+    one = saved("symbol-12x26.pdf", "save-pdf")
+    (on.folder / "again.pdf").write_bytes(one)
+    find("lines").send_keys(str(on.folder / "again.pdf"))
+    rows = grid()
+    count.expect_soon("a PDF of one symbol", lambda: (shown()["says"], task(), grid()), ("a PDF of one", "read", rows))
+    write("123456")
+    unfold("sheet")
     put("messages", "stays")
     for name, body in (("none.pdf", b"%PDF-1.4\n"), ("none.zip", b"PK\x03\x04" + bytes(40))):
         (on.folder / name).write_bytes(body)
         find("lines").send_keys(str(on.folder / name))
-        count.expect_soon(f"{name} is no list", lambda: text_of("sheet-hint"), f"{name} holds no list of labels.")
+        count.expect_soon(f"{name} is no list", lambda: text_of("sheet-hint"), f"{name} holds no labels of this page.")
     count.expect("what is no list changes nothing", find("messages").get_attribute("value"), "stays")
     odd = {"labels": 1, "messages": "odd", "columns": 7, "size": "9x9", "choices": {"stock": "none such", "copies": -1}}
     (on.folder / "odd.json").write_text(json.dumps(odd))
