@@ -86,7 +86,8 @@ const entered = () => [panes.write.entered, panes.read.entered, field("messages"
 /** @type {(file: File, note: string, isSheet?: boolean) => Promise<void>} */
 async function takeFile(file, note, isSheet = false) {
   const before = entered(), { labels = null, grid = "" } = mayHoldLabels(file.name) ? await heldBy(file) : {};
-  const { text, why } = labels || grid ? { text: "", why: "" } : await textAlone(file, isSheet ? MOST_OF_SHEET : MOST_TEXT);
+  const most = isSheet ? MOST_OF_SHEET : MOST_TEXT;
+  const { text, why } = labels || grid ? { text: "", why: "" } : await textAlone(file, most);
   if (entered() !== before) toast(`${file.name} was given up, since something else was entered meanwhile.`);
   else if (labels) openLabels(file.name, labels, note);
   else if (grid) takeGridText(grid);

@@ -14,7 +14,7 @@ import { Sampler } from "./sampler.mjs";
     and 256 for FNC1; whether FNC1 is the first; its bytes without that, others as the byte 29; and these as text in
     UTF-8, if they are that */
 /** @typedef {Found & Message} Symbol */
-/** @typedef {{ symbols: Symbol[], unread: Found[], isComplete: boolean }} Finding */
+/** @typedef {{ symbols: Symbol[], unread: Found[], isComplete: boolean }} Finding in reading order */
 /** @typedef {{ form?: string, shape?: string, rows?: number, columns?: number }} Form in which a message is written:
     `ascii`, or `shorter` for bytes where that takes fewer codewords; in the smallest `square`, `rectangle` of ISO/IEC
     16022, `extended` one of ISO/IEC 21471 too, or in `any`; or in the size of these rows and columns */

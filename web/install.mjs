@@ -2,7 +2,8 @@
 // manifest and what keeps it stand beside it. Nothing else is fetched.
 import { made } from "./dom.mjs";
 
-const isServed = () => location.protocol === "https:" || ["localhost", "127.0.0.1", "[::1]"].includes(location.hostname);
+const OWN_HOSTS = ["localhost", "127.0.0.1", "[::1]"];
+const isServed = () => location.protocol === "https:" || OWN_HOSTS.includes(location.hostname);
 export async function makeInstallable() {
   if (!isServed() || !("serviceWorker" in navigator)) return;
   document.head.append(made("link", { rel: "manifest", href: "mitsubadoor.webmanifest" }));

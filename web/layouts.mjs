@@ -22,7 +22,7 @@ export const LAYOUT = {
   sample: { size: 47840, corners: 0, rows: 64, columns: 66, inverted: 68, mirrored: 69, modules: 70, doubtful: 20806,
     reading: 41542, border_limit: 47834, unread: 47836 },
   sample_search: { size: 36, milliseconds: 0, least_side: 4, margin: 6, symbols: 8, room: 12, count: 16, unread: 20,
-    unread_room: 24, unread_count: 28, ended: 32 },
+    unread_room: 24, unread_count: 28, ended: 32, effort: 34 },
 // ecc200.h: end
 };
 export const SAMPLER = {
@@ -36,6 +36,7 @@ export const SAMPLER = {
   WHOLE: 0,
   ROOM: 1,
   TIME: 2,
+  WORK: 3,
   READ: 0,
   REFUSED: 1,
   MARGIN: 2,

@@ -77,41 +77,13 @@ const sightedBy = (lib, scale) => (symbol) => {
   return { rows, columns, modules, doubtful, items, border, corrected, erased, fault, corners,
     isRead: !fault && hasMargin, how: standing(symbol), limit: limit === lib.usualLimit(symbol) ? null : limit };
 };
-// By how much symbols are turned, most of them alike, within an eighth of a turn each way; 0 if they aren't alike.
-/** @type {(symbols: Sighted[]) => number} */
-function slantOf(symbols) {
-  let [x, y] = [0, 0];
-  for (const { corners: [from, to] } of symbols) {
-    const fourfold = 4 * Math.atan2(to.y - from.y, to.x - from.x); // the same for each quarter of a turn
-    [x, y] = [x + Math.cos(fourfold), y + Math.sin(fourfold)];
-  }
-  return Math.hypot(x, y) > ALIKE * symbols.length ? Math.atan2(y, x) / 4 : 0;
-}
-const ALIKE = 0.8;
-// In reading order: line by line. Symbols make a line whose middles are about as far down, as most of them are turned.
-/** @type {(symbols: Sighted[]) => Sighted[]} */
-function inReadingOrder(symbols) {
-  const slant = slantOf(symbols), [cosine, sine] = [Math.cos(slant), Math.sin(slant)];
-  const placed = symbols.map((symbol) => {
-    const [{ x, y }, , opposite] = symbol.corners, size = Math.hypot(opposite.x - x, opposite.y - y);
-    const [across, down] = [x + opposite.x, y + opposite.y].map((sum) => sum / 2);
-    return { symbol, size, across: across * cosine + down * sine, down: down * cosine - across * sine };
-  }).sort((a, b) => a.down - b.down);
-  /** @type {(typeof placed)[]} */
-  const lines = [];
-  for (const each of placed) {
-    const line = lines[lines.length - 1];
-    if (line && each.down - line[0].down < each.size / 3) line.push(each); else lines.push([each]);
-  }
-  return lines.flatMap((line) => line.sort((a, b) => a.across - b.across).map(({ symbol }) => symbol));
-}
-// The symbols of a look, as many as are wanted.
+// The symbols of a look, as many as are wanted, in reading order.
 /** @type {(ecc200: Ecc200, look: Look, most: number, milliseconds: number) => Sights} */
 function sampled({ library, sampler }, look, most, milliseconds) {
   const { grey, width, height, scale } = look, begun = performance.now(), sighted = sightedBy(library, scale);
   const { symbols, unread, ended, hasNoMemory } =
     sampler.find(grey, width, height, { most, mostUnread: MOST_UNREAD, milliseconds });
-  return { symbols: inReadingOrder(symbols.map(sighted)), unread: unread.map(sighted),
+  return { symbols: symbols.map(sighted), unread: unread.map(sighted),
     isComplete: ended === SAMPLER.WHOLE,
     notes: "", left: milliseconds - (performance.now() - begun), width: width * scale, height: height * scale,
     why: hasNoMemory ? "There is no memory for this picture." : "" };
@@ -185,6 +157,5 @@ export function restOfPicture(ecc200) {
   if (sights.left <= 0 || sights.isComplete) return sights;
   const rest = sampled(ecc200, look, MOST_SYMBOLS, sights.left);
   const isThere = ({ corners }) => rest.symbols.some((other) => isNear(corners[0], other.corners[0]));
-  return { ...rest, symbols: inReadingOrder([...sights.symbols.filter((symbol) => !isThere(symbol)),
-    ...rest.symbols]) };
+  return { ...rest, symbols: [...sights.symbols.filter((symbol) => !isThere(symbol)), ...rest.symbols] };
 }

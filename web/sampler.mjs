@@ -14,14 +14,16 @@ import { LAYOUT, SAMPLER } from "./layouts.mjs";
     erased, and is left; or why it isn't read: by its fault, or since too few corrections are left unused */
 /** @typedef {{ symbols: Found[], unread: Found[], ended: number, hasNoMemory: boolean }} Finding why the search ended:
     a number of SAMPLER, WHOLE if nothing was left out */
-/** @typedef {{ most?: number, mostUnread?: number, milliseconds?: number, leastSide?: number, margin?: number }} Search
-    how many symbols to find at most, and to tell of that aren't read; how long to try; the fewest modules of a side;
-    how many corrections each block must leave unused */
+/** @typedef {{ most?: number, mostUnread?: number, milliseconds?: number, effort?: number, leastSide?: number,
+    margin?: number }} Search how many symbols to find at most, and to tell of that aren't read; how long to try by the
+    clock, or if that isn't said, how much work to do, in percent of the usual; the fewest modules of a side; how many
+    corrections each block must leave unused */
 const { sample: SAMPLE, sample_search: SEARCH, reading: READING, fault: FAULT, place_table: TABLE, place: PLACE,
   size_table: SIZES, sample_point: POINT } = LAYOUT;
 const { READ, REFUSED, WHOLE } = SAMPLER;
 const NANOSECONDS = 1e6; // of a millisecond
 const MOST_BYTES = 2 ** 31; // of one piece of memory; more than that isn't there, and a length has 32 bits
+const ANY_TIME = 2 ** 32 - 1; // milliseconds: the search is limited by its work
 /** @type {Finding} */
 const NOTHING = { symbols: [], unread: [], ended: WHOLE, hasNoMemory: true };
 
@@ -84,7 +86,7 @@ export class Sampler {
 
   // The symbols of a picture, of its luminance row by row: 0 is black, 255 white.
   /** @type {(luminance: ArrayLike<number>, width: number, height: number, search?: Search) => Finding} */
-  find(luminance, width, height, { most = 1, mostUnread = 0, milliseconds = SAMPLER.USUAL_TIME, leastSide = 0,
+  find(luminance, width, height, { most = 1, mostUnread = 0, milliseconds = ANY_TIME, effort = 0, leastSide = 0,
     margin = 0 } = {}) {
     const wanted = [luminance.length, SEARCH.size, most * SAMPLE.size, mostUnread * SAMPLE.size];
     if (wanted.some((size) => size > MOST_BYTES)) return NOTHING;
@@ -97,6 +99,7 @@ export class Sampler {
       long(SEARCH.milliseconds, milliseconds);
       short(SEARCH.least_side, leastSide);
       short(SEARCH.margin, margin);
+      short(SEARCH.effort, effort);
       long(SEARCH.symbols, read);
       long(SEARCH.room, most);
       long(SEARCH.unread, unread);

@@ -122,7 +122,7 @@ def all_symbols():
     messages = [f"symbol {k}" for k in range(1, 7)]
     places = [(40 + 130 * (k % 3) + 9 * (k % 2), 30 + 120 * (k // 3) + 11 * (k % 2)) for k in range(6)]
     grids = [written(message).split("\n") for message in messages]
-    for name, turn in (("upright", (1.0, 0.0)), ("turned", (0.9848, 0.1736))):
+    for name, turn in (("upright", (1.0, 0.0)), ("turned", (0.9848, -0.1736))):
         said = opened(f"{name}.png", scene(430, 290, list(zip(grids, places)), turn))
         count.expect_soon(f"{name}: what is said", lambda: text_of("picture-hint"), f"{name}.png: 6 symbols.")
         listed = run(LISTED)

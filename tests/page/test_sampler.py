@@ -12,9 +12,8 @@ FINDER = ["node", places.path("tests", "page", "finder.mjs")]
 LIBRARY, SAMPLER = (places.path("web", "out", name) for name in ("lowered.wasm", "sampler.wasm"))
 MAKER = places.path("bench", "photographs")
 DEBIANS = "/usr/bin/python3"
-SHARE = 41  # of each kind every so many
+SHARE = 29  # of each kind every so many
 NEAR = 0.001  # pixels, by which corners may differ: libraries of C compute sines and roots a little differently
-ANY_TIME = 2**32 - 1
 LATE = 400  # milliseconds by which a search may end after its time, on a machine that has other things to do
 KINDS = ["noise", "grey", "stripes", "squares", "weave"]
 MEBIBYTE = 1 << 20
@@ -70,12 +69,13 @@ class Sampler(Case):
                 self.skipTest("no photographs can be made (python3-opencv or python3-numpy isn't installed)")
         pictures = [str(self.in_grey(file)) for file in sorted(folder.glob("set*/*.jpg"))]
         there = self.natively(pictures)
-        here = found([{"file": file, "most": 64, "milliseconds": ANY_TIME} for file in pictures])
-        for file, some, others in zip(pictures, here, there):
+        here = found([{"file": file, "most": 64} for file in pictures])
+        for file, some, other in zip(pictures, here, there):
+            others = other["symbols"]
             self.row(os.path.basename(file), ([differing(*each) for each in zip(some["symbols"], others)],
                                               len(some["symbols"]), some["isComplete"]),
-                     ([[]] * len(others), len(others), True))
-        symbols = sum(map(len, there))
+                     ([[]] * len(others), len(others), other["isComplete"]))
+        symbols = sum(len(other["symbols"]) for other in there)
         self.assertGreaterEqual(symbols, len(pictures) * 3 // 4, "symbols that are compared")
 
     def in_grey(self, file):

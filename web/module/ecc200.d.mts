@@ -48,8 +48,10 @@ export interface Search {
   most?: number;
   /** How many to tell of that were found and not read: 0. */
   mostUnread?: number;
-  /** How long to try: 1000. */
+  /** How long to try by the clock; if it isn't given, the work is limited, the same on every machine. */
   milliseconds?: number;
+  /** How much work to do then, in percent of the usual, or 65535 for any: 100. */
+  effort?: number;
   /** Symbols with a side of fewer modules are passed over: 0. */
   leastSide?: number;
   /** How many corrections each block must leave unused: 0. */
