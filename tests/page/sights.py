@@ -4,6 +4,7 @@ import io
 import json
 import random
 
+from tests.page.conduct import linked, started
 from tests.page.pictures import chunks, opened, png
 from tests.page.stage import (
     Keys,
@@ -59,9 +60,9 @@ def handed_on():
         count.expect("are told", (shown()["why"].startswith(f"{wrong} modules of the border have the wrong colour"),
                                   said), (True, "border.png: 22 × 22. Read as it stands."))
         count.expect("the limit that is shown", run("return document.getElementById('border-limit').value"), str(LIMIT))
-    run("location.reload()")
-    wait_for(lambda: run("return 'mitsubadoor' in globalThis"))
-    settle()
+    linked()
+    on.page.refresh()
+    started()
     count.expect("after a reload", (shown()["state"], shown()["says"], marks()), ("Read", message, [LIMIT, None]))
     opened("whole.png", png(rows, 6, 2, 220, 40))
     count.expect("the limit of one that has none of its own", marks(), [None, None])

@@ -4,7 +4,7 @@ import pathlib
 import random
 import subprocess
 
-from tests.page import browser, conduct, damage, everyone, sizes, tasks
+from tests.page import browser, conduct, damage, everyone, photographs, sights, sizes, tasks
 from tests.page.parts import load
 from tests.page.pictures import opened, png
 from tests.page.stage import agree, count, grid, on, push, put, write, written
@@ -78,6 +78,10 @@ class WebKit(Case):
             tasks.tasks_are_linked,
             tasks.earlier_links,
             tasks.text_and_gs1,
+            tasks.typed,
+            photographs.turned_about,
+            sights.handed_on,
+            sights.unread,
             sizes.marks_of_every_size,
             sizes.in_all_ways,
         ):
