@@ -8,6 +8,7 @@ from tests.page.conduct import linked, started
 from tests.page.pictures import chunks, opened, png
 from tests.page.stage import (
     Keys,
+    click,
     count,
     find,
     grid,
@@ -19,6 +20,7 @@ from tests.page.stage import (
     shown,
     text_of,
     unfold,
+    usable,
     wait_for,
     write,
     written,
@@ -74,8 +76,10 @@ def handed_on():
     count.expect("is told", "doubtful codewords were replaced" in shown()["why"], True)
     count.expect("which modules are doubtful", (len(doubtful), doubtful[len(rows) - 1]), (len(rows) ** 2, "1"))
     push("tab-learn")
+    click(0, side=len(rows))
+    count.expect("damage to it", usable("undo-all"), True)
     push("undo-all")
-    count.expect("undoing everything leaves them", marks(), [limit, doubtful])
+    count.expect("undoing everything leaves them", (marks(), usable("undo-all")), ([limit, doubtful], False))
     push("tab-make")
     write("123456")
 
