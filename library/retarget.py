@@ -61,11 +61,11 @@ FOREIGN = [
     ("a calling convention", r"\b(?:x86_\w+cc|x86_64_\w+cc|win64cc|intel_ocl_bicc|cc ?\d+)\b"),
     ("an address space", r"\baddrspace\(\d+\)"),
     ("a section", r"\bsection \""),
-    ("a processor", r'"(?:target-cpu|tune-cpu|target-features)"="[^"]*"'),
 ]
 # What else may stand in the module's flags: how its code is addressed.
 FLAGS = {"PIC Level", "PIE Level", "uwtable", "frame-pointer", "RtLibUseGOT", "Debug Info Version"}
 ATTRIBUTES = re.compile(r"^attributes #\d+ = \{(.*)\}$", re.M)
+VALUED = re.compile(r'"[^"\s]+"="[^"]*"')
 STRING = re.compile(r'\bc"(?:[^"\\]|\\[0-9A-Fa-f]{2}|\\\\)*"')
 
 
@@ -94,10 +94,10 @@ def unknown(text, known):
     code = STRING.sub('c""', text)
     for name, form in FOREIGN:
         yield from (f"{name}: {found}" for found in sorted(set(re.findall(form, code)) - known))
-    for group in ATTRIBUTES.findall(code):
-        for found in set(re.findall(r'"[^"]*"(?:="[^"]*")?', group)) - known:
-            if not re.fullmatch(PROBES, f" {found}"):
-                yield f"an attribute: {found}"
+    alone = re.findall(r'"[^"]*"', VALUED.sub("", "".join(ATTRIBUTES.findall(code))))
+    for found in sorted({*VALUED.findall(code), *alone} - known):
+        if not re.fullmatch(PROBES, f" {found}"):
+            yield f"an attribute: {found}"
     for found in set(re.findall(r'^!\d+ = !\{i32 \d, !"([^"]*)"', code, re.M)) - FLAGS:
         yield f"a flag of the module: {found}"
 

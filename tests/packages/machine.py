@@ -3,6 +3,7 @@ import os
 import re
 import shutil
 
+from tests.library.systems import targets
 from tests.packages.common import GRID, package, run, same
 from tests.support.places import TOP
 
@@ -58,7 +59,9 @@ def on_fresh_machine(folder):
     wanted = {"0022", "LC_ALL=C.UTF-8", *(f"{name}={value}" for name, value in kept.items())}
     yield same("what make test sees", (status, lines), (0, wanted))
     with open(told, encoding="ascii") as file:
-        yield same("compilers that aren't installed", {"g++", "clang", "rustc-web"} - set(file.read().split()), set())
+        wanted = {"g++", "clang", "rustc-web", "qemu-user", "wine", "debootstrap",
+                  *(it.package for it in targets.TARGETS.values())}
+        yield same("compilers and emulators that aren't installed", wanted - set(file.read().split()), set())
     planned = run(["env", "-i", f"PATH={os.environ['PATH']}", "make", "-n", "-C", TOP, "test"])[1].splitlines()
     started = [line.split()[0] for line in planned if line.startswith("tests/")]
     yield same("by what tests are started", started, ["tests/environment"])

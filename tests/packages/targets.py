@@ -5,9 +5,10 @@ import os
 import shutil
 import zipfile
 
+from tests.library.conduct import shown
 from tests.library.systems import Emulated, lacking, targets
-from tests.packages.common import (PROJECT, QUICKLY, SAID, VERSION, broken_links, check_sums, ends_well, has, left_out,
-                                   package, run, same)
+from tests.packages.common import (QUICKLY, VERSION, broken_links, check_sums, ends_well, has, left_out, package, run,
+                                   same)
 from tests.support.glibc import many_linux
 from tests.support.places import TOP
 
@@ -108,10 +109,10 @@ def windows(folder, target):
     try:
         for kind, name in (("shared", "libecc200.dll.a"), ("static", "libecc200.a")):
             made_here = os.path.join(folder, f"{kind}.exe")
-            yield ends_well(f"a program with the {kind} library", [
-                system.cc, "-std=c11", f"-I{unpacked}/include", os.path.join(PROJECT, "main.c"),
+            yield ends_well(f"its example with the {kind} library", [
+                system.cc, "-std=c11", f"-I{unpacked}/include", os.path.join(unpacked, "examples", "example.c"),
                 os.path.join(unpacked, "lib", name), "-o", made_here])
             shutil.copy(os.path.join(unpacked, "bin", "ecc200.dll"), folder)
-            yield same(f"run with the {kind} library", system.said([made_here]), (0, SAID))
+            yield same(f"what it shows with the {kind} library", system.said([made_here]), (0, shown()))
     finally:
         system.end()
