@@ -14,6 +14,7 @@ from tests.support.case import Case
 class Names(Case):
     def test_names_and_data(self):
         self.all_sound(conduct.names(HERE))
+        self.all_sound(conduct.unwound(HERE))
 
 
 @needs.library

@@ -75,6 +75,7 @@ class OnTarget:
 
     def test_names_and_data(self):
         self.all_sound(conduct.names(self.system))
+        self.all_sound(conduct.unwound(self.system))
 
 
 @target("aarch64-unknown-linux-gnu")
