@@ -71,13 +71,9 @@ def last_change(crate):
 
 
 def are_proved(crates):
-    """Whether each crate, lowest first, was proved after the last change of it and of those before it."""
-    last = 0
-    for crate in crates:
-        last = max(last, last_change(crate))
-        if not os.path.isdir(rlib_of(crate)) or os.path.getmtime(rlib_of(crate)) < last:
-            return False
-    return True
+    """Whether each crate was proved after the last change of it and of those that it stands on."""
+    return all(os.path.isdir(rlib_of(crate)) and
+               os.path.getmtime(rlib_of(crate)) >= max(map(last_change, [*below(crate), crate])) for crate in crates)
 
 
 def command(step, crate):
