@@ -17,8 +17,6 @@ help:
 	@echo "make library   proves the library for C and builds it, static and shared: a minute after make build"
 	@echo "make page      builds the page, one file for a browser: a minute after make build"
 	@echo "make sampler   builds what finds symbols in pictures, over the library: seconds"
-	@echo "make page      builds the page, one file for a browser: a minute after make build; binaryen, \
-	clang, lld, wasi-libc and libclang-rt-14-dev-wasm32 are needed"
 	@echo "make wheel     builds the Python package's wheel, with the libraries that are built: seconds"
 	@echo "make try       shows the program at work, unproved if it isn't built yet: half a minute"
 	@echo "make test      the merge gate, every proof from scratch and all tests: an hour of processor time"
@@ -52,9 +50,8 @@ library:
 	@echo "The library is in library/out/$(TARGET); its manual is library/ecc200.h."
 
 # Builds the page, one file that opens from disk: web/out/mitsubadoor.html. Its library is proved for WebAssembly too,
-# and lowered to 32-bit memory by wasm-opt (Debian: binaryen).
-page: needs-page
 # and lowered to 32-bit memory by wasm-opt (Debian: binaryen); its sampler is compiled by clang.
+page: needs-page
 	web/build
 
 # Builds the sampler, from pictures to grids, over the library that `make library` left: sampler/out/dm_sample and

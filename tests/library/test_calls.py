@@ -2,8 +2,10 @@
 before."""
 from tests.library import conduct
 from tests.library.callers import SANITISED, has_sanitisers
+from tests.library.conduct import own
+from tests.library.library import compiled
 from tests.library.systems import HERE
-from tests.support import needs
+from tests.support import commands, needs
 from tests.support.case import Case
 
 ROUNDS, ROUNDS_OF_THREADS = 20_000, 300
@@ -19,12 +21,12 @@ class Calls(Case):
             self.skipTest("cc has no sanitisers")
         self.all_sound(conduct.random_calls(HERE, self.folder(), ROUNDS, "-g", *SANITISED))
 
-class Unseen(Case):
     def test_what_is_refused_for_its_counts_is_not_looked_at(self):
         program, problem = compiled(own("unseen.c"), self.folder())
         self.assertIsNone(problem)
         status, said = commands.said([program])
         self.row("refusals of what can't be read", (status, said[-2000:]), (0, ""))
+
     def test_eight_threads_with_small_stacks_and_the_stack_of_each_call(self):
         self.all_sound(conduct.in_threads(HERE, self.folder(), ROUNDS_OF_THREADS))
 
