@@ -128,7 +128,8 @@ function takeLines(name, text, why, note) {
 }
 function pasted(event) {
   if (event.defaultPrevented) return;
-  const { picture, file, text, note } = broughtBy(event.clipboardData, isTextOrLabels), isMessage = event.target === $("message");
+  const { picture, file, text, note } = broughtBy(event.clipboardData, isTextOrLabels);
+  const isMessage = event.target === $("message");
   if (picture) { event.preventDefault(); readPicture(picture, note); return; }
   if (file) { event.preventDefault(); takeFile(file, note, event.target === $("messages")); return; }
   if (!isMessage || !text || !isGrid(text) || text.trim().length < 100) return;

@@ -7,10 +7,11 @@ from tests.support.case import Case
 from tests.support.places import TOP
 
 SAMPLER = ["cc gcc", "png.h libpng-dev", "jpeglib.h libjpeg-dev"]
-WANTED = {"sampler": SAMPLER, "page": ["wasm-opt binaryen"],
+PAGE = ["wasm-opt binaryen", "clang clang", "wasm-ld lld", "wasm32-wasi/libc.a wasi-libc"]
+WANTED = {"sampler": SAMPLER, "page": PAGE,
           "wheel": ["setuptools python3-setuptools", "wheel python3-wheel"],
           "deb": [*SAMPLER, "dpkg-buildpackage dpkg-dev", "dh debhelper", "dh_python3 dh-python"],
-          "dist": [*SAMPLER, "wasm-opt binaryen"]}
+          "dist": [*SAMPLER, *PAGE]}
 LINE = re.compile(r"^make (\w+): (\S+) isn't installed \(Debian package (\S+)\)$", re.M)
 
 
