@@ -741,6 +741,7 @@ def _size_of(rows: int, columns: int) -> Size:
 _SAMPLE_ABI = 2
 _MOST_FOUND = 64  # symbols of one picture, unless a caller says otherwise
 _MOST_UNREAD = 32  # symbols of one picture that aren't read
+_ANY_TIME = 0xFFFFFFFF
 _IS_UNSURE = 2  # `unread` of a symbol that is
 _COLOURS = {1: "L", 2: "LA", 3: "RGB", 4: "RGBA"}  # by the numbers of a pixel, as Pillow calls them
 _SIXTEEN = ("H", "<H", ">H")  # how an array has numbers of 16 bits
@@ -778,11 +779,12 @@ class Found(NamedTuple):
 
 
 class End(enum.IntEnum):
-    """Why the search of a picture ended: all of it was searched; as many symbols were found as were asked for; or the
-    time was over."""
+    """Why the search of a picture ended: all of it was searched; as many symbols were found as were asked for; the time
+    was over; or so much work was done without finding one more."""
     WHOLE = 0
     ROOM = 1
     TIME = 2
+    WORK = 3
 
 
 _Item = TypeVar("_Item")
@@ -813,15 +815,15 @@ class _Search(ctypes.Structure):
     _fields_ = [("milliseconds", ctypes.c_uint32), ("least_side", _u16), ("margin", _u16),
                 ("symbols", ctypes.c_void_p), ("room", ctypes.c_size_t), ("count", ctypes.c_size_t),
                 ("unread", ctypes.c_void_p), ("unread_room", ctypes.c_size_t), ("unread_count", ctypes.c_size_t),
-                ("ended", _u16)]
+                ("ended", _u16), ("effort", _u16)]
 
 
 class _Asked(NamedTuple):
     """What is asked of the search of a page: how many symbols at most, and how many that aren't read; about how long
-    it may take; how many corrections each block must leave unused."""
+    it may take, or None, if its work is limited; how many corrections each block must leave unused."""
     most: int = _MOST_FOUND
     unread: int = 0
-    milliseconds: int = 1000
+    milliseconds: Optional[int] = None
     margin: int = 0
 
 
@@ -991,8 +993,9 @@ def _searched(picture: Any, page: int, asked: _Asked) -> Findings[Found]:
     """The symbols of one page of a picture, and behind them those that aren't read, the likeliest first."""
     pixels, width, height = luminance(picture)
     samples, unread = (_Sample * asked.most)(), (_Sample * asked.unread)()
-    search = _Search(asked.milliseconds, 0, asked.margin, ctypes.addressof(samples), asked.most, 0,
-                     ctypes.addressof(unread), asked.unread)
+    time = _ANY_TIME if asked.milliseconds is None else asked.milliseconds
+    search = _Search(time, 0, asked.margin, ctypes.addressof(samples), asked.most, 0, ctypes.addressof(unread),
+                     asked.unread)
     code = _sampler().ecc200_sample_find(pixels, width, height, width, ctypes.byref(search))
     if code:
         raise ValueError(f"a picture of {width} by {height} pixels can't be searched ({code})")
@@ -1015,10 +1018,11 @@ def _records(grid: Any) -> List[Any]:
     return [grid] if len(records) < 2 or set(map(len, rows)) == {len(rows)} else records
 
 
-def find(picture: Any, most: int = _MOST_FOUND, milliseconds: int = 1000, margin: int = 0,
+def find(picture: Any, most: int = _MOST_FOUND, milliseconds: Optional[int] = None, margin: int = 0,
          unread: bool = False) -> Findings[Found]:
-    """At most `most` symbols of each page of a picture; the search takes about `milliseconds` for a page, and ends at
-    once where `most` are found: `complete` of the list is false where it ended before all was searched. `margin`: how
+    """At most `most` symbols of each page of a picture. The search takes about `milliseconds` for a page; without them
+    its work is limited, the same on every machine, which is about a second where nothing is found. It ends at once
+    where `most` are found: `complete` of the list is false where it ended before all was searched. `margin`: how
     many corrections each block must leave unused. With `unread`, behind those of each page also what was found on it
     and isn't read, the likeliest first, with its refusal: at most 32, whose borders have few faults. A page that can't
     be opened is a warning where a symbol is read on another, and else ValueError is raised.
@@ -1056,24 +1060,24 @@ def _has_border(answers: Iterable[Union[Reading, Refused]]) -> bool:
 
 
 @overload
-def decode(picture: Any, most: int = ..., milliseconds: int = ..., border_limit: Optional[int] = ...,
+def decode(picture: Any, most: int = ..., milliseconds: Optional[int] = ..., border_limit: Optional[int] = ...,
            extent: Extent = ...) -> Findings[Reading]: ...
 
 
 @overload
-def decode(picture: Any, most: int = ..., milliseconds: int = ..., border_limit: Optional[int] = ...,
+def decode(picture: Any, most: int = ..., milliseconds: Optional[int] = ..., border_limit: Optional[int] = ...,
            extent: Extent = ..., *, unread: bool) -> Findings[Union[Reading, Refused]]: ...
 
 
-def decode(picture: Any, most: int = _MOST_FOUND, milliseconds: int = 1000, border_limit: Optional[int] = None,
-           extent: Extent = Extent.WIDE, *, unread: bool = False) -> Any:
+def decode(picture: Any, most: int = _MOST_FOUND, milliseconds: Optional[int] = None,
+           border_limit: Optional[int] = None, extent: Extent = Extent.WIDE, *, unread: bool = False) -> Any:
     """What the symbols of a grid or of a picture say: a list, empty if nothing is read. Rows, text of 0 and 1, and what
     has `rows`, such as an encoded symbol, are grids; what has the array interface (numpy, OpenCV, Pillow) is a picture,
-    on each page of which at most `most` symbols are looked for during `milliseconds`, wherever they stand. A memoryview
-    of rows is a grid, or else a picture. The path of a file, an open file, and the bytes of one are what the file
-    holds; if that is neither, TypeError is raised. `complete` of the list is false where the search of a picture ended
-    before all of it was searched. With `unread` the list also has the Refused of each grid that isn't read, and of each
-    symbol that is found and isn't.
+    on each page of which at most `most` symbols are looked for, wherever they stand, during `milliseconds` or, without
+    them, as `find` has it. A memoryview of rows is a grid, or else a picture. The path of a file, an open file, and the
+    bytes of one are what the file holds; if that is neither, TypeError is raised. `complete` of the list is false where
+    the search of a picture ended before all of it was searched. With `unread` the list also has the Refused of each
+    grid that isn't read, and of each symbol that is found and isn't.
 
     Symbols found in a picture are read at the wide extent, with as many border faults as the search takes. A Pillow
     picture in which nothing is found is read as one symbol with one pixel a module; where that is none, and the library

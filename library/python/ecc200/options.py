@@ -82,13 +82,14 @@ def _reads(parser: argparse.ArgumentParser, most: int = 1) -> None:
                       help="look for at most N symbols on each page of a picture "
                       + ("(1: the first that is found, and no other)" if most == 1 else f"({most})"))
     many.add_argument("--all", dest="most", action="store_const", const=_ALL,
-                      help="look for all symbols on each page, until the time is over")
-    looks.add_argument("--time", dest="milliseconds", type=_number(1, 3600000), default=1000, metavar="MS",
-                       help="look for about so many milliseconds on each page (1000)")
+                      help="look for all symbols on each page")
+    looks.add_argument("--time", dest="milliseconds", type=_number(1, 3600000), metavar="MS",
+                       help="look for about so many milliseconds on each page; without it the work is limited, the same "
+                       "on every machine, which is about a second where nothing is found")
     looks.add_argument("--unread", action="store_true",
                        help="also list what is found and not read, the likeliest first, each with the reason and its "
                        "place; without it that is done for the likeliest alone, where nothing is read")
-    looks.add_argument("--milliseconds", type=_number(1, 3600000), default=1000, help=argparse.SUPPRESS)  # its old name
+    looks.add_argument("--milliseconds", type=_number(1, 3600000), help=argparse.SUPPRESS)  # its old name
     limit = max(size.limit for size in core.sizes())
     looks.add_argument("--margin", type=_number(0, limit), default=0, metavar="N",
                        help="refuse symbols whose blocks have fewer than N corrections left (0)")

@@ -53,10 +53,10 @@ class Source(NamedTuple):
 
 
 class Search(NamedTuple):
-    """How pictures are searched: for how many symbols on each page, for how long, with how many corrections left, and
-    whether all that aren't read are wanted."""
+    """How pictures are searched: for how many symbols on each page, for how long, if that is said, with how many
+    corrections left, and whether all that aren't read are wanted."""
     most: int = 64
-    milliseconds: int = 1000
+    milliseconds: Optional[int] = None
     margin: int = 0
     unread: bool = False
 
@@ -66,15 +66,19 @@ class Search(NamedTuple):
 
     def is_early(self, ended: core.End) -> bool:
         """Whether there may be more of what was to be found: who asks for one symbol wants the first."""
-        return ended == core.End.TIME or ended == core.End.ROOM and self.most > 1
+        return ended != core.End.WHOLE and (ended != core.End.ROOM or self.most > 1)
+
+    @property
+    def allowed(self) -> str:
+        """What a search may take."""
+        return "its usual work" if self.milliseconds is None else f"its {self.milliseconds} ms"
 
     def in_words(self, ended: core.End, count: int) -> str:
         """Why a search ended early."""
         some = f"{count} symbol{'s' * (count != 1)}"
         if ended == core.End.ROOM:
             return f"the search ended with {some}, and there may be more: --most is how many are looked for"
-        return (f"the search ended after its {self.milliseconds} ms, with {some}, and there may be more: --time allows "
-                "a longer one")
+        return f"the search ended after {self.allowed}, with {some}, and there may be more: --time allows a longer one"
 
 
 def open_input(name: str) -> io.BufferedReader:
@@ -200,7 +204,7 @@ def of_picture(name: str, data: bytes, search: Search) -> Iterator[Source]:
         return
     margin = search.margin
     passed = f"; those that leave fewer than {margin} corrections are passed over" if margin else ""
-    within = f" within the {search.milliseconds} ms that it may take" if ends else ""
+    within = f" by a search that ended after {search.allowed}" if ends else ""
     yield Source(name, 1, None, f"no Data Matrix symbol was found in its {picture.width} by {picture.height} pixels"
                  f"{within}; other codes, as QR codes, aren't read. A module should have at least two pixels, and the "
                  "symbol a light margin. --time allows a longer search" + passed, is_complete=not ends)
