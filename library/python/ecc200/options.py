@@ -84,8 +84,8 @@ def _reads(parser: argparse.ArgumentParser, most: int = 1) -> None:
     many.add_argument("--all", dest="most", action="store_const", const=_ALL,
                       help="look for all symbols on each page")
     looks.add_argument("--time", dest="milliseconds", type=_number(1, 3600000), metavar="MS",
-                       help="look for about so many milliseconds on each page; without it the work is limited, the same "
-                       "on every machine, which is about a second where nothing is found")
+                       help="look for about so many milliseconds on each page; without it the work is limited, the "
+                       "same on every machine, which is about a second where nothing is found")
     looks.add_argument("--unread", action="store_true",
                        help="also list what is found and not read, the likeliest first, each with the reason and its "
                        "place; without it that is done for the likeliest alone, where nothing is read")
