@@ -2,7 +2,11 @@
 import contextlib
 import functools
 import http.server
+import pathlib
+import shutil
+import tempfile
 import threading
+import urllib.parse
 
 from tests.page.stage import count, grid, on, push, put, run, settle, shown, wait_for, written
 from tests.support import places
@@ -21,11 +25,20 @@ class Handler(http.server.SimpleHTTPRequestHandler):
         self.asked.append(self.path)
 
 
+def folder_of_page(*beside):
+    """A folder with the page that is open, and what stands beside it."""
+    folder = pathlib.Path(tempfile.mkdtemp(dir=on.folder))
+    page = urllib.parse.unquote(urllib.parse.urlsplit(on.page.current_url).path)
+    for file, name in ((page, "mitsubadoor.html"), *((file, file.name) for file in beside)):
+        shutil.copy(file, folder / name)
+    return folder
+
+
 @contextlib.contextmanager
-def served(asked, port=0):
-    """Serves the page while it is in use; gives the address."""
-    serving = functools.partial(Handler, directory=places.path("web", "out"), asked=asked)
-    server = http.server.ThreadingHTTPServer(("127.0.0.1", port), serving)
+def served(folder, asked):
+    """Serves a folder while it is in use; gives the address of the page in it."""
+    serving = functools.partial(Handler, directory=folder, asked=asked)
+    server = http.server.ThreadingHTTPServer(("127.0.0.1", 0), serving)
     thread = threading.Thread(target=server.serve_forever, daemon=True)
     thread.start()
     try:
@@ -54,11 +67,10 @@ def made_and_read(message):
 
 
 def installed():
-    asked = []
-    with served(asked) as address:
+    asked, folder = [], folder_of_page(*pathlib.Path(places.path("web", "installed")).iterdir())
+    with served(folder, asked) as address:
         opened_at(address)
-        on.page.execute_async_script("navigator.serviceWorker.ready.then(() => arguments[0]())")
-        wait_for(lambda: run("return navigator.serviceWorker.controller !== null"))
+        count.expect_soon("what keeps it", lambda: run("return navigator.serviceWorker.controller !== null"), True)
         manifest = on.page.execute_cdp_cmd("Page.getAppManifest", {})
         errors = on.page.execute_cdp_cmd("Page.getInstallabilityErrors", {})["installabilityErrors"]
         wrong = [each["errorId"] for each in errors if each["errorId"] != "in-incognito"]
@@ -80,23 +92,9 @@ def installed():
 
 def beside_nothing():
     """Where the files beside it aren't served, the page is as it is from disk."""
-    class Alone(Handler):
-        def do_GET(self):
-            if self.path.split("?")[0] == "/mitsubadoor.html":
-                super().do_GET()
-            else:
-                self.send_error(404)
-
-    asked = []
-    serving = functools.partial(Alone, directory=places.path("web", "out"), asked=asked)
-    server = http.server.ThreadingHTTPServer(("127.0.0.1", 0), serving)
-    thread = threading.Thread(target=server.serve_forever, daemon=True)
-    thread.start()
-    opened_at(f"http://127.0.0.1:{server.server_address[1]}/mitsubadoor.html")
-    made_and_read("alone")
-    server.shutdown()
-    server.server_close()
-    thread.join()
+    with served(folder_of_page(), []) as address:
+        opened_at(address)
+        made_and_read("alone")
     on.page.get_log("browser")  # which tells of what isn't there
 
 
