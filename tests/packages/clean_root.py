@@ -18,14 +18,19 @@ class Missing(Exception):
     """A package that this machine doesn't have."""
 
 
+def said(*words):
+    return subprocess.run(words, stdout=subprocess.PIPE, check=True, text=True).stdout
+
+
 def known():
-    """For each installed package what it depends on, as lists of alternatives, and who provides a name."""
-    form = "${Package}\t${db:Status-Status}\t${Depends}, ${Pre-Depends}\t${Provides}\n"
-    told = subprocess.run(["dpkg-query", "-W", "-f", form], stdout=subprocess.PIPE, check=True, text=True).stdout
+    """For each installed package of this machine's architecture what it depends on, as lists of alternatives, and who
+    provides a name. Packages of other architectures may stand beside them."""
+    form = "${Package}\t${Architecture}\t${db:Status-Status}\t${Depends}, ${Pre-Depends}\t${Provides}\n"
+    here = said("dpkg", "--print-architecture").strip()
     needs, provided = {}, {}
-    for line in told.splitlines():
-        name, status, depends, provides = line.split("\t")
-        if status == "installed":
+    for line in said("dpkg-query", "-W", "-f", form).splitlines():
+        name, architecture, status, depends, provides = line.split("\t")
+        if status == "installed" and architecture in (here, "all"):
             needs[name] = alternatives(depends)
             for group in alternatives(provides):
                 provided.setdefault(group[0], name)
@@ -68,9 +73,17 @@ def copy(path, root):
         shutil.copy2(path, to)
 
 
+def qualified(names):
+    """These packages with their architecture, as dpkg-query wants where some is installed for another one too."""
+    here = said("dpkg", "--print-architecture").strip()
+    lines = said("dpkg-query", "-W", "-f", "${Package}\t${Architecture}\n").splitlines()
+    known_as = {name: it for name, it in (line.split("\t") for line in lines) if it in (here, "all")}
+    return [f"{name}:{known_as[name]}" for name in names]
+
+
 def told(option, names):
     """What dpkg-query tells of these packages, asked once for all, since each time it reads all that it knows."""
-    return subprocess.run(["dpkg-query", option, *names], stdout=subprocess.PIPE, check=True, text=True).stdout
+    return said("dpkg-query", option, *names)
 
 
 def keep_triggers(names, root):
@@ -95,13 +108,15 @@ def make(root, names, own=()):
             os.symlink(f"usr/{link}", f"{root}/{link}")
     names = closure([*BASE, *names], own)
     os.makedirs(root + INFO)
+    whole = qualified(names)
     with open(f"{root}/var/lib/dpkg/status", "w", encoding="utf-8") as status:
-        status.write(told("--status", names) + "\n")
-    for path in dict.fromkeys(told("-L", names).splitlines()):
+        status.write(told("--status", whole) + "\n")
+    for path in dict.fromkeys(told("-L", whole).splitlines()):
         if path.startswith("/") and not LEFT_OUT.search(path):
             copy(path, root)
     for file in os.listdir(INFO):
-        if file == "format" or re.split(r"[.:]", file)[0] in names or file.rsplit(".", 1)[0].split(":")[0] in names:
+        of = file.rsplit(".", 1)[0]
+        if file == "format" or of in names or of in whole:
             copy(f"{INFO}/{file}", root)
     keep_triggers(names, root)
     for folder, mode in (("tmp", 0o1777), ("dev", 0o755), ("root", 0o700)):
