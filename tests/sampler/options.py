@@ -207,8 +207,9 @@ def memory(folder, sampler):
 def parts(folder):
     """Points far outside of a picture."""
     made = os.path.join(folder, "parts.out")
-    words = ["cc", "-std=c17", "-Wall", "-Wextra", "-Werror", *CAREFUL, f"-I{places.path('sampler')}"]
-    done = run([*words, places.path("tests", "sampler", "parts.c"), "-o", made, "-lm"])
+    words = ["cc", "-std=c17", "-Wall", "-Wextra", "-Werror", *CAREFUL]
+    headers = [f"-I{places.path('sampler')}", f"-I{places.path('library')}"]
+    done = run([*words, *headers, places.path("tests", "sampler", "parts.c"), "-o", made, "-lm"])
     check("parts.c compiles", done.stderr.decode(), "")
     done = run([made])
     check("points far away", (done.returncode, done.stdout, done.stderr.decode()[:600]), (0, b"", ""))
