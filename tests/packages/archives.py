@@ -75,10 +75,10 @@ def archived(folder, path):
     yield same("the prebuilt page, and the module for JavaScript", {
         "mitsubadoor.html", "mitsubadoor.webmanifest", "offline.js", "ecc200.mjs", "ecc200.d.mts"
     } - there, set())
-    if shutil.which("node"):
-        asked = ["node", "--input-type=module", "-e", "import { read, readGrid, write } from "
+    if node := shutil.which("node"):
+        asked = [node, "--input-type=module", "-e", "import { read, readGrid, write } from "
                  f"'{unpacked}/share/ecc200/ecc200.mjs'; console.log(readGrid(write('123456')).text)"]
-        yield same("the prebuilt module for JavaScript", run(asked, env={"PATH": path}, cwd="/"), (0, "123456\n"))
+        yield same("the prebuilt module for JavaScript", run(asked, env={}, cwd="/"), (0, "123456\n"))
 
 
 def needed_packages(files):
