@@ -113,7 +113,12 @@ def by_python(folder):
         yield same(f"{call.__name__}, no time", call(path, milliseconds=1, most=100).ended, core.End.TIME)
     from PIL import Image
     with Image.open(path) as first:
-        pages = [first.convert("L").crop((0, 0, 1200, 400)), Image.new("L", (90, 90), 255)]
+        grey = first.convert("L")
+    array = memoryview(grey.tobytes()).cast("B", (grey.height, grey.width))
+    for call in (ecc200.decode, ecc200.find):
+        got = call(array, most=3, milliseconds=LONG)
+        yield same(f"{call.__name__}, some of an array", (len(got), got.ended), (3, core.End.ROOM))
+    pages = [grey.crop((0, 0, 1200, 400)), Image.new("L", (90, 90), 255)]
     for name, order in (("first", pages), ("last", pages[::-1])):
         order[0].save(os.path.join(here, "pages.tif"), save_all=True, append_images=order[1:])
         for call in (ecc200.decode, ecc200.find):
