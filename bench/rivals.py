@@ -78,8 +78,8 @@ class ZxingCpp:
         """The packages without which it can't be timed."""
         if not shutil.which("c++"):
             return ["g++", "libzxing-dev"]
-        test = ["c++", "-std=c++17", "-fsyntax-only", "-include", "ZXing/BitMatrix.h", "-x", "c++", os.devnull]
-        return ["libzxing-dev"] if subprocess.run(test, stderr=subprocess.DEVNULL).returncode else []
+        test = ["c++", "-std=c++17", "-fsyntax-only", "-include", "ZXing/BitMatrix.h", "-x", "c++", "-"]
+        return ["libzxing-dev"] if subprocess.run(test, input=b"", stderr=subprocess.DEVNULL).returncode else []
 
     def build(self):
         """Compiles the program into the folder, once for both."""
@@ -116,8 +116,8 @@ class Encoder:
         """The packages without which it can't be timed."""
         if not shutil.which("cc"):
             return ["gcc", self.package]
-        test = ["cc", "-fsyntax-only", "-include", self.library + ".h", "-x", "c", os.devnull]
-        return [self.package] if subprocess.run(test, stderr=subprocess.DEVNULL).returncode else []
+        test = ["cc", "-fsyntax-only", "-include", self.library + ".h", "-x", "c", "-"]
+        return [self.package] if subprocess.run(test, input=b"", stderr=subprocess.DEVNULL).returncode else []
 
     def build(self):
         """Compiles the C program into the folder."""

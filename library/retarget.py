@@ -142,7 +142,7 @@ def compile_for(target, clang, text, folder, run):
     """Compiles the IR for a target, as ecc200.o in a folder, with these words of the toolchain's compiler. `run` runs a
     command there."""
     words = [*clang, "--no-default-config", f"--target={target.triple}", *target.flags]
-    asked = subprocess.run([*words, "-S", "-emit-llvm", "-x", "c", os.devnull, "-o", "-"], stdout=subprocess.PIPE,
+    asked = subprocess.run([*words, "-S", "-emit-llvm", "-x", "c", "-", "-o", "-"], input="", stdout=subprocess.PIPE,
                            text=True, check=True).stdout
     with open(os.path.join(folder, "ecc200.ll"), "w", encoding="utf-8") as file:
         file.write(retarget(text, target.triple, head(asked, "datalayout")))

@@ -102,7 +102,7 @@ def paths_for(folder, built, base):
 def missing():
     """What isn't installed without which nothing can be built."""
     for header, package in (("png.h", "libpng-dev"), ("jpeglib.h", "libjpeg-dev")):
-        test = ["cc", "-fsyntax-only", "-include", "stdio.h", "-include", header, "-x", "c", os.devnull]
+        test = ["cc", "-fsyntax-only", "-include", "stdio.h", "-include", header, "-x", "c", "-"]
         if not shutil.which("cc") or run(test).returncode:
             return package if shutil.which("cc") else "cc"
     return None
