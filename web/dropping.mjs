@@ -2,23 +2,24 @@
 // to lay it out takes long.
 import { MOST_OF_SHEET, MOST_TEXT } from "./common.mjs";
 import { $, field, fieldOf, folded, hint } from "./dom.mjs";
-import { showTask } from "./flow.mjs";
+import { desks, showTask } from "./flow.mjs";
 import { isGrid } from "./grids.mjs";
-import { hasLabelsAlone, labelsIn, mayHoldLabels, takeLabels } from "./labelfile.mjs";
+import { hasLabelsAlone, labelsIn, mayBeSaved, takeLabels } from "./labelfile.mjs";
 import { listChanged } from "./lines.mjs";
 import { beginEntry } from "./link.mjs";
+import { listIn } from "./listed.mjs";
 import { tooMuch } from "./messages.mjs";
 import { keptIn } from "./pdf.mjs";
-import { readGrid, readPicture, writeMessage } from "./source.mjs";
+import { readGrid, readPicture, takeSights, writeMessage } from "./source.mjs";
 import { panes } from "./state.mjs";
 import { toast } from "./taking.mjs";
 
 /** @typedef {{ picture?: File, file?: File, text?: string, note?: string, why?: string }} Brought */
 const BYTES = 4; // of a character, at most
-const MOST_BYTES_OF_LABELS = 5e7; // of a file of labels that is opened again
+const MOST_BYTES_OF_SAVED = 5e7; // of a file that the page saved, and that is opened again
 const isPicture = ({ type }) => type.startsWith("image/");
 const isText = ({ type, name }) => type.startsWith("text/") || (!type && /\.(txt|csv|grid)$/i.test(name));
-const isTextOrLabels = (file) => isText(file) || mayHoldLabels(file.name);
+const isTextOrSaved = (file) => isText(file) || mayBeSaved(file.name);
 
 // What is dropped or pasted: the first picture, or else the first file of text, or else the text; and a note on what
 // isn't looked at.
@@ -85,23 +86,26 @@ function refuseBrought(why) {
 const entered = () => [panes.write.entered, panes.read.entered, field("messages").value].join();
 /** @type {(file: File, note: string, isSheet?: boolean) => Promise<void>} */
 async function takeFile(file, note, isSheet = false) {
-  const before = entered(), { labels = null, grid = "" } = mayHoldLabels(file.name) ? await heldBy(file) : {};
+  const before = entered(), { labels = null, sights = null, grid = "" } = await heldBy(file);
   const most = isSheet ? MOST_OF_SHEET : MOST_TEXT;
-  const { text, why } = labels || grid ? { text: "", why: "" } : await textAlone(file, most);
+  const { text, why } = labels || sights || grid ? { text: "", why: "" } : await textAlone(file, most);
   if (entered() !== before) toast(`${file.name} was given up, since something else was entered meanwhile.`);
   else if (labels) openLabels(file.name, labels, note);
+  else if (sights) takeSights(file.name, sights, note);
   else if (grid) takeGridText(grid);
   else if (isSheet) takeLines(file.name, text, why, note);
   else if (why) refuseBrought(why);
   else takeText(text);
   if (note && !isSheet && !why) hint("picture-hint", `${file.name}:${note}`);
 }
-// What a file holds that the page saved: a list of labels, or the grid of one symbol.
-/** @type {(file: File) => Promise<{ labels?: import("./labelfile.mjs").Labels, grid?: string }>} */
+// What a file holds that the page saved: a list of labels, one of what was found, or the grid of one symbol.
+/** @type {(file: File) => Promise<{ labels?: import("./labelfile.mjs").Labels, sights?: any, grid?: string }>} */
 async function heldBy(file) {
-  if (file.size > MOST_BYTES_OF_LABELS) return {};
+  if (!mayBeSaved(file.name) || file.size > MOST_BYTES_OF_SAVED) return {};
   const bytes = new Uint8Array(await file.arrayBuffer()), labels = labelsIn(bytes), grid = keptIn(bytes, "Grid");
-  return { labels: labels && !tooMuch(labels.messages, MOST_OF_SHEET) ? labels : null, grid: isGrid(grid) ? grid : "" };
+  const list = labels ? null : listIn(bytes), sights = list && await desks.quick.ask("again", list, "found");
+  return { labels: labels && !tooMuch(labels.messages, MOST_OF_SHEET) ? labels : null, grid: isGrid(grid) ? grid : "",
+    sights: sights?.symbols ? sights : null };
 }
 // The text of a file that has no list of labels, or why it isn't taken.
 /** @type {(file: File, most: number) => Promise<{ text?: string, why?: string }>} */
@@ -128,7 +132,7 @@ function takeLines(name, text, why, note) {
 }
 function pasted(event) {
   if (event.defaultPrevented) return;
-  const { picture, file, text, note } = broughtBy(event.clipboardData, isTextOrLabels);
+  const { picture, file, text, note } = broughtBy(event.clipboardData, isTextOrSaved);
   const isMessage = event.target === $("message");
   if (picture) { event.preventDefault(); readPicture(picture, note); return; }
   if (file) { event.preventDefault(); takeFile(file, note, event.target === $("messages")); return; }
@@ -140,7 +144,7 @@ function dropped(event) {
   document.body.classList.remove("over");
   if (event.defaultPrevented) return;
   event.preventDefault();
-  const { picture, file, text, note, why } = broughtBy(event.dataTransfer, isTextOrLabels);
+  const { picture, file, text, note, why } = broughtBy(event.dataTransfer, isTextOrSaved);
   const { target } = event, isSheet = target === $("messages");
   const much = text && tooMuch(text, isSheet ? MOST_OF_SHEET : MOST_TEXT);
   if (picture) readPicture(picture, note);
@@ -150,6 +154,12 @@ function dropped(event) {
   else if (isSheet || (target === $("message") && !isGrid(text))) insert(target, text);
   else if (text) takeText(text);
 }
+/** @type {(id: string, take: (file: File) => any) => void} */
+const whenOpened = (id, take) => $(id).addEventListener("change", (event) => {
+  const [file] = fieldOf(event).files;
+  if (file) take(file);
+  fieldOf(event).value = "";
+});
 export function wireDropping() {
   addEventListener("paste", pasted);
   addEventListener("dragover", (event) => { event.preventDefault(); document.body.classList.add("over"); });
@@ -157,9 +167,7 @@ export function wireDropping() {
   addEventListener("drop", dropped);
   for (const name of ["message", "grid"]) bound(field(name), (why) => hint(`${name}-hint`, why, true));
   bound(field("messages"), (why) => hint("sheet-hint", why, true), MOST_OF_SHEET);
-  $("lines").addEventListener("change", (event) => {
-    const [file] = fieldOf(event).files;
-    if (file) takeFile(file, "", true);
-    fieldOf(event).value = "";
-  });
+  whenOpened("lines", (file) => takeFile(file, "", true));
+  whenOpened("saved", (file) => takeFile(file, ""));
+  whenOpened("picture", readPicture);
 }

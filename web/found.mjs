@@ -1,42 +1,19 @@
 // What was found in a picture, or by the camera: outlined on it, and listed with what it says, in reading order. One of
 // it is at hand.
-import { plural, shapeWords } from "./common.mjs";
-import { $, hint, made, shape } from "./dom.mjs";
+import { plural } from "./common.mjs";
+import { $, hint, made, setUsable, shape, whenUsed } from "./dom.mjs";
 import { desks, take } from "./flow.mjs";
-import { typed } from "./gs1.mjs";
+import { csvOf, jsonOf, remarksOn, saidBy, whyUnread } from "./listed.mjs";
 import { brokenWords, enter, isBroken, refuse, whenEntered } from "./order.mjs";
 import { panes } from "./state.mjs";
 import { copyText, save } from "./taking.mjs";
-import { borne, refusal } from "./words.mjs";
 
-/** @typedef {import("./pictures.mjs").Sighted & { seen?: import("./examine.mjs").Seen }} Sighted */
+/** @typedef {import("./listed.mjs").Sighted} Sighted */
 /** @typedef {{ symbols: Sighted[], unread: Sighted[], isComplete: boolean, width: number, height: number,
     view?: ImageBitmap }} Sights */
 /** @type {{ list: Sighted[], isComplete: boolean, chosen: Sighted | null }} */
 const scene = { list: [], isComplete: true, chosen: null };
 let isOwn = false; // whether what is entered is chosen here
-const LEAST_SPARE = "Too few corrections are left unused to tell whether that is right.";
-
-// ---- What it says
-
-/** @type {(symbol: Sighted) => string} */
-const saidBy = ({ items }) => typed(items);
-/** @type {(symbol: Sighted) => string} */
-export const whyUnread = ({ fault, seen }) => (fault ? refusal(fault, seen) : LEAST_SPARE);
-/** @type {(symbol: Sighted) => string} */
-function remarksOn(symbol) {
-  const { how, isRead, corrected, erased, border } = symbol;
-  const parts = [shapeWords(symbol), how, isRead ? borne({ corrected, erased, border }) : ""];
-  return parts.filter(Boolean).join("; ");
-}
-/** @type {(symbol: Sighted) => object} */
-const recordOf = (symbol) => {
-  const { rows, columns, isRead, items, corners, how, limit, doubtful, corrected, erased, border } = symbol;
-  const place = corners.map(({ x, y }) => [x, y].map((at) => Math.round(10 * at) / 10));
-  if (!isRead) return { read: false, why: whyUnread(symbol), rows, columns, corners: place, stands: how };
-  return { read: true, text: saidBy(symbol), items, rows, columns, corners: place, stands: how, corrected, erased,
-    border, borderLimit: limit, doubtful: doubtful ? [...doubtful.keys()].filter((k) => doubtful[k]) : [] };
-};
 
 // ---- Drawing
 
@@ -66,6 +43,7 @@ function entryOf(symbol) {
 function drawList() {
   const { list, isComplete, chosen } = scene, read = list.filter(({ isRead }) => isRead).length;
   $("found").hidden = list.length - read === 0 && read < 2 && isComplete;
+  setUsable("found-copy", read > 0);
   $("found-title").textContent = plural(read, "symbol is read", "symbols are read");
   const unread = list.length - read, more = isComplete ? "" : "There may be more: the time for a picture was over.";
   const not = unread ? `${plural(unread, "is", "are")} seen and not read.` : "";
@@ -128,22 +106,13 @@ export function choose(symbol) {
     else take(it, { rows, columns, modules, doubtful, limit, seen });
   }));
 }
-const quoted = (field) => (/[",\n]/.test(field) ? `"${field.replace(/"/g, '""')}"` : field);
-function csvOf(list) {
-  const rows = list.map((symbol, k) => [String(k + 1), symbol.isRead ? saidBy(symbol) : "", shapeWords(symbol),
-    symbol.isRead ? "" : whyUnread(symbol)]);
-  const all = [["number", "message", "modules", "not read"], ...rows];
-  return all.map((row) => `${row.map(quoted).join(",")}\n`).join("");
-}
 export function wireFound() {
   whenEntered((it) => { if (it === panes.read && !isOwn) clearSights(); });
   const read = () => scene.list.filter(({ isRead }) => isRead);
   const file = (text, type) => new Blob([text], { type });
-  $("found-copy").addEventListener("click", () => copyText(read().map((it) => `${saidBy(it)}\n`).join(""),
+  whenUsed("found-copy", () => copyText(read().map((it) => `${saidBy(it)}\n`).join(""),
     `Copied: ${plural(read().length, "message", "messages")}`));
   $("found-csv").addEventListener("click", () => save(file(csvOf(scene.list), "text/csv"), "found.csv"));
-  $("found-json").addEventListener("click", () => {
-    const all = { complete: scene.isComplete, symbols: scene.list.map(recordOf) };
-    save(file(`${JSON.stringify(all, null, 1)}\n`, "application/json"), "found.json");
-  });
+  $("found-json").addEventListener("click", () =>
+    save(file(jsonOf(scene.list, scene.isComplete), "application/json"), "found.json"));
 }

@@ -27,7 +27,7 @@ export const labelsFile = () => ({ name: NAME, bytes: new TextEncoder().encode(l
 
 const PDF_START = "%PDF-", ZIP_START = "PK\u0003\u0004";
 /** @type {(name: string) => boolean} */
-export const mayHoldLabels = (name) => /\.(json|pdf|zip)$/i.test(name);
+export const mayBeSaved = (name) => /\.(json|pdf|zip)$/i.test(name);
 // Whether a file has nothing else that is taken.
 /** @type {(name: string) => boolean} */
 export const hasLabelsAlone = (name) => /\.(pdf|zip)$/i.test(name);

@@ -53,3 +53,13 @@ export function laidOut(entries, { page: [width, height], columns, rows, ...labe
   }
   return { pages };
 }
+// Where a symbol stands on the label that is chosen, or why it doesn't; nothing if none is.
+/** @type {(entry: import("./entries.mjs").Entry, module: number) =>
+    { why?: string, label?: Stock, placed?: import("./pdf.mjs").Placed }} */
+export function onLabel(entry, module) {
+  const stock = stockNow();
+  if (!stock) return {};
+  if ("why" in stock) return stock;
+  const label = roll(stock.width, stock.height), { why, pages } = laidOut([entry], label, module);
+  return why ? { why } : { label, placed: pages[0].placed[0] };
+}

@@ -12,13 +12,17 @@ import { hasQrCode } from "./qr.mjs";
     border: number, corrected: number[], erased: number[], doubtful: Uint8Array | null, limit: number | null,
     fault: any, isExact?: boolean }} Sighted a symbol in a picture; its limit is null where that is the usual one; it is
     exact if the picture is its grid */
+/** @typedef {Grid & { corners: import("./sampler.mjs").Point[], isRead: boolean, how: string,
+    doubtful: Uint8Array | null, limit: number | null }} Kept of a symbol in a list that was saved */
 /** @typedef {{ grey: Uint8Array, width: number, height: number, scale: number, contrast: number,
-    isOneColour: boolean, view: ImageBitmap }} Look at a picture: `scale` of its pixels each way make one */
+    between: [number, number], isOneColour: boolean, view: ImageBitmap }} Look at a picture: `scale` of its pixels each
+    way make one; by how much its greys differed, and between which they are now */
 /** @typedef {{ why?: string, symbols: Sighted[], unread: Sighted[], isComplete: boolean, notes: string, left: number,
     width: number, height: number, view?: ImageBitmap }} Sights in a picture; how much of its time is left */
 const MOST_PIXELS = 4e7, MOST_SAMPLED = 1.6e7; // of a picture, and of what is looked at
 const SHOWN_LENGTH = 1024, LENGTH_OF_CODES = 1400; // pixels of the longer side: shown, and searched for other codes
-const MOST_TIME = 3000, MOST_SYMBOLS = 400, MOST_UNREAD = 8; // milliseconds for a picture
+const MOST_TIME = 3000, TIME_OF_CODES = 200; // milliseconds for a picture, of which for other codes at least
+const MOST_SYMBOLS = 400, MOST_UNREAD = 8;
 // Of 255: below the first nothing is told apart, below the second greys are spread.
 const NO_CONTRAST = 4, LITTLE_CONTRAST = 32;
 
@@ -30,27 +34,30 @@ function sizeAt({ width, height }, share) {
   return { width: scaled(width), height: scaled(height), scale: 1 / share };
 }
 const canvasOf = (bitmap, { width, height }) => {
-  const canvas = new OffscreenCanvas(width, height), pen = canvas.getContext("2d", { willReadFrequently: true });
-  pen.imageSmoothingQuality = "high";
+  const canvas = new OffscreenCanvas(width, height);
+  const pen = canvas.getContext("2d", { willReadFrequently: true, alpha: false });
+  [pen.imageSmoothingQuality, pen.fillStyle] = ["medium", "#fff"];
+  pen.fillRect(0, 0, width, height); // what is transparent is seen on white paper
   pen.drawImage(bitmap, 0, 0, width, height);
   return { canvas, pen };
 };
 const isOneColour = ({ data }) => new Uint32Array(data.buffer).every((pixel, _, all) => pixel === all[0]);
-// Spreads greys that differ little over the whole range; by how much they differed.
+// Spreads greys that differ little over the whole range; by how much they differed, and between which they are now.
+/** @type {(grey: Uint8Array) => { contrast: number, between: [number, number] }} */
 function spread(grey) {
   const [least, most] = extent(grey), contrast = most - least;
-  if (contrast < NO_CONTRAST || contrast >= LITTLE_CONTRAST) return contrast;
+  if (contrast < NO_CONTRAST || contrast >= LITTLE_CONTRAST) return { contrast, between: [least, most] };
   for (let k = 0; k < grey.length; k++) grey[k] = ((grey[k] - least) * 255) / contrast;
-  return contrast;
+  return { contrast, between: [0, 255] };
 }
 /** @type {(bitmap: ImageBitmap) => Look} */
 function lookOf(bitmap) {
   const size = sizeAt(bitmap, Math.min(1, Math.sqrt(MOST_SAMPLED / (bitmap.width * bitmap.height))));
   const pixels = canvasOf(bitmap, size).pen.getImageData(0, 0, size.width, size.height);
-  const grey = luminanceOf(pixels), contrast = spread(grey);
+  const grey = luminanceOf(pixels), { contrast, between } = spread(grey);
   const small = sizeAt(bitmap, Math.min(1, SHOWN_LENGTH / Math.max(bitmap.width, bitmap.height)));
   const view = canvasOf(bitmap, small).canvas.transferToImageBitmap();
-  return { ...size, grey, contrast, isOneColour: contrast === 0 && isOneColour(pixels), view };
+  return { ...size, grey, contrast, between, isOneColour: contrast === 0 && isOneColour(pixels), view };
 }
 function alike({ contrast, isOneColour: isOne }) {
   if (isOne) return "The picture has only one colour.";
@@ -77,32 +84,44 @@ const sightedBy = (lib, scale) => (symbol) => {
   return { rows, columns, modules, doubtful, items, border, corrected, erased, fault, corners,
     isRead: !fault && hasMargin, how: standing(symbol), limit: limit === lib.usualLimit(symbol) ? null : limit };
 };
-// The symbols of a look, as many as are wanted, in reading order.
-/** @type {(ecc200: Ecc200, look: Look, most: number, milliseconds: number) => Sights} */
-function sampled({ library, sampler }, look, most, milliseconds) {
-  const { grey, width, height, scale } = look, begun = performance.now(), sighted = sightedBy(library, scale);
+// The symbols of a look, as many as are wanted, in reading order; found by the time `end` at the latest.
+/** @type {(ecc200: Ecc200, look: Look, most: number, end: number) => Sights} */
+function sampled({ library, sampler }, look, most, end) {
+  const { grey, width, height, scale } = look, sighted = sightedBy(library, scale);
+  const milliseconds = Math.max(1, end - performance.now());
   const { symbols, unread, ended, hasNoMemory } =
     sampler.find(grey, width, height, { most, mostUnread: MOST_UNREAD, milliseconds });
   return { symbols: symbols.map(sighted), unread: unread.map(sighted),
     isComplete: ended === SAMPLER.WHOLE,
-    notes: "", left: milliseconds - (performance.now() - begun), width: width * scale, height: height * scale,
+    notes: "", left: end - performance.now(), width: width * scale, height: height * scale,
     why: hasNoMemory ? "There is no memory for this picture." : "" };
 }
 // The symbol of a picture that is a grid; one that isn't read has the border of a symbol at least; null if there is
 // none.
 /** @type {(ecc200: Ecc200, look: Look) => Sighted | null} */
-function gridSymbol({ library }, { grey, width, scale }) {
-  const all = gridsOfPixels(grey, width).filter(({ grid }) => hasShape(library, grid));
+function gridSymbol({ library }, { grey, width, scale, between }) {
+  const all = gridsOfPixels(grey, width, between).filter(({ grid }) => hasShape(library, grid));
   const some = all.map(({ grid, frame }) => ({ ...found(library, grid), grid, frame }));
   const symbol = some.find(({ isRead }) => isRead) ?? some.find(({ grid }) => hasBorder(library, grid));
   if (!symbol) return null;
   const { frame: { left, top, width: wide, height: high }, isRead, how, rows, columns, modules } = symbol;
   const corners = [[left, top], [left + wide, top], [left + wide, top + high], [left, top + high]]
     .map(([x, y]) => ({ x: x * scale, y: y * scale }));
+  return readAs(library, { rows, columns, modules, corners, isRead, how, doubtful: null, limit: null });
+}
+// A symbol with what the library says of it.
+/** @type {(library: import("./library.mjs").Library, symbol: Kept) => Sighted} */
+function readAs(library, symbol) {
   const { items = [], border = 0, corrected = [], erased = [], fault = null } =
-    library.read(symbol, library.usualLimit(symbol));
-  return { rows, columns, modules, corners, isRead, how, items, border, corrected, erased, doubtful: null, limit: null,
-    fault };
+    library.read(symbol, symbol.limit ?? library.usualLimit(symbol), symbol.doubtful);
+  return { ...symbol, isRead: symbol.isRead && !fault, items, border, corrected, erased, fault };
+}
+// What a list that was saved has, as the library reads it now.
+/** @type {(library: import("./library.mjs").Library, list: import("./listed.mjs").List) => Sights} */
+export function foundBefore(library, { symbols, isComplete }) {
+  const all = symbols.filter((symbol) => library.sizeOf(symbol)).map((symbol) => readAs(library, symbol));
+  return { ...nothing(""), isComplete, symbols: all.filter(({ isRead }) => isRead),
+    unread: all.filter(({ isRead }) => !isRead) };
 }
 // A picture of which every n-th pixel is left, if it is large.
 function smaller({ grey, width, height }) {
@@ -117,7 +136,8 @@ function smaller({ grey, width, height }) {
 const NEAR = 3; // pixels
 const isNear = (one, other) => Math.hypot(one.x - other.x, one.y - other.y) < NEAR;
 
-/** @type {{ look: Look, sights: Sights } | null} the picture that was looked at last, if not all is said of it */
+/** @type {{ look: Look, sights: Sights, end: number } | null} the picture that was looked at last, if not all is said
+    of it, and when its time is over */
 let kept = null;
 const nothing = (why) => ({ why, symbols: [], unread: [], isComplete: true, notes: "", left: 0, width: 0, height: 0 });
 const NONE_FOUND = "No symbol that can be read was found in the picture.";
@@ -133,17 +153,18 @@ export async function firstInPicture(ecc200, { file, bitmap: given, most = 1, ti
   const look = lookOf(bitmap);
   if (look.contrast < NO_CONTRAST) return { ...nothing(alike(look)), view: look.view };
   tell("looking for symbols");
+  const end = performance.now() + time;
   const grid = gridSymbol(ecc200, look), isGrid = grid?.isRead;
   const sights = isGrid ? { ...nothing(""), symbols: [grid], width: bitmap.width, height: bitmap.height }
-    : sampled(ecc200, look, most, time);
+    : sampled(ecc200, look, most, end - TIME_OF_CODES);
   if (!isGrid && grid && !sights.symbols.length) sights.unread = [{ ...grid, isExact: true }];
-  kept = { look, sights };
-  return { ...sights, ...(sights.symbols.length ? {} : remarked(look, sights)), view: look.view };
+  kept = { look, sights, end };
+  return { ...sights, ...(sights.symbols.length ? {} : remarked(look, sights, end)), view: look.view };
 }
 // What is said of a picture in which nothing is read. What looks like a symbol there, in a QR code, is none.
-/** @type {(look: Look, sights: Sights) => Partial<Sights>} */
-function remarked(look, { unread, why }) {
-  const isQr = hasQrCode(smaller(look)), { contrast } = look;
+/** @type {(look: Look, sights: Sights, end: number) => Partial<Sights>} */
+function remarked(look, { unread, why }, end) {
+  const isQr = hasQrCode(smaller(look), end), { contrast } = look;
   const other = isQr ? " It shows a QR code, which isn’t a Data Matrix symbol." : "";
   const notes = contrast < LITTLE_CONTRAST ? ` Its contrast is low: its greys differ by ${contrast} of 255.` : "";
   return { notes, unread: isQr ? [] : unread, why: why || `${NONE_FOUND}${other}${notes}` };
@@ -152,10 +173,10 @@ function remarked(look, { unread, why }) {
 /** @type {(ecc200: Ecc200) => Sights | null} */
 export function restOfPicture(ecc200) {
   if (!kept) return null;
-  const { look, sights } = kept;
+  const { look, sights, end } = kept;
   kept = null;
-  if (sights.left <= 0 || sights.isComplete) return sights;
-  const rest = sampled(ecc200, look, MOST_SYMBOLS, sights.left);
+  if (sights.isComplete) return sights;
+  const rest = sampled(ecc200, look, MOST_SYMBOLS, end);
   const isThere = ({ corners }) => rest.symbols.some((other) => isNear(corners[0], other.corners[0]));
   return { ...rest, symbols: [...sights.symbols.filter((symbol) => !isThere(symbol)), ...rest.symbols] };
 }

@@ -6,19 +6,21 @@ import { MOST_COLUMNS, MOST_ROWS } from "./common.mjs";
 /** @typedef {{ left: number, top: number, width: number, height: number }} Frame in pixels */
 const MOST_SIDE = Math.max(MOST_ROWS, MOST_COLUMNS);
 
+// The least and the most of many greys. A plain loop, since there may be millions.
+/** @type {(grey: Uint8Array) => [number, number]} */
 export function extent(grey) {
   let least = 255, most = 0;
-  for (const value of grey) {
-    if (value < least) least = value;
-    if (value > most) most = value;
+  for (let k = 0; k < grey.length; k++) {
+    if (grey[k] < least) least = grey[k];
+    if (grey[k] > most) most = grey[k];
   }
   return [least, most];
 }
 const gcd = (a, b) => { while (b) [a, b] = [b, a % b]; return a; };
 // Of each pixel whether it is dark, if the picture has two colours that are told apart; else null.
-/** @type {(grey: Uint8Array) => Uint8Array | null} */
-function twoColours(grey) {
-  const [least, most] = extent(grey), dark = new Uint8Array(grey.length), reach = (most - least) / 4;
+/** @type {(grey: Uint8Array, between: [number, number]) => Uint8Array | null} */
+function twoColours(grey, [least, most]) {
+  const dark = new Uint8Array(grey.length), reach = (most - least) / 4;
   for (let k = 0; k < grey.length; k++) {
     const isDark = grey[k] <= least + reach;
     if (!isDark && grey[k] < most - reach) return null;
@@ -64,9 +66,9 @@ function gridIn(dark, width, { left, top, width: wide, height: high }) {
   return { modules, rows, columns };
 }
 // The grids that a picture may be: in the frame of what is dark in it, and in that of what is light.
-/** @type {(grey: Uint8Array, width: number) => { grid: Grid, frame: Frame }[]} */
-export function gridsOfPixels(grey, width) {
-  const dark = twoColours(grey);
+/** @type {(grey: Uint8Array, width: number, between: [number, number]) => { grid: Grid, frame: Frame }[]} */
+export function gridsOfPixels(grey, width, between) {
+  const dark = twoColours(grey, between);
   if (!dark) return [];
   const frames = [frameOf(dark, width, 1), frameOf(dark, width, 0)];
   return frames.map((frame) => ({ frame, grid: gridIn(dark, width, frame) })).filter(({ grid }) => grid);

@@ -1,23 +1,39 @@
 // Labels of the list of many messages, as they will be: three at a time, the first ones first.
 import { plural } from "./common.mjs";
-import { $, folded, hint, made, setUsable, whenUsed } from "./dom.mjs";
+import { $, folded, hint, made, setUsable, shape, whenUsed } from "./dom.mjs";
 import { entriesOf, faultIn } from "./entries.mjs";
 import { whenShown } from "./flow.mjs";
 import { readable } from "./gs1.mjs";
+import { onLabel } from "./labels.mjs";
 import { linesNow, versionNow, whenListed } from "./lines.mjs";
+import { SIZE, fittedText } from "./pdf.mjs";
 import { store } from "./state.mjs";
-import { drawingOf } from "./taking.mjs";
+import { drawingOf, millimetres, sizeNow } from "./taking.mjs";
 
 const AT_ONCE = 3, AFTER_A_KEY = 150; // labels; milliseconds after the last key
 let from = 0; // the first line that is shown
 let timerOfLabels = null;
 
+// A label with its symbol and its text.
+/** @type {(placed: import("./pdf.mjs").Placed, label: { width: number, height: number }) => SVGElement} */
+function labelDrawn({ grid, x, y, text, width: room }, { width, height }) {
+  const symbol = drawingOf(grid), size = sizeNow(grid), fitted = fittedText(text, room);
+  for (const [name, value] of Object.entries({ x, y, ...size })) symbol.setAttribute(name, String(value));
+  const below = { x: width / 2, y: y + size.height + SIZE, "text-anchor": "middle", "font-size": fitted.size,
+    "font-family": "Courier, monospace", textLength: fitted.length, lengthAdjust: "spacingAndGlyphs" };
+  return shape("svg", { viewBox: `0 0 ${width} ${height}` },
+    shape("path", { fill: "#fff", d: `M0 0h${width}v${height}H0z` }), symbol,
+    ...(text ? [shape("text", below, fitted.cut)] : []));
+}
 /** @type {(entry: import("./entries.mjs").Entry) => Node} */
-function labelShown({ number, grid, text, items, copies, why }) {
-  const many = copies === 1 ? "" : `, ${plural(copies, "copy", "copies")}`, told = `${number}${many}: `;
-  if (why) return made("figure", {}, made("p", { className: "hint bad", textContent: `${told}${why}` }));
-  return made("figure", {}, drawingOf(grid), made("figcaption", { textContent: text }),
-    made("p", {}, told, made("code", { textContent: readable(items) })));
+function labelShown(entry) {
+  const { number, grid, text, items, copies } = entry, stand = entry.why ? {} : onLabel(entry, millimetres());
+  const told = `${number}${copies === 1 ? "" : `, ${plural(copies, "copy", "copies")}`}: `;
+  const why = entry.why ? `${told}${entry.why}` : stand.why;
+  if (why) return made("figure", {}, made("p", { className: "hint bad", textContent: why }));
+  const { label, placed } = stand;
+  const drawn = label ? [labelDrawn(placed, label)] : [drawingOf(grid), made("figcaption", { textContent: text })];
+  return made("figure", {}, ...drawn, made("p", {}, told, made("code", { textContent: readable(items) })));
 }
 /** @type {(lines: import("./csv.mjs").Line[]) => void} */
 function drawSteps(lines) {

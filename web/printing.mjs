@@ -8,7 +8,7 @@ import { labelsFile, labelsText } from "./labelfile.mjs";
 import { laidOut, stockNow } from "./labels.mjs";
 import { versionNow } from "./lines.mjs";
 import { paperNow, setPage, setPageSize, tooWide } from "./paper.mjs";
-import { pdfOf } from "./pdf.mjs";
+import { fittedText, pdfOf } from "./pdf.mjs";
 import { profileNow } from "./source.mjs";
 import { VALID, WORKING, mark } from "./state.mjs";
 import { QUIET } from "./symbol.mjs";
@@ -79,10 +79,10 @@ function pagesNow(entries) {
 // A label on a page, at its place.
 /** @type {(placed: import("./pdf.mjs").Placed) => Node} */
 function labelled({ grid, x, y, text, width }) {
-  const node = made("figure", {}, drawingOf(grid), made("figcaption", { textContent: text })), own = sizeNow(grid);
+  const own = sizeNow(grid), { cut, size } = fittedText(text, width), left = `${(own.width - width) / 2}mm`;
+  const below = made("figcaption", { textContent: cut }), node = made("figure", {}, drawingOf(grid), below);
   Object.assign(node.style, { left: `${x}mm`, top: `${y}mm` });
-  const left = `${(own.width - width) / 2}mm`;
-  Object.assign(node.lastChild.style, { width: `${width}mm`, left, top: `${own.height}mm` });
+  Object.assign(below.style, { width: `${width}mm`, left, top: `${own.height}mm`, fontSize: `${size}mm` });
   return node;
 }
 /** @type {(pages: import("./pdf.mjs").Page[]) => void} */

@@ -1,11 +1,12 @@
 // Whether a picture shows a QR code, which isn't read here: three of its finder patterns, squares within squares, of
-// which every line through the middle crosses dark, light, dark, light and dark as 1 : 1 : 3 : 1 : 1, stand at the
-// corners of a square (ISO/IEC 18004).
+// which every line through the middle crosses dark, light, dark, light and dark as 1 : 1 : 3 : 1 : 1, with light around
+// them, stand at the corners of a square (ISO/IEC 18004).
 
 /** @typedef {{ grey: Uint8Array, width: number, height: number }} Picture */
 /** @typedef {{ x: number, y: number, module: number }} Pattern by its middle, in pixels, and the width of a module */
-const RATIOS = [1, 1, 3, 1, 1], MODULES = 7; // of a pattern
+const RATIOS = [1, 1, 3, 1, 1], MODULES = 7, LEAST_MODULE = 2; // of a pattern; pixels
 const ARM = [1.5, 1, 1], ARM_LENGTH = 3.5, ARMS = 16, LEAST_ARMS = 13; // from the middle outwards, in all directions
+const AROUND = 0.6; // of a module: light that is behind an arm, at least
 const MOST_PATTERNS = 40; // that are looked at
 const TOLERANCE = 0.6; // of a run's length, by which it may be longer or shorter
 
@@ -48,32 +49,33 @@ function crossings(dark, start, step, count) {
     if (last < 5 || !dark[start + (k - 1) * step]) continue;
     const lengths = RATIOS.map((_, j) => ends[last - 4 + j] - ends[last - 5 + j]);
     const module = moduleOf(lengths, RATIOS, MODULES);
-    if (module) found.push({ at: (ends[last - 3] + ends[last - 2]) / 2, module });
+    if (module >= LEAST_MODULE) found.push({ at: (ends[last - 3] + ends[last - 2]) / 2, module });
   }
   return found;
 }
-// Whether the runs outwards from a place are those of a pattern's middle.
+// Whether the runs outwards from a place are those of a pattern's middle, with light behind them.
 /** @type {(dark: Uint8Array, picture: Picture, at: { x: number, y: number }, angle: number) => boolean} */
 function isArm(dark, { width, height }, { x, y }, angle) {
   const [dx, dy] = [Math.cos(angle) / 2, Math.sin(angle) / 2], lengths = [0];
   for (let k = 0; ; k++) {
-    const [px, py] = [Math.floor(x + k * dx), Math.floor(y + k * dy)], isDark = lengths.length % 2;
+    const [px, py] = [Math.floor(x + k * dx), Math.floor(y + k * dy)], last = lengths.length - 1;
     if (px < 0 || py < 0 || px >= width || py >= height) return false;
-    if (dark[py * width + px] !== isDark && lengths.length === ARM.length) break;
-    if (dark[py * width + px] !== isDark) lengths.push(0);
-    lengths[lengths.length - 1]++;
+    if (last === ARM.length && lengths[last] >= AROUND * lengths[last - 1])
+      return moduleOf(lengths.slice(0, last), ARM, ARM_LENGTH) > 0;
+    if (dark[py * width + px] === lengths.length % 2) lengths[last]++;
+    else if (last < ARM.length) lengths.push(1);
+    else return false;
   }
-  return moduleOf(lengths, ARM, ARM_LENGTH) > 0;
 }
 // The patterns, which lines through the middle cross in all directions as they cross them along rows and columns.
-/** @type {(picture: Picture) => Pattern[]} */
-function patternsIn(picture) {
+/** @type {(picture: Picture, end: number) => Pattern[]} */
+function patternsIn(picture, end) {
   const { width, height } = picture, dark = darkPixels(picture);
   /** @type {Pattern[]} */
   const patterns = [];
   const columns = new Map();
   const ofColumn = (x) => columns.get(x) ?? columns.set(x, crossings(dark, x, width, height)).get(x);
-  for (let y = 0; y < height; y++) {
+  for (let y = 0; y < height && patterns.length < MOST_PATTERNS && performance.now() < end; y++) {
     for (const { at: x, module } of crossings(dark, y * width, 1, width)) {
       if (patterns.some((other) => Math.hypot(other.x - x, other.y - y) < 3 * module)) continue;
       const own = ofColumn(Math.floor(x)).find((other) => Math.abs(other.at - y) <= 2 * module
@@ -96,9 +98,10 @@ function areCorners(corner, a, b) {
   const side = Math.max(long, wide) / module + MODULES;
   return Math.abs(cosine) < 0.4 && Math.min(long, wide) > 0.6 * Math.max(long, wide) && side > 17 && side < 200;
 }
-/** @type {(picture: Picture) => boolean} */
-export function hasQrCode(picture) {
-  const patterns = patternsIn(picture).slice(0, MOST_PATTERNS);
+// Looks until the time `end` at most.
+/** @type {(picture: Picture, end: number) => boolean} */
+export function hasQrCode(picture, end) {
+  const patterns = patternsIn(picture, end);
   return patterns.some((corner) => patterns.some((a, k) => a !== corner
     && patterns.slice(k + 1).some((b) => b !== corner && areCorners(corner, a, b))));
 }

@@ -1,10 +1,10 @@
 // Where the symbol comes from: a message, a grid, or a picture.
 import { bitmapOf } from "./bitmap.mjs";
 import { ASCII, MOST_TEXT, SHORTER, TOO_LONG, plural, shapeWords } from "./common.mjs";
-import { $, allOf, field, fieldOf, hint, made, withCode } from "./dom.mjs";
+import { $, allOf, field, hint, made, withCode } from "./dom.mjs";
 import { C40, EDIFACT, TURNED } from "./examples.mjs";
 import { begin, desks, setLimit, showTask, take, whenShown } from "./flow.mjs";
-import { isShown, keepingSights, showSights, whyUnread } from "./found.mjs";
+import { choose, clearSights, isShown, keepingSights, showSights } from "./found.mjs";
 import { gridText } from "./grids.mjs";
 import { itemsOf, itemsTyped, whyNot } from "./gs1.mjs";
 import { beginEntry, tellLink } from "./link.mjs";
@@ -24,6 +24,7 @@ export const itemsNow = (text) => KINDS[kindNow()](text);
 /** @type {Record<string, (text: string) => any>} */
 const KINDS = { typed: itemsTyped, text: itemsOfText, message: itemsOf };
 export const kindNow = () => Object.keys(KINDS).find((kind) => field(`kind-${kind}`).checked);
+const LIKEST = " What looks most like one is outlined, and listed with the reason.";
 const STILL = "The symbol that is shown is the one before, and isn’t read.";
 
 // ---- The message
@@ -196,7 +197,7 @@ function takePicture(sights, name, note) {
   const symbol = symbols[0] ?? unread.find(({ isExact }) => isExact);
   if (view) showSights(sights, symbol);
   if (!symbol) {
-    const why = isBroken(sights) ? brokenWords(sights) : `${sights.why}${likest(unread[0])}`;
+    const why = isBroken(sights) ? brokenWords(sights) : `${sights.why}${unread.length ? LIKEST : ""}`;
     hint("picture-hint", `${name}: ${why}${note}`, true);
     keepingSights(() => refuse(it, `${name}: ${why}`));
   } else {
@@ -207,10 +208,6 @@ function takePicture(sights, name, note) {
   }
   if (sights.left > 0 && !sights.isComplete) takeRest(name, symbol, note); else retire(sights);
 }
-// What looks most like a symbol where none is read, in words.
-/** @type {(symbol: any) => string} */
-const likest = (symbol) =>
-  (symbol ? ` What looks most like one is outlined: ${shapeWords(symbol)}. ${whyUnread(symbol)}` : "");
 /** @type {(symbol: any) => string} */
 function pictureWords(symbol) {
   const stands = symbol.how ? `The symbol is ${symbol.how}, and shown upright.` : "Read as it stands.";
@@ -229,6 +226,18 @@ async function takeRest(name, first, note) {
 const NEAR = 3; // pixels
 // The worker's memory never shrinks: after a large picture another worker begins.
 const retire = ({ isLarge }) => { if (isLarge) desks.pictures.retire(); };
+
+// What was found before, by a list that was saved.
+/** @type {(name: string, sights: import("./found.mjs").Sights, note: string) => void} */
+export function takeSights(name, sights, note) {
+  const [first] = [...sights.symbols, ...sights.unread];
+  beginEntry();
+  showTask("read");
+  clearSights();
+  showSights(sights);
+  if (first) choose(first); else clear(panes.read);
+  hint("picture-hint", `The list of ${name}.${note}`);
+}
 
 // ---- From a link
 
@@ -293,6 +302,7 @@ function wireTabs() {
 }
 function wireMessage() {
   whenShown((task) => { if (task === "make") fitHeight(field("message")); }); // which has no height out of sight
+  addEventListener("resize", () => fitHeight(field("message")));
   $("message").addEventListener("input", () => writeMessage());
   $("message").addEventListener("keydown", (event) => {
     if (event.key === "Enter" && kindNow() !== "text") event.preventDefault();
@@ -311,9 +321,4 @@ export function wireSource() {
   for (const [id, text] of Object.entries({ c40: C40, turned: TURNED, edifact: EDIFACT }))
     $(`example-${id}`).addEventListener("click", () => { field("grid").value = text; readGrid(); });
   $("take-written").addEventListener("click", readWritten);
-  $("picture").addEventListener("change", (event) => {
-    const [file] = fieldOf(event).files;
-    if (file) readPicture(file);
-    fieldOf(event).value = "";
-  });
 }

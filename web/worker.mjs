@@ -5,7 +5,7 @@ import { ASCII, SHORTER, SQUARE, TOO_LONG, messageOf } from "./common.mjs";
 import { Ecc200 } from "./ecc200.mjs";
 import { damaged, examine, mostThatFit, plainMap } from "./examine.mjs";
 import { found, gridFrom } from "./grids.mjs";
-import { firstInPicture, restOfPicture } from "./pictures.mjs";
+import { firstInPicture, foundBefore, restOfPicture } from "./pictures.mjs";
 
 /** @typedef {import("./common.mjs").Grid} Grid */
 /** @type {Ecc200} */
@@ -71,6 +71,7 @@ const ANSWERS = {
   grid: (text) => shownOf(gridGiven(text)),
   picture,
   rest: () => sightsShown(restOfPicture(ecc200), 0),
+  again: (list) => sightsShown(foundBefore(lib, list), 1),
   // What stands in one side of the comparison: items, the text of a grid, or a picture.
   async judge({ items, grid, picture: image }) {
     if (image) return judged(oneOf(await picture(image)));

@@ -15,6 +15,7 @@ import tempfile
 import time
 
 from tests.page import browser
+from tests.page.javascript import uses
 from tests.page.parts import PARTS, fault_of, load
 from tests.page.stage import (
     By,
@@ -39,6 +40,8 @@ from tests.support import needs, places
 sys.path.insert(0, places.path("web"))
 import pack
 
+BESIDE = ("mitsubadoor.webmanifest", "offline.js")
+
 
 def tried(file, parts):
     """Runs these parts over a page, each over one that is loaded anew, until one fails."""
@@ -51,10 +54,23 @@ def tried(file, parts):
     count.expect("console", [entry["message"] for entry in on.page.get_log("browser")], [])
 
 
+def laid(library, sampler, sources):
+    """Packs the page and the module for other programs anew, and lays what keeps the page beside them; gives the page's
+    file."""
+    page, on.module, on.beside = (on.folder / name for name in ("spoilt.html", "spoilt.mjs", "beside"))
+    page.write_text(pack.packed(library, sampler, sources), encoding="utf-8")
+    on.module.write_text(pack.packed_module(library, sampler, sources), encoding="utf-8")
+    on.beside.mkdir(exist_ok=True)
+    for name in BESIDE:
+        (on.beside / name).write_text(sources[name], encoding="utf-8")
+    return page
+
+
 def planted(library, sampler, word):
-    """Each bug of bugs.txt, planted in a module of the page, which is packed anew: whether the test fails, and at
+    """Each bug of bugs.txt, planted in a module of the page or in what stands beside it: whether the test fails, and at
     what."""
-    sound, passed, failed = pack.sources(), 0, 0
+    beside = {name: places.text_of("web", "installed", name) for name in BESIDE}
+    sound, passed, failed = {**pack.sources(), **beside}, 0, 0
     for block in places.text_of("tests", "page", "bugs.txt").split("\n\n"):
         lines = [line for line in block.split("\n") if line and not line.startswith("#")]
         if not lines or word not in lines[0]:
@@ -65,10 +81,9 @@ def planted(library, sampler, word):
             found = [module for module, text in spoilt.items() for _ in range(text.count(old))]
             assert len(found) == 1, f"{name}: {old} stands {len(found)} times in the modules"
             spoilt[found[0]] = spoilt[found[0]].replace(old, new)
-        file = on.folder / "spoilt.html"
-        file.write_text(pack.packed(library.read_bytes(), sampler.read_bytes(), spoilt), encoding="utf-8")
         try:
-            tried(file, sorted(PARTS, key=lambda part: part.__name__ != first))
+            tried(laid(library.read_bytes(), sampler.read_bytes(), spoilt), sorted([*PARTS, uses], key=lambda part:
+                  part.__name__ != first))
             print(f"NOT CAUGHT: {name}", flush=True)
             failed += 1
         except Failed as where:

@@ -9,20 +9,21 @@ import threading
 import urllib.parse
 
 from tests.page.stage import count, grid, on, push, put, run, settle, shown, wait_for, written
-from tests.support import places
 
+LATER = "Later: "
 OWN = {"/mitsubadoor.html", "/mitsubadoor.webmanifest", "/offline.js"}
 
 
 class Handler(http.server.SimpleHTTPRequestHandler):
-    """Serves the page, and writes down what is asked for."""
+    """Serves a folder, and writes down what is asked for. Nothing is answered once the server has ended, not even where
+    a browser had connected before."""
 
-    def __init__(self, *given, asked, **more):
-        self.asked = asked
-        super().__init__(*given, **more)
+    def do_GET(self):
+        if not self.server.has_ended:
+            super().do_GET()
 
     def log_message(self, *_):
-        self.asked.append(self.path)
+        self.server.asked.append(self.path.partition("?")[0])
 
 
 def folder_of_page(*beside):
@@ -35,15 +36,16 @@ def folder_of_page(*beside):
 
 
 @contextlib.contextmanager
-def served(folder, asked):
-    """Serves a folder while it is in use; gives the address of the page in it."""
-    serving = functools.partial(Handler, directory=folder, asked=asked)
-    server = http.server.ThreadingHTTPServer(("127.0.0.1", 0), serving)
+def served(folder, port=0):
+    """Serves a folder while it is in use, at this port or any; gives the server, and the address of the page in it."""
+    server = http.server.ThreadingHTTPServer(("127.0.0.1", port), functools.partial(Handler, directory=folder))
+    server.asked, server.has_ended = [], False
     thread = threading.Thread(target=server.serve_forever, daemon=True)
     thread.start()
     try:
-        yield f"http://127.0.0.1:{server.server_address[1]}/mitsubadoor.html"
+        yield server, f"http://127.0.0.1:{server.server_port}/mitsubadoor.html"
     finally:
+        server.has_ended = True
         server.shutdown()
         server.server_close()
         thread.join()
@@ -67,8 +69,9 @@ def made_and_read(message):
 
 
 def installed():
-    asked, folder = [], folder_of_page(*pathlib.Path(places.path("web", "installed")).iterdir())
-    with served(folder, asked) as address:
+    folder = folder_of_page(*on.beside.iterdir())
+    page = folder / "mitsubadoor.html"
+    with served(folder) as (server, address):
         opened_at(address)
         count.expect_soon("what keeps it", lambda: run("return navigator.serviceWorker.controller !== null"), True)
         manifest = on.page.execute_cdp_cmd("Page.getAppManifest", {})
@@ -77,11 +80,16 @@ def installed():
         count.expect("the manifest", (manifest["url"].rpartition("/")[2], manifest["errors"], wrong),
                      ("mitsubadoor.webmanifest", [], []))
         made_and_read("with a network")
-        opened_at(address)
-        made_and_read("once more")
-        count.expect("what is asked of the server", set(asked) - OWN, set())
-    opened_at(f"{address}#make")
+    opened_at(f"{address}?shared#make")
     made_and_read("without a network")
+    page.write_text(page.read_text("utf-8").replace("<title>", f"<title>{LATER}"), "utf-8")
+    with served(folder, server.server_port) as (again, _):
+        opened_at(f"{address}?later")
+        made_and_read("once more")
+        count.expect("a later page on the server", on.page.title.startswith(LATER), True)
+    count.expect("what is asked of the server", {*server.asked, *again.asked} - OWN, set())
+    opened_at(address)
+    count.expect("the page that came last", on.page.title.startswith(LATER), True)
     on.page.execute_async_script(
         """const [done] = arguments;
            navigator.serviceWorker.getRegistrations()
@@ -92,7 +100,7 @@ def installed():
 
 def beside_nothing():
     """Where the files beside it aren't served, the page is as it is from disk."""
-    with served(folder_of_page(), []) as address:
+    with served(folder_of_page()) as (_, address):
         opened_at(address)
         made_and_read("alone")
     on.page.get_log("browser")  # which tells of what isn't there

@@ -235,7 +235,7 @@ def files():
 
 def drawn_in(where):
     """The grids of the drawings in an element, by their paths of runs of dark modules."""
-    paths = run("return [...document.querySelectorAll(`${arguments[0]} svg`)].map((svg) => "
+    paths = run("return [...document.querySelectorAll(`${arguments[0]} svg:not(:has(svg))`)].map((svg) => "
                 "[svg.getAttribute('viewBox'), svg.querySelectorAll('path')[1].getAttribute('d')])", where)
     grids = []
     for box, path in paths:
@@ -364,6 +364,7 @@ def labels_shown():
     told = run(TOLD, "#labels-are p")
     count.expect("what is told of each", told, ["1: one", f"2: {unspelled}",
                  "3: It isn’t right as GS1 data: (01) GTIN, too short: 14 digits are due."])
+    on_one_label()
     put("messages", "one")
     run("""document.getElementById('many-pdf').click();
            const field = document.getElementById('messages');
@@ -373,6 +374,48 @@ def labels_shown():
     count.expect("what is given when the list has changed", text_of("sheet-hint"), "")
     put("messages", "")
     count.expect_soon("no labels without a list", lambda: find("labels").is_displayed(), False)
+
+
+WIDE = "a text that is wider than its label, and is smaller there, and cut"
+LABELS = """
+    return [...document.querySelectorAll('#labels-are figure > svg')].map((label) => {
+        const symbol = label.querySelector('svg'), text = label.querySelector('text');
+        return [label.getAttribute('viewBox'), +symbol.getAttribute('x'), +symbol.getAttribute('y'), text.textContent,
+            +text.getAttribute('font-size')];
+    });"""
+PRINTED = """
+    return [...document.querySelectorAll('#paper figcaption')].map((it) => [it.textContent,
+        parseFloat(it.style.fontSize)]);"""
+
+
+def on_one_label():
+    """On a label that is chosen a symbol and its text are shown where they will be, or why they don't fit; and the text
+    is the same on paper."""
+    messages = ["one", WIDE]
+    paper_is("a4", "0.4")
+    chosen("stock", "38x25")
+    put("messages", "\n".join(messages))
+    grids = [written(message) for message in messages]
+    count.expect_soon("symbols on labels", lambda: drawn_in("#labels-are"), grids)
+    texts = [text for *_, some in pages_of(saved("symbols.pdf", "many-pdf")) for text in some]
+    places = [[round(at - 0.8, 2) for at in centred((0, 0, 38, 25), rows.index("\n"), 0.4, True)] for rows in grids]
+    labels = run(LABELS)
+    count.expect("where they stand", [(box, [round(x, 2), round(y, 2)], text) for box, x, y, text, _ in labels],
+                 [("0 0 38 25", place, text) for place, text in zip(places, texts)])
+    count.expect("what is too wide is smaller, and cut", (labels[0][4], labels[1][4] < 2.4, texts[1] != WIDE),
+                 (2.4, True, True))
+    run("window.print = () => {}")
+    push("print-sheet")
+    count.expect("on paper", run(PRINTED), [[text, size] for *_, text, size in labels])
+    run("dispatchEvent(new Event('afterprint'))")
+    paper_is("a4", "1")
+    chosen("stock", "25x25")
+    length = grids[1].index("\n") + 4
+    why = f"Message 2 takes {length} × {length} mm and 3 mm of text, and a label is 25 × 25 mm."
+    count.expect_soon("what doesn't fit", lambda: run(TOLD, "#labels-are p"),
+                      ["1: one", f"{why} Take narrower modules or larger labels."])
+    paper_is("a4", "0.5")
+    chosen("stock", "none")
 
 
 def serial_numbers():

@@ -66,7 +66,7 @@ def opened(name, body):
 
 
 # What follows where something looks like a symbol and isn't read.
-LIKEST = " What looks most like one is outlined: "
+LIKEST = " What looks most like one is outlined, and listed with the reason."
 
 
 def pictures():
@@ -171,6 +171,8 @@ def other_codes():
         without[row] = "0" * 7 + without[row][7:]
     count.expect("what has two of its patterns", opened("two.png", png(without, 4, 4)).split(LIKEST)[0],
                  f"two.png: {told}")
+    noise = chunks(700, 700, b"".join(b"\0" + random.randbytes(700) for _ in range(700)))
+    count.expect("noise", opened("noise.png", noise).split(LIKEST)[0], f"noise.png: {told}")
     push("tab-make")
 
 

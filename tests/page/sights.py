@@ -5,7 +5,7 @@ import json
 import random
 
 from tests.page.conduct import linked, started
-from tests.page.pictures import chunks, opened, png
+from tests.page.pictures import LIKEST, chunks, opened, png
 from tests.page.stage import (
     Keys,
     click,
@@ -18,6 +18,7 @@ from tests.page.stage import (
     run,
     settle,
     shown,
+    task,
     text_of,
     unfold,
     usable,
@@ -26,6 +27,7 @@ from tests.page.stage import (
     written,
 )
 
+MOST_TIME = 3000  # milliseconds for a picture
 LIMIT = 27  # of wrong border modules of a side of 22, if each block leaves a correction unused; usually it is 5
 
 
@@ -124,7 +126,7 @@ def all_symbols():
     """Every symbol of a picture is outlined on it and listed in reading order, also where the picture is turned; one of
     them is at hand; what isn't read is listed with its reason."""
     push("tab-read")
-    messages = [f"symbol {k}" for k in range(1, 7)]
+    messages = [*(f"symbol {k}" for k in range(1, 5)), "five, 5", 'six "6"']
     places = [(40 + 130 * (k % 3) + 9 * (k % 2), 30 + 120 * (k // 3) + 11 * (k % 2)) for k in range(6)]
     grids = [written(message).split("\n") for message in messages]
     for name, turn in (("upright", (1.0, 0.0)), ("turned", (0.9848, -0.1736))):
@@ -196,6 +198,38 @@ def pasted():
     return text
 
 
+def list_opened_again():
+    """A list that was saved as JSON gives the same list again: what was read, as it was read, and what wasn't."""
+    push("tab-read")
+    grids = [written("whole").split("\n"), spoilt_border(written("A border that is damaged").split("\n"), 8),
+             beyond(written("damaged beyond what can be corrected").split("\n"))]
+    places = ((30, 40), (130, 40), (250, 40))
+    opened("three.png", scene(380, 190, list(zip(grids, places))))
+    count.expect_soon("what is listed", lambda: len(run(LISTED)), 3)
+    before, saved = run(LISTED), on.folder / "found.json"
+    saved.unlink(missing_ok=True)
+    push("found-json")
+    wait_for(lambda: saved.exists() and saved.stat().st_size)
+    told = json.loads(saved.read_text())
+    count.expect("the grids in it", [each["modules"] for each in told["symbols"]], grids)
+    put("grid", written("meanwhile"))
+    push("tab-make")
+    (on.folder / "again.json").write_bytes(saved.read_bytes())
+    find("saved").send_keys(str(on.folder / "again.json"))
+    count.expect_soon("the list again", lambda: text_of("picture-hint"), "The list of again.json.")
+    settle()
+    count.expect("what is listed again", [row[:2] for row in run(LISTED)], [row[:2] for row in before])
+    count.expect("the first is at hand", (shown()["says"], find("scene").is_displayed()), ("whole", False))
+    run("document.querySelectorAll('#found-are button')[1].click()")
+    settle()
+    count.expect("one at its own limit", (shown()["says"], marks()), ("A border that is damaged", [LIMIT, None]))
+    (on.folder / "odd.json").write_text(saved.read_text().replace('"1', '"none', 1))
+    find("saved").send_keys(str(on.folder / "odd.json"))
+    count.expect_soon("a list with what is no grid", task, "make")
+    push("tab-make")
+    write("123456")
+
+
 def unread():
     """Of two symbols one is damaged beyond correction: it is outlined and listed with the reason, and can be shown."""
     push("tab-read")
@@ -210,18 +244,20 @@ def unread():
     settle()
     count.expect("the one that isn't read", (shown()["state"], grid()), ("Refused", "\n".join(spoilt)))
     opened("alone.png", scene(230, 190, [(spoilt, (50, 40))], (0.9848, 0.1736)))
-    none = "No symbol that can be read was found in the picture. What looks most like one is outlined"
-    count.expect("alone", (text_of("picture-hint"), shown()["state"], [name for name, _ in run(OUTLINED)][:1]),
-                 (f"alone.png: {none}: 24 × 24. {why}", "Nothing is read", ["unread"]))
+    none = f"No symbol that can be read was found in the picture.{LIKEST}"
+    count.expect("alone", (text_of("picture-hint"), shown()["state"], [name for name, _ in run(OUTLINED)][:1],
+                           [says for says, _, _ in run(LISTED)], usable("found-copy")),
+                 (f"alone.png: {none}", "Nothing is read", ["unread"], [f"Not read. {why}"], False))
     push("tab-make")
     write("123456")
 
 
 def large():
-    """After a large picture another worker begins, so that its memory is given back."""
+    """In a picture of more pixels than are looked at, outlines stand around its symbols; after it another worker
+    begins, so that its memory is given back."""
     push("tab-read")
     rows = written("in a large picture").split("\n")
-    width, height = 4100, 3900
+    width, height = 4400, 3900
     lines = []
     for y in range(height):
         r = (y - 900) // 40
@@ -235,6 +271,8 @@ def large():
         lines.append(bytes(line))
     opened("large.png", chunks(width, height, b"".join(lines)))
     count.expect("a large picture", (shown()["state"], shown()["says"]), ("Read", "in a large picture"))
+    ((_, (corner, *_)),) = run(OUTLINED)
+    count.expect("its outline", [at for at, wanted in zip(corner, (1200, 900)) if abs(at - wanted) > 3], [])
     count.expect_soon("its worker is ended", lambda: run("return mitsubadoor.desks.pictures.worker"), None)
     opened("next.png", png(written("the next one").split("\n"), 5, 2))
     count.expect("the next picture", (shown()["state"], shown()["says"]), ("Read", "the next one"))
@@ -242,4 +280,44 @@ def large():
     write("123456")
 
 
-PARTS = [handed_on, all_symbols, unread, large]
+# Writes down when the first symbol of a picture is there, and when all of them are, in milliseconds from the time when
+# it is open.
+ANSWERED = """
+    const { pictures } = mitsubadoor.desks, { ask } = pictures, hint = document.getElementById('picture-hint');
+    let begun = 0;
+    globalThis.answered = {};
+    const opening = new MutationObserver(() => {
+        if (hint.textContent.endsWith(': looking for symbols…')) begun = performance.now();
+    });
+    opening.observe(hint, { childList: true, characterData: true, subtree: true });
+    globalThis.usual = () => { pictures.ask = ask; opening.disconnect(); };
+    pictures.ask = async function (kind, ...question) {
+        const answer = await ask.call(this, kind, ...question);
+        answered[kind] = performance.now() - begun;
+        return answer;
+    };"""
+
+
+def in_time():
+    """What a picture may take is kept, for its first symbol and all others together; if that was too little, it is said
+    that there may be more."""
+    push("tab-read")
+    side, scale, row_of = 2800, 12, dict(enumerate(written("in noise").split("\n"), 2))
+    across = len(row_of) + 4
+    left, lines = (side - scale * across) // 2, [b"\0" + random.randbytes(side) for _ in range(side)]
+    for y in range(scale * across):
+        row = f"00{row_of.get(y // scale, '0' * len(row_of))}00"
+        symbol, line = b"".join(bytes([20 if module == "1" else 235]) * scale for module in row), lines[left + y]
+        lines[left + y] = line[: 1 + left] + symbol + line[1 + left + len(symbol) :]
+    run(ANSWERED)
+    said = opened("noise.png", chunks(side, side, b"".join(lines)))
+    first, last = run("usual(); return [answered.picture, answered.rest]")
+    more = "There may be more: the time for a picture was over."
+    count.expect("a symbol in noise", (said, shown()["says"], text_of("found-hint").endswith(more)), (
+        f"noise.png: {len(row_of)} × {len(row_of)}. Read as it stands.", "in noise", True))
+    count.expect(f"{last:.0f} ms, with {first:.0f} to the first symbol", last < MOST_TIME + first / 2, True)
+    push("tab-make")
+    write("123456")
+
+
+PARTS = [handed_on, all_symbols, list_opened_again, unread, in_time, large]

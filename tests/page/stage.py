@@ -44,9 +44,10 @@ SHOWN = """
 
 
 class On:
-    """What the tests run on."""
+    """What the tests run on; `beside` is the folder of what stands beside the page where it is served."""
 
-    program = page = folder = shots = part = None
+    program = page = module = folder = shots = part = None
+    beside = pathlib.Path(__file__).resolve().parents[2] / "web" / "installed"
 
 
 on = On()

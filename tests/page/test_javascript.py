@@ -3,18 +3,14 @@ where it looks for the members of structs, against a compiler of C."""
 import json
 import os
 import pathlib
-import re
 import shutil
-import subprocess
 import sys
 
+from tests.page.javascript import TYPES, uses
+from tests.page.stage import count, on
 from tests.support import commands, needs, places
 from tests.support.case import Case
 
-MODULE, TYPES = places.path("web", "out", "ecc200.mjs"), places.path("web", "module", "ecc200.d.mts")
-USES = places.path("tests", "page", "uses.mjs")
-TOO_LONG, NO_SIZE, BLOCK = 14, 4, 6  # codes of refusals
-GS1 = [256, *b"10AB", 256, *b"21C"]
 # Lines of TypeScript over the module: whether each is right.
 LINES = [
     ("const grid: { rows: number; modules: Uint8Array } = write('text', { form: 'shorter', shape: 'any' });", True),
@@ -31,17 +27,6 @@ LINES = [
 ]
 CONFIG = {"compilerOptions": {"strict": True, "noEmit": True, "types": [], "target": "es2022", "module": "node16",
                               "moduleResolution": "node16", "lib": ["es2022", "dom"]}, "include": ["*.mts"]}
-
-
-def written(line, *more):
-    rows = commands.run([places.PROGRAM, "write", *more], f"{line}\n".encode()).output.decode().split()
-    return {"rows": len(rows), "columns": len(rows[0]), "modules": "".join(rows)}
-
-
-def said(text, items=None, is_gs1=False, data=None, corrected=0):
-    items = list(text.encode()) if items is None else items
-    return {"text": text, "items": items, "isGs1": is_gs1, "bytes": items if data is None else data,
-            "corrected": [corrected]}
 
 
 def members_of(layout):
@@ -61,44 +46,9 @@ class JavaScript(Case):
             raise AssertionError(problem)
 
     def test_uses(self):
-        done = subprocess.run(["node", USES, MODULE], stdout=subprocess.PIPE, timeout=300, check=True)
-        answers = {answer.pop("name"): answer for answer in map(json.loads, done.stdout.splitlines())}
-        came = lambda name: answers[name].get("came", answers[name])
-        exports = re.findall(r"^export (?:class|function|const) (\w+)", pathlib.Path(TYPES).read_text("utf-8"), re.M)
-        for name, wanted in {
-            "exports": sorted(exports),
-            "text": written("Gr\\xC3\\xB6\\xC3\\x9Fe"),
-            "bytes": written("Gr\\xC3\\xB6\\xC3\\x9Fe"),
-            "gs1": said("10AB\x1d21C", GS1, True, [*b"10AB", 29, *b"21C"]),
-            "not UTF-8": said(None, [255, 65]),
-            "shorter": written("\\xE9" * 20, "--shorter"),
-            "corrected": said("corrected", corrected=1),
-            "doubtful": [1],
-            "normal": written("normal"),
-            "picture": [["one", {"x": 10, "y": 10}], ["two", {"x": 80, "y": 10}]],
-            "one of two": [1, False],
-            "inverted": [["dark", True]],
-            "transparent": ["on white"],
-            "luminance": ["grey"],
-            "unread": [0, 24, BLOCK],
-        }.items():
-            self.row(name, self.near(came(name)), wanted)
-        self.row("shapes", [[came(name)["rows"], came(name)["columns"]] for name in ("rectangle", "a size")],
-                 [[8, 18], [16, 48]])
-        self.row("sizes", [came("sizes")[0], came("sizes")[1]["rows"], came("sizes")[1]["data"]], [48, 10, 3])
-        for name, code in (("too long", TOO_LONG), ("too small a size", TOO_LONG), ("no size", NO_SIZE)):
-            self.row(name, (answers[name].get("thrown"), answers[name].get("isRefused"), answers[name].get("code")),
-                     ("Refused", True, code))
-        for name, kind in (("of no pixels", "RangeError"), ("of other pixels", "TypeError")):
-            self.row(name, answers[name].get("thrown"), kind)
-
-    def near(self, came):
-        """With places in a picture to the pixel."""
-        if isinstance(came, float):
-            return round(came)
-        if isinstance(came, list):
-            return [self.near(each) for each in came]
-        return {name: self.near(each) for name, each in came.items()} if isinstance(came, dict) else came
+        on.program, on.module, count.rows = places.PROGRAM, places.path("web", "out", "ecc200.mjs"), []
+        uses()
+        self.rows(count.rows)
 
     @needs.programs("tsc")
     def test_types(self):

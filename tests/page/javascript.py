@@ -1,0 +1,67 @@
+"""The module for programs in JavaScript, used in Node.js as such would use it: what it reads and writes against the
+program, and what it throws."""
+import json
+import re
+import subprocess
+
+from tests.page.stage import count, on, written
+from tests.support import places
+
+USES, TYPES = places.path("tests", "page", "uses.mjs"), places.path("web", "module", "ecc200.d.mts")
+TOO_LONG, NO_SIZE, BLOCK = 14, 4, 6  # codes of refusals
+GS1 = [256, *b"10AB", 256, *b"21C"]
+
+
+def symbol(line, profile=0):
+    """A symbol as the program writes it, and as the module has it."""
+    rows = written(line, profile).split("\n")
+    return {"rows": len(rows), "columns": len(rows[0]), "modules": "".join(rows)}
+
+
+def said(text, items=None, is_gs1=False, data=None, corrected=0):
+    items = list(text.encode()) if items is None else items
+    return {"text": text, "items": items, "isGs1": is_gs1, "bytes": items if data is None else data,
+            "corrected": [corrected]}
+
+
+def near(came):
+    """With places in a picture to the pixel."""
+    if isinstance(came, float):
+        return round(came)
+    if isinstance(came, list):
+        return [near(each) for each in came]
+    return {name: near(each) for name, each in came.items()} if isinstance(came, dict) else came
+
+
+def uses():
+    done = subprocess.run(["node", USES, on.module], stdout=subprocess.PIPE, timeout=300, check=True)
+    answers = {answer.pop("name"): answer for answer in map(json.loads, done.stdout.splitlines())}
+    came = lambda name: answers[name].get("came", answers[name])
+    with open(TYPES, encoding="utf-8") as types:
+        declared = re.findall(r"^export (?:class|function|const) (\w+)", types.read(), re.M)
+    for name, wanted in {
+        "exports": sorted(declared),
+        "text": symbol("Gr\\xC3\\xB6\\xC3\\x9Fe"),
+        "bytes": symbol("Gr\\xC3\\xB6\\xC3\\x9Fe"),
+        "gs1": said("10AB\x1d21C", GS1, True, [*b"10AB", 29, *b"21C"]),
+        "not UTF-8": said(None, [255, 65]),
+        "shorter": symbol("\\xE9" * 20, 1),
+        "corrected": said("corrected", corrected=1),
+        "doubtful": [1],
+        "normal": symbol("normal"),
+        "picture": [["one", {"x": 10, "y": 10}], ["two", {"x": 80, "y": 10}]],
+        "one of two": [1, False],
+        "inverted": [["dark", True]],
+        "transparent": ["on white"],
+        "luminance": ["grey"],
+        "unread": [0, 24, BLOCK],
+    }.items():
+        count.expect(name, near(came(name)), wanted)
+    count.expect("shapes", [[came(name)["rows"], came(name)["columns"]] for name in ("rectangle", "a size")],
+                 [[8, 18], [16, 48]])
+    count.expect("sizes", [came("sizes")[0], came("sizes")[1]["rows"], came("sizes")[1]["data"]], [48, 10, 3])
+    for name, code in (("too long", TOO_LONG), ("too small a size", TOO_LONG), ("no size", NO_SIZE)):
+        count.expect(name, [answers[name].get(each) for each in ("thrown", "isRefused", "code")],
+                     ["Refused", True, code])
+    for name, kind in (("of no pixels", "RangeError"), ("of other pixels", "TypeError")):
+        count.expect(name, answers[name].get("thrown"), kind)

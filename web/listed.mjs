@@ -1,0 +1,63 @@
+// What is told of the symbols that were found: in words, and in files of their list. CSV is for tables; JSON has all
+// that is known of them, and can be opened again.
+import { limitIn, shapeWords } from "./common.mjs";
+import { gridText } from "./grids.mjs";
+import { typed } from "./gs1.mjs";
+import { borne, refusal } from "./words.mjs";
+
+/** @typedef {import("./pictures.mjs").Sighted & { seen?: import("./examine.mjs").Seen }} Sighted */
+/** @typedef {{ symbols: import("./pictures.mjs").Kept[], isComplete: boolean }} List that was saved */
+const LEAST_SPARE = "Too few corrections are left unused to tell whether that is right.";
+
+/** @type {(symbol: Sighted) => string} */
+export const saidBy = ({ items }) => typed(items);
+/** @type {(symbol: Sighted) => string} */
+export const whyUnread = ({ fault, seen }) => (fault ? refusal(fault, seen) : LEAST_SPARE);
+/** @type {(symbol: Sighted) => string} */
+export function remarksOn(symbol) {
+  const { how, isRead, corrected, erased, border } = symbol;
+  const parts = [shapeWords(symbol), how, isRead ? borne({ corrected, erased, border }) : ""];
+  return parts.filter(Boolean).join("; ");
+}
+
+// ---- Files
+
+const quoted = (field) => (/[",\n]/.test(field) ? `"${field.replace(/"/g, '""')}"` : field);
+/** @type {(list: Sighted[]) => string} */
+export function csvOf(list) {
+  const rows = list.map((symbol, k) => [String(k + 1), symbol.isRead ? saidBy(symbol) : "", shapeWords(symbol),
+    symbol.isRead ? "" : whyUnread(symbol)]);
+  const all = [["number", "message", "modules", "not read"], ...rows];
+  return all.map((row) => `${row.map(quoted).join(",")}\n`).join("");
+}
+/** @type {(symbol: Sighted) => object} */
+const recordOf = (symbol) => {
+  const { rows, columns, isRead, items, how, limit, doubtful, corrected, erased, border } = symbol;
+  const corners = symbol.corners.map(({ x, y }) => [x, y].map((at) => Math.round(10 * at) / 10));
+  const shown = { rows, columns, corners, stands: how, borderLimit: limit,
+    doubtful: doubtful ? [...doubtful.keys()].filter((k) => doubtful[k]) : [],
+    modules: gridText(symbol).trimEnd().split("\n") };
+  if (!isRead) return { read: false, why: whyUnread(symbol), ...shown };
+  return { read: true, text: saidBy(symbol), items, ...shown, corrected, erased, border };
+};
+/** @type {(list: Sighted[], isComplete: boolean) => string} */
+export const jsonOf = (list, isComplete) =>
+  `${JSON.stringify({ complete: isComplete, symbols: list.map(recordOf) }, null, 1)}\n`;
+
+/** @type {(record: any) => import("./pictures.mjs").Kept} */
+function keptOf({ read, stands, corners, borderLimit, doubtful: places, modules: lines }) {
+  const text = lines.join(""), columns = lines[0].length;
+  if (!/^[01]+$/.test(text) || lines.some((line) => line.length !== columns)) throw new Error("no grid");
+  const doubtful = places.length ? new Uint8Array(text.length) : null;
+  for (const place of places) doubtful[place] = 1;
+  return { rows: lines.length, columns, modules: Uint8Array.from(text, Number), doubtful, isRead: read === true,
+    limit: limitIn(String(borderLimit)), how: String(stands), corners: corners.map(([x, y]) => ({ x: +x, y: +y })) };
+}
+// The list that a file of JSON holds, or null.
+/** @type {(bytes: Uint8Array) => List | null} */
+export function listIn(bytes) {
+  try {
+    const { complete, symbols } = JSON.parse(new TextDecoder().decode(bytes));
+    return { symbols: symbols.map(keptOf), isComplete: complete === true };
+  } catch { return null; }
+}
