@@ -133,8 +133,8 @@ typedef struct ecc200_sample_search {
                                          usual; or ECC200_SAMPLE_ANY_EFFORT */
 } ecc200_sample_search;
 
-/* The usual options: the usual work, which takes about a second if nothing is found in a picture of few megapixels,
- * every side, no margin, nothing unread. */
+/* The usual options: the usual work, which takes about half a second if nothing is found, every side, no margin,
+ * nothing unread. */
 ecc200_sample_options ecc200_sample_usual(void);
 
 /* Finds at most `room` symbols in a picture, writes them into `out` and their number into *count. They are in reading

@@ -251,7 +251,7 @@ bool find_elbows(const struct sought *in, struct limit *limit, struct elbows *ou
     const struct lines *lines = in->lines;
     struct end *firsts = ends_of(lines, true), *lasts = ends_of(lines, false);
     bool enough = firsts != NULL && lasts != NULL;
-    out->count = out->whole = out->lively = 0;
+    out->count = out->whole = out->lively = out->tried = 0;
     for (int k = 0; enough && k < lines->count && !limit_reached(limit); k++) {
         int before = out->count;
         enough = keep_elbows_at(in, k, true, firsts, out) && keep_elbows_at(in, k, false, lasts, out);

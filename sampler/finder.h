@@ -22,6 +22,7 @@ struct elbows {
     struct elbow *items;
     int count, room;
     int whole, lively; /* how many are lively, and of these have borders of one piece each */
+    int tried;         /* how many were tried, from the first on */
 };
 
 enum { MOST_ELBOWS = 8192 };

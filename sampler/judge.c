@@ -18,7 +18,6 @@ static const struct rule DOUBT_RULES[] = {{0.00, 0.00, false, 0, false}, {0.12, 
                                           {0.00, 0.00, false, 3, false}, {0.12, 0.00, false, 0, true}};
 enum {
     RULE_COUNT = sizeof RULES / sizeof *RULES,
-    FEW_RULES = 4,
     DOUBT_RULE_COUNT = sizeof DOUBT_RULES / sizeof *DOUBT_RULES
 };
 enum { CHECKS_OF_A_CORRECTION = 2 };
@@ -159,14 +158,15 @@ static void take_seen(struct trials *trials, bool is_mirrored) {
         memcpy(trial->modules, judge->seen, (size_t)extent.wide * (size_t)extent.high);
 }
 
-static void try_rules(struct trials *trials, const struct brightnesses *brightnesses, int count) {
+/* Tries the rules. False if the modules can't be told apart by the border. */
+static bool try_rules(struct trials *trials, const struct brightnesses *brightnesses, int count) {
     struct judge *judge = trials->judge;
     ecc200_sample *trial = judge->trial;
     const struct layout *layout = trials->layout;
     for (int k = 0; k < count && trials->best_cost != 0; k++) {
         spend(judge, layout, WORK_OF_A_RULE + WORK_OF_READING);
         if (!tell_apart(brightnesses, layout->colour, RULES[k], judge->seen))
-            return;
+            return k > 0;
         take_seen(trials, layout->is_mirrored);
         if (read(trial, NULL, widest_limit(trial)) == ECC200_OK) {
             keep_if_trusted(trials);
@@ -181,6 +181,7 @@ static void try_rules(struct trials *trials, const struct brightnesses *brightne
         if (read(trial, NULL, widest_limit(trial)) == ECC200_OK)
             keep_if_trusted(trials);
     }
+    return true;
 }
 
 /* ---- Known damage */
@@ -243,15 +244,6 @@ static bool try_doubt(struct trials *trials, const struct brightnesses *brightne
 
 /* ---- The samplings of a placement */
 
-static void try_moved(struct trials *trials, const struct lie *lie, struct brightnesses *brightnesses) {
-    static const double x[] = {0.2, -0.2, 0, 0}, y[] = {0, 0, 0.2, -0.2};
-    for (int k = 0; k < 4 && trials->best_cost < 0 && !limit_reached(trials->judge->limit); k++) {
-        spend(trials->judge, trials->layout, WORK_OF_SAMPLING);
-        sample_modules(trials->judge->picture, trials->layout, lie, x[k], y[k], brightnesses);
-        try_rules(trials, brightnesses, FEW_RULES);
-    }
-}
-
 /* Fits each region by its own border. */
 static void try_regions(struct trials *trials, struct lie *lie, struct brightnesses *brightnesses) {
     const struct layout *layout = trials->layout;
@@ -268,7 +260,7 @@ static void try_regions(struct trials *trials, struct lie *lie, struct brightnes
         lie->warps[k] = *trials->warp;
         refine(trials->judge->smooth, layout, part, 0.3, 2, &lie->warps[k]);
     }
-    sample_modules(trials->judge->picture, layout, lie, 0, 0, brightnesses);
+    sample_modules(trials->judge->picture, layout, lie, brightnesses);
     try_rules(trials, brightnesses, RULE_COUNT);
 }
 
@@ -283,13 +275,15 @@ static void try_bent(struct trials *trials, struct lie *lie, struct brightnesses
     if (bend(judge->smooth, trials->layout, 4, &warp) < LEAST_NEAR)
         return;
     for (int round = 0; round < 2 && trials->best_cost < 0 && !limit_reached(judge->limit); round++) {
+        if (round > 0) {
+            lay_out_places(judge->places, (struct part){0, extent.wide, 0, extent.high});
+            spend_on_edges(judge, judge->places, 3);
+            bend(judge->smooth, judge->places, 3, &warp);
+        }
         lie->region = extent, lie->warps[0] = warp;
         spend(judge, trials->layout, WORK_OF_SAMPLING);
-        sample_modules(judge->picture, trials->layout, lie, 0, 0, brightnesses);
+        sample_modules(judge->picture, trials->layout, lie, brightnesses);
         try_rules(trials, brightnesses, RULE_COUNT);
-        lay_out_places(judge->places, (struct part){0, extent.wide, 0, extent.high});
-        spend_on_edges(judge, judge->places, 3);
-        bend(judge->smooth, judge->places, 3, &warp);
     }
 }
 
@@ -304,7 +298,7 @@ static void try_known_damage(struct trials *trials, struct lie *lie, struct brig
         if (find_doubt(judge->picture, layout, trials->warp, beside, &judge->looks, judge->doubtful) == 0)
             return;
         if (beside == 0)
-            sample_modules(judge->picture, layout, lie, 0, 0, brightnesses);
+            sample_modules(judge->picture, layout, lie, brightnesses);
         if (!try_doubt(trials, brightnesses))
             trials->best_cost = -1;
     }
@@ -347,12 +341,11 @@ bool judge_placement(struct judge *judge, const struct placement *placement, ecc
     struct brightnesses brightnesses;
     struct lie lie = {.region = layout->extent, .warps = {warp}};
     spend(judge, layout, WORK_OF_SAMPLING);
-    sample_modules(judge->picture, layout, &lie, 0, 0, &brightnesses);
-    try_rules(&trials, &brightnesses, RULE_COUNT);
+    sample_modules(judge->picture, layout, &lie, &brightnesses);
+    if (!try_rules(&trials, &brightnesses, RULE_COUNT))
+        return false;
     try_regions(&trials, &lie, &brightnesses);
     try_bent(&trials, &lie, &brightnesses);
-    if (trials.best_cost < 0)
-        try_moved(&trials, &lie, &brightnesses);
     if (trials.best_cost < 0)
         try_known_damage(&trials, &lie, &brightnesses);
     return trials.best_cost >= 0;

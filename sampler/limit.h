@@ -11,6 +11,7 @@
 struct limit {
     int64_t end;           /* milliseconds of a clock that never goes back: when to stop; INT64_MAX: never */
     int64_t allowed, left; /* how much work may be done until the first symbol, or from one to the next */
+    int64_t part;          /* how much of that in what is being tried, so that something is left for the rest */
     enum ecc200_sample_end reached; /* what left something undone: ECC200_SAMPLE_WHOLE if nothing did */
 };
 
@@ -20,12 +21,23 @@ struct limit limit_from_now(uint32_t milliseconds, uint16_t effort, int64_t pixe
 
 /* Takes account of work. */
 static inline void limit_spend(struct limit *limit, int64_t work) {
-    limit->left -= work;
+    limit->left -= work, limit->part -= work;
+}
+
+/* Allows half of the work that is left for what is tried next. */
+static inline void limit_begin_part(struct limit *limit) {
+    limit->part = limit->left / 2;
+}
+
+/* Allows all work that is left. */
+static inline void limit_end_part(struct limit *limit) {
+    limit->part = limit->left;
 }
 
 /* Allows as much work once more, after a symbol. */
 static inline void limit_renew(struct limit *limit) {
     limit->left = limit->allowed;
+    limit_begin_part(limit);
 }
 
 /* Whether the limit is reached. Who asks then leaves undone what it was about to do. */

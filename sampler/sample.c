@@ -82,12 +82,13 @@ bool judge_all(struct search *search, const struct sight *sight, struct placemen
 
 /* ---- By solid borders, at one level */
 
-/* Tries the elbows of a scene from `first` up to, not including, `last`. */
+/* Tries the elbows of a scene that weren't tried yet, up to, not including, the one with this number. */
 static void search_elbows(struct search *search, const struct sight *sight, int level, struct scene scene,
-                          const struct elbow *first, const struct elbow *last) {
+                          struct elbows *elbows, int last) {
     struct placement placements[MOST_PLACEMENTS];
     double scale = 1 << level;
-    for (const struct elbow *elbow = first; elbow < last && !is_over(search); elbow++) {
+    for (; elbows->tried < last && !is_over(search); elbows->tried++) {
+        const struct elbow *elbow = &elbows->items[elbows->tried];
         const struct layouts *shapes = search->judge.layouts;
         if (!embrace_known(&search->known, scale, elbow->corner, elbow->top, elbow->right) &&
             !judge_all(search, sight, placements, placements_of(&scene, shapes, elbow, placements), scale) &&
@@ -111,42 +112,37 @@ static void search_lively(struct search *search, struct sight *sight, int level)
     size_t before = search->count;
     struct plane dark;
     bool is_made = darken(search, grey, level, AROUND, &dark) && find_all_elbows(search, level, &dark, elbows);
+    struct scene scene = {grey, &dark, search->judge.limit};
     if (is_made)
-        search_elbows(search, sight, level, (struct scene){grey, &dark, search->judge.limit}, elbows->items,
-                      elbows->items + elbows->whole);
-    if (is_made && search->count == before) {
-        search_elbows(search, sight, level, (struct scene){grey, &dark, search->judge.limit},
-                      elbows->items + elbows->whole, elbows->items + elbows->lively);
-        elbows->whole = elbows->lively;
-    }
+        search_elbows(search, sight, level, scene, elbows, elbows->whole);
+    if (is_made && search->count == before)
+        search_elbows(search, sight, level, scene, elbows, elbows->lively);
     note_lack(search, is_made);
     plane_free(&dark);
 }
 
-/* Tries elbows that have been found in a level. */
-static void search_again(struct search *search, struct sight *sight, int level, const struct elbow *first,
-                         const struct elbow *last) {
+/* Tries the elbows of a level that weren't tried yet, up to, not including, the one with this number. */
+static void search_again(struct search *search, struct sight *sight, int level, int last) {
     const struct plane *grey = &sight->levels[level];
     struct plane dark;
-    if (first == last)
+    if (sight->elbows[level].tried >= last)
         return;
     bool is_made = darken(search, grey, level, AROUND, &dark);
     if (is_made)
-        search_elbows(search, sight, level, (struct scene){grey, &dark, search->judge.limit}, first, last);
+        search_elbows(search, sight, level, (struct scene){grey, &dark, search->judge.limit}, &sight->elbows[level],
+                      last);
     note_lack(search, is_made);
     plane_free(&dark);
 }
 
 /* Tries the other lively elbows of a level. */
 static void search_joined(struct search *search, struct sight *sight, int level) {
-    const struct elbows *elbows = &sight->elbows[level];
-    search_again(search, sight, level, elbows->items + elbows->whole, elbows->items + elbows->lively);
+    search_again(search, sight, level, sight->elbows[level].lively);
 }
 
-/* Tries the elbows of a level that aren't lively. */
+/* Tries the elbows of a level that are left: those that aren't lively. */
 static void search_still(struct search *search, struct sight *sight, int level) {
-    const struct elbows *elbows = &sight->elbows[level];
-    search_again(search, sight, level, elbows->items + elbows->lively, elbows->items + elbows->count);
+    search_again(search, sight, level, sight->elbows[level].count);
 }
 
 /* Finds the elbows of a fine level in another way, against noise and sudden changes of light, and tries the lively
@@ -159,8 +155,7 @@ static void search_calm(struct search *search, struct sight *sight, int level) {
     bool is_made = plane_calm(&sight->levels[level], search->judge.limit, &grey) &&
                    darken(search, &grey, level, CLOSE_AROUND, &dark) && find_all_elbows(search, level, &dark, elbows);
     if (is_made)
-        search_elbows(search, sight, level, (struct scene){&grey, &dark, search->judge.limit}, elbows->items,
-                      elbows->items + elbows->lively);
+        search_elbows(search, sight, level, (struct scene){&grey, &dark, search->judge.limit}, elbows, elbows->lively);
     note_lack(search, is_made);
     plane_free(&grey);
     plane_free(&dark);
@@ -173,13 +168,16 @@ static void search_woven(struct search *search, struct sight *sight, int level) 
         search_lattices(search, level);
 }
 
-/* Searches all levels in one of these ways. */
+/* Searches all levels in one of these ways, each within a part of the limit. */
 static void search_levels(struct search *search, struct sight *sight,
                           void (*search_level)(struct search *, struct sight *, int)) {
     static const int order[LEVELS] = {1, 0, 2, 3, 4, 5};
-    for (int k = 0; k < LEVELS && !is_over(search); k++)
+    for (int k = 0; k < LEVELS && !is_over(search); k++) {
+        limit_begin_part(search->judge.limit);
         if (order[k] < sight->level_count)
             search_level(search, sight, order[k]);
+        limit_end_part(search->judge.limit);
+    }
 }
 
 /* ---- A picture */

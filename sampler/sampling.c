@@ -7,7 +7,7 @@ enum { POINTS = 4 };
 static const double FIRST = -0.27, APART = 0.18; /* modules: where the points of a module are */
 static const double LEAST_AROUND = 0.15; /* of the contrast of the symbol, below which a window shows one colour only */
 
-void sample_modules(const struct plane *plane, const struct layout *layout, const struct lie *lie, double x, double y,
+void sample_modules(const struct plane *plane, const struct layout *layout, const struct lie *lie,
                     struct brightnesses *out) {
     int wide = layout->extent.wide, high = layout->extent.high, across = wide / lie->region.wide;
     out->extent = layout->extent;
@@ -16,8 +16,8 @@ void sample_modules(const struct plane *plane, const struct layout *layout, cons
             const struct warp *warp = &lie->warps[row / lie->region.high * across + column / lie->region.wide];
             double total = 0;
             for (int k = 0; k < POINTS * POINTS; k++) {
-                double right = column + 0.5 + x + FIRST + APART * (k % POINTS),
-                       down = row + 0.5 + y + FIRST + APART * (k / POINTS);
+                double right = column + 0.5 + FIRST + APART * (k % POINTS),
+                       down = row + 0.5 + FIRST + APART * (k / POINTS);
                 total += brightness(plane, warp_point(warp, right, down));
             }
             out->of[row * wide + column] = (float)(total / (POINTS * POINTS));

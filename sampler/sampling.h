@@ -20,8 +20,8 @@ struct lie {
     struct warp warps[MOST_REGIONS];
 };
 
-/* The mean brightness of each module's middle. The grid is moved by (x, y) modules. */
-void sample_modules(const struct plane *plane, const struct layout *layout, const struct lie *lie, double x, double y,
+/* The mean brightness of each module's middle. */
+void sample_modules(const struct plane *plane, const struct layout *layout, const struct lie *lie,
                     struct brightnesses *out);
 
 /* How dark modules are told from light ones. */

@@ -139,7 +139,7 @@ static struct start start_at(struct point end, struct point back, struct point o
 static struct track track_from(const struct scene *scene, const struct start *start, double shift, double reach) {
     double fine = fmax(0.4 * start->module / start->whole, 0.003);
     struct track best = {.score = 0.5};
-    struct fan coarse = {shift, reach, 0.25, 0, start->widest, fine};
+    struct fan coarse = {shift, reach, 0.4, 0, start->widest, fine};
     look_around(scene, start, &coarse, &best);
     struct fan narrow = {coarse.shift, 0.2, 0.1, coarse.angle, fine, fine / 4};
     look_around(scene, start, &narrow, &best);

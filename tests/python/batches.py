@@ -1,10 +1,14 @@
 """The command ecc200 over many messages and files, in any locale and at the ends of its input and output."""
+import contextlib
+import io
 import json
 import os
 import signal
 import subprocess
+import threading
+from unittest import mock
 
-from tests.python.common import PACKAGE, PYTHON, SAMPLER, has, holds, run, same, wanted_module
+from tests.python.common import PACKAGE, PYTHON, SAMPLER, has, has_sampler, holds, run, same, wanted_module
 from tests.python.surface import WORDS, ecc, environment, hurt, says, text
 
 import ecc200
@@ -142,6 +146,43 @@ def walked(folder):
     yield says("-r, a broken picture", ecc("check", "-r", "--no-filename", "a", folder=here), 2, None,
                ["ecc200: a/b/broken.png: "])
     yield same("it keeps none from being read", ecc("read", "-r", "a", folder=here)[1], "a/one.txt:1\na/b/two.txt:2\n")
+
+
+def side_by_side(folder):
+    """Pictures that are searched at a time are answered in order, with what stands between them."""
+    if not wanted_module("PIL.Image", "Pillow", "--jobs") or not has_sampler("--jobs"):
+        return
+    from PIL import Image
+    here = made(folder, "jobs")
+    os.makedirs(os.path.join(here, "scans"))
+    for number in range(12):
+        ecc("write", f"SN-{number:02}", "-o", f"scans/{number:02}.png", folder=here)
+    Image.effect_noise((900, 700), 90).save(os.path.join(here, "scans", "00-noise.png"))
+    saved(here, "scans/04-grids.txt", symbols(b"grid 1", b"grid 2"))
+    saved(here, "scans/08-broken.png", b"\x89PNG\r\n\x1a\nrubbish")
+    alone = ecc("read", "-r", "scans", folder=here)
+    yield holds("what is read one by one", alone[0] == 2 and alone[1].count("\n") == 14, str(alone))
+    for jobs in (2, 5, 64):
+        yield same(f"{jobs} at a time", ecc("read", "-r", "--jobs", str(jobs), "scans", folder=here), alone)
+    named = sorted(os.path.join("scans", name) for name in os.listdir(os.path.join(here, "scans")))
+    yield same("named files, and one that isn't there", ecc("check", "--jobs", "3", "none.png", *named, folder=here),
+               ecc("check", "none.png", *named, folder=here))
+    yield same("as JSON", ecc("read", "-r", "--json", "--jobs", "3", "scans", folder=here),
+               ecc("read", "-r", "--json", "scans", folder=here))
+    picture = open(os.path.join(here, "scans", "03.png"), "rb").read()
+    yield says("standard input", ecc("read", "--jobs", "2", given=picture, folder=here), output="SN-03\n")
+    yield says("a pipe that is named", shell("$E read --jobs 2 <(cat scans/03.png)", here), output="SN-03\n")
+    from ecc200 import command, sources
+    three = threading.Barrier(3)
+
+    def met(name, *_):
+        three.wait(60)  # fails where fewer than three are searched at a time
+        return [sources.Source(name, 1, ecc200.write(b"A"))]
+
+    with mock.patch.object(sources, "of_picture", met), contextlib.redirect_stdout(io.StringIO()) as said:
+        files = [os.path.join(here, "scans", f"{number:02}.png") for number in range(3)]
+        yield same("three at a time", (command.main(["read", "--jobs", "3", *files]), said.getvalue()),
+                   (0, "".join(f"{file}:A\n" for file in files)))
 
 
 def no_picture(folder):

@@ -340,8 +340,8 @@ def sampled():
     yield holds("the corners", all(abs(x - wanted_x) < 8 and abs(y - wanted_y) < 8 for (x, y), (wanted_x, wanted_y) in
                                    zip(corners, [(32, 32), (160, 32), (160, 160), (32, 160)])), str(corners))
     yield same("nothing in a picture", pictures.find(pillow.Image.new("L", (200, 200), 255), milliseconds=50), [])
-    yield raises("an array of floats", TypeError, "rows of numbers of 8 or 16 bits",
-                 lambda: pictures.find(array.astype(float)))
+    yield raises("an array of long integers", TypeError, "rows of numbers of 8, 16 or 32 bits",
+                 lambda: pictures.find(array.astype(numpy.int64)))
     symbol = ecc200.encode(b"A" * 9, quiet=4)
     yield same("a symbol, an array by its interface alone",
                [reading.data for reading in ecc200.decode(Magnified(symbol, 5), most=1)], [b"A" * 9])
@@ -379,7 +379,7 @@ def by_one_file(image, numpy, array):
     for name, given in [("an array", array), ("Pillow's", image.fromarray(array)), ("rows", rows)]:
         yield same(f"decoded by the file alone, {name}", [reading.data for reading in one.decode(given, most=1)],
                    [b"Mitsubadoor"])
-    for name, given in [("floats", colours.astype(numpy.float32)),
+    for name, given in [("long integers", colours.astype(numpy.int64)),
                         ("a line", array[0])]:
-        yield raises(f"no picture for the file alone, {name}", TypeError, "rows of numbers of 8 or 16 bits",
+        yield raises(f"no picture for the file alone, {name}", TypeError, "rows of numbers of 8, 16 or 32 bits",
                      lambda given=given: one.find(given))

@@ -143,7 +143,7 @@ def in_words():
     for name, grid, parts in [
         ("no size", [bytes(32)] * 10, ["no symbol has 10 rows of 32 modules", "'ecc200 sizes'"]),
         ("lying", [bytes(8)] * 32, ["no symbol has 32 rows of 8 modules"]),
-        ("a wrong border", [*rows[:-1], bytes(32)], ["32 of the", "of its border", "--border 32 accepts them"]),
+        ("a wrong border", [*rows[:-1], bytes(32)], ["32 of the", "of its border", "--border auto accepts them"]),
         ("damage", changed(rows, list(cells.values())[:8]),
          ["block 1 of its 1 has more than 5 wrong codewords", "--doubtful"]),
         ("a ragged grid", [*rows[:-1], rows[-1][:-1]], ["from 31 to 32 characters; a grid has as many in each"]),

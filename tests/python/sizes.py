@@ -209,6 +209,48 @@ def limits():
                                               answer(changed(whole, border))), (usual, (Code.BORDER, usual + 1, 0)))
 
 
+def any_border():
+    """With the limit "auto" any border is taken if each block leaves a correction unused, in each size; else the
+    refusal is that of the usual limit."""
+    for size in ecc200.sizes():
+        named = size.rows, size.columns
+        data = filling(named)
+        whole, places = ecc200.write(data, size=named), ecc200.places(*named)
+        cells = [(y, x) for y, row in enumerate(places) for x, place in enumerate(row)]
+        words = {places[y][x][1]: (y, x) for y, x in cells if places[y][x][0] == ecc200.Kind.BIT}
+        border = [(y, x) for y, x in cells if places[y][x][0] in (ecc200.Kind.BORDER_LIGHT, ecc200.Kind.BORDER_DARK)]
+        block = [words[word] for word in range(size.blocks - 1, len(words), size.blocks)]
+        usual = sum(named) // 8
+        for faults in (usual + 1, len(border)):
+            for wrong in (0, size.limit - 1):
+                rows = changed(whole, border[:faults] + block[:wrong])
+                got = ecc200.read(rows, "auto")
+                yield same(f"{faults} wrong in the border of {named}, {wrong} in a block",
+                           (got.data, got.border_faults, got.corrected[-1]), (data, faults, wrong))
+                yield same(f"its normal grid, {faults}, {wrong} of {named}", ecc200.normal(rows, "auto"),
+                           ecc200.write(data))
+            for wrong in (size.limit, size.limit + 1):
+                rows = changed(whole, border[:faults] + block[:wrong])
+                for call in (ecc200.read, ecc200.normal):
+                    yield same(f"{call.__name__}: {faults} wrong in the border of {named}, {wrong} in a block",
+                               outcome(call, rows, "auto"), (Code.BORDER, faults, 0))
+        for faults, wrong in ((usual, size.limit), (0, size.limit + 1)):
+            rows = changed(whole, border[:faults] + block[:wrong])
+            yield same(f"as usual: {faults} wrong in the border of {named}, {wrong} in a block",
+                       answer(rows, border_limit="auto"), answer(rows))
+        checks = size.check_codewords // size.blocks
+        for erased in (checks - 2, checks - 1):
+            rows, doubt = changed(whole, border + block[:erased]), marked(named, block[:erased])
+            yield same(f"{erased} erased in {named}, no border", answer(rows, border_limit="auto", doubtful=doubt),
+                       spelled(data) if erased == checks - 2 else (Code.BORDER, len(border), 0))
+    rows = changed(ecc200.write(b"123456"), [(9, column) for column in range(10)])
+    yield same("rows that come once", ecc200.read(iter(rows), "auto").data, b"123456")
+    yield same("of many", [got.data for got in ecc200.read_many([rows], "auto")], [b"123456"])
+    yield same("decoded", [[got.data for got in ecc200.decode(rows, border_limit=limit)] for limit in (None, "auto")],
+               [[], [b"123456"]])
+    yield raises("another word", TypeError, "", lambda: ecc200.read(rows, "any"))
+
+
 def changed(rows, cells):
     """Rows with these modules turned round."""
     copy = [bytearray(row) for row in rows]

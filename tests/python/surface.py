@@ -128,7 +128,9 @@ def in_words():
         ("a square of 11", ("1" * 11 + "\n") * 11, ["no symbol has 11 rows of 11 modules"]),
         ("a large side", ("1" * 146 + "\n") * 146, ["no symbol has 146 rows of 146 modules"]),
         ("a wrong border", text([*ecc200.write(b"123456")[:-1], bytes(10)]),
-         ["10 of the 36", "--border 10 accepts them"]),
+         ["10 of the 36", "--border auto accepts them"]),
+        ("a wrong border of a damaged symbol", text([*hurt(2)[:-1], bytes(10)]),
+         ["10 of the 36", "--border 10 accepts them, though some block has no correction left"]),
         ("damage", text(hurt(5)), ["block 1 of its 1", "2 wrong codewords", "scan it again"]),
     ]:
         yield says(name, ecc("read", given=given), 1, "", ["symbol 1: ", *parts])
@@ -147,8 +149,18 @@ def in_words():
     yield says("damage within the limit", ecc("read", given=text(hurt(2))), output="123456\n")
     yield says("--border", ecc("read", "--border", "9", given=text([*ecc200.write(b"123456")[:-1], bytes(10)])), 1, "",
                ["10 of the 36"])
-    yield says("--border is enough", ecc("read", "--border", "10",
-                                         given=text([*ecc200.write(b"123456")[:-1], bytes(10)])), output="123456\n")
+    for limit in ("10", "auto"):
+        yield says(f"--border {limit} is enough",
+                   ecc("read", "--border", limit, given=text([*ecc200.write(b"123456")[:-1], bytes(10)])),
+                   output="123456\n")
+    frayed = text([*hurt(1)[:-1], bytes(10)])
+    for command, output in (("read", "123456\n"), ("normal", good),
+                            ("check", "10x10, 10 border modules wrong, codewords corrected in each block: 1 (at most "
+                                      "2)\n")):
+        yield says(f"{command} --border auto", ecc(command, "--border", "auto", given=frayed), output=output)
+    yield holds("explain --border auto", "It says 123456" in ecc("explain", "--border", "auto", given=frayed)[1])
+    yield says("--border auto, and no correction left",
+               ecc("read", "--border", "auto", given=text([*hurt(2)[:-1], bytes(10)])), 1, "", ["10 of the 36"])
 
 
 def turned(rows):

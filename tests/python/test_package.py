@@ -11,19 +11,20 @@ from tests.support.case import Case
 
 PARTS = {
     "module": "forms strange_grids readings messages refusals many shown by_threads loading",
-    "sizes": "printed sides table chosen limits doubtful doubtful_forms beside from_others",
+    "sizes": "printed sides table chosen limits any_border doubtful doubtful_forms beside from_others",
     "elements": "worked square faults table beside_zint beside_stdnum",
     "drawings": "png rendered unloadable taken saved in_files paged sheets symbols oriented sampled",
     "surface": "usage reading in_words otherwise writing files named_alike",
     "comparing": "pages comparing explained spellings at_a_terminal completion",
-    "batches": "numbered several walked no_picture streams interrupted bad_lines locales round_trips blocks_of_json",
+    "batches": "numbered several walked side_by_side no_picture streams interrupted bad_lines locales round_trips "
+               "blocks_of_json",
     "rectangles": "read_by_command grids sizes_told chosen in_words otherwise doubtful drawn labels found "
                   "found_in_doubt without_sampler",
     "labels": "captions captions_on_sheets names output sizes first_symbols letters_of_dots terminal "
               "no_picture_on_a_terminal",
     "pages": "unlike margins",
     "whole": "captions replaced missing_folder blank_lines",
-    "wanted": "by_python rows_of_numbers sixteen_bits by_command sizes_as_json",
+    "wanted": "by_python rows_of_numbers depths by_command sizes_as_json",
     "searches": "early out_of_time by_python sheets handed_on unread unsure",
     "quick": "starts reduced within_time pngs",
     "packaged": "typed from_system wheel",

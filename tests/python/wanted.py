@@ -62,10 +62,10 @@ def rows_of_numbers():
         yield raises("rows are no picture", TypeError, "unlike _Drawn", lambda: ecc200.find(symbol.rows))
 
 
-def sixteen_bits(folder):
-    """Pictures of 16 bits are read as those of 8 are."""
-    pillow, numpy = (wanted_module(*names, "pictures of 16 bits") for names in (("PIL.Image", "Pillow"),
-                                                                              ("numpy", "numpy")))
+def depths(folder):
+    """Pictures of 16 and 32 bits and of floats are read as those of 8 bits are."""
+    pillow, numpy = (wanted_module(*names, "pictures of other depths") for names in (("PIL.Image", "Pillow"),
+                                                                                   ("numpy", "numpy")))
     if not pillow or not numpy:
         return
     grey = numpy.array(ecc200.encode(b"16 bits"))
@@ -73,7 +73,12 @@ def sixteen_bits(folder):
     full, camera = grey.astype(numpy.uint16) * 257, grey.astype(numpy.uint16) * 16  # 12 bits of a camera's
     given = {"full": full, "a camera's": camera, "the other order": full.astype(">u2"),
              "a camera's in the other order": camera.astype(">u2"), "a part": full[:, ::-1][:, ::-1],
-             "colours": numpy.stack([full] * 3, 2), "colours of a camera": numpy.stack([camera] * 3, 2)}
+             "colours": numpy.stack([full] * 3, 2), "colours of a camera": numpy.stack([camera] * 3, 2),
+             "floats to 1": grey / numpy.float32(255), "floats to 255": grey.astype(">f4"),
+             "long floats": numpy.flipud(grey).astype(float)[::-1] / 255, "the other long floats": grey.astype(">f8"),
+             "colours of floats": numpy.stack([grey / 255] * 3, 2), "signed": camera.astype(numpy.int16),
+             "signed in the other order": camera.astype(">i2"), "32 bits": full.astype(numpy.int32) * 257,
+             "32 bits in the other order": full.astype(">i4") * 257}
     for name, array in given.items():
         pixels, width, height = ecc200.luminance(array)
         got = numpy.frombuffer(pixels, numpy.uint8).reshape(height, width)
@@ -87,8 +92,20 @@ def sixteen_bits(folder):
     opened = pillow.Image.open(path)
     got = numpy.frombuffer(ecc200.luminance(opened)[0], numpy.uint8)
     yield holds("a PNG of 16 bits", (abs(got.astype(int) - grey.ravel()) <= 1).all(), f"{opened.mode}")
-    dim = numpy.full((4, 4), 100, numpy.uint16)
-    yield same("what is below 256 stays", set(ecc200.luminance(dim)[0]), {100})
+    for kind in (numpy.uint16, numpy.int32, numpy.float32, float):
+        dim = numpy.full((4, 4), 100, kind)
+        yield same(f"what is below 256 stays, {kind.__name__}", set(ecc200.luminance(dim)[0]), {100})
+        yield same(f"nothing, {kind.__name__}", ecc200.luminance(dim[:0]), (b"", 4, 0))
+    for kind in (numpy.int16, numpy.int32, float):
+        yield same(f"what is below 0 is black, {kind.__name__}",
+                   [*ecc200.luminance(numpy.array([[-300, 0, 255, 100]], kind))[0]], [0, 0, 255, 100])
+    dim = numpy.array([[-2.0, 0.0, 0.25, 0.5]])
+    yield same("floats up to 1 are shares of white", [*ecc200.luminance(dim)[0]], [0, 0, 63, 127])
+    dark = numpy.eye(12, dtype=numpy.int32)
+    yield same("integers up to 1 are dark", max(ecc200.luminance(dark)[0]), 1)
+    for kind in (numpy.int64, numpy.uint32, numpy.float16, complex):
+        yield raises(f"no numbers of a picture, {kind.__name__}", TypeError, "numbers of 8, 16 or 32 bits",
+                     lambda kind=kind: ecc200.luminance(dark.astype(kind)))
     if pictures.is_there():
         for name, array in given.items():
             yield same(f"decoded, {name}", [found.data for found in ecc200.decode(array, most=1)], [b"16 bits"])
@@ -105,7 +122,8 @@ def by_command(folder):
          ["no symbol has 9 rows and 9 columns; 'ecc200 sizes' lists those that there are"]),
         ("no size", ("write", "--size", "8", "A"), ["rows and columns are wanted, as 8x32, unlike '8'"]),
         ("a size turned", ("write", "--size", "32x8", "A"), ["no symbol has 32 rows"]),
-        ("no number", ("read", "--border", "x"), ["--border: a whole number from 0 to 65535 is wanted, unlike 'x'"]),
+        ("no number", ("read", "--border", "x"),
+         ["--border: auto, or a whole number from 0 to 65535 is wanted, unlike 'x'"]),
         ("a number too large", ("read", "--border", "70000"), ["from 0 to 65535 is wanted, unlike '70000'"]),
         ("a number with a sign", ("read", "--time", "+5"), ["a whole number from 1 to 3600000 is wanted"]),
         ("no resolution", ("write", "--dpi", "x", "A"), ["from 1 to 100000 of dots an inch is wanted, as 300, unlike"]),

@@ -179,6 +179,9 @@ class Sampler(Case):
     def test_work(self):
         self.told(timing.work, self.sampler)
 
+    def test_shares(self):
+        self.told(timing.shares, self.sampler)
+
     def test_deadline(self):
         self.told(timing.deadline, self.room, self.sampler)
 

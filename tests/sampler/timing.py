@@ -82,22 +82,37 @@ def late(folder, sampler):
     check("a second that is over at once", (done.returncode, done.stdout), (4, b""))
 
 
-def work(sampler):
-    """A picture of many megapixels with much in it and no symbol is given up, and it is said why."""
-    chance, wide, high = random.Random(8), 3000, 2000
+def cluttered(wide, high, chance, count):
+    """Rows of pixels with rectangles of all shades, so many on each million."""
     rows = [bytearray(b"\xd0" * wide) for _ in range(high)]
-    for _ in range(2500):
+    for _ in range(count * wide * high // 10 ** 6):
         x, y, across, down = (chance.randrange(most) for most in (wide - 60, high - 60, 60, 60))
         level = bytes([chance.randrange(20, 240)]) * across
         for row in rows[y:y + down]:
             row[x:x + across] = level
+    return rows
+
+
+def work(sampler):
+    """A picture of many megapixels with much in it and no symbol is given up, and it is said why."""
+    wide, high = 3000, 2000
     before = resource.getrusage(resource.RUSAGE_CHILDREN).ru_utime
-    done = run([sampler], f"P5 {wide} {high} 255\n".encode() + b"".join(rows))
+    done = run([sampler], f"P5 {wide} {high} 255\n".encode() + b"".join(cluttered(wide, high, random.Random(8), 400)))
     took = resource.getrusage(resource.RUSAGE_CHILDREN).ru_utime - before
     said = (b"dm_sample: -: the search ended early, after the usual work: there may be a symbol, --time searches "
             b"longer\n")
     check("given up", (done.returncode, done.stdout, done.stderr), (4, b"", said))
-    check("within the time of some seconds", took < 4 or took, True)
+    check("within the time of a second or two", took < 2 or took, True)
+
+
+def shares(sampler):
+    """However much is tried by the first ways to search, enough is left of the usual work for those behind them: a
+    symbol that is light on dark, among much else."""
+    wide, high = 3000, 2000
+    rows = cluttered(wide, high, random.Random(8), 525)
+    draw(rows, pixels_of(grid_of("LIGHT"), 12, 2, 230, 20), 300, 500)
+    done = run([sampler, "--json"], f"P5 {wide} {high} 255\n".encode() + b"".join(rows))
+    check("light on dark among many rectangles", json.loads(done.stdout or b"{}").get("message"), "LIGHT")
 
 
 def deadline(folder, sampler):

@@ -7,7 +7,7 @@ import operator
 from typing import Callable, Iterable, List, NamedTuple, Optional, Tuple
 
 from . import core
-from .core import Code, Extent, Reading, Refused, Rows, Shape, Size
+from .core import BorderLimit, Code, Extent, Reading, Refused, Rows, Shape, Size
 
 __all__ = ["Righted", "bytes_in", "in_words", "reduced", "righted", "sizes_of", "why_not_written"]
 
@@ -28,7 +28,11 @@ _DAMAGE = ("a codeword that no encoder writes there, so the symbol comes from a 
 def _border(why: Refused, rows: Rows, extent: Extent, doubtful: Optional[Rows]) -> str:
     count = sum(place.kind in (core.Kind.BORDER_DARK, core.Kind.BORDER_LIGHT)
                 for row in core.places(len(rows), len(rows[0])) for place in row)
-    accept = f"; --border {why.value} accepts them" if _reading(rows, why.value, extent, doubtful) is not None else ""
+    accept = ""
+    if _reading(rows, "auto", extent, doubtful) is not None:
+        accept = "; --border auto accepts them, since each block has a correction left"
+    elif _reading(rows, why.value, extent, doubtful) is not None:
+        accept = f"; --border {why.value} accepts them, though some block has no correction left"
     return (f"{why.value} of the {count} modules of its border have the wrong colour{accept}. The left "
             "column and the bottom row must be dark, the top row and the right column alternate")
 
@@ -135,7 +139,7 @@ def _turned(rows: Rows) -> Rows:
     return [bytes(column) for column in zip(*rows)][::-1]
 
 
-def _reading(rows: Rows, border_limit: Optional[int], extent: Extent,
+def _reading(rows: Rows, border_limit: BorderLimit, extent: Extent,
              doubtful: Optional[Rows] = None) -> Optional[Reading]:
     try:
         return core.read(rows, border_limit, extent, doubtful)
@@ -165,7 +169,7 @@ def _stands(rows: Rows, read: Callable[[Rows], Optional[Reading]]) -> Optional[R
     return None
 
 
-def righted(rows: Rows, border_limit: Optional[int] = None, extent: Extent = Extent.WIDE) -> Optional[Righted]:
+def righted(rows: Rows, border_limit: BorderLimit = None, extent: Extent = Extent.WIDE) -> Optional[Righted]:
     """How a grid that isn't read as it stands is read: without its margin, with one character a module, inverted,
     turned or mirrored."""
     if not rows or len({len(row) for row in rows}) != 1:

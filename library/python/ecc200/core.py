@@ -41,14 +41,15 @@ import math
 import operator
 import os
 import struct
+import sys
 import warnings
-from typing import (Any, Callable, Dict, Iterable, Iterator, List, NamedTuple, Optional, Protocol, Sequence, Tuple,
-                    Type, TypeVar, Union, overload)
+from typing import (Any, Callable, Dict, Iterable, Iterator, List, Literal, NamedTuple, Optional, Protocol, Sequence,
+                    Tuple, Type, TypeVar, Union, overload)
 
-__all__ = ["ABI", "Code", "Corners", "End", "Extent", "FNC1", "Findings", "Found", "Grid", "Inspection", "Kind",
-           "MOST_ITEMS", "Message", "Place", "Profile", "Reading", "Refused", "Rows", "SamplerMissing", "Shape", "Size",
-           "Unsure", "decode", "find", "has_sampler", "inspect", "luminance", "normal", "places", "read", "read_many",
-           "sampler_fault", "sizes", "usual_limit", "version", "write"]
+__all__ = ["ABI", "BorderLimit", "Code", "Corners", "End", "Extent", "FNC1", "Findings", "Found", "Grid", "Inspection",
+           "Kind", "MOST_ITEMS", "Message", "Place", "Profile", "Reading", "Refused", "Rows", "SamplerMissing", "Shape",
+           "Size", "Unsure", "decode", "find", "has_sampler", "inspect", "luminance", "normal", "places", "read",
+           "read_many", "sampler_fault", "sizes", "usual_limit", "version", "write"]
 
 # ecc200.h: constants
 ABI = 3
@@ -82,6 +83,9 @@ class _Symbol(Protocol):
 Grid = Union[str, bytes, bytearray, memoryview, Sequence[str], Sequence[bytes], Sequence[bytearray],
              Sequence[Sequence[int]], _Array, _Symbol]
 Message = Union[str, bytes, bytearray, memoryview, Iterable[int]]
+# How many border modules may have the wrong colour: so many; as many as usual; or any number, if each block then leaves
+# a correction unused, which shows that it is a symbol.
+BorderLimit = Union[int, None, Literal["auto"]]
 # Top left, top right, bottom right and bottom left of the upright symbol, in pixels from the picture's upper left.
 Corners = Tuple[Tuple[float, float], ...]
 
@@ -384,6 +388,7 @@ _read_head = struct.Struct("=8H" + f"{_MOST_BLOCKS}s" * 3).unpack_from
 _drawn_head = struct.Struct("=5H").unpack_from
 _ITEMS, _MODULES, _PLACES = _ReadingOut.items.offset, _SymbolOut.modules.offset, _PlacesOut.places.offset
 _DIGITS = bytes(byte == 0x31 for byte in range(256))
+_CHECKS_OF_A_CORRECTION = 2
 _TURNS = {2: 0, 3: 3, 4: 1, 5: 5, 6: 4, 7: 6, 8: 2}  # for each orientation of EXIF, Pillow's way of transposing
 
 
@@ -532,7 +537,7 @@ _KINDS: Dict[Code, Type[enum.IntEnum]] = {Code.PROFILE: Profile, Code.EXTENT: Ex
 
 
 def _limit(rows: int, columns: int, border_limit: Optional[int]) -> int:
-    return (rows + columns) // 8 if border_limit is None else max(0, min(border_limit, 65535))
+    return usual_limit(rows, columns) if border_limit is None else max(0, min(border_limit, 65535))
 
 
 def _said(answer: memoryview) -> Reading:
@@ -585,28 +590,51 @@ def usual_limit(rows: int, columns: Optional[int] = None) -> int:
     return (rows + (rows if columns is None else columns)) // 8
 
 
-def read(grid: Grid, border_limit: Optional[int] = None, extent: Extent = Extent.WIDE,
+def _read(modules: bytes, rows: int, columns: int, marks: Tuple[Optional[bytes], int], limit: int,
+          extent: Extent) -> Reading:
+    answer, address = room = _room(_readings, _ReadingOut)
+    try:
+        _call_read(modules, len(modules), marks[0], marks[1], rows, columns, limit, extent, address)
+        return _said(answer)
+    finally:
+        _readings.append(room)
+
+
+def _read_any_border(modules: bytes, rows: int, columns: int, marks: Tuple[Optional[bytes], int],
+                     extent: Extent) -> Reading:
+    """What a symbol says, if its border is as usual or if each block leaves a correction unused."""
+    try:
+        return _read(modules, rows, columns, marks, usual_limit(rows, columns), extent)
+    except Refused as why:
+        if why.code != Code.BORDER:
+            raise
+        try:
+            reading = _read(modules, rows, columns, marks, why.value, extent)
+        except Refused:
+            raise why from None
+        if min(reading.left) < _CHECKS_OF_A_CORRECTION:
+            raise
+        return reading
+
+
+def read(grid: Grid, border_limit: BorderLimit = None, extent: Extent = Extent.WIDE,
          doubtful: Optional[Grid] = None) -> Reading:
     """What a symbol says. `border_limit`: how many border modules may have the wrong colour, by default the usual
-    limit. `doubtful`: a grid with as many rows and columns in which the modules are 1 whose colours tell nothing, as
-    under a blot.
+    limit; "auto": any number, if each block leaves a correction unused. `doubtful`: a grid with as many rows and
+    columns in which the modules are 1 whose colours tell nothing, as under a blot.
 
     A symbol with more damage than can be corrected is refused, unless it has come near the codewords of another
     message, and is then read as that message: if that is worse than a refusal, look at `left`. Where that is 0 and
     codewords are erased, a block is read whatever it held."""
     modules, rows, columns = _modules(grid)
     extent = extent if extent is _WIDE else _number(Code.EXTENT, extent)
-    marks, count = (None, 0) if doubtful is None else _doubtful(doubtful, rows, columns)
-    answer, address = room = _room(_readings, _ReadingOut)
-    try:
-        _call_read(modules, len(modules), marks, count, rows, columns, _limit(rows, columns, border_limit), extent,
-                   address)
-        return _said(answer)
-    finally:
-        _readings.append(room)
+    marks = (None, 0) if doubtful is None else _doubtful(doubtful, rows, columns)
+    if border_limit == "auto":
+        return _read_any_border(modules, rows, columns, marks, extent)
+    return _read(modules, rows, columns, marks, _limit(rows, columns, border_limit), extent)
 
 
-def read_many(grids: Iterable[Grid], border_limit: Optional[int] = None,
+def read_many(grids: Iterable[Grid], border_limit: BorderLimit = None,
               extent: Extent = Extent.WIDE) -> List[Union[Reading, Refused]]:
     """For each grid, in order, what it says or its refusal. An array of three dimensions is taken grid by grid."""
     answers: List[Union[Reading, Refused]] = []
@@ -677,13 +705,15 @@ def write(message: Message, gs1: bool = False, profile: Profile = Profile.ASCII,
         _symbols.append(room)
 
 
-def normal(grid: Grid, border_limit: Optional[int] = None, profile: Profile = Profile.ASCII,
+def normal(grid: Grid, border_limit: BorderLimit = None, profile: Profile = Profile.ASCII,
            extent: Extent = Extent.WIDE, doubtful: Optional[Grid] = None) -> Rows:
     """The normal grid of what a symbol says, which is a square whatever the symbol is. Symbols that have normal grids
     under one profile say the same exactly if these are equal."""
     modules, rows, columns = _modules(grid)
     wanted, form = _number(Code.EXTENT, extent), _number(Code.PROFILE, profile)
     marks = _doubtful(doubtful, rows, columns)
+    if border_limit == "auto":
+        border_limit = _read_any_border(modules, rows, columns, marks, wanted).border_faults
     answer, address = room = _room(_symbols, _SymbolOut)
     try:
         _library.ecc200_normal(modules, len(modules), *marks, rows, columns, _limit(rows, columns, border_limit),
@@ -744,7 +774,9 @@ _MOST_UNREAD = 32  # symbols of one picture that aren't read
 _ANY_TIME = 0xFFFFFFFF
 _IS_UNSURE = 2  # `unread` of a symbol that is
 _COLOURS = {1: "L", 2: "LA", 3: "RGB", 4: "RGBA"}  # by the numbers of a pixel, as Pillow calls them
-_SIXTEEN = ("H", "<H", ">H")  # how an array has numbers of 16 bits
+# How Pillow calls the numbers of an array that are no bytes, by their letter and their bytes: integers, and floats.
+_NUMBERS = {("H", 2): "I;16{}", ("h", 2): "I;16{}S", ("i", 4): "I;32{}S", ("l", 4): "I;32{}S", ("f", 4): "F;32{}F",
+            ("d", 8): "F;64{}F"}
 
 
 class SamplerMissing(ImportError):
@@ -857,7 +889,8 @@ def _of_pillow(picture: Any) -> Any:
     if picture.mode.startswith("I") or picture.mode == "F":  # 16 bits or more, which Pillow would cut off at 255
         picture = picture if picture.mode == "F" else picture.convert("I")
         low, high = picture.getextrema()
-        picture = picture.point(lambda value: value * (255 / max(high, 255)) + 0)
+        white = 1 if picture.mode == "F" and high <= 1 else max(high, 255)
+        picture = picture.point(lambda value: value * (255 / white) + 0)
     elif "A" in picture.getbands() or "transparency" in picture.info:
         from PIL import Image
         paper = Image.new("RGBA", picture.size, "white")
@@ -882,17 +915,25 @@ def _elements(picture: Any) -> memoryview:
     return memoryview(array)
 
 
-def _in_bytes(view: memoryview) -> bytes:
-    """The numbers of an array of two or three dimensions as bytes: booleans as 0 and 255, and those of 16 bits by the
-    largest, which is 255 if it is beyond that."""
+def _raw_mode(view: memoryview) -> Optional[str]:
+    """How Pillow calls the numbers of an array, if they are some that it knows."""
+    mode, is_own = _NUMBERS.get((view.format[-1:], view.itemsize)), view.format[0] not in "<>"
+    return mode and mode.format("B" if view.format[0] == ">" or is_own and sys.byteorder == "big" else "")
+
+
+def _in_bytes(view: memoryview) -> Optional[bytes]:
+    """The numbers of an array of two or three dimensions as bytes: booleans as 0 and 255, and other numbers by the
+    largest, which is 255 if it is beyond that, or if they are floats and it isn't beyond 1. None if no picture has such
+    numbers."""
     if view.format == "?":
         return view.tobytes().replace(b"\1", b"\xff")
-    if view.format == "B":
+    if view.format == "B" or not view.nbytes:
         return view.tobytes()
+    mode, width = _raw_mode(view), view.nbytes // view.itemsize // len(view)
+    if mode is None:
+        return None
     from PIL import Image
-    mode, numbers = "I;16B" if view.format.startswith(">") else "I;16", view.tobytes()
-    width = view.nbytes // view.itemsize // len(view)
-    return bytes(_of_pillow(Image.frombytes(mode, (width, len(view)), numbers)).tobytes())
+    return bytes(_of_pillow(Image.frombytes(mode[0], (width, len(view)), view.tobytes(), "raw", mode)).tobytes())
 
 
 def luminance(picture: Any) -> Tuple[bytes, int, int]:
@@ -900,13 +941,15 @@ def luminance(picture: Any) -> Tuple[bytes, int, int]:
     if not hasattr(picture, "getbbox"):
         view = _elements(picture)
         shape = view.shape or ()
-        if len(shape) == 2 and view.format in ("B", "?", *_SIXTEEN):
-            return _in_bytes(view), shape[1], shape[0]
-        if len(shape) != 3 or view.format not in ("B", *_SIXTEEN) or shape[2] not in _COLOURS:
-            raise TypeError("a picture is an array of rows of numbers of 8 or 16 bits, or of rows of colours, unlike "
-                            f"one of {shape} of {view.format}")
+        has_rows = len(shape) == 2 or len(shape) == 3 and shape[2] in _COLOURS
+        pixels = _in_bytes(view) if has_rows else None
+        if pixels is None:
+            raise TypeError("a picture is an array of rows of numbers of 8, 16 or 32 bits, or of rows of colours, "
+                            f"unlike one of {shape} of {view.format}")
+        if len(shape) == 2:
+            return pixels, shape[1], shape[0]
         from PIL import Image
-        picture = Image.frombytes(_COLOURS[shape[2]], (shape[1], shape[0]), _in_bytes(view))
+        picture = Image.frombytes(_COLOURS[shape[2]], (shape[1], shape[0]), pixels)
     grey = _of_pillow(picture)
     return grey.tobytes(), grey.width, grey.height
 
@@ -1021,7 +1064,7 @@ def _records(grid: Any) -> List[Any]:
 def find(picture: Any, most: int = _MOST_FOUND, milliseconds: Optional[int] = None, margin: int = 0,
          unread: bool = False) -> Findings[Found]:
     """At most `most` symbols of each page of a picture. The search takes about `milliseconds` for a page; without them
-    its work is limited, the same on every machine, which is about a second where nothing is found. It ends at once
+    its work is limited, the same on every machine, which is about half a second where nothing is found. It ends at once
     where `most` are found: `complete` of the list is false where it ended before all was searched. `margin`: how
     many corrections each block must leave unused. With `unread`, behind those of each page also what was found on it
     and isn't read, the likeliest first, with its refusal: at most 32, whose borders have few faults. A page that can't
@@ -1040,7 +1083,7 @@ def find(picture: Any, most: int = _MOST_FOUND, milliseconds: Optional[int] = No
     return found
 
 
-def _of_page(page: Any, number: int, asked: _Asked, border_limit: Optional[int],
+def _of_page(page: Any, number: int, asked: _Asked, border_limit: BorderLimit,
              extent: Extent) -> Findings[Union[Reading, Refused]]:
     """What the symbols of a Pillow picture say: those that are found, or else the one whose modules the pixels are."""
     found = _searched(page, number, asked) if has_sampler() else Findings()
@@ -1060,17 +1103,17 @@ def _has_border(answers: Iterable[Union[Reading, Refused]]) -> bool:
 
 
 @overload
-def decode(picture: Any, most: int = ..., milliseconds: Optional[int] = ..., border_limit: Optional[int] = ...,
+def decode(picture: Any, most: int = ..., milliseconds: Optional[int] = ..., border_limit: BorderLimit = ...,
            extent: Extent = ...) -> Findings[Reading]: ...
 
 
 @overload
-def decode(picture: Any, most: int = ..., milliseconds: Optional[int] = ..., border_limit: Optional[int] = ...,
+def decode(picture: Any, most: int = ..., milliseconds: Optional[int] = ..., border_limit: BorderLimit = ...,
            extent: Extent = ..., *, unread: bool) -> Findings[Union[Reading, Refused]]: ...
 
 
 def decode(picture: Any, most: int = _MOST_FOUND, milliseconds: Optional[int] = None,
-           border_limit: Optional[int] = None, extent: Extent = Extent.WIDE, *, unread: bool = False) -> Any:
+           border_limit: BorderLimit = None, extent: Extent = Extent.WIDE, *, unread: bool = False) -> Any:
     """What the symbols of a grid or of a picture say: a list, empty if nothing is read. Rows, text of 0 and 1, and what
     has `rows`, such as an encoded symbol, are grids; what has the array interface (numpy, OpenCV, Pillow) is a picture,
     on each page of which at most `most` symbols are looked for, wherever they stand, during `milliseconds` or, without

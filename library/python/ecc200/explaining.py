@@ -5,7 +5,7 @@ from __future__ import annotations
 from typing import Iterator, List, NamedTuple, Optional, Sequence, Tuple
 
 from . import core
-from .core import Extent, FNC1, Grid, Refused
+from .core import BorderLimit, Extent, FNC1, Grid, Refused
 from .spelling import spelled
 
 __all__ = ["Codeword", "Explanation", "explain"]
@@ -212,7 +212,7 @@ def _meanings(data: bytes, items: Optional[Tuple[int, ...]], refused: Optional[R
             yield ("", "what can't be read begins here" if place == known else "not read")
 
 
-def explain(grid: Grid, border_limit: Optional[int] = None, extent: Extent = Extent.WIDE,
+def explain(grid: Grid, border_limit: BorderLimit = None, extent: Extent = Extent.WIDE,
             doubtful: Optional[Grid] = None) -> Explanation:
     """The codewords of a grid with what each means: the data codewords, and then the check codewords. Beyond correction
     none has a meaning."""

@@ -6,7 +6,7 @@ import re
 from typing import Callable, NamedTuple
 
 from . import core
-from .core import Extent, Profile, Shape
+from .core import BorderLimit, Extent, Profile, Shape
 from .labels import KINDS
 
 __all__ = ["SUBCOMMANDS", "Subcommand"]
@@ -23,6 +23,14 @@ def _number(least: int, most: int) -> Callable[[str], int]:
             raise argparse.ArgumentTypeError(f"a whole number from {least} to {most} is wanted, unlike {text!r}")
         return int(text)
     return number
+
+
+def _border_limit(text: str) -> BorderLimit:
+    """A border limit of the command line."""
+    try:
+        return "auto" if text == "auto" else _number(0, 65535)(text)
+    except argparse.ArgumentTypeError as why:
+        raise argparse.ArgumentTypeError(f"auto, or {why}") from None
 
 
 def _resolution(text: str) -> float:
@@ -56,6 +64,8 @@ def _takes(parser: argparse.ArgumentParser) -> None:
     several.add_argument("-r", "--recursive", action="store_true",
                          help="read the pictures and grids in folders, and in those below them; without FILE in the "
                          "folder where it runs")
+    several.add_argument("--jobs", type=_number(1, 256), default=1, metavar="N",
+                         help="search N pictures at a time, and print what they say in order (1)")
     several.add_argument("-H", "--with-filename", dest="filename", action="store_true", default=None,
                          help="print the file's name and a colon before each answer, as for several files and with -r")
     several.add_argument("--no-filename", dest="filename", action="store_false", help="never print it")
@@ -68,8 +78,9 @@ def _reads(parser: argparse.ArgumentParser, most: int = 1) -> None:
                         "wait")
     parser.add_argument("--basic", dest="extent", action="store_const", const=Extent.USUAL,
                         help=argparse.SUPPRESS)  # its old name
-    parser.add_argument("--border", type=_number(0, 65535), metavar="N",
-                        help="accept N border modules of the wrong colour (an eighth of the rows and columns together)")
+    parser.add_argument("--border", type=_border_limit, metavar="N",
+                        help="accept N border modules of the wrong colour (an eighth of the rows and columns "
+                        "together); auto: any number, if each block then has a correction left")
     parser.add_argument("--any-way", action="store_true",
                         help="also read grids that are turned, mirrored, light on dark, have a margin or several "
                         "characters a module")
@@ -85,7 +96,7 @@ def _reads(parser: argparse.ArgumentParser, most: int = 1) -> None:
                       help="look for all symbols on each page")
     looks.add_argument("--time", dest="milliseconds", type=_number(1, 3600000), metavar="MS",
                        help="look for about so many milliseconds on each page; without it the work is limited, the "
-                       "same on every machine, which is about a second where nothing is found")
+                       "same on every machine, which is about half a second where nothing is found")
     looks.add_argument("--unread", action="store_true",
                        help="also list what is found and not read, the likeliest first, each with the reason and its "
                        "place; without it that is done for the likeliest alone, where nothing is read")
@@ -199,7 +210,7 @@ def _normalising(one: argparse.ArgumentParser) -> None:
 
 def _comparing(one: argparse.ArgumentParser) -> None:
     one.add_argument("files", nargs=2, metavar="FILE")
-    one.set_defaults(recursive=False, doubtful=None)
+    one.set_defaults(recursive=False, doubtful=None, jobs=1)
     _reads(one, 64)
 
 

@@ -7,7 +7,7 @@ from typing import Any, Dict, Iterator, List, NamedTuple, Optional, Tuple, Union
 
 from . import core, explaining, gs1
 from .advice import bytes_in, in_words, righted, sizes_of, why_not_written
-from .core import FNC1, Code, Reading, Refused, Rows, Shape, Unsure
+from .core import FNC1, Code, Reading, Refused, Rows, Shape, Unsure, usual_limit
 from .labels import Label, Output, printed
 from .progress import Progress
 from .sources import Search, Source, Trouble, doubts, known_charset, sources
@@ -69,7 +69,10 @@ def _answer(source: Source, given: argparse.Namespace, doubtful: Optional[Rows])
         doubtful = found.doubtful if doubtful is None else doubtful
         border = found.border_limit if isinstance(found.answer, Reading) and border is None else border
     try:
-        return Answer(source, core.read(rows, border, given.extent, doubtful), rows, doubtful=doubtful, border=border)
+        reading = core.read(rows, border, given.extent, doubtful)
+        if border == "auto":
+            border = max(usual_limit(*reading.size), reading.border_faults)
+        return Answer(source, reading, rows, doubtful=doubtful, border=border)
     except Refused as why:
         return _refusal(source, rows, why, given, doubtful)
 
@@ -88,7 +91,7 @@ def answers(given: argparse.Namespace, names: List[str]) -> Iterator[Answer]:
     progress, marks = Progress("symbols read"), doubts(given.doubtful)
     try:
         search = Search(given.most, given.milliseconds, given.margin, given.unread)
-        for source in sources(names, given.recursive, search):
+        for source in sources(names, given.recursive, search, given.jobs):
             doubtful = next(marks, None) if source.number else None
             if given.doubtful is not None and source.number and doubtful is None:
                 raise Trouble(f"--doubtful {given.doubtful}: it has no grid for symbol {source.number} of "

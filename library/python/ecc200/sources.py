@@ -1,12 +1,13 @@
 """What the command reads: files with grids as text, or pictures, also those of whole folders."""
 from __future__ import annotations
 
+import collections
 import io
 import os
 import re
 import stat
 import sys
-from typing import Any, BinaryIO, Iterator, List, NamedTuple, Optional, Union
+from typing import Any, BinaryIO, Deque, Iterable, Iterator, List, NamedTuple, Optional, Union
 
 from . import core, pictures
 from .advice import reduced
@@ -256,22 +257,78 @@ def _walked(folder: str) -> Iterator[Union[str, OSError]]:
     yield from faults
 
 
-def sources(names: List[str], recursive: bool = False, search: Search = Search()) -> Iterator[Source]:
-    """The grids of these files in order, and of all files in these folders if `recursive`. Without names those of
-    standard input, or if `recursive` of the folder in which the command runs."""
+class _File(NamedTuple):
+    """A file to be read, or why a folder can't be opened; and whether it was named, and not found in a folder."""
+    path: Union[str, OSError]
+    is_named: bool
+
+    def sources(self, search: Search) -> Iterator[Source]:
+        """Its grids, or why it can't be read."""
+        try:
+            if isinstance(self.path, OSError):
+                raise self.path
+            yield from _of_file(self.path, self.is_named, search)
+        except IsADirectoryError:
+            yield Source(str(self.path), 0, None, "it is a folder; -r reads the files in it")
+        except OSError as why:
+            name = why.filename if why is self.path else self.path
+            yield Source(str(name), 0, None, str(why.strerror))
+        except (_Unreadable, ValueError) as why:  # as of a page that can't be opened
+            yield Source(str(self.path), 0, None, re.sub(_OBJECT, "", str(why)))
+
+    def is_picture(self) -> bool:
+        """Whether it is one that can be looked at beforehand, as standard input and pipes can't."""
+        if isinstance(self.path, OSError) or not os.path.isfile(self.path):
+            return False
+        try:
+            with open(self.path, "rb") as file:
+                return bool(re.match(_PICTURE, file.peek(4096)))
+        except OSError:
+            return False
+
+
+def _files(names: List[str], recursive: bool) -> Iterator[_File]:
+    """These files, and all files in these folders if `recursive`."""
     for name in names or ["" if recursive else "-"]:
         is_named = not (recursive and os.path.isdir(name or "."))
         for file in [name] if is_named else _walked(name):
-            try:
-                if isinstance(file, OSError):
-                    raise file
-                yield from _of_file(file, is_named, search)
-            except IsADirectoryError:
-                yield Source(name, 0, None, "it is a folder; -r reads the files in it")
-            except OSError as why:
-                yield Source(str(why.filename) if why is file else str(file), 0, None, str(why.strerror))
-            except (_Unreadable, ValueError) as why:  # as of a page that can't be opened
-                yield Source(str(file), 0, None, re.sub(_OBJECT, "", str(why)))
+            yield _File(file, is_named)
+
+
+def _side_by_side(files: Iterator[_File], search: Search, jobs: int) -> Iterator[Source]:
+    """The grids of files in order, of which so many pictures are searched at a time, and some are waiting."""
+    from concurrent.futures import Future, ThreadPoolExecutor  # a sixth of each start
+    pending: Deque[Union[Future[List[Source]], Iterator[Source]]] = collections.deque()
+
+    def first() -> Iterable[Source]:
+        part = pending.popleft()
+        return part.result() if isinstance(part, Future) else part
+
+    with ThreadPoolExecutor(jobs) as pool:
+        try:
+            for file in files:
+                pending.append(pool.submit(lambda file=file: list(file.sources(search))) if file.is_picture()
+                               else file.sources(search))
+                if len(pending) > 2 * jobs:
+                    yield from first()
+            while pending:
+                yield from first()
+        finally:
+            for part in pending:
+                if isinstance(part, Future):
+                    part.cancel()
+
+
+def sources(names: List[str], recursive: bool = False, search: Search = Search(), jobs: int = 1) -> Iterator[Source]:
+    """The grids of these files in order, and of all files in these folders if `recursive`. Without names those of
+    standard input, or if `recursive` of the folder in which the command runs. As many pictures as there are `jobs` are
+    searched at a time."""
+    files = _files(names, recursive)
+    if jobs > 1:
+        yield from _side_by_side(files, search, jobs)
+        return
+    for file in files:
+        yield from file.sources(search)
 
 
 # ---- Doubtful modules
