@@ -1,6 +1,7 @@
 //! A digest of results.
 
-ghost use Rattle.std.specs.Prelude.{◌≡◌, length};
+use crate::cells::{bytes_of, sixteen};
+use dm_modules::Symbol;
 
 /// A number that depends on all that was added, and on its order; and how many results were told to be answers, and how
 /// many refusals.
@@ -77,26 +78,36 @@ impl Digest {
         self.add(bytes.len() as u64);
     }
 
-    /// Adds colours, 32 at a time, and their number.
-    pub(crate) fn add_colours(&mut self, colours: &[bool]) {
-        for part in 0..colours.len() / 32 {
-            let bytes = bytes_of(&colours[32 * part..32 * part + 32]);
-            self.add_bytes(&bytes);
+    /// Adds the modules of a symbol row by row, 1 for dark, 32 at a time as bytes, and their number.
+    pub(crate) fn add_symbol(&mut self, symbol: &Symbol) {
+        let size = symbol.size();
+        let columns = size.columns();
+        // Those that wait for more until they are 32, the first as the lowest bit, and how many they are.
+        let mut waiting = 0;
+        let mut count = 0;
+        for row in 0..size.rows() {
+            for part in 0..(columns + 15) / 16 {
+                let some = u32::from((columns - 16 * part).min(16));
+                let modules = sixteen(symbol, row, 16 * part) & (u64::MAX >> (64 - some));
+                waiting |= modules << (count % 32);
+                count = count % 32 + some;
+                if count >= 32 {
+                    self.add_modules(waiting);
+                    waiting >>= 32;
+                }
+            }
         }
-        for dark in &colours[colours.len() / 32 * 32..] {
-            self.add(u64::from(*dark));
+        for module in 0..count % 32 {
+            self.add(waiting >> module & 1);
         }
-        self.add(colours.len() as u64);
+        self.add(u64::from(size.rows()) * u64::from(columns));
     }
-}
 
-/// Gives 32 colours as bytes, 1 for dark.
-fn bytes_of(colours: &[bool]) -> [u8; 32]
-    requires { length colours.now ≡ 32 }
-{
-    let mut bytes = [0; 32];
-    for (i, byte) in bytes.iter_mut().enumerate() {
-        *byte = u8::from(colours[i]);
+    /// Adds the 32 modules of the lowest bits as bytes.
+    fn add_modules(&mut self, modules: u64) {
+        for part in 0..4u32 {
+            self.add(bytes_of(modules >> (8 * part)));
+        }
+        self.add(32);
     }
-    bytes
 }

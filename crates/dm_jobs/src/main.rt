@@ -5,6 +5,7 @@
 //! same. The job `each` does all jobs, one after another.
 #![tactic(auto)]
 
+mod cells;
 mod chance;
 mod devices;
 mod digest;

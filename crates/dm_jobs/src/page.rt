@@ -1,15 +1,21 @@
 //! Texts of lines and of records, made and damaged in memory.
 
+ghost use Rattle.std.specs.Prelude.{◌≤◌};
+
+use crate::cells::{bytes_of, sixteen};
 use crate::chance::Chance;
 use crate::devices::{PageSink, TextSource};
 use crate::digest::Digest;
 use crate::failure::Failure;
 use crate::texts::{Text, byte_of};
-use dm_modules::{MOST_COLUMNS, Modules};
+use dm_modules::{MOST_COLUMNS, Symbol};
 use dm_text::{Task, run};
 
 /// The most bytes that a run here reads.
 const MOST: u64 = 1 << 30;
+
+/// A line of the most columns, its end, and what is put behind it.
+const LINE: usize = MOST_COLUMNS + 16;
 
 const HEXADECIMAL: &[u8; 16] = b"0123456789ABCDEF";
 
@@ -31,29 +37,35 @@ pub(crate) fn add_line(page: &mut Vec<u8>, text: &Text) -> Result<(), Failure> {
 }
 
 /// Adds the modules of a square as a record.
-pub(crate) fn add_record(page: &mut Vec<u8>, modules: &Modules) -> Result<(), Failure> {
-    let columns = usize::from(modules.size().columns());
-    let list = modules.list();
-    let mut line = [b'\n'; MOST_COLUMNS + 1];
-    for row in 0..usize::from(modules.size().rows()) {
-        let start = row.saturating_mul(columns);
-        put_line(
-            list.get(start..start.saturating_add(columns))
-                .unwrap_or(&[]),
-            &mut line,
-        );
-        page.extend_from_slice(line.get(..columns + 1).unwrap_or(b"\n"))?;
-        line = [b'\n'; MOST_COLUMNS + 1];
+pub(crate) fn add_record(page: &mut Vec<u8>, symbol: &Symbol) -> Result<(), Failure> {
+    let columns = symbol.size().columns();
+    let mut line = [b'\n'; LINE];
+    for row in 0..symbol.size().rows() {
+        for part in 0..(columns + 15) / 16 {
+            put_line(
+                sixteen(symbol, row, 16 * part),
+                16 * usize::from(part),
+                &mut line,
+            );
+        }
+        line[usize::from(columns)] = b'\n';
+        page.extend_from_slice(&line[..usize::from(columns) + 1])?;
     }
     page.push(b'\n')?;
     Ok(())
 }
 
-/// Puts colours to the start of a line, as 0 and 1.
-fn put_line(colours: &[bool], line: &mut [u8; MOST_COLUMNS + 1]) {
-    for (byte, dark) in line.iter_mut().zip(colours) {
-        *byte = b'0' + u8::from(*dark);
-    }
+/// Puts sixteen modules to a line from a column on, as 0 and 1.
+fn put_line(modules: u64, column: usize, line: &mut [u8; LINE])
+    requires { column ≤ MOST_COLUMNS }
+{
+    line[column..column + 8].copy_from_slice(&digits_of(modules));
+    line[column + 8..column + 16].copy_from_slice(&digits_of(modules >> 8));
+}
+
+/// Gives the lowest eight bits as digits, the lowest first.
+fn digits_of(bits: u64) -> [u8; 8] {
+    (bytes_of(bits) | 0x3030_3030_3030_3030).to_le_bytes()
 }
 
 /// Gives what a task answers to a text.

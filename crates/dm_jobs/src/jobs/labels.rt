@@ -4,7 +4,7 @@ use crate::chance::Chance;
 use crate::digest::Digest;
 use crate::message::put_message;
 use crate::texts::{Text, labelled};
-use dm_modules::{Modules, SizeChoice, table};
+use dm_modules::{SizeChoice, Symbol, SymbolWords, table};
 use dm_symbol::{Message, Profile, WriteOptions, write_smallest_to, write_symbol_to};
 use dm_words::Extent;
 
@@ -12,8 +12,13 @@ use dm_words::Extent;
 const LABELS: usize = 40;
 
 /// Writes the labels of a round.
+#[tactic(auto, using(dm_symbol::proofs::Exported::room_for_most))]
 pub(crate) fn round(chance: &mut Chance, digest: &mut Digest) {
-    let mut modules = Modules::light(table()[0]);
+    let size = table()[0];
+    // For the proof alone: what `rows` and `check_count` ensure says that there is room.
+    let _room = (size.rows(), size.check_count());
+    let mut words = SymbolWords::zeros(size);
+    let mut symbol = Symbol::light(size);
     let mut text = Text::new();
     let mut message = Message::new();
     for _ in 0..LABELS {
@@ -25,17 +30,19 @@ pub(crate) fn round(chance: &mut Chance, digest: &mut Digest) {
         } else {
             Profile::Shorter
         };
-        let written = write_symbol_to(&message, WriteOptions { profile, size }, &mut modules);
+        let how = WriteOptions { profile, size };
+        let written = write_symbol_to(&message, how, &mut words, &mut symbol);
         digest.add_code(u16::from(written.is_err()));
-        digest.add_colours(modules.list());
+        digest.add_symbol(&symbol);
         let extent = if chance.happens(75) {
             Extent::Usual
         } else {
             Extent::Wide
         };
-        let written = write_smallest_to(extent, &message, choice(chance), &mut modules);
+        let size = choice(chance);
+        let written = write_smallest_to(extent, &message, size, &mut words, &mut symbol);
         digest.add_code(u16::from(written.is_err()));
-        digest.add_colours(modules.list());
+        digest.add_symbol(&symbol);
     }
 }
 

@@ -6,7 +6,7 @@ use crate::failure::Failure;
 use crate::message::put_message;
 use crate::page::{add_record, answers, side_at, turn, turn_some};
 use crate::texts::{Text, scanned};
-use dm_modules::{Modules, SizeChoice, SymbolSize, table};
+use dm_modules::{SizeChoice, Symbol, SymbolSize, SymbolWords, table};
 use dm_symbol::{Message, WriteOptions, write_smallest_to, write_symbol_to};
 use dm_text::{Profile, Task};
 use dm_words::{Extent, TooLong};
@@ -26,19 +26,23 @@ pub(crate) fn round(
     digest: &mut Digest,
 ) -> Result<(), Failure> {
     let mut scans = Vec::new(alloc);
-    let mut modules = Modules::light(table()[0]);
+    let size = table()[0];
+    // For the proof alone: what `rows` and `check_count` ensure says that there is room.
+    let _room = (size.rows(), size.check_count());
+    let mut words = SymbolWords::zeros(size);
+    let mut symbol = Symbol::light(size);
     let mut text = Text::new();
     let mut message = Message::new();
     for _ in 0..MARKS {
         scanned(&mut text, chance);
         put_message(&text, &mut message);
-        if print(&message, &mut modules, chance).is_err() {
+        if print(&message, &mut words, &mut symbol, chance).is_err() {
             continue;
         }
         for scan in 0..SCANS {
             let start = scans.len();
-            add_record(&mut scans, &modules)?;
-            damage(scans.as_mut_slice(), start, modules.size(), scan, chance);
+            add_record(&mut scans, &symbol)?;
+            damage(scans.as_mut_slice(), start, symbol.size(), scan, chance);
         }
     }
     let normal = answers(
@@ -53,23 +57,22 @@ pub(crate) fn round(
 
 /// Prints a message as one of several printers does: in runs of C40 and the other encodations, in Base 256 where this
 /// is shorter, or in a size larger than is needed.
-fn print(message: &Message, modules: &mut Modules, chance: &mut Chance) -> Result<(), TooLong> {
+#[tactic(auto, using(dm_symbol::proofs::Exported::room_for_most))]
+fn print(
+    message: &Message,
+    words: &mut SymbolWords,
+    symbol: &mut Symbol,
+    chance: &mut Chance,
+) -> Result<(), TooLong> {
+    let square = SizeChoice::Square;
     match chance.below(3) {
-        0 => write_smallest_to(Extent::Usual, message, SizeChoice::Square, modules),
-        1 => write_symbol_to(
-            message,
-            options(Profile::Shorter, SizeChoice::Square),
-            modules,
-        ),
+        0 => write_smallest_to(Extent::Usual, message, square, words, symbol),
+        1 => write_symbol_to(message, options(Profile::Shorter, square), words, symbol),
         _ => {
-            write_symbol_to(
-                message,
-                options(Profile::Ascii, SizeChoice::Square),
-                modules,
-            )?;
-            let side = modules.size().rows();
+            write_symbol_to(message, options(Profile::Ascii, square), words, symbol)?;
+            let side = symbol.size().rows();
             let larger = SizeChoice::Exact(side.saturating_add(2), side.saturating_add(2));
-            let _room = write_symbol_to(message, options(Profile::Ascii, larger), modules);
+            let _room = write_symbol_to(message, options(Profile::Ascii, larger), words, symbol);
             Ok(())
         }
     }
