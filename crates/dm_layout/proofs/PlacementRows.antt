@@ -1,16 +1,14 @@
 -- What the placement of matrices says of each size of the table.
-use Rattle.std.proofs.Common.{◌≡◌, ℕ, arith, ◌≤◌, length, Some, refl}
+use Rattle.std.proofs.Common.{◌≡◌, length, Some}
 use Rattle.std.specs.Prelude.{All}
-use Rattle.std.specs.List.{AllByRecursion}
 use Rattle.std.proofs.lemmas.List.Elements.{All-from_recursion, All-weaker}
 use Rattle.dm_place.specs.Sides.{sides_of, row_with_sides}
 use Rattle.dm_place.proofs.Exported.{once_at_sides, count_at_sides, swept_at_sides, matrix_facts, MatrixFacts}
 use Rattle.dm_modules.proofs.Exported.{placed_size}
-use Rattle.dm_layout.specs.Sizes.{SizeRow, size_table, IsRow, row_with_side, symbol_size, codeword_count}
-use Rattle.dm_layout.specs.Sizes.{largest_mapping}
+use Rattle.dm_layout.specs.Sizes.{SizeRow, size_table, IsRow, symbol_size, codeword_count}
 use Rattle.dm_layout.specs.Placement.{shapes, EachCellOnce, Sweeps}
 use Rattle.dm_layout.proofs.Squares.{is_size, to_square}
-use Rattle.dm_layout.proofs.TableRows.{row_facts, same_in_each}
+use Rattle.dm_layout.proofs.TableRows.{rows_found}
 
 -- The mapping square of a size stands in the table of sides.
 pub sides_at_row : (s : SizeRow) → IsRow s →
@@ -37,11 +35,6 @@ swept_at_row s row = swept_at_sides s.mapping s.mapping (codeword_count s) (side
 
 -- ---- for all rows of the table
 
--- Each row of the table is found by its side.
-rows_found : AllByRecursion IsRow size_table
-unfolding size_table
-rows_found = same_in_each (λ row. row_with_side row.side) Some size_table refl
-
 -- What holds of each size holds of each row of the table.
 each_row : (P : SizeRow → Type 0) → ((s : SizeRow) → IsRow s → P s) → All P size_table
 each_row P h = All-weaker IsRow P h size_table (All-from_recursion IsRow size_table rows_found)
@@ -57,7 +50,3 @@ each_size_counted = each_row (λ size. length (shapes size.mapping) ≡ codeword
 -- The sweep of each size places the shapes of the closed form, and ends.
 pub each_size_swept : All (λ size. Sweeps size.mapping (shapes size.mapping)) size_table
 each_size_swept = each_row (λ size. Sweeps size.mapping (shapes size.mapping)) swept_at_row
-
--- No mapping side of a size is larger than the largest.
-pub side_at_row : (s : SizeRow) (m : ℕ) → IsRow s → m ≡ s.mapping → m ≤ largest_mapping
-side_at_row s m row e = let h = (row_facts s row).mapping_most in omega (arith, h, e)

@@ -1,30 +1,14 @@
 -- Rows and columns of the mapping square in the symbol, whose regions have a side of at least 8.
-use Rattle.std.proofs.Common.{◌≡◌, ℕ, ◌+◌, ◌*◌, ◌/◌, ◌%◌, ◌<◌, ◌≤◌, false, arith}
+use Rattle.std.proofs.Common.{◌≡◌, ℕ, ◌<◌, ◌≤◌, false, arith}
 use Rattle.dm_modules.proofs.Exported as symbols
 use Rattle.dm_layout.specs.Sizes.{SizeRow, IsRow, symbol_size}
 use Rattle.dm_layout.specs.Border.{is_border, symbol_line}
-use Rattle.dm_layout.specs.inner.Drawing.{mapping_line}
+use Rattle.dm_modules.specs.inner.Drawing.{mapping_line}
 use Rattle.dm_layout.proofs.Squares.{is_size, from_square, to_square}
-
--- A line of the mapping square lies in the square of its region, one line further than in the region itself.
-pub symbol_line-form : (d r : ℕ) → 8 ≤ d → symbol_line d r ≡ r / d * (d + 2) + (r % d + 1)
-symbol_line-form d r h = symbols.symbol_line-form d r (omega (arith, h))
-
--- A line of the mapping square has, in its region's square, a place one further than in its region.
-pub symbol_line-mod : (d r : ℕ) → 8 ≤ d → symbol_line d r % (d + 2) ≡ r % d + 1
-symbol_line-mod d r h = symbols.symbol_line-mod d r (omega (arith, h))
-
--- A line of the mapping square is found again from the line of the symbol in which it lies.
-pub mapping_line-symbol_line : (d r : ℕ) → 8 ≤ d → mapping_line d (symbol_line d r) ≡ r
-mapping_line-symbol_line d r h = symbols.mapping_line-symbol_line d r (omega (arith, h))
 
 -- Two different lines of the mapping square lie in different lines of the symbol.
 pub symbol_line-one : (d r s : ℕ) → 8 ≤ d → symbol_line d r ≡ symbol_line d s → r ≡ s
 symbol_line-one d r s h = symbols.symbol_line-one d r s (omega (arith, h))
-
--- A line within k regions of side d lies in one of these regions.
-pub region_below : (d r k : ℕ) → 8 ≤ d → r < k * d → r / d < k
-region_below d r k h = symbols.region_below d r k (omega (arith, h))
 
 -- Each line of the mapping square lies within the symbol.
 pub lies_inside : (size : SizeRow) (r : ℕ) → IsRow size → r < size.mapping → symbol_line size.region_side r < size.side

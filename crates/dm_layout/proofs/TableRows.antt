@@ -1,7 +1,7 @@
 -- What holds for each row of the size table.
 use Rattle.std.proofs.Common.{◌≡◌, ℕ, ◌+◌, ◌*◌, ◌%◌, ◌<◌, ◌≤◌, Bool, true, false, cond, ◌&&◌, nat_eq, nat_le, List, []}
-use Rattle.std.proofs.Common.{◌∷◌, map, Option, Some, None, refl, sym, ◌∙◌, ap, subst, arith}
-use Rattle.std.specs.Prelude.{All, IfSome, find}
+use Rattle.std.proofs.Common.{◌∷◌, map, Option, Some, None, refl, sym, subst, arith}
+use Rattle.std.specs.Prelude.{All, IfSome, IfNone, find}
 use Rattle.std.specs.List.{AllByRecursion, list_all, list_any}
 use Rattle.std.proofs.lemmas.Bool.{and_parts, eqb-true, leb-true, leb-false}
 use Rattle.std.proofs.lemmas.List.Elements.{recursion_from_All, All-from_recursion}
@@ -9,7 +9,7 @@ use Rattle.std.proofs.lemmas.List.Sums.{AllPass-from_list_all}
 use Rattle.dm_modules.proofs.Exported.{at_found, found_passes, greatest_of}
 use Rattle.dm_layout.specs.Sizes.{SizeRow, size_table, IsRow, row_with_side, row_for_words, regions_across, block_data}
 use Rattle.dm_layout.specs.Sizes.{block_check, block_length, codeword_count, largest_side, largest_mapping, most_across}
-use Rattle.dm_layout.specs.Sizes.{most_codewords, longest_block, IsGreatest}
+use Rattle.dm_layout.specs.Sizes.{row_of, most_codewords, most_data, most_blocks, longest_block, IsGreatest}
 
 -- The size that is found for a side has that side and stands in the table.
 pub found_row : (side : ℕ) (s : SizeRow) → row_with_side side ≡ Some s → (s.side ≡ side) × IsRow s
@@ -47,15 +47,19 @@ same_in_each f g (r ∷ rows) h =
 -- The numbers of a size are related in these ways.
 pub record RowFacts (s : SizeRow) : Type 0 where
   pub across : 1 ≤ regions_across s
-  pub few : regions_across s ≤ most_across
   pub least : 8 ≤ s.region_side
-  pub even : s.region_side % 2 ≡ 0
+  pub region_fits : s.region_side ≤ largest_side
+  pub few_regions : s.regions ≤ most_across * most_across
   pub side : s.side ≡ regions_across s * (s.region_side + 2)
   pub mapping : s.mapping ≡ regions_across s * s.region_side
   pub mapping_least : 8 ≤ s.mapping
+  pub mapping_even : s.mapping % 2 ≡ 0
   pub mapping_most : s.mapping ≤ largest_mapping
   pub fits : s.side ≤ largest_side
   pub blocks : 1 ≤ s.blocks
+  pub few_blocks : s.blocks ≤ most_blocks
+  pub data_fits : s.data_count ≤ most_data
+  pub some_data : 1 ≤ block_data s
   pub codewords : codeword_count s ≤ most_codewords
   pub dealt : s.blocks * block_length s ≡ codeword_count s
   pub data_dealt : s.blocks * block_data s ≡ s.data_count
@@ -67,26 +71,25 @@ pub row_facts : (s : SizeRow) → IsRow s → RowFacts s
 unfolding size_table
 row_facts s h = record {
   across = most_at_row (λ r. 1) regions_across s h refl;
-  few = most_at_row regions_across (λ r. most_across) s h refl;
   least = most_at_row (λ r. 8) (λ r. r.region_side) s h refl;
-  even = same_at_row (λ r. r.region_side % 2) (λ r. 0) s h refl;
+  region_fits = most_at_row (λ r. r.region_side) (λ r. largest_side) s h refl;
+  few_regions = most_at_row (λ r. r.regions) (λ r. most_across * most_across) s h refl;
   side = same_at_row (λ r. r.side) (λ r. regions_across r * (r.region_side + 2)) s h refl;
   mapping = same_at_row (λ r. r.mapping) (λ r. regions_across r * r.region_side) s h refl;
   mapping_least = most_at_row (λ r. 8) (λ r. r.mapping) s h refl;
+  mapping_even = same_at_row (λ r. r.mapping % 2) (λ r. 0) s h refl;
   mapping_most = most_at_row (λ r. r.mapping) (λ r. largest_mapping) s h refl;
   fits = most_at_row (λ r. r.side) (λ r. largest_side) s h refl;
   blocks = most_at_row (λ r. 1) (λ r. r.blocks) s h refl;
+  few_blocks = most_at_row (λ r. r.blocks) (λ r. most_blocks) s h refl;
+  data_fits = most_at_row (λ r. r.data_count) (λ r. most_data) s h refl;
+  some_data = most_at_row (λ r. 1) block_data s h refl;
   codewords = most_at_row codeword_count (λ r. most_codewords) s h refl;
   dealt = same_at_row (λ r. r.blocks * block_length r) codeword_count s h refl;
   data_dealt = same_at_row (λ r. r.blocks * block_data r) (λ r. r.data_count) s h refl;
   short = most_at_row block_length (λ r. longest_block) s h refl;
   parts = same_at_row (λ r. block_data r + block_check r) block_length s h refl;
 }
-
--- The regions that stand side by side are together as wide as the mapping square.
-pub across_covers : (s : SizeRow) (a d : ℕ) → IsRow s → a ≡ regions_across s → d ≡ s.region_side → a * d ≡ s.mapping
-across_covers s a d row ea ed =
-    ap (λ (i : ℕ). i * d) ea ∙ ap (λ (i : ℕ). regions_across s * i) ed ∙ sym (row_facts s row).mapping
 
 -- A side that the table has is at most the largest side.
 pub side_fits : (side : ℕ) (s : SizeRow) → row_with_side side ≡ Some s → side ≤ largest_side
@@ -155,6 +158,45 @@ smallest_for_words count None e = tt
 smallest_for_words count (Some size) e =
     All-from_recursion (λ row. count ≤ row.data_count → size.side ≤ row.side) size_table
     (found_first count size_table size (rises_test size_table table_rises) (sym e))
+
+-- The size that `row_for_words` gives has enough data codewords.
+pub enough_for_words : (count : ℕ) (o : Option SizeRow) → o ≡ row_for_words count →
+    IfSome o (λ size. count ≤ size.data_count)
+enough_for_words count None e = tt
+enough_for_words count (Some size) e =
+    leb-true _ _ (found_passes (λ row. nat_le count row.data_count) size_table size (sym e))
+
+-- Each row of the table is found by its side.
+pub rows_found : AllByRecursion IsRow size_table
+unfolding size_table
+rows_found = same_in_each (λ row. row_with_side row.side) Some size_table refl
+
+-- It stands in the table.
+pub row_for_words_row : (count : ℕ) (o : Option SizeRow) → o ≡ row_for_words count → IfSome o IsRow
+row_for_words_row count None e = tt
+row_for_words_row count (Some size) e =
+    at_found IsRow (λ row. nat_le count row.data_count) size_table size rows_found (sym e)
+
+-- Where nothing is found, nothing passes the test.
+pub found_none : {X : Type 0} (p : X → Bool) (rows : List X) → find p rows ≡ None →
+    AllByRecursion (λ r. p r ≡ false) rows
+found_none p [] e = tt
+found_none p (r ∷ rows) e = none_case (p r) refl e (found_none p rows)
+  where
+    none_case : (b : Bool) → p r ≡ b → cond b (Some r) (find p rows) ≡ None →
+        (find p rows ≡ None → AllByRecursion (λ q. p q ≡ false) rows) →
+        AllByRecursion (λ q. p q ≡ false) (r ∷ rows)
+    none_case true t e later = cc
+    none_case false t e later = (t, later e)
+
+-- Where it gives none, no row has enough data codewords, not even the last.
+pub none_for_words : (count : ℕ) (o : Option SizeRow) → o ≡ row_for_words count → IfNone o (most_data < count)
+unfolding size_table
+none_for_words count (Some size) e = tt
+none_for_words count None e =
+    leb-false count most_data (at_found (λ row. nat_le count row.data_count ≡ false)
+    (λ row. nat_eq row.side largest_side) size_table (row_of 104 16 24 96 816 336 6 28)
+    (found_none (λ row. nat_le count row.data_count) size_table (sym e)) refl)
 
 -- ---- the greatest numbers of the columns
 

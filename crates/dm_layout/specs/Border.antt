@@ -3,13 +3,9 @@
 use Rattle.std.specs.Prelude.{ℕ, Bool}
 use Rattle.dm_place.specs.Border as matrix
 use Rattle.dm_modules.specs.Border as symbols
-pub use Rattle.dm_place.specs.Border.{edge_is_dark, symbol_line, fixed_is_dark}
+pub use Rattle.dm_place.specs.Border.{symbol_line}
 use Rattle.dm_layout.specs.Sizes.{SizeRow, symbol_size}
 use Rattle.dm_layout.specs.Grid.{GridView, symbol_modules}
-
--- A cell belongs to the border of a region of side d.
-abbrev pub is_on_edge : ℕ → ℕ → ℕ → Bool
-is_on_edge d = matrix.is_on_edge d d
 
 -- A cell of the square belongs to a border.
 abbrev pub is_border : SizeRow → ℕ → ℕ → Bool

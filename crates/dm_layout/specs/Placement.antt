@@ -7,10 +7,6 @@ use Rattle.dm_place.specs.declared.shape.Shape.{Shape}
 use Rattle.dm_place.specs.declared.cells.Place.{Place}
 pub use Rattle.dm_place.specs.Placement.{At, bits_from}
 
--- A shape has these eight cells in the square.
-abbrev pub cells_of : ℕ → Shape → List Cell
-cells_of n = matrix.cells_of n n
-
 -- The codewords of the square have these shapes, in order.
 abbrev pub shapes : ℕ → List Shape
 shapes n = matrix.shapes n n

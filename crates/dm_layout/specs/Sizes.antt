@@ -1,6 +1,6 @@
 -- The square sizes of ECC 200, as one table: ISO/IEC 16022, symbol sizes and capacities.
 use Rattle.std.specs.Prelude.{◌≡◌, ℕ, ◌*◌, ◌/◌, false, ◌&&◌, List, [], ◌∷◌, map, filter, nat_eq, nat_le, Option, Some}
-use Rattle.std.specs.Prelude.{find}
+use Rattle.std.specs.Prelude.{None, find, if◌then◌else◌}
 use Rattle.dm_modules.specs.Sizes as symbols
 use Rattle.dm_modules.specs.Sizes.{SizeEntry, entry_of}
 pub use Rattle.dm_modules.specs.Sizes.{longest_block}
@@ -136,17 +136,22 @@ block_data row = row.data_count / row.blocks
 abbrev pub block_length : SizeRow → ℕ
 block_length row = codeword_count row / row.blocks
 
--- ---- laws
-
--- The number is the greatest of a column of the table.
-abbrev pub IsGreatest : (SizeRow → ℕ) → ℕ → Type 0
-IsGreatest = symbols.IsGreatestOf size_table
-
 -- The row that stands for a square of the table of all symbols.
 abbrev pub row_of_entry : SizeEntry → SizeRow
 row_of_entry size =
     row_of size.rows (size.regions_down * size.regions_across) size.region_rows (symbols.mapping_rows size)
     size.data_count size.check_count size.blocks (symbols.limit size)
+
+-- A symbol's size is that of a square of the table if it is square and its side is at most the largest.
+abbrev pub row_of_symbol : SizeEntry → Option SizeRow
+row_of_symbol size =
+    if symbols.is_square size && nat_le size.rows largest_side then Some (row_of_entry size) else None
+
+-- ---- laws
+
+-- The number is the greatest of a column of the table.
+abbrev pub IsGreatest : (SizeRow → ℕ) → ℕ → Type 0
+IsGreatest = symbols.IsGreatestOf size_table
 
 -- The table has the squares of the table of all symbols whose sides are at most the largest, in the same order.
 abbrev pub TableIsOfSquares : Type 0

@@ -2,11 +2,3 @@
 -- of public types; no contract of a public function and no law does.
 pub mod Keeping
 pub mod Walking
-pub mod Wrapped
-pub mod Reading
-pub mod Widened
-pub mod Slots
-pub mod BorderMasks
-pub mod Laying
-pub mod Drawing
-pub mod SureFaults

@@ -11,6 +11,7 @@ use arrayvec::ArrayVec;
 
 /// Gives the codewords of block `b`, counted from 0 and below the number of blocks B: those at the places j of the
 /// symbol with j mod B = b, in order. The block's data codewords come first.
+#[inline]
 pub fn block(words: &Words, b: usize) -> ArrayVec<u8, LONGEST_BLOCK>
     requires { b < words.now.size.blocks }
     ensures value { result.items ≡ block_of words.now.size.blocks b words.now.list }
@@ -18,17 +19,12 @@ pub fn block(words: &Words, b: usize) -> ArrayVec<u8, LONGEST_BLOCK>
     ensures data { take (block_data words.now.size) result.items
         ≡ block_of words.now.size.blocks b (data_of words.now) }
 {
-    let mut block = ArrayVec::new();
-    let blocks = words.size().blocks() as usize;
-    let list = words.list();
-    for i in 0..list.len() / blocks {
-        block.push(list[i * blocks + b]);
-    }
-    block
+    dm_modules::block(&words.symbol, b)
 }
 
 /// Puts the codewords of `list` at the places of block `b`; the other blocks stay. `b` is below the number
 /// of blocks, and the list is as long as a block.
+#[inline]
 pub fn put_block(words: &mut Words, b: usize, list: &[u8])
     requires block { b < words.old.size.blocks }
     requires length { length list.now ≡ block_length words.old.size }
@@ -39,14 +35,12 @@ pub fn put_block(words: &mut Words, b: usize, list: &[u8])
         ≡ block_of words.old.size.blocks a words.old.list }
     ensures words { IsWords words.new }
 {
-    let blocks = words.size().blocks() as usize;
-    for (i, word) in list.iter().enumerate() {
-        words.put(i * blocks + b, *word);
-    }
+    dm_modules::put_block(&mut words.symbol, b, list);
 }
 
 /// Puts the check codewords of block `b` at its last places; its data codewords and the other blocks stay. `b` is below
 /// the number of blocks, and there are as many checks as a block has.
+#[inline]
 pub fn put_block_checks(words: &mut Words, b: usize, checks: &[u8])
     requires block { b < words.old.size.blocks }
     requires length { length checks.now ≡ block_check words.old.size }
@@ -59,10 +53,5 @@ pub fn put_block_checks(words: &mut Words, b: usize, checks: &[u8])
         ≡ block_of words.old.size.blocks a words.old.list }
     ensures words { IsWords words.new }
 {
-    let size = words.size();
-    let blocks = usize::from(size.blocks());
-    let front = usize::from(size.block_data());
-    for (i, word) in checks.iter().enumerate() {
-        words.put((front + i) * blocks + b, *word);
-    }
+    dm_modules::put_block_checks(&mut words.symbol, b, checks);
 }

@@ -6,10 +6,9 @@ ghost use Rattle.dm_layout.specs.Placement.{places_in_order};
 ghost use Rattle.dm_layout.specs.inner.Walking.{places_left, CellsAreSafe};
 ghost use Rattle.dm_place.specs.declared.cells.Place.{Place};
 
-use crate::shape::Cell;
 use crate::size::Size;
 pub use dm_place::Place;
-use dm_place::Shapes;
+use dm_place::{Cell, Shapes};
 use std::marker::Model;
 
 /// The places of all bits of all codewords of a symbol, by codeword and then by bit: an iterator, which ends after 8

@@ -1,13 +1,12 @@
 //! A grid: the square of cells of a symbol.
 
-ghost use Rattle.std.specs.Prelude.{◌≡◌, ℕ, nat_eq, ◌&&◌, ◌||◌, ◌≢◌, ◌*◌, ◌^◌, ◌<◌, ◌↔◌, All, IfOk, OnErr, OnOk};
-ghost use Rattle.std.specs.Prelude.{IsNone, length};
-ghost use Rattle.dm_layout.specs.Sizes.{row_with_side};
-ghost use Rattle.dm_layout.specs.Grid.{IsGrid, is_dark_in, cell_at, square_of, square_of_rows};
-ghost use Rattle.dm_layout.specs.inner.Drawing.{IsLight};
+ghost use Rattle.std.specs.Prelude.{◌≡◌, ℕ, ◌≢◌, ◌*◌, ◌^◌, ◌<◌, ◌≤◌, ◌↔◌, IfOk, OnErr, OnOk, IsNone, length};
+ghost use Rattle.dm_layout.specs.Sizes.{row_with_side, largest_side};
+ghost use Rattle.dm_layout.specs.Grid.{IsGrid, symbol_modules, is_dark_in, cell_at, square_of, square_of_rows};
 
-use crate::packed::{is_dark, packed_row, prefix};
+use crate::packed::packed_row;
 use crate::size::{LARGEST_SIDE, Size};
+use dm_modules::SymbolIn;
 use std::marker::Model;
 
 /// Why cells make no grid.
@@ -23,14 +22,10 @@ pub enum GridFault {
 /// and any colour may stand anywhere, in the borders too. Whoever reads a grid takes it to be upright: the solid
 /// column is at the left, the solid row at the bottom.
 ///
-/// Each row is kept as one number: the cell of column `c`, counted from 0 at the left, is the bit of weight 2^c, 1
-/// for dark. The bits from the side on are 0, and the rows from the side on mean nothing.
-///
 /// In contracts it is a `GridView` of `specs/Grid.antt`.
 #[derive(Clone, Debug, Drop)]
 pub struct Grid {
-    size: Size,
-    rows: [u128; LARGEST_SIDE],
+    pub(crate) symbol: SymbolIn<LARGEST_SIDE>,
 }
 
 impl Model for Grid {
@@ -39,9 +34,9 @@ impl Model for Grid {
 
     ghost Value = { GridView };
 
-    ghost view = { λ g. kept_grid g.size g.rows };
+    ghost view = { λ g. kept_grid g.symbol };
 
-    ghost invariant = { λ g. IsKept g.size g.rows };
+    ghost invariant = { λ g. IsKept g.symbol.size };
 }
 
 impl Grid {
@@ -62,11 +57,13 @@ impl Grid {
         let Some(size) = Size::of_side(side) else {
             return Err(GridFault::NoSuchSize);
         };
-        let mut rows = [0; LARGEST_SIDE];
-        for row in 0..across {
-            rows[row] = packed_row(&cells[row * across..(row + 1) * across]);
+        let mut grid = Grid::light(size);
+        for row in 0..side {
+            let start = row as usize * across;
+            grid.symbol
+                .put_row(row, packed_row(&cells[start..start + across]), 0);
         }
-        Ok(Grid { size, rows })
+        Ok(grid)
     }
 
     /// Gives the grid of `side` rows of `side` cells; `rows` has a number for each row from the top, in which the cell
@@ -101,15 +98,14 @@ impl Grid {
     }
 
     /// Turns this into the grid of this size with these rows, each cut to as many cells as the side.
-    fn put_rows(&mut self, new_size: Size, rows: &[u128])
-        requires { length rows.now ≡ new_size.side }
-        ensures size { self.new.size ≡ new_size }
-        ensures cells { self.new.rows ≡ square_of_rows new_size.side rows.now }
+    fn put_rows(&mut self, size: Size, rows: &[u128])
+        requires { length rows.now ≡ size.side }
+        ensures size { self.new.size ≡ size }
+        ensures cells { self.new.rows ≡ square_of_rows size.side rows.now }
     {
-        let side = new_size.side();
-        self.size = new_size;
-        for row in 0..rows.len() {
-            self.rows[row] = prefix(rows[row], side);
+        self.symbol.resize(size.symbol());
+        for row in 0..size.side() {
+            self.symbol.put_row(row, rows[usize::from(row)], 0);
         }
     }
 
@@ -117,77 +113,67 @@ impl Grid {
     pub(crate) fn light(size: Size) -> Grid
         ensures size { result.size ≡ size }
         ensures grid { IsGrid result }
-        ensures light { IsLight result }
     {
-        // For the proof alone: what `side` ensures says that the side is at most the largest.
-        let _side = size.side();
         Grid {
-            size,
-            rows: [0; LARGEST_SIDE],
+            symbol: SymbolIn::light(size.symbol()),
         }
     }
 
-    /// Turns this into the grid of a size with all cells light.
-    pub(crate) fn lighten(&mut self, size: Size)
-        ensures size { self.new.size ≡ size }
+    /// Becomes the grid of a symbol with as many columns as rows, at most the largest side, which has its modules as
+    /// cells.
+    pub fn set_symbol<const ROWS: usize>(&mut self, symbol: &SymbolIn<ROWS>)
+        requires square { symbol.now.size.rows ≡ symbol.now.size.columns }
+        requires fits { symbol.now.size.rows ≤ largest_side }
+        ensures modules { symbol_modules self.new ≡ symbol.now }
         ensures grid { IsGrid self.new }
-        ensures light { IsLight self.new }
     {
-        self.size = size;
-        for row in 0..size.side() {
-            self.rows[row as usize] = 0;
+        let size = symbol.size();
+        self.symbol.resize(size);
+        for row in 0..size.rows() {
+            self.symbol.put_row(row, symbol.row(row), 0);
         }
+    }
+
+    /// Gives the cells as the modules of a symbol.
+    #[inline]
+    pub fn as_symbol(&self) -> &SymbolIn<LARGEST_SIDE>
+        ensures { result.now ≡ symbol_modules self.now }
+    {
+        &self.symbol
     }
 
     /// Gives the size of the symbol.
+    #[inline]
     pub fn size(&self) -> Size
         ensures value { result ≡ self.now.size }
         ensures grid { IsGrid self.now }
     {
-        self.size
+        Size {
+            symbol: self.symbol.size(),
+        }
     }
 
     /// Whether the cell is dark. Row and column count from 0, from the top and from the left, and are below
     /// the side.
+    #[inline]
     pub fn cell(&self, row: u16, column: u16) -> bool
         requires row { row < self.now.size.side }
         requires column { column < self.now.size.side }
         ensures { result ≡ cell_at self.now row column }
     {
-        is_dark(self.rows[row as usize], column)
+        self.symbol.is_dark(row, column)
     }
 
     /// Gives a row, counted from 0 at the top and below the side, as a number: the cell of column `c`, counted from 0
     /// at the left, is the bit of weight 2^c, 1 for dark. The bits from the side on are 0.
+    #[inline]
     pub fn row(&self, row: u16) -> u128
         requires { row < self.now.size.side }
         ensures width { result < 2 ^ self.now.size.side }
         ensures cells { (column : ℕ) → column < self.now.size.side → is_dark_in result column
             ≡ cell_at self.now row column }
     {
-        self.rows[row as usize]
-    }
-
-    /// Darkens the cells of a row that are dark in `cells`.
-    pub(crate) fn darken(&mut self, row: u16, cells: u128)
-        requires row { row < self.old.size.side }
-        requires cells { cells < 2 ^ self.old.size.side }
-        ensures size { self.new.size ≡ self.old.size }
-        ensures grid { IsGrid self.new }
-        ensures cells { (r c : ℕ) → r < self.old.size.side → c < self.old.size.side
-            → cell_at self.new r c ≡ (cell_at self.old r c
-            || (nat_eq r row && is_dark_in cells c)) }
-    {
-        self.rows[row as usize] |= cells;
-    }
-
-    /// Gives the rows from the top, each as a number, as [`Grid::row`] gives it.
-    pub fn kept_rows(&self) -> &[u128]
-        ensures height { length result.now ≡ self.now.size.side }
-        ensures width { All (λ row. row < 2 ^ self.now.size.side) result.now }
-        ensures rows { self.now.rows ≡ square_of_rows self.now.size.side result.now }
-    {
-        &self.rows[..self.size.side() as usize]
+        self.symbol.row(row) % (1 << self.symbol.size().columns())
     }
 }
 
@@ -222,7 +208,7 @@ impl PartialEq for Grid {
         ensures value { result ≡ equal_grids self.now other.now }
         ensures same { IsTrue result ↔ (self.now ≡ other.now) }
     {
-        self.size().side() == other.size().side() && self.kept_rows() == other.kept_rows()
+        self.symbol == other.symbol
     }
 }
 

@@ -17,38 +17,30 @@
 //! a border prescribes, [`symbol_line()`] leads from a row or column of the mapping square to that of the symbol, and
 //! [`Cells`] goes through the [`Place`]s of all bits of all codewords.
 //!
+//! All of these are symbols of `dm_modules`, whose rows and columns are alike and at most [`LARGEST_SIDE`]:
+//! [`Size::symbol()`], [`Grid::as_symbol()`] and [`Words::as_symbol()`] give them as such, [`Size::of_symbol()`] and
+//! [`Grid::set_symbol()`] lead back, and [`lay_symbol_to()`] lays the codewords of a symbol in a grid.
+//!
 //! There are [`SIZE_COUNT`] sizes; limits: [`LARGEST_SIDE`], [`MOST_DATA`], [`MOST_CODEWORDS`], [`MOST_BLOCKS`] and
 //! [`LONGEST_BLOCK`]. What the contracts say is defined in `specs/`; [`laws`] states what holds of these definitions.
 //! No call allocates memory.
 #![tactic(auto)]
 
-mod bit_rows;
 mod blocks;
 mod border;
 mod cells;
-mod doubt;
 mod grid;
 pub mod laws;
-mod laying;
-mod mapping;
-mod module;
-mod order_rows;
 mod packed;
 mod placing;
-mod shape;
 mod size;
-mod slot_rows;
-mod slots;
-mod widened;
 mod words;
 
 pub use blocks::{block, put_block, put_block_checks};
-pub use border::border_faults;
+pub use border::{border_colour, border_faults, border_faults_but, symbol_line};
 pub use cells::{Cells, Place};
-pub use doubt::border_faults_but;
 pub use grid::{Grid, GridFault};
-pub use module::{border_colour, symbol_line};
-pub use placing::{lay, lay_to, lift, lift_to};
+pub use placing::{lay, lay_symbol_to, lay_to, lift, lift_to};
 pub use size::{
     LARGEST_SIDE, LONGEST_BLOCK, MOST_BLOCKS, MOST_CODEWORDS, MOST_DATA, SIZE_COUNT, Size, table,
 };

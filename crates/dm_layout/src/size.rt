@@ -1,11 +1,13 @@
-//! The sizes of square symbols: ISO/IEC 16022, symbol sizes and capacities.
-#![tactic(auto, unfolding(crate::specs::Sizes::size_table))]
+//! The sizes of square symbols, which are the squares of at most 104 modules a side among the sizes of all symbols:
+//! ISO/IEC 16022, symbol sizes and capacities.
 
 ghost use Rattle.std.specs.Prelude.{◌≡◌, ◌+◌, ◌*◌, ◌/◌, ◌%◌, ◌<◌, ◌≤◌, All, IfSome, IfNone};
-ghost use Rattle.dm_layout.specs.Sizes.{size_table, row_with_side, row_for_words, IsRow, codeword_count, block_data};
-ghost use Rattle.dm_layout.specs.Sizes.{block_check, block_length, regions_across, largest_side, most_across};
-ghost use Rattle.dm_layout.specs.Sizes.{most_data, most_codewords, most_blocks, most_block_check, longest_block};
+ghost use Rattle.dm_layout.specs.Sizes.{size_table, row_with_side, row_for_words, row_of_symbol, IsRow, symbol_size};
+ghost use Rattle.dm_layout.specs.Sizes.{codeword_count, block_data, block_check, block_length, regions_across};
+ghost use Rattle.dm_layout.specs.Sizes.{largest_side, most_data, most_codewords, most_blocks, most_block_check};
+ghost use Rattle.dm_layout.specs.Sizes.{longest_block};
 
+use dm_modules::{SizeChoice, SymbolSize};
 use std::marker::Model;
 
 /// How many sizes there are.
@@ -13,12 +15,6 @@ pub const SIZE_COUNT: usize = 21;
 
 /// The largest side of a size of the table, in cells.
 pub const LARGEST_SIDE: usize = 104;
-
-/// The side of the largest mapping square, in cells.
-pub(crate) const LARGEST_MAPPING: usize = 96;
-
-/// The most regions of a symbol that stand side by side.
-pub(crate) const MOST_ACROSS: usize = 4;
 
 /// The most data codewords of a size of the table.
 pub const MOST_DATA: usize = 816;
@@ -38,96 +34,43 @@ pub const LONGEST_BLOCK: usize = 255;
 /// `specs/Sizes.antt`.
 #[derive(Clone, Copy, Debug, PartialEq, Eq)]
 pub struct Size {
-    side: u16,
-    regions: u16,
-    region_side: u16,
-    mapping: u16,
-    data_count: u16,
-    check_count: u16,
-    blocks: u16,
-    limit: u16,
+    pub(crate) symbol: SymbolSize,
 }
 
 impl Model for Size {
-    ghost use Rattle.dm_layout.specs.Sizes.{SizeRow, row_of, IsRow};
+    ghost use Rattle.std.proofs.Common.{ap};
+    ghost use Rattle.dm_modules.specs.Sizes.{SizeEntry};
+    ghost use Rattle.dm_layout.specs.Sizes.{SizeRow, row_of_entry, symbol_size};
+    ghost use Rattle.dm_layout.specs.inner.Keeping.{IsKept};
 
     ghost Value = { SizeRow };
 
-    ghost view = { λ s. row_of s.side s.regions s.region_side s.mapping s.data_count s.check_count s.blocks s.limit };
+    ghost view = { λ s. row_of_entry s.symbol };
 
-    ghost invariant = { λ s. IsRow (row_of s.side s.regions s.region_side s.mapping s.data_count
-        s.check_count s.blocks s.limit) };
+    ghost invariant = { λ s. IsKept s.symbol };
 
-    ghost inverse = { λ r. record {
-      side = r.side;
-      regions = r.regions;
-      region_side = r.region_side;
-      mapping = r.mapping;
-      data_count = r.data_count;
-      check_count = r.check_count;
-      blocks = r.blocks;
-      limit = r.limit;
-    } };
+    ghost inverse = { λ r. record { symbol = symbol_size r } };
+
+    ghost inverse_ok = { λ a h. ap (λ (e : SizeEntry). record { symbol = e }) h.same };
 }
 
-/// A row of the table: side, regions, region side, mapping side, data, check, blocks, limit.
-macro_rules! row {
-    (
-        $side:literal $regions:literal $region_side:literal $mapping:literal
-        $data:literal $check:literal $blocks:literal $limit:literal
-    ) => {
-        Size {
-            side: $side,
-            regions: $regions,
-            region_side: $region_side,
-            mapping: $mapping,
-            data_count: $data,
-            check_count: $check,
-            blocks: $blocks,
-            limit: $limit,
-        }
-    };
-}
-
-const TABLE: [Size; SIZE_COUNT] = [
-    row!(10 1 8 8 3 5 1 2),
-    row!(12 1 10 10 5 7 1 3),
-    row!(14 1 12 12 8 10 1 5),
-    row!(16 1 14 14 12 12 1 6),
-    row!(18 1 16 16 18 14 1 7),
-    row!(20 1 18 18 22 18 1 9),
-    row!(22 1 20 20 30 20 1 10),
-    row!(24 1 22 22 36 24 1 12),
-    row!(26 1 24 24 44 28 1 14),
-    row!(32 4 14 28 62 36 1 18),
-    row!(36 4 16 32 86 42 1 21),
-    row!(40 4 18 36 114 48 1 24),
-    row!(44 4 20 40 144 56 1 28),
-    row!(48 4 22 44 174 68 1 34),
-    row!(52 4 24 48 204 84 2 21),
-    row!(64 16 14 56 280 112 2 28),
-    row!(72 16 16 64 368 144 4 18),
-    row!(80 16 18 72 456 192 4 24),
-    row!(88 16 20 80 576 224 4 28),
-    row!(96 16 22 88 696 272 4 34),
-    row!(104 16 24 96 816 336 6 28),
+/// The places of the sizes in the table of all symbols.
+const PLACES: [usize; SIZE_COUNT] = [
+    0, 1, 3, 4, 7, 9, 11, 13, 16, 23, 32, 34, 36, 37, 38, 39, 40, 41, 42, 43, 44,
 ];
 
 /// Gives all sizes, by rising side.
 pub fn table() -> [Size; SIZE_COUNT]
     ensures { result ≡ size_table }
 {
-    TABLE
-}
-
-/// Gives the first size of the table that has at least `count` data codewords.
-fn first_with(count: u16) -> Option<Size>
-    ensures { result ≡ row_for_words count }
-{
-    table()
-        .iter()
-        .copied()
-        .find(|size| count <= size.data_count)
+    let symbols = dm_modules::table();
+    let mut sizes = [Size { symbol: symbols[0] }; SIZE_COUNT];
+    for i in 0..SIZE_COUNT {
+        sizes[i] = Size {
+            symbol: symbols[PLACES[i]],
+        };
+    }
+    sizes
 }
 
 impl Size {
@@ -135,7 +78,7 @@ impl Size {
     pub fn of_side(side: u16) -> Option<Size>
         ensures { result ≡ row_with_side side }
     {
-        table().iter().copied().find(|size| size.side == side)
+        Size::of_symbol(SymbolSize::of(side, side)?)
     }
 
     /// Gives the smallest size with at least `count` data codewords, or None where no size has as many.
@@ -147,38 +90,53 @@ impl Size {
             → size.side ≤ row.side) size_table) }
         ensures none { IfNone result (most_data < count) }
     {
-        first_with(count)
+        Size::of_symbol(SymbolSize::for_words(SizeChoice::Square, count)?)
+    }
+
+    /// Gives a symbol's size as that of a square, or None where it isn't square or its side is above the largest.
+    pub fn of_symbol(symbol: SymbolSize) -> Option<Size>
+        ensures value { result ≡ row_of_symbol symbol }
+        ensures same { IfSome result (λ size. symbol_size size ≡ symbol) }
+    {
+        let side = symbol.rows();
+        if side == symbol.columns() && side as usize <= LARGEST_SIDE {
+            Some(Size { symbol })
+        } else {
+            None
+        }
+    }
+
+    /// Gives the size as that of a symbol.
+    #[inline]
+    pub fn symbol(self) -> SymbolSize
+        ensures value { result ≡ symbol_size self }
+        ensures row { IsRow self }
+        ensures most { self.side ≤ largest_side }
+    {
+        self.symbol
     }
 
     /// Gives how many cells a side of the symbol has, those of borders among them.
+    #[inline]
     pub fn side(self) -> u16
         ensures value { result ≡ self.side }
         ensures row { IsRow self }
         ensures most { self.side ≤ largest_side }
     {
-        self.side
+        self.symbol.rows()
     }
 
     /// Gives how many regions the symbol has.
+    #[inline]
     pub fn regions(self) -> u16
         ensures value { result ≡ self.regions }
         ensures square { self.regions ≡ regions_across self * regions_across self }
     {
-        self.regions
-    }
-
-    /// Gives how many regions stand side by side.
-    pub(crate) fn regions_across(self) -> u16
-        ensures value { result ≡ regions_across self }
-        ensures row { IsRow self }
-        ensures some { 1 ≤ regions_across self }
-        ensures few { regions_across self ≤ most_across }
-        ensures mapping { self.mapping ≡ regions_across self * self.region_side }
-    {
-        self.mapping / self.region_side
+        self.symbol.regions_down() * self.symbol.regions_across()
     }
 
     /// Gives how many cells a side of one region has, without its border.
+    #[inline]
     pub fn region_side(self) -> u16
         ensures value { result ≡ self.region_side }
         ensures even { self.region_side % 2 ≡ 0 }
@@ -186,10 +144,11 @@ impl Size {
         ensures most { self.region_side ≤ largest_side }
         ensures side { self.side ≡ regions_across self * (self.region_side + 2) }
     {
-        self.region_side
+        self.symbol.region_rows()
     }
 
     /// Gives how many cells a side of the mapping square has, which is all regions put together without their borders.
+    #[inline]
     pub fn mapping(self) -> u16
         ensures value { result ≡ self.mapping }
         ensures row { IsRow self }
@@ -198,20 +157,22 @@ impl Size {
         ensures least { 8 ≤ self.mapping }
         ensures below { self.mapping < self.side }
     {
-        self.mapping
+        self.symbol.mapping_rows()
     }
 
     /// Gives how many data codewords the symbol has.
+    #[inline]
     pub fn data_count(self) -> u16
         ensures value { result ≡ self.data_count }
         ensures some { 0 < self.data_count }
         ensures most { self.data_count ≤ most_data }
         ensures dealt { self.blocks * block_data self ≡ self.data_count }
     {
-        self.data_count
+        self.symbol.data_count()
     }
 
     /// Gives how many check codewords the symbol has.
+    #[inline]
     pub fn check_count(self) -> u16
         ensures value { result ≡ self.check_count }
         ensures row { IsRow self }
@@ -219,43 +180,47 @@ impl Size {
         ensures most { codeword_count self ≤ most_codewords }
         ensures dealt { self.blocks * block_check self ≡ self.check_count }
     {
-        self.check_count
+        self.symbol.check_count()
     }
 
     /// Gives how many blocks the codewords of the symbol are dealt into.
+    #[inline]
     pub fn blocks(self) -> u16
         ensures value { result ≡ self.blocks }
         ensures some { 0 < self.blocks }
         ensures most { self.blocks ≤ most_blocks }
         ensures dealt { self.blocks * block_length self ≡ codeword_count self }
     {
-        self.blocks
+        self.symbol.blocks()
     }
 
     /// Gives how many data codewords a block has.
+    #[inline]
     pub fn block_data(self) -> u16
         ensures value { result ≡ block_data self }
         ensures some { 0 < block_data self }
         ensures length { block_data self + block_check self ≡ block_length self }
     {
-        self.data_count / self.blocks
+        self.symbol.data_count() / self.symbol.blocks()
     }
 
     /// Gives how many check codewords a block has, 5 to 68.
+    #[inline]
     pub fn block_check(self) -> u16
         ensures value { result ≡ block_check self }
         ensures some { 5 ≤ block_check self }
         ensures most { block_check self ≤ most_block_check }
         ensures length { block_length self ≤ longest_block }
     {
-        self.check_count / self.blocks
+        self.symbol.block_check()
     }
 
     /// Gives how many wrong codewords can be corrected in a block: half of its check codewords, rounded down.
+    #[inline]
     pub fn limit(self) -> u16
         ensures value { result ≡ self.limit }
         ensures half { self.limit ≡ block_check self / 2 }
     {
-        self.limit
+        self.symbol.limit()
     }
 }

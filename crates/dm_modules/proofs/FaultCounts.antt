@@ -33,26 +33,3 @@ count_none p n (suc k) none =
     let before : count_by p (range_with_len 0 (n + k)) ≡ count_by p (range_with_len 0 n) =
     count_none p n k (λ c a b. none c a (omega (arith, b))) in
     ap (λ (j : ℕ). count_by p (range_with_len 0 j)) e ∙ omega (arith, more, last, before)
-
--- Of one more region of w columns and two more, whose inner columns pass no test, the left and the right one count.
-pub region_more : (p : ℕ → Bool) (k w : ℕ) → ((j : ℕ) → 1 ≤ j → j ≤ w → p (k * (w + 2) + j) ≡ false) →
-    count_by p (range_with_len 0 ((k + 1) * (w + 2))) ≡
-    count_by p (range_with_len 0 (k * (w + 2))) + one_if (p (k * (w + 2) + 0))
-    + one_if (p (k * (w + 2) + (w + 1)))
-region_more p k w none =
-    let n : ℕ = k * (w + 2) in
-    let count : ℕ → ℕ = λ j. count_by p (range_with_len 0 j) in
-    let z : n + 0 ≡ n = omega arith in
-    let x : n + 1 + w ≡ n + (w + 1) = omega arith in
-    let y : (k + 1) * (w + 2) ≡ n + (w + 1) + 1 = omega arith in
-    let left : count (n + 1) ≡ count n + one_if (p n) = count_more p n in
-    let first : one_if (p (n + 0)) ≡ one_if (p n) = ap (λ (j : ℕ). one_if (p j)) z in
-    let inner : count (n + 1 + w) ≡ count (n + 1) = count_none p (n + 1) w (inside n refl) in
-    let before : count (n + 1 + w) ≡ count (n + (w + 1)) = ap count x in
-    let right : count (n + (w + 1) + 1) ≡ count (n + (w + 1)) + one_if (p (n + (w + 1))) = count_more p (n + (w + 1)) in
-    ap count y ∙ omega (arith, left, first, inner, before, right)
-  where
-    inside : (n : ℕ) → n ≡ k * (w + 2) → (c : ℕ) → n + 1 ≤ c → c < n + 1 + w → p c ≡ false
-    inside n at c a b =
-        let e : k * (w + 2) + (c - n) ≡ c = omega (arith, a, at) in
-        ap p (sym e) ∙ none (c - n) (omega (arith, a)) (omega (arith, a, b))

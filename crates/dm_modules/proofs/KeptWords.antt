@@ -1,10 +1,11 @@
 -- Codewords that are kept at the start of a list of bytes.
 use Rattle.std.proofs.Common.{◌≡◌, ℕ, ◌+◌, ◌-◌, ◌<◌, ◌≤◌, List, length, set, take, drop, replicate, ◌∙◌, arith}
-use Rattle.std.proofs.Common.{length-take, ap, ◌++◌}
+use Rattle.std.proofs.Common.{length-take, ap, sym, ◌++◌}
 use Rattle.std.specs.Prelude.{All}
 use Rattle.std.proofs.Math.Seq.{take-append-add}
 use Rattle.std.proofs.Math.ListN.{length-set}
-use Rattle.std.proofs.lemmas.List.{drop-replicate, take-replicate, length-append, length-drop, length-replicate}
+use Rattle.std.proofs.lemmas.List.{drop-take, drop-replicate, take-replicate, length-append, length-drop}
+use Rattle.std.proofs.lemmas.List.{length-replicate}
 use Rattle.std.proofs.lemmas.List.Elements.{All-append, All-drop, All-replicate, All-set, All-take}
 use borrow.Rule.Slice.PartMut.{put_mid, same_len_mid}
 use Rattle.dm_modules.specs.Sizes.{SizeEntry, IsSize, codeword_count}
@@ -68,6 +69,18 @@ zeros_behind room size prefix fits count =
     ∙ ap (λ zeros. prefix ++ take size.check_count zeros) (drop-replicate (length prefix) room 0)
     ∙ ap (λ zeros. prefix ++ zeros)
     (take-replicate size.check_count (room - length prefix) 0 (omega (arith, fits, count)))
+
+-- The codewords are then these and the others.
+pub front_words : (kept part : List ℕ) (n d : ℕ) → d ≤ n → length part ≡ d →
+    take n (part ++ drop (length part) kept) ≡ part ++ drop d (take n kept)
+front_words kept part n d few count =
+    let k : ℕ = n - d in
+    let e : n ≡ length part + k = omega (arith, few, count) in
+    let f : d + k ≡ n = omega (arith, few) in
+    ap (λ i. take i (part ++ drop (length part) kept)) e
+    ∙ take-append-add part (drop (length part) kept) k
+    ∙ ap (λ i. part ++ take k (drop i kept)) count
+    ∙ ap (λ xs. part ++ xs) (sym (drop-take d k kept) ∙ ap (λ i. drop d (take i kept)) f)
 
 -- Codewords of the size that are put among what is kept are kept with it.
 pub part_kept : {room : ℕ} (size : SizeEntry) (start count : ℕ) (kept part : List ℕ) → AreKeptIn room size kept →

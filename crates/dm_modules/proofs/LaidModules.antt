@@ -139,24 +139,6 @@ laid_by words modules s rows columns list mapping h es em m er ec el holds drawn
     (subst (λ (j : ℕ). HoldsBits (mapping_rows s) j (look_at mapping j) list) ec
     (subst (λ (i : ℕ). HoldsBits i columns (look_at mapping columns) list) er holds))))
 
--- Modules hold the codewords that the cells of their mapping matrix hold.
-pub held_by : (modules : ModulesView) (words : WordsView) (s : SizeEntry) (mapping : List Bool) → IsModules modules →
-    IsWords words → words.size ≡ s → s ≡ modules.size →
-    ((r c : ℕ) → r < mapping_rows modules.size → c < mapping_columns modules.size →
-    look_at mapping (mapping_columns modules.size) r c ≡ mapped_cell modules r c) →
-    HoldsBits (mapping_rows s) (mapping_columns s) (look_at mapping (mapping_columns s)) words.list →
-    Holds modules words
-held_by modules words s mapping m h ew es cells holds = record {
-  symbol = m;
-  codewords = h;
-  same_size = ew ∙ es;
-  bits = λ word bit cell p.
-      let inside = (once modules.size m.size).inside word bit cell p in
-      sym (cells cell.row cell.column inside.0 inside.1)
-      ∙ subst (λ (t : SizeEntry). HoldsBits (mapping_rows t) (mapping_columns t) (look_at mapping (mapping_columns t))
-      words.list) es holds word bit cell p;
-}
-
 -- ---- no other modules
 
 -- Codewords are laid in the modules of one symbol only.

@@ -1,5 +1,5 @@
 -- The mapping matrices of the sizes are those of `dm_place`.
-use Rattle.std.proofs.Common.{◌≡◌, ℕ, Bool, true, false, ◌&&◌, nat_eq, Option, Some, None, refl, sym, ◌∙◌, ap}
+use Rattle.std.proofs.Common.{◌≡◌, Bool, true, false, ◌&&◌, nat_eq, Option, Some, None, refl, ◌∙◌, ap}
 use Rattle.std.specs.Prelude.{Any}
 use Rattle.std.specs.List.{list_all, list_any}
 use Rattle.std.proofs.lemmas.Bool.{and_parts, eqb-true}
@@ -7,7 +7,7 @@ use Rattle.std.proofs.lemmas.List.Elements.{All-weaker}
 use Rattle.std.proofs.lemmas.List.Folds.{Any-from_list_any}
 use Rattle.std.proofs.lemmas.List.Sums.{AllPass-from_list_all}
 use Rattle.dm_place.specs.Sides.{SidesRow, row_with_sides, sides_of, sides_table}
-use Rattle.dm_modules.specs.Sizes.{SizeEntry, size_table, IsSize, mapping_rows, mapping_columns, codeword_count}
+use Rattle.dm_modules.specs.Sizes.{SizeEntry, size_table, IsSize, mapping_rows, mapping_columns}
 use Rattle.dm_modules.specs.Sizes.{matrix_of, MatricesAgree}
 use Rattle.dm_modules.proofs.TableEntries.{passed_at_size}
 
@@ -53,16 +53,6 @@ told_placed size h = told_found (row_with_sides (mapping_rows size) (mapping_col
 -- The mapping matrix of each size is one that `dm_place` has, with as many codewords.
 pub placed_size : (s : SizeEntry) → IsSize s → row_with_sides (mapping_rows s) (mapping_columns s) ≡ Some (matrix_of s)
 placed_size s h = told_placed s (passed_at_size is_placed s all_placed h)
-
--- So is one with as many rows, columns and codewords.
-pub placed_as : (s : SizeEntry) (rows columns count : ℕ) → IsSize s → rows ≡ mapping_rows s →
-    columns ≡ mapping_columns s → count ≡ codeword_count s →
-    row_with_sides rows columns ≡ Some (sides_of rows columns count)
-placed_as s rows columns count h er ec en =
-    ap (λ r. row_with_sides r columns) er ∙ ap (row_with_sides (mapping_rows s)) ec ∙ placed_size s h
-    ∙ ap (λ r. Some (sides_of r (mapping_columns s) (codeword_count s))) (sym er)
-    ∙ ap (λ c. Some (sides_of rows c (codeword_count s))) (sym ec)
-    ∙ ap (λ n. Some (sides_of rows columns n)) (sym en)
 
 -- Whether some size has this mapping matrix.
 is_of_size : SidesRow → Bool

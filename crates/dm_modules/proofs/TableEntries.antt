@@ -40,15 +40,6 @@ pub found_passes : {X : Type 0} (p : X → Bool) (xs : List X) (x : X) → find 
 found_passes p [] x e = cc
 found_passes p (y ∷ ys) x e = passes_case p y x (find p ys) (p y) refl (found_passes p ys x) e
 
--- The size that is found for rows and columns has them.
-pub found_sides : (rows columns : ℕ) (s : SizeEntry) → entry_with rows columns ≡ Some s →
-    (s.rows ≡ rows) × (s.columns ≡ columns)
-found_sides rows columns s h =
-    let both =
-    and_parts (nat_eq s.rows rows) (nat_eq s.columns columns)
-    (found_passes (λ size. nat_eq size.rows rows && nat_eq size.columns columns) size_table s h) in
-    (eqb-true _ _ both.0, eqb-true _ _ both.1)
-
 -- Sizes of the table with the same rows and columns are the same.
 pub same_size : (s t : SizeEntry) → IsSize s → IsSize t → s.rows ≡ t.rows → s.columns ≡ t.columns → s ≡ t
 same_size s t h k e f =

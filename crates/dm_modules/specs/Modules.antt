@@ -36,8 +36,3 @@ is_dark_number number = not (nat_eq number 0)
 -- 2^column; 1 is dark.
 abbrev pub is_dark_bit : ℕ → ℕ → Bool
 is_dark_bit row column = nat_eq (row / 2 ^ column % 2) 1
-
--- These are the rows of modules that are written as numbers, from the top; only as many of the lowest bits of each
--- count as there are columns.
-abbrev pub rows_of_numbers : ℕ → ℕ → List ℕ → List (List Bool)
-rows_of_numbers rows columns numbers = rows_by rows columns (λ row. is_dark_bit (get_or numbers row 0))

@@ -2,3 +2,12 @@
 -- of public types; no contract of a public function and no law does.
 pub mod Keeping
 pub mod Drawing
+pub mod Reading
+pub mod Widths
+pub mod Widened
+pub mod Slots
+pub mod Pairs
+pub mod Laying
+pub mod BorderMasks
+pub mod RowDrawing
+pub mod SizeRows

@@ -1,79 +1,158 @@
-//! Modules of rows that are written as numbers: the lowest bit is the module at the left, 1 for dark. They are unpacked
-//! sixteen at once.
+//! Rows of bits as numbers, as wide and as many as a mapping matrix asks for.
+//!
+//! The codewords are lifted and laid by the same functions in three widths: 64 bits serve all mapping matrices of up to
+//! 56 columns, 128 bits those of up to 120, and 256 bits those of 132. A small symbol thus pays neither for the rows
+//! nor for the columns of the largest, and its codewords have as few slots.
 
-ghost use Rattle.std.specs.Prelude.{◌≡◌, ℕ, ◌+◌, ◌*◌, ◌<◌, ◌≤◌, false, get_or, length};
-ghost use Rattle.dm_modules.specs.Modules.{is_dark_bit, is_dark_number};
+ghost use Rattle.std.specs.Prelude.{◌≡◌, ℕ, ◌+◌, ◌*◌, ◌/◌, ◌%◌, ◌^◌, ◌<◌, ◌≤◌, List, get_or, length, set, replicate};
+ghost use Rattle.std.specs.Prelude.{◌-◌, ◌≢◌, ◌&&◌, ◌||◌, nat_le, bit_or};
+ghost use Rattle.std.specs.Int.{bit_at};
+ghost use Rattle.dm_modules.specs.Modules.{is_dark_bit};
+ghost use Rattle.dm_modules.specs.inner.Laying.{with_byte, with_scattered};
+ghost use Rattle.dm_modules.specs.inner.Reading.{look_in, whole_row};
+ghost use Rattle.dm_modules.specs.inner.Widths.{largest_matrix};
+ghost use Rattle.dm_modules.specs.inner.Slots.{is_joined, slot_byte, HasSlot};
 
-use std::simd::prelude::*;
+/// Rows of bits as numbers: the cell of column c is the bit of weight 2^c, 1 for dark.
+pub(crate) trait BitRows: Sized + Drop {
+    /// Slots for the codewords of a mapping matrix that has room.
+    type Slots: Drop;
 
-/// This many modules are unpacked together.
-const TOGETHER: usize = 16;
+    // The most rows and columns of a mapping matrix that has room.
+    ghost most: { ℕ };
 
-/// The most columns of a row that is written as a number.
-const BITS: usize = 128;
+    // How many bits a row has.
+    ghost width: { ℕ };
 
-/// Which byte of sixteen modules each of them stands in.
-const BYTES: [usize; TOGETHER] = [0, 0, 0, 0, 0, 0, 0, 0, 1, 1, 1, 1, 1, 1, 1, 1];
+    // How many bytes a row of slots has.
+    ghost bytes: { ℕ };
 
-/// The weight of each module in its byte.
-const WEIGHTS: [u8; TOGETHER] = [1, 2, 4, 8, 16, 32, 64, 128, 1, 2, 4, 8, 16, 32, 64, 128];
+    // The numbers.
+    ghost numbers: { Self → List ℕ };
 
-/// Gives the colours of sixteen modules, of which the first is the lowest bit. Each of their two bytes is put into
-/// eight lanes by one shuffle.
-#[inline]
-fn unpack_together(cells: u16) -> [bool; TOGETHER]
-    ensures { (k : ℕ) → k < TOGETHER → get_or result k false ≡ is_dark_bit cells k }
-{
-    let low = (cells & 0xff) as u8;
-    let high = (cells >> 8) as u8;
-    let bytes = u8x16::from_array([low, high, 0, 0, 0, 0, 0, 0, 0, 0, 0, 0, 0, 0, 0, 0]);
-    let dark = (bytes.swizzle(BYTES) & u8x16::from_array(WEIGHTS)).simd_ne(u8x16::splat(0));
-    colours_of(dark.select(u8x16::splat(1), u8x16::splat(0)).to_array())
-}
+    // The rows of slots as numbers, whose lowest byte is that of the first slot.
+    ghost joined: { Self.Slots → List ℕ };
 
-/// Gives the colours of these numbers, 0 for light.
-#[inline]
-fn colours_of(numbers: [u8; TOGETHER]) -> [bool; TOGETHER]
-    ensures { (k : ℕ) → k < TOGETHER
-        → get_or result k false
-        ≡ is_dark_number (get_or numbers k 0) }
-{
-    let mut colours = [false; TOGETHER];
-    for i in 0..TOGETHER {
-        colours[i] = numbers[i] != 0;
-    }
-    colours
-}
+    /// Rows without a dark cell.
+    fn light() -> Self
+        ensures { numbers result ≡ replicate (most + 6) 0 };
 
-/// Puts the modules of a row that is written as a number from a place on. What stands before that place stays; up to
-/// fifteen colours behind the row may change, so that no row has to be cut.
-#[inline]
-fn put_line(all: &mut [bool], start: usize, columns: usize, row: u128)
-    requires columns { columns ≤ BITS }
-    requires room { start + columns + TOGETHER ≤ length all.old }
-    ensures count { length all.new ≡ length all.old }
-    ensures before { (i : ℕ) → i < start → get_or all.new i false ≡ get_or all.old i false }
-    ensures line { (c : ℕ) → c < columns → get_or all.new (start + c) false ≡ is_dark_bit row c }
-{
-    let mut rest = row;
-    let mut column = 0;
-    while column < columns {
-        let place = start + column;
-        all[place..place + TOGETHER].copy_from_slice(&unpack_together((rest & 0xffff) as u16));
-        rest >>= TOGETHER;
-        column += TOGETHER;
-    }
-}
+    /// Puts a row of the mapping matrix, four columns to the right: its first 128 columns, and the rest.
+    fn put(&mut self, row: usize, inner: u128, rest: u8)
+        requires row { row < length (numbers self.old) }
+        requires inner { whole_row inner rest < 2 ^ most }
+        ensures { numbers self.new ≡ set (numbers self.old) row (whole_row inner rest * 16) };
 
-/// Puts the modules of rows that are written as numbers, one row behind the other, over the first colours.
-pub(crate) fn put_lines(all: &mut [bool], columns: usize, rows: &[u128])
-    requires columns { columns ≤ BITS }
-    requires room { length rows.now * columns + TOGETHER ≤ length all.old }
-    ensures count { length all.new ≡ length all.old }
-    ensures lines { (r c : ℕ) → r < length rows.now → c < columns
-        → get_or all.new (r * columns + c) false ≡ is_dark_bit (get_or rows.now r 0) c }
-{
-    for (i, row) in rows.iter().enumerate() {
-        put_line(all, i * columns, columns, *row);
-    }
+    /// Lays over a row what another row has from a column on.
+    fn wrap_left(&mut self, row: usize, from: usize, column: u16)
+        requires row { row < length (numbers self.old) }
+        requires from { from < length (numbers self.old) }
+        requires column { column ≤ most }
+        ensures { numbers self.new
+            ≡ set (numbers self.old) row (bit_or (get_or (numbers self.old) row 0)
+            (get_or (numbers self.old) from 0 / 2 ^ column)) };
+
+    /// Puts another row, 4 - shift columns further to the left.
+    fn wrap_above(&mut self, row: usize, from: usize, shift: u16)
+        requires row { row < length (numbers self.old) }
+        requires from { from < length (numbers self.old) }
+        requires shift { shift ≤ 6 }
+        ensures { numbers self.new
+            ≡ set (numbers self.old) row
+            (get_or (numbers self.old) from 0 * 2 ^ shift % 2 ^ width / 16) };
+
+    /// Puts the codewords of the anchors of a row into its slots, from it and the two rows below: the anchors' shapes
+    /// begin in this column and every eighth after it.
+    fn join(&self, slots: &mut Self::Slots, row: usize, column: u16)
+        requires row { row + 2 < length (numbers self.now) }
+        requires slots { row ≤ most }
+        requires column { column ≤ 9 }
+        ensures room { length (joined slots.new) ≡ length (joined slots.old) }
+        ensures others { (r : ℕ) → r ≢ row → get_or (joined slots.new) r 0
+            ≡ get_or (joined slots.old) r 0 }
+        ensures cells { row < length (joined slots.old) → (c : ℕ) → c < width
+            → is_dark_bit (get_or (joined slots.new) row 0) c
+            ≡ is_joined (get_or (numbers self.now) row 0 / 2 ^ column)
+            (get_or (numbers self.now) (row + 1) 0 / 2 ^ column)
+            (get_or (numbers self.now) (row + 2) 0 / 2 ^ column) c };
+
+    /// Gives a bit of a row.
+    fn bit(&self, row: usize, column: u16) -> u16
+        requires row { row < length (numbers self.now) }
+        requires column { column < most + 4 }
+        ensures { result ≡ bit_at (get_or (numbers self.now) row 0) column };
+
+    /// Lays the codewords of a row of slots over widened rows, where they begin at this column.
+    fn scatter(&mut self, slots: &Self::Slots, row: usize, column: u16)
+        requires row { row + 2 < length (numbers self.old) }
+        requires slots { row ≤ most }
+        requires column { column ≤ 9 }
+        ensures room { length (numbers self.new) ≡ length (numbers self.old) }
+        ensures cells { (r c : ℕ) → c < width → look_in (numbers self.new) r c
+            ≡ with_scattered (look_in (numbers self.old) r c) (joined slots.now) row column r c };
+
+    /// Lays over a row another one, 4 - shift columns further to the right.
+    fn lower(&mut self, row: usize, from: usize, shift: u16)
+        requires row { row < length (numbers self.old) }
+        requires from { from < length (numbers self.old) }
+        requires shift { shift ≤ 6 }
+        ensures room { length (numbers self.new) ≡ length (numbers self.old) }
+        ensures others { (r c : ℕ) → r ≢ row → look_in (numbers self.new) r c
+            ≡ look_in (numbers self.old) r c }
+        ensures cells { (c : ℕ) → c < width → look_in (numbers self.new) row c
+            ≡ (look_in (numbers self.old) row c || (nat_le 4 (c + shift)
+            && look_in (numbers self.old) from (c + shift - 4))) };
+
+    /// Lays over a row, from a column on, the four leftmost columns of another row.
+    fn move_left_end(&mut self, row: usize, from: usize, column: u16)
+        requires row { row < length (numbers self.old) }
+        requires from { from < length (numbers self.old) }
+        requires column { column ≤ most }
+        ensures { numbers self.new
+            ≡ set (numbers self.old) row (bit_or (get_or (numbers self.old) row 0)
+            (get_or (numbers self.old) from 0 % 16 * 2 ^ column % 2 ^ width)) };
+
+    /// Lays over a row another one.
+    fn raise(&mut self, row: usize, from: usize)
+        requires row { row < length (numbers self.old) }
+        requires from { from < length (numbers self.old) }
+        ensures { numbers self.new
+            ≡ set (numbers self.old) row (bit_or (get_or (numbers self.old) row 0)
+            (get_or (numbers self.old) from 0)) };
+
+    /// Makes a cell dark if the bit is 1.
+    fn put_bit(&mut self, row: usize, column: u16, bit: u8)
+        requires row { row < length (numbers self.old) }
+        requires column { column < most + 4 }
+        ensures { numbers self.new
+            ≡ set (numbers self.old) row (bit_or (get_or (numbers self.old) row 0)
+            (bit * 2 ^ column % 2 ^ width)) };
+
+    /// Gives a row without its four leftmost columns: the 128 columns from there on, and the eight behind them.
+    fn inner(&self, row: usize) -> (u128, u8)
+        requires { row < length (numbers self.now) }
+        ensures { whole_row result.0 result.1
+            ≡ get_or (numbers self.now) row 0 / 2 ^ 4 % 2 ^ 136 };
+
+    /// Gives slots without a codeword.
+    fn empty() -> Self::Slots
+        ensures { joined result ≡ replicate (most + 1) 0 };
+
+    /// Gives the slot of the codeword of a corner, which lies behind all others.
+    fn corner() -> u16
+        ensures { result ≡ bytes * most };
+
+    /// Gives the byte of a slot.
+    fn byte(slots: &Self::Slots, slot: u16) -> u8
+        requires { HasSlot bytes most slot }
+        ensures { result ≡ slot_byte bytes (joined slots.now) slot };
+
+    /// Lays a byte over that of its slot.
+    fn add(slots: &mut Self::Slots, slot: u16, byte: u8)
+        requires { HasSlot bytes most slot }
+        ensures { joined slots.new ≡ with_byte bytes (joined slots.old) slot byte };
+
+    ghost fits: { (most ≤ largest_matrix) × (most + 8 ≤ width) };
+
+    ghost whole: { width ≡ 8 * bytes };
 }

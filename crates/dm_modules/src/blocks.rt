@@ -6,12 +6,15 @@ ghost use Rattle.dm_modules.specs.Words.{IsWords, data_of};
 ghost use Rattle.dm_modules.specs.Blocks.{block_of};
 
 use crate::size::LONGEST_BLOCK;
-use crate::words::SymbolWords;
+use crate::words::SymbolWordsIn;
 use arrayvec::ArrayVec;
 
 /// Gives the codewords of block `b`, counted from 0 and below the number of blocks B: those at the places j of the
 /// symbol with j mod B = b, in order. The block's data codewords come first.
-pub fn block(words: &SymbolWords, b: usize) -> ArrayVec<u8, LONGEST_BLOCK>
+pub fn block<const ROOM: usize>(
+    words: &SymbolWordsIn<ROOM>,
+    b: usize,
+) -> ArrayVec<u8, LONGEST_BLOCK>
     requires { b < words.now.size.blocks }
     ensures value { result.items ≡ block_of words.now.size.blocks b words.now.list }
     ensures length { length result.items ≡ block_length words.now.size b }
@@ -29,7 +32,7 @@ pub fn block(words: &SymbolWords, b: usize) -> ArrayVec<u8, LONGEST_BLOCK>
 
 /// Puts the codewords of `list` at the places of block `b`; the other blocks stay. `b` is below the number
 /// of blocks, and the list is as long as that block.
-pub fn put_block(words: &mut SymbolWords, b: usize, list: &[u8])
+pub fn put_block<const ROOM: usize>(words: &mut SymbolWordsIn<ROOM>, b: usize, list: &[u8])
     requires block { b < words.old.size.blocks }
     requires length { length list.now ≡ block_length words.old.size b }
     ensures size { words.new.size ≡ words.old.size }
@@ -47,7 +50,7 @@ pub fn put_block(words: &mut SymbolWords, b: usize, list: &[u8])
 
 /// Puts the check codewords of block `b` at its last places; its data codewords and the other blocks stay. `b` is below
 /// the number of blocks, and there are as many checks as a block has.
-pub fn put_block_checks(words: &mut SymbolWords, b: usize, checks: &[u8])
+pub fn put_block_checks<const ROOM: usize>(words: &mut SymbolWordsIn<ROOM>, b: usize, checks: &[u8])
     requires block { b < words.old.size.blocks }
     requires length { length checks.now ≡ block_check words.old.size }
     ensures size { words.new.size ≡ words.old.size }

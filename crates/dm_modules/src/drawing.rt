@@ -1,186 +1,227 @@
-//! Modules of a symbol drawn from the cells of its mapping matrix, and these cells read back, row by row: ISO/IEC
-//! 16022, symbol structure.
+//! A symbol drawn from the rows of its mapping matrix, borders and all: ISO/IEC 16022, symbol structure.
 
-ghost use Rattle.std.specs.Prelude.{◌≡◌, ℕ, false, ◌+◌, ◌-◌, ◌*◌, ◌/◌, ◌%◌, ◌<◌, ◌≤◌, get_or, length, map, nat_eq};
-ghost use Rattle.dm_place.specs.Border.{HasFixedSquare};
-ghost use Rattle.dm_place.specs.Holding.{look_at};
-ghost use Rattle.dm_modules.specs.Sizes.{mapping_rows, mapping_columns, most_columns};
+ghost use Rattle.std.specs.Prelude.{◌≡◌, ◌⊎◌, ℕ, ◌+◌, ◌-◌, ◌*◌, ◌%◌, ◌^◌, ◌<◌, ◌≤◌, true, false, length};
+ghost use Rattle.dm_place.specs.Border.{is_fixed, fixed_is_dark, symbol_line};
 ghost use Rattle.dm_modules.specs.Modules.{IsModules, module_at};
-ghost use Rattle.dm_modules.specs.Border.{mapped_cell};
-ghost use Rattle.dm_modules.specs.inner.Drawing.{mapping_line as mapping_line_by, drawn_colour, edge_colour};
-ghost use Rattle.dm_modules.specs.inner.Drawing.{region_colour, IsBetween};
+ghost use Rattle.dm_modules.specs.Sizes.{IsSize, mapping_rows, mapping_columns};
+ghost use Rattle.dm_modules.specs.inner.Widths.{wide_matrix, most_wide};
+ghost use Rattle.dm_modules.specs.inner.RowDrawing.{drawn_colour, ArePrefixes, IsDrawn};
+ghost use Rattle.dm_modules.specs.inner.Reading.{look_in, whole_row};
+ghost use Rattle.dm_modules.specs.Modules.{is_dark_bit};
 
-use crate::border::{edge_is_dark, symbol_row};
-use crate::borrowed::{BorrowedModules, Colour};
-use crate::modules::Modules;
-use crate::size::{MOST_COLUMNS, SymbolSize};
-use dm_place::has_fixed_square;
+use crate::bit_rows::BitRows;
+use crate::borders::Borders;
+use crate::size::SymbolSize;
+use crate::symbol::{FIRST_COLUMNS, SymbolIn};
+use crate::widened::{part_across, with_part};
 
-/// Gives the line of the mapping matrix that a line of the symbol holds, where regions have `d` lines. The line is not
-/// the first of its region with its border.
-fn mapping_line(d: u16, line: u16) -> u16
-    requires lines { d ≤ most_columns }
-    requires inner { 1 ≤ line % (d + 2) }
-    ensures { result ≡ mapping_line_by d line }
+/// The most regions that stand side by side, without the last one.
+const MOST_BEFORE_LAST: usize = 5;
+
+/// Gives for each of `across` regions but the last, as bits, the columns of a row of the symbol left of the region's
+/// right border.
+fn prefixes(region_columns: u16, across: u16) -> [u128; MOST_BEFORE_LAST]
+    requires some { 1 ≤ across }
+    requires few { across ≤ 6 }
+    requires fits { (across - 1) * (region_columns + 2) ≤ most_wide }
+    ensures { ArePrefixes region_columns across result }
 {
-    line - 2 * (line / (d + 2)) - 1
-}
-
-/// Draws the cells of the fixed square into a mapping matrix of so many rows and columns, whose cells stand row by row,
-/// if it has one.
-pub(crate) fn put_fixed_square(rows: u16, columns: u16, mapping: &mut [bool])
-    requires rows { 2 ≤ rows }
-    requires columns { 2 ≤ columns }
-    requires cells { length mapping.old ≡ rows * columns }
-    ensures cells { length mapping.new ≡ rows * columns }
-    ensures fixed_square { HasFixedSquare rows columns (look_at mapping.new columns) }
-{
-    if has_fixed_square(rows, columns) {
-        let width = columns as usize;
-        let last = rows as usize * width - 1;
-        mapping[last] = rows == columns;
-        mapping[last - 1] = rows + 1 == columns;
-        mapping[last - width] = rows == columns + 1;
-        mapping[last - width - 1] = rows == columns;
+    let mut prefixes = [0; MOST_BEFORE_LAST];
+    for region in 0..across - 1 {
+        prefixes[region as usize] = (1 << (region * (region_columns + 2) + 1 + region_columns)) - 1;
     }
+    prefixes
 }
 
-/// Draws a row that lies at the top of its regions, or at the bottom, where it is solid.
-fn draw_edge(solid: bool, line: &mut [bool])
-    ensures count { length line.new ≡ length line.old }
-    ensures colours { (c : ℕ) → c < length line.old
-        → get_or line.new c false ≡ edge_colour solid c }
+/// Gives the row of the symbol in which a row of the mapping matrix lies between the borders of `across` regions; no
+/// border is dark. After each region but the last, what lies to the right is moved by two columns: that takes half the
+/// instructions of cutting out each region, since no shift depends on the region.
+#[inline(always)]
+fn outer_row(
+    inner: u128,
+    region_columns: u16,
+    across: u16,
+    prefixes: &[u128; MOST_BEFORE_LAST],
+) -> u128
+    requires least { 6 ≤ region_columns }
+    requires some { 1 ≤ across }
+    requires few { across ≤ 6 }
+    requires fits { across * region_columns ≤ wide_matrix }
+    requires wide { across * (region_columns + 2) ≤ most_wide }
+    requires prefixes { ArePrefixes region_columns across prefixes.now }
+    ensures mapped { (column : ℕ) → column < across * region_columns
+        → is_dark_bit result (symbol_line region_columns column) ≡ is_dark_bit inner column }
+    ensures border { (column : ℕ)
+        → ((column % (region_columns + 2) ≡ 0) ⊎ (column % (region_columns + 2) ≡ region_columns + 1))
+        → is_dark_bit result column ≡ false }
+    ensures width { result < 2 ^ (across * (region_columns + 2)) }
 {
-    for column in 0..line.len() {
-        line[column] = edge_is_dark(solid, column);
+    let mut outer = (inner % (1 << (across * region_columns))) << 1;
+    for region in 0..across - 1 {
+        let left = outer & prefixes[region as usize];
+        outer = left + ((outer - left) << 2);
     }
+    outer
 }
 
-/// Draws, in a row between the top and the bottom of its regions, the modules of one region with its border, counted
-/// from 0: the left one is dark, the right one as is said, and between them lie the cells of a row of the mapping
-/// matrix.
-fn draw_region(cells: &[bool], region: usize, width: usize, end: bool, line: &mut [bool])
-    requires width { width ≤ most_columns }
-    requires region { region ≤ most_columns }
-    requires cells { (region + 1) * width ≤ length cells.now }
-    requires line { (region + 1) * (width + 2) ≤ length line.old }
-    ensures count { length line.new ≡ length line.old }
-    ensures before { (c : ℕ) → c < region * (width + 2) → get_or line.new c false ≡ get_or line.old c false }
-    ensures colours { (k : ℕ) → k < width + 2 → get_or line.new (region * (width + 2) + k) false
-        ≡ region_colour cells.now region width end k }
+/// Gives the row of a symbol of more than 128 columns in which a row of the mapping matrix lies: its first 128 modules
+/// and those behind them; no border is dark. The last of its six regions lies across column 128.
+fn long_outer_row(
+    inner: u128,
+    rest: u8,
+    region_columns: u16,
+    prefixes: &[u128; MOST_BEFORE_LAST],
+) -> (u128, u16)
+    requires least { 20 ≤ region_columns }
+    requires most { region_columns ≤ 22 }
+    requires prefixes { ArePrefixes region_columns 6 prefixes.now }
+    ensures mapped { (column : ℕ) → column < 6 * region_columns
+        → is_dark_bit (whole_row result.0 result.1) (symbol_line region_columns column)
+        ≡ is_dark_bit (whole_row inner rest) column }
+    ensures border { (column : ℕ)
+        → ((column % (region_columns + 2) ≡ 0) ⊎ (column % (region_columns + 2) ≡ region_columns + 1))
+        → is_dark_bit (whole_row result.0 result.1) column ≡ false }
 {
-    let left = region * (width + 2);
-    line[left] = true;
-    line[left + 1..left + 1 + width].copy_from_slice(
-        &cells[region * width..region * width + width],
-    );
-    line[left + width + 1] = end;
+    let first = outer_row(inner, region_columns, 5, prefixes);
+    let last = part_across(inner, u16::from(rest), 5 * region_columns, region_columns);
+    with_part(first, last, 5 * (region_columns + 2) + 1)
 }
 
-/// Draws a row between the top and the bottom of its regions, by the cells of the row of the mapping matrix that lies
-/// there: `across` regions of `width` columns.
-fn draw_between(cells: &[bool], across: usize, width: usize, end: bool, line: &mut [bool])
-    requires width { width ≤ most_columns }
-    requires across { across ≤ most_columns }
-    requires cells { length cells.now ≡ across * width }
-    requires line { length line.old ≡ across * (width + 2) }
-    ensures count { length line.new ≡ length line.old }
-    ensures colours { (c : ℕ) → c < length line.old → get_or line.new c false
-        ≡ region_colour cells.now (c / (width + 2)) width end (c % (width + 2)) }
+/// Gives the row of a symbol of this size in which a row of the mapping matrix lies, its first 128 modules and those
+/// behind them; no border is dark.
+#[inline(always)]
+fn symbol_row_of(
+    size: SymbolSize,
+    inner: u128,
+    rest: u8,
+    prefixes: &[u128; MOST_BEFORE_LAST],
+) -> (u128, u16)
+    requires entry { IsSize size }
+    requires prefixes { ArePrefixes size.region_columns size.regions_across prefixes.now }
+    ensures mapped { (column : ℕ) → column < mapping_columns size
+        → is_dark_bit (whole_row result.0 result.1) (symbol_line size.region_columns column)
+        ≡ is_dark_bit (whole_row inner rest) column }
+    ensures border { (column : ℕ) → ((column % (size.region_columns + 2) ≡ 0)
+        ⊎ (column % (size.region_columns + 2) ≡ size.region_columns + 1))
+        → is_dark_bit (whole_row result.0 result.1) column ≡ false }
 {
-    for region in 0..across {
-        draw_region(cells, region, width, end, line);
-    }
-}
-
-/// Draws a row of the symbol: borders, and between them the cells of the mapping matrix, which stand row by row.
-fn draw_row(size: SymbolSize, mapping: &[bool], row: u16, line: &mut [bool])
-    requires cells { length mapping.now ≡ mapping_rows size * mapping_columns size }
-    requires fixed_square { HasFixedSquare (mapping_rows size) (mapping_columns size)
-        (look_at mapping.now (mapping_columns size)) }
-    requires row { row < size.rows }
-    requires line { length line.old ≡ size.columns }
-    ensures count { length line.new ≡ size.columns }
-    ensures colours { (c : ℕ) → c < size.columns
-        → get_or line.new c false ≡ drawn_colour size mapping.now row c }
-{
-    let height = size.region_rows();
-    let width = size.region_columns() as usize;
-    let across = size.regions_across() as usize;
-    let columns = size.mapping_columns() as usize;
-    let place = row % (height + 2);
-    if place == 0 {
-        draw_edge(false, line);
-    } else if place == height + 1 {
-        draw_edge(true, line);
+    if size.columns() <= FIRST_COLUMNS {
+        let outer = outer_row(
+            inner,
+            size.region_columns(),
+            size.regions_across(),
+            prefixes,
+        );
+        (outer, 0)
     } else {
-        let start = mapping_line(height, row) as usize * columns;
-        let cells = &mapping[start..start + columns];
-        draw_between(cells, across, width, place % 2 == 1, line);
+        long_outer_row(inner, rest, size.region_columns(), prefixes)
     }
 }
 
-/// Turns these into the modules of a symbol of this size with correct borders, and between them the cells of the
-/// mapping matrix, which stand row by row and have the fixed square.
-pub(crate) fn draw(size: SymbolSize, mapping: &[bool], modules: &mut Modules)
-    requires cells { length mapping.now ≡ mapping_rows size * mapping_columns size }
-    requires fixed_square { HasFixedSquare (mapping_rows size) (mapping_columns size)
-        (look_at mapping.now (mapping_columns size)) }
-    ensures size { modules.new.size ≡ size }
-    ensures modules { IsModules modules.new }
-    ensures colours { (r c : ℕ) → r < size.rows → c < size.columns
-        → module_at modules.new r c ≡ drawn_colour size mapping.now r c }
+/// Gives a row of the symbol between the top and the bottom of its regions, its first 128 modules and those behind
+/// them: borders, and a row of the mapping matrix between them. The row is told by its regions and its place among the
+/// rows of a region with its border, both counted from 0.
+#[inline(always)]
+fn drawn_row<R: BitRows>(
+    size: SymbolSize,
+    borders: &Borders,
+    prefixes: &[u128; MOST_BEFORE_LAST],
+    rows: &R,
+    region: u16,
+    inner: u16,
+) -> (u128, u16)
+    requires room { length (R.numbers rows.now) ≡ R.most + 6 }
+    requires high { mapping_rows size ≤ R.most }
+    requires borders { borders.now ≡ size }
+    requires entry { IsSize size }
+    requires prefixes { ArePrefixes size.region_columns size.regions_across prefixes.now }
+    requires region { region < size.regions_down }
+    requires below { 1 ≤ inner }
+    requires above { inner ≤ size.region_rows }
+    ensures { (column : ℕ) → column < size.columns
+        → is_dark_bit (whole_row result.0 result.1) column
+        ≡ drawn_colour size (λ r c. look_in (R.numbers rows.now) (r + 2) (c + 4))
+        (region * (size.region_rows + 2) + inner) column }
 {
-    let mut line = [false; MOST_COLUMNS];
-    let columns = size.columns() as usize;
-    modules.resize(size);
-    for row in 0..size.rows() {
-        draw_row(size, mapping, row, &mut line[..columns]);
-        modules.put_row(row, &line[..columns]);
+    let line = region * size.region_rows() + inner - 1;
+    let (cells, rest) = rows.inner(line as usize + 2);
+    let (outer, end) = symbol_row_of(size, cells, rest, prefixes);
+    let dark = borders.dark(inner);
+    (dark.0 | outer, dark.1 | end)
+}
+
+/// Gives a symbol one row of regions more, the first of which begins at its left. The top and the bottom row stand
+/// apart, so that in the loop between them the borders of a row depend on nothing but whether it is odd.
+#[inline(always)]
+fn draw_regions<R: BitRows, const ROWS: usize>(
+    borders: &Borders,
+    prefixes: &[u128; MOST_BEFORE_LAST],
+    rows: &R,
+    region: u16,
+    symbol: &mut SymbolIn<ROWS>,
+)
+    requires room { length (R.numbers rows.now) ≡ R.most + 6 }
+    requires high { mapping_rows borders.now ≤ R.most }
+    requires prefixes { ArePrefixes borders.now.region_columns borders.now.regions_across prefixes.now }
+    requires region { region < borders.now.regions_down }
+    requires above { IsDrawn borders.now (λ r c. look_in (R.numbers rows.now) (r + 2) (c + 4))
+        (region * (borders.now.region_rows + 2)) symbol.old }
+    ensures { IsDrawn borders.now (λ r c. look_in (R.numbers rows.now) (r + 2) (c + 4))
+        ((region + 1) * (borders.now.region_rows + 2)) symbol.new }
+{
+    let size = symbol.size();
+    let last = borders.last();
+    let first = region * (last + 1);
+    let (cells, end) = borders.dark(0);
+    symbol.put_row(first, cells, end);
+    for inner in 1..last {
+        let (cells, end) = drawn_row(size, borders, prefixes, rows, region, inner);
+        symbol.put_row(first + inner, cells, end);
+    }
+    let (cells, end) = borders.dark(last);
+    symbol.put_row(first + last, cells, end);
+}
+
+/// Turns a symbol into that of a size with these rows of the mapping matrix and with correct borders.
+pub(crate) fn draw<R: BitRows, const ROWS: usize>(
+    size: SymbolSize,
+    rows: &R,
+    symbol: &mut SymbolIn<ROWS>,
+)
+    requires room { length (R.numbers rows.now) ≡ R.most + 6 }
+    requires high { mapping_rows size ≤ R.most }
+    requires rows { size.rows ≤ ROWS }
+    ensures size { symbol.new.size ≡ size }
+    ensures modules { IsModules symbol.new }
+    ensures colours { (r c : ℕ) → r < size.rows → c < size.columns → module_at symbol.new r c
+        ≡ drawn_colour size (λ r c. look_in (R.numbers rows.now) (r + 2) (c + 4)) r c }
+{
+    let borders = Borders::new(size);
+    symbol.resize(size);
+    let prefixes = prefixes(size.region_columns(), size.regions_across());
+    for region in 0..size.regions_down() {
+        draw_regions(&borders, &prefixes, rows, region, symbol);
     }
 }
 
-/// Copies the colours of a part of a row. It stands by itself since the loop of its caller is slower with a copy's
-/// tests in it.
-#[inline(never)]
-fn copy_part<C: Colour>(part: &[C], target: &mut [bool])
-    requires { length target.old ≡ length part.now }
-    ensures { target.new ≡ map C.dark part.now }
+/// Makes the dark cells of the fixed square dark, in a mapping matrix that has it and is square then.
+pub(crate) fn put_fixed_square<R: BitRows>(rows: &mut R, height: u16, columns: u16)
+    requires room { length (R.numbers rows.old) ≡ R.most + 6 }
+    requires some { 6 ≤ height }
+    requires least { 6 ≤ columns }
+    requires high { height ≤ R.most }
+    requires wide { columns ≤ R.most }
+    requires square { height % 4 ≡ 2 → columns % 4 ≡ 2 → height ≡ columns }
+    ensures room { length (R.numbers rows.new) ≡ R.most + 6 }
+    ensures free { (r c : ℕ) → r < height → c < columns → is_fixed height columns r c ≡ false
+        → look_in (R.numbers rows.new) (r + 2) (c + 4)
+        ≡ look_in (R.numbers rows.old) (r + 2) (c + 4) }
+    ensures fixed { (r c : ℕ) → r < height → c < columns → is_fixed height columns r c ≡ true
+        → look_in (R.numbers rows.old) (r + 2) (c + 4) ≡ false
+        → look_in (R.numbers rows.new) (r + 2) (c + 4) ≡ fixed_is_dark r c }
 {
-    C::put_each(part, target);
-}
-
-/// Reads a row of the mapping matrix out of the modules of a symbol.
-fn read_row<C: Colour>(modules: &BorrowedModules<C>, row: u16, line: &mut [bool])
-    requires row { row < mapping_rows modules.now.size }
-    requires line { length line.old ≡ mapping_columns modules.now.size }
-    ensures count { length line.new ≡ length line.old }
-    ensures cells { (c : ℕ) → c < mapping_columns modules.now.size
-        → get_or line.new c false ≡ mapped_cell modules.now row c }
-{
-    let size = modules.size();
-    let outer = symbol_row(size, row);
-    let all = modules.part(outer, 0, size.columns());
-    let width = size.region_columns() as usize;
-    for region in 0..size.regions_across() as usize {
-        let start = region * width;
-        let inner = region * (width + 2) + 1;
-        copy_part(&all[inner..inner + width], &mut line[start..start + width]);
-    }
-}
-
-/// Reads the cells of the mapping matrix out of the modules of a symbol, row by row.
-pub(crate) fn read_cells<C: Colour>(modules: &BorrowedModules<C>, mapping: &mut [bool])
-    requires { length mapping.old
-        ≡ mapping_rows modules.now.size * mapping_columns modules.now.size }
-    ensures { (r c : ℕ) → r < mapping_rows modules.now.size → c < mapping_columns modules.now.size
-        → look_at mapping.new (mapping_columns modules.now.size) r c
-        ≡ mapped_cell modules.now r c }
-{
-    let size = modules.size();
-    let columns = size.mapping_columns() as usize;
-    for row in 0..size.mapping_rows() {
-        let start = row as usize * columns;
-        read_row(modules, row, &mut mapping[start..start + columns]);
+    if height % 4 == 2 && columns % 4 == 2 {
+        rows.put_bit(height as usize, columns + 2, 1);
+        rows.put_bit(height as usize + 1, columns + 3, 1);
     }
 }

@@ -6,7 +6,9 @@ ghost use Rattle.dm_modules.specs.Sizes.{mapping_columns, codeword_count, block_
 ghost use Rattle.dm_modules.specs.Sizes.{most_rows, most_columns, most_modules, most_cells, most_data, most_codewords};
 ghost use Rattle.dm_modules.specs.Sizes.{most_blocks, most_block_check, longest_block};
 ghost use Rattle.dm_modules.specs.Equality.{equal_sizes};
+ghost use Rattle.dm_modules.specs.inner.SizeRows.{row_entry, takes_sides};
 
+use crate::size_rows::{SIZE_ROWS, row_for, row_with};
 use std::marker::Model;
 
 /// How many sizes there are.
@@ -20,12 +22,6 @@ pub const MOST_COLUMNS: usize = 144;
 
 /// The most modules of a symbol.
 pub const MOST_MODULES: usize = 20736;
-
-/// The most cells of a mapping matrix.
-pub(crate) const MOST_CELLS: usize = 17424;
-
-/// The most cells of a mapping matrix of a rectangle, and of a square up to 40 x 40.
-pub(crate) const FEW_CELLS: usize = 1344;
 
 /// The most data codewords of a symbol.
 pub const MOST_DATA: usize = 1558;
@@ -95,85 +91,15 @@ impl Model for SymbolSize {
     } };
 }
 
-/// An entry of the table: rows and columns, of the symbol and of a region; regions down and across; data, check,
-/// blocks; whether it is one of the extension.
-macro_rules! row {
-    (
-        $rows:literal $columns:literal, $region_rows:literal $region_columns:literal,
-        $down:literal $across:literal, $data:literal $check:literal $blocks:literal, $extended:literal
-    ) => {
-        SymbolSize {
-            rows: $rows,
-            columns: $columns,
-            region_rows: $region_rows,
-            region_columns: $region_columns,
-            regions_down: $down,
-            regions_across: $across,
-            data_count: $data,
-            check_count: $check,
-            blocks: $blocks,
-            extended: $extended,
-        }
-    };
-}
-
-const TABLE: [SymbolSize; SIZE_COUNT] = [
-    row!(10 10, 8 8, 1 1, 3 5 1, false),
-    row!(12 12, 10 10, 1 1, 5 7 1, false),
-    row!(8 18, 6 16, 1 1, 5 7 1, false),
-    row!(14 14, 12 12, 1 1, 8 10 1, false),
-    row!(16 16, 14 14, 1 1, 12 12 1, false),
-    row!(8 32, 6 14, 1 2, 10 11 1, false),
-    row!(12 26, 10 24, 1 1, 16 14 1, false),
-    row!(18 18, 16 16, 1 1, 18 14 1, false),
-    row!(8 48, 6 22, 1 2, 18 15 1, true),
-    row!(20 20, 18 18, 1 1, 22 18 1, false),
-    row!(12 36, 10 16, 1 2, 22 18 1, false),
-    row!(22 22, 20 20, 1 1, 30 20 1, false),
-    row!(8 64, 6 14, 1 4, 24 18 1, true),
-    row!(24 24, 22 22, 1 1, 36 24 1, false),
-    row!(16 36, 14 16, 1 2, 32 24 1, false),
-    row!(8 80, 6 18, 1 4, 32 22 1, true),
-    row!(26 26, 24 24, 1 1, 44 28 1, false),
-    row!(20 36, 18 16, 1 2, 44 28 1, true),
-    row!(16 48, 14 22, 1 2, 49 28 1, false),
-    row!(12 64, 10 14, 1 4, 43 27 1, true),
-    row!(8 96, 6 22, 1 4, 38 28 1, true),
-    row!(20 44, 18 20, 1 2, 56 34 1, true),
-    row!(8 120, 6 18, 1 6, 49 32 1, true),
-    row!(32 32, 14 14, 2 2, 62 36 1, false),
-    row!(16 64, 14 14, 1 4, 62 36 1, true),
-    row!(26 40, 24 18, 1 2, 70 38 1, true),
-    row!(22 48, 20 22, 1 2, 72 38 1, true),
-    row!(12 88, 10 20, 1 4, 64 36 1, true),
-    row!(24 48, 22 22, 1 2, 80 41 1, true),
-    row!(8 144, 6 22, 1 6, 63 36 1, true),
-    row!(26 48, 24 22, 1 2, 90 42 1, true),
-    row!(20 64, 18 14, 1 4, 84 42 1, true),
-    row!(36 36, 16 16, 2 2, 86 42 1, false),
-    row!(24 64, 22 14, 1 4, 108 46 1, true),
-    row!(40 40, 18 18, 2 2, 114 48 1, false),
-    row!(26 64, 24 14, 1 4, 118 50 1, true),
-    row!(44 44, 20 20, 2 2, 144 56 1, false),
-    row!(48 48, 22 22, 2 2, 174 68 1, false),
-    row!(52 52, 24 24, 2 2, 204 84 2, false),
-    row!(64 64, 14 14, 4 4, 280 112 2, false),
-    row!(72 72, 16 16, 4 4, 368 144 4, false),
-    row!(80 80, 18 18, 4 4, 456 192 4, false),
-    row!(88 88, 20 20, 4 4, 576 224 4, false),
-    row!(96 96, 22 22, 4 4, 696 272 4, false),
-    row!(104 104, 24 24, 4 4, 816 336 6, false),
-    row!(120 120, 18 18, 6 6, 1050 408 6, false),
-    row!(132 132, 20 20, 6 6, 1304 496 8, false),
-    row!(144 144, 22 22, 6 6, 1558 620 10, false),
-];
-
 /// Gives all sizes, by rising area and, where areas are equal, by rising columns.
-#[tactic(auto, unfolding(crate::specs::Sizes::size_table))]
 pub fn table() -> [SymbolSize; SIZE_COUNT]
     ensures { result ≡ size_table }
 {
-    TABLE
+    let mut sizes = [size_of(SIZE_ROWS[0]); SIZE_COUNT];
+    for i in 0..SIZE_COUNT {
+        sizes[i] = size_of(SIZE_ROWS[i]);
+    }
+    sizes
 }
 
 impl SizeChoice {
@@ -181,12 +107,19 @@ impl SizeChoice {
     pub fn takes(self, size: SymbolSize) -> bool
         ensures { result ≡ takes self size }
     {
+        self.takes_sides(size.rows, size.columns, size.extended)
+    }
+
+    /// Whether a size with these rows and columns is one of the choice, given whether it is one of the extension.
+    pub(crate) fn takes_sides(self, rows: u16, columns: u16, extended: bool) -> bool
+        ensures { result ≡ takes_sides self rows columns extended }
+    {
         match self {
-            SizeChoice::Square => size.rows == size.columns,
-            SizeChoice::Rectangle => size.rows != size.columns && !size.extended,
-            SizeChoice::AnyRectangle => size.rows != size.columns,
+            SizeChoice::Square => rows == columns,
+            SizeChoice::Rectangle => rows != columns && !extended,
+            SizeChoice::AnyRectangle => rows != columns,
             SizeChoice::Any => true,
-            SizeChoice::Exact(rows, columns) => size.rows == rows && size.columns == columns,
+            SizeChoice::Exact(r, c) => rows == r && columns == c,
         }
     }
 }
@@ -195,10 +128,26 @@ impl SizeChoice {
 fn first_with(choice: SizeChoice, count: u16) -> Option<SymbolSize>
     ensures { result ≡ entry_for choice count }
 {
-    table()
-        .iter()
-        .copied()
-        .find(|size| choice.takes(*size) && count <= size.data_count)
+    Some(size_of(row_for(choice, count)?))
+}
+
+/// Gives the size with these numbers.
+fn size_of(row: [u16; 10]) -> SymbolSize
+    requires { IsSize (row_entry row) }
+    ensures { result ≡ row_entry row }
+{
+    SymbolSize {
+        rows: row[0],
+        columns: row[1],
+        region_rows: row[2],
+        region_columns: row[3],
+        regions_down: row[4],
+        regions_across: row[5],
+        data_count: row[6],
+        check_count: row[7],
+        blocks: row[8],
+        extended: row[9] == 1,
+    }
 }
 
 impl SymbolSize {
@@ -206,10 +155,7 @@ impl SymbolSize {
     pub fn of(rows: u16, columns: u16) -> Option<SymbolSize>
         ensures { result ≡ entry_with rows columns }
     {
-        table()
-            .iter()
-            .copied()
-            .find(|size| size.rows == rows && size.columns == columns)
+        Some(size_of(row_with(rows, columns)?))
     }
 
     /// Gives the smallest size of a choice with at least `count` data codewords, or None where no size of it has as

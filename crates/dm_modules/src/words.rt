@@ -1,73 +1,92 @@
 //! The codewords of a symbol.
 
-ghost use Rattle.std.specs.Prelude.{◌≡◌, ◌<◌, ◌≤◌, ◌++◌, ◌*◌, All, length, replicate, set};
-ghost use Rattle.dm_modules.specs.Sizes.{codeword_count, mapping_rows, mapping_columns, most_codewords};
+ghost use Rattle.std.specs.Prelude.{◌≡◌, ◌<◌, ◌≤◌, ◌++◌, drop, length, replicate, set};
+ghost use Rattle.dm_place.specs.Holding.{HoldsBits};
+ghost use Rattle.dm_modules.specs.Border.{mapped_cell};
+ghost use Rattle.dm_modules.specs.Modules.{IsModules};
+ghost use Rattle.dm_modules.specs.Sizes.{codeword_count, mapping_rows, mapping_columns};
 ghost use Rattle.dm_modules.specs.Words.{WordsView, IsWords, data_of};
-ghost use Rattle.dm_place.specs.Holding.{HoldsBits, look_at};
 
+use crate::lifting::lift_list;
 use crate::size::{MOST_CODEWORDS, SymbolSize};
-use dm_place::lift;
+use crate::symbol::SymbolIn;
 use std::marker::Model;
 
-/// The codewords of a symbol of some [`SymbolSize`]: exactly its data codewords and then its check codewords, in the
-/// order in which they are placed. They stand at the start of an array for the most codewords; what stands behind them
-/// means nothing. In contracts it is a `WordsView` of `specs/Words.antt`.
+/// The codewords of a symbol of some [`SymbolSize`], at most `ROOM`: exactly its data codewords and then its check
+/// codewords, in the order in which they are placed. They stand at the start of an array; what stands behind them means
+/// nothing. In contracts it is a `WordsView` of `specs/Words.antt`.
 #[derive(Clone, Debug, Drop)]
-pub struct SymbolWords {
+pub struct SymbolWordsIn<const ROOM: usize> {
     size: SymbolSize,
-    kept: [u8; MOST_CODEWORDS],
+    kept: [u8; ROOM],
 }
 
-impl Model for SymbolWords {
+/// The codewords of a symbol of any size.
+pub type SymbolWords = SymbolWordsIn<MOST_CODEWORDS>;
+
+impl<const ROOM: usize> Model for SymbolWordsIn<ROOM> {
     ghost use Rattle.dm_modules.specs.Words.{WordsView};
-    ghost use Rattle.dm_modules.specs.inner.Keeping.{kept_words, AreKept};
+    ghost use Rattle.dm_modules.specs.inner.Keeping.{kept_words, AreKeptIn};
 
     ghost Value = { WordsView };
 
     ghost view = { λ w. kept_words w.size w.kept };
 
-    ghost invariant = { λ w. AreKept w.size w.kept };
+    ghost invariant = { λ w. AreKeptIn ROOM w.size w.kept };
 }
 
-/// Turns `words` into the codewords that a mapping matrix holds, whose cells stand row by row.
-fn lift_list(size: SymbolSize, mapping: &[bool], words: &mut [u8])
-    requires cells { length mapping.now ≡ mapping_rows size * mapping_columns size }
-    requires words { length words.old ≡ codeword_count size }
-    ensures holds { HoldsBits (mapping_rows size) (mapping_columns size)
-        (look_at mapping.now (mapping_columns size)) words.new }
-    ensures bytes { All (λ word. word < 256) words.new }
-{
-    lift(size.mapping_rows(), size.mapping_columns(), mapping, words);
-}
-
-impl SymbolWords {
+impl<const ROOM: usize> SymbolWordsIn<ROOM> {
     /// Gives the codewords `list` of a symbol of this size, data and then checks, in the order of the symbol: as many
     /// as the size's data and check codewords together.
-    pub fn new(size: SymbolSize, list: &[u8]) -> SymbolWords
-        requires { length list.now ≡ codeword_count size }
+    pub fn new(size: SymbolSize, list: &[u8]) -> SymbolWordsIn<ROOM>
+        requires count { length list.now ≡ codeword_count size }
+        requires room { codeword_count size ≤ ROOM }
         ensures value { result ≡ record { size = size; list = list.now } }
         ensures words { IsWords result }
     {
-        // For the proof alone: what `check_count` ensures says that the codewords fit.
+        // For the proof alone: what `check_count` ensures says that the size stands in the table.
         let _checks = size.check_count();
-        let mut kept = [0; MOST_CODEWORDS];
-        kept[..list.len()].copy_from_slice(list);
-        SymbolWords { size, kept }
+        let mut kept = [0; ROOM];
+        let room = &mut kept[..];
+        room[0..list.len()].copy_from_slice(list);
+        SymbolWordsIn { size, kept }
     }
 
-    /// Gives codewords of this size with these data codewords, as many as the size has. The check codewords are 0 until
-    /// they are put.
-    pub fn with_data(size: SymbolSize, prefix: &[u8]) -> SymbolWords
-        requires { length prefix.now ≡ size.data_count }
+    /// Gives codewords of this size that are all 0, to be replaced.
+    pub fn zeros(size: SymbolSize) -> SymbolWordsIn<ROOM>
+        requires { codeword_count size ≤ ROOM }
         ensures value { result
-            ≡ record { size = size; list = prefix.now ++ replicate size.check_count 0 } }
+            ≡ record { size = size; list = replicate (codeword_count size) 0 } }
         ensures words { IsWords result }
     {
-        // For the proof alone: what `check_count` ensures says that the codewords fit.
+        // For the proof alone: what `check_count` ensures says that the size stands in the table.
         let _checks = size.check_count();
-        let mut kept = [0; MOST_CODEWORDS];
-        kept[..prefix.len()].copy_from_slice(prefix);
-        SymbolWords { size, kept }
+        SymbolWordsIn {
+            size,
+            kept: [0; ROOM],
+        }
+    }
+
+    /// Turns these into codewords of this size with any values, to be put.
+    pub fn resize(&mut self, size: SymbolSize)
+        requires { codeword_count size ≤ ROOM }
+        ensures size { self.new.size ≡ size }
+        ensures words { IsWords self.new }
+    {
+        // For the proof alone: what `check_count` ensures says that the size stands in the table.
+        let _checks = size.check_count();
+        self.size = size;
+    }
+
+    /// Puts the data codewords, as many as the size has. The check codewords stay.
+    pub fn put_data(&mut self, prefix: &[u8])
+        requires { length prefix.now ≡ self.old.size.data_count }
+        ensures value { let rest = drop self.old.size.data_count self.old.list in
+            self.new ≡ record { size = self.old.size; list = prefix.now ++ rest } }
+        ensures words { IsWords self.new }
+    {
+        let kept = &mut self.kept[..];
+        kept[0..prefix.len()].copy_from_slice(prefix);
     }
 
     /// Puts the check codewords, as many as the size has. The data codewords stay.
@@ -79,39 +98,30 @@ impl SymbolWords {
     {
         let start = usize::from(self.size.data_count());
         let end = self.count();
-        self.kept[start..end].copy_from_slice(checks);
+        let kept = &mut self.kept[..];
+        kept[start..end].copy_from_slice(checks);
     }
 
-    /// Gives codewords of this size with any values, to be replaced.
-    pub(crate) fn any(size: SymbolSize) -> SymbolWords
-        ensures size { result.size ≡ size }
-        ensures words { IsWords result }
-    {
-        // For the proof alone: what `check_count` ensures says that the codewords fit.
-        let _checks = size.check_count();
-        SymbolWords {
-            size,
-            kept: [0; MOST_CODEWORDS],
-        }
-    }
-
-    /// Becomes the codewords of a symbol of this size that its mapping matrix holds, whose cells stand row by row.
-    pub(crate) fn lift_from(&mut self, size: SymbolSize, mapping: &[bool])
-        requires { length mapping.now ≡ mapping_rows size * mapping_columns size }
-        ensures size { self.new.size ≡ size }
+    /// Turns these into the codewords that a symbol holds.
+    pub(crate) fn lift_from<const ROWS: usize>(&mut self, symbol: &SymbolIn<ROWS>)
+        requires { codeword_count symbol.now.size ≤ ROOM }
+        ensures modules { IsModules symbol.now }
+        ensures size { self.new.size ≡ symbol.now.size }
         ensures words { IsWords self.new }
-        ensures holds { HoldsBits (mapping_rows size) (mapping_columns size)
-            (look_at mapping.now (mapping_columns size)) self.new.list }
+        ensures holds { HoldsBits (mapping_rows symbol.now.size) (mapping_columns symbol.now.size)
+            (mapped_cell symbol.now) self.new.list }
     {
+        let size = symbol.size();
         let count = (size.data_count() + size.check_count()) as usize;
-        lift_list(size, mapping, &mut self.kept[..count]);
+        let kept = &mut self.kept[..];
+        lift_list(symbol, &mut kept[0..count]);
         self.size = size;
     }
 
     /// Gives how many codewords there are.
     fn count(&self) -> usize
         ensures value { result ≡ codeword_count self.now.size }
-        ensures fits { result ≤ most_codewords }
+        ensures fits { result ≤ ROOM }
     {
         (self.size.data_count() + self.size.check_count()) as usize
     }
@@ -120,6 +130,7 @@ impl SymbolWords {
     pub fn size(&self) -> SymbolSize
         ensures value { result ≡ self.now.size }
         ensures words { IsWords self.now }
+        ensures room { codeword_count self.now.size ≤ ROOM }
     {
         self.size
     }
@@ -129,7 +140,8 @@ impl SymbolWords {
         ensures value { result.now ≡ self.now.list }
         ensures words { IsWords self.now }
     {
-        &self.kept[..self.count()]
+        let kept = &self.kept[..];
+        &kept[..self.count()]
     }
 
     /// Gives the data codewords.
@@ -137,7 +149,8 @@ impl SymbolWords {
         ensures value { result.now ≡ data_of self.now }
         ensures words { IsWords self.now }
     {
-        &self.kept[..self.size.data_count() as usize]
+        let kept = &self.kept[..];
+        &kept[..self.size.data_count() as usize]
     }
 
     /// Puts a codeword at a place, counted from 0.
@@ -151,7 +164,7 @@ impl SymbolWords {
     }
 }
 
-impl PartialEq for SymbolWords {
+impl<const ROOM: usize> PartialEq for SymbolWordsIn<ROOM> {
     ghost use Rattle.std.specs.Prelude.{◌≡◌, ◌↔◌, IsTrue};
     ghost use Rattle.dm_modules.specs.Equality.{equal_words};
     ghost use Rattle.dm_modules.specs.Equality.{words_per};
@@ -161,7 +174,7 @@ impl PartialEq for SymbolWords {
     ghost laws = { words_per };
 
     /// Whether the sizes agree, and all codewords.
-    fn eq(&self, other: &SymbolWords) -> bool
+    fn eq(&self, other: &SymbolWordsIn<ROOM>) -> bool
         ensures value { result ≡ equal_words self.now other.now }
         ensures same { IsTrue result ↔ (self.now ≡ other.now) }
     {
@@ -169,7 +182,7 @@ impl PartialEq for SymbolWords {
     }
 }
 
-impl Eq for SymbolWords {
+impl<const ROOM: usize> Eq for SymbolWordsIn<ROOM> {
     ghost use Rattle.dm_modules.specs.Equality.{words_equiv};
 
     ghost laws = { words_equiv };

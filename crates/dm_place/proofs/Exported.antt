@@ -4,7 +4,7 @@ unfoldable pub use Rattle.dm_place.proofs.FewerTests.{few_shapes}
 pub use Rattle.dm_place.proofs.FewerTests.{shapes-few}
 pub use Rattle.dm_place.proofs.FirstItem.{goes_first}
 pub use Rattle.dm_place.proofs.HeldWords.{words_of, length-words_of, holds_words_of, words_are_bytes, one_list}
-pub use Rattle.dm_place.proofs.LiftedShapes.{cells_inside, matrix_facts, MatrixFacts}
+pub use Rattle.dm_place.proofs.InsideShapes.{cells_inside, matrix_facts, MatrixFacts}
 pub use Rattle.dm_place.proofs.OnePlace.{eight}
 pub use Rattle.dm_place.proofs.PlaceOrder.{ArePlaces, lies_in, all_are_places, length-places_in_order, none_fixed}
 pub use Rattle.dm_place.proofs.PlaceOrder.{one_bit, some_bit, place_at, is_place_list}

@@ -14,7 +14,5 @@ mod FirstItem
 mod Stepping
 mod Bits
 mod HeldWords
-mod LiftedShapes
+mod InsideShapes
 pub mod Exported
-mod WrittenCells
-mod InnerShapes

@@ -44,14 +44,6 @@ number_of a (b ∷ bs) = number_of (2 * a + digit b) bs
 abbrev pub word_at : (ℕ → ℕ → Bool) → List Cell → ℕ
 word_at look cells = number_of 0 (map (λ x. look x.row x.column) cells)
 
--- ---- what laying keeps
-
--- The cells of the fixed square are the same after as before.
-abbrev pub KeepsFixedSquare : ℕ → ℕ → (ℕ → ℕ → Bool) → (ℕ → ℕ → Bool) → Type 0
-KeepsFixedSquare rows columns before after =
-    (row column : ℕ) → row < rows → column < columns → is_fixed rows columns row column ≡ true →
-    after row column ≡ before row column
-
 -- ---- laws
 
 -- Each matrix holds some codewords, whatever its rows and columns and whichever of its cells are dark.

@@ -6,8 +6,7 @@
 //! gives the eight [`Cell`]s of one, for its bits from the highest on. A [`Place`] is one bit of one codeword with the
 //! cell in which it lies.
 //!
-//! [`lift()`] reads the codewords out of a matrix whose cells stand row by row, true where dark, and [`lay()`] puts
-//! them into one. [`has_fixed_square()`] says whether a matrix has four cells that belong to no codeword.
+//! [`has_fixed_square()`] says whether a matrix has four cells that belong to no codeword.
 //!
 //! What the contracts say is defined in `specs/`, the closed form of the placement among it; [`laws`] states what holds
 //! of these definitions, such as that it is the standard's sweep. No call allocates memory.
@@ -16,14 +15,10 @@
 mod border;
 mod cells;
 pub mod laws;
-mod places;
-mod placing;
-mod run;
 mod shape;
 mod shapes;
 
 pub use border::has_fixed_square;
 pub use cells::Place;
-pub use placing::{lay, lift};
 pub use shape::{Cell, Shape};
 pub use shapes::Shapes;

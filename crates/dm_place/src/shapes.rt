@@ -1,17 +1,14 @@
 //! The shapes of a mapping matrix in the order of the codewords, by the closed form.
 
 ghost use Rattle.std.specs.Prelude.{◌≡◌, ℕ, List, true, false, ◌+◌, ◌-◌, ◌*◌, ◌%◌, ◌<◌, ◌≤◌, ◌⊎◌, ◌++◌, IfSome};
-ghost use Rattle.std.specs.Prelude.{[], IsNone};
 ghost use Rattle.std.specs.Option.{option_to_list};
 ghost use Rattle.std.specs.Iterator.{YieldsFirst, item_count};
 ghost use Rattle.dm_place.specs.Placement.{shapes as shapes_by, corner_before, in_even_row, in_odd_row};
 ghost use Rattle.dm_place.specs.Placement.{is_absent as is_absent_by, AnchorInside};
 ghost use Rattle.dm_place.specs.Sides.{SidesAreSafe};
 ghost use Rattle.dm_place.specs.inner.Walking.{shapes_left, steps_left, StepsAreSafe};
-ghost use Rattle.dm_place.specs.inner.Runs.{shapes_of, IsInnerRun};
 ghost use Rattle.dm_place.specs.declared.shape.Shape.{Shape};
 
-use crate::run::{Diagonal, Run};
 use crate::shape::Shape;
 use std::marker::Model;
 
@@ -171,31 +168,12 @@ fn in_odd_row(rows: u16, columns: u16, sum: u16, row: u16) -> Option<Shape>
     }
 }
 
-/// Gives how many of the next anchors of a sum have no wrapped cells: the columns of those in even rows, or the rows of
-/// those in odd ones, rise from `index` by twos and stay below `count`, and their rows, or columns, are 2 or more.
-fn inner_count(count: u16, sum: u16, index: u16) -> u16
-    requires count { count ≤ 132 }
-    requires sum { sum ≤ 300 }
-    ensures first { 0 < result → 2 ≤ index }
-    ensures last { 0 < result → index + 2 * result ≤ count + 1 }
-    ensures above { 0 < result → index + 2 * result ≤ sum }
-{
-    let end = sum.min(count + 1);
-    if index < 2 || end < index {
-        0
-    } else {
-        (end - index) / 2
-    }
-}
-
 impl Steps {
     /// Starts before the first shape of a mapping matrix of so many rows and columns.
     pub(crate) fn new(rows: u16, columns: u16) -> Steps
         requires { SidesAreSafe rows columns }
         ensures left { shapes_left result ≡ shapes_by rows columns }
         ensures safe { StepsAreSafe result }
-        ensures rows { result.rows ≡ rows }
-        ensures columns { result.columns ≡ columns }
     {
         Steps {
             rows,
@@ -267,77 +245,6 @@ impl Steps {
         while self.sum + 1 < self.rows + self.columns {
             if let Some(shape) = self.step() {
                 return Some(shape);
-            }
-        }
-        None
-    }
-
-    /// Goes past all next shapes that have no wrapped cells, if there are any, and gives them.
-    #[inline(always)]
-    fn next_diagonal(&mut self) -> Option<Run>
-        requires safe { StepsAreSafe self.old }
-        ensures left { IfSome result
-            (λ run. shapes_left self.old ≡ shapes_of run ++ shapes_left self.new) }
-        ensures inner { IfSome result (IsInnerRun self.old.rows self.old.columns) }
-        ensures safe { StepsAreSafe self.new }
-        ensures rows { self.new.rows ≡ self.old.rows }
-        ensures columns { self.new.columns ≡ self.old.columns }
-        ensures fewer { IfSome result (λ run.
-            steps_left self.new.rows self.new.columns self.new.sum self.new.part self.new.index
-            < steps_left self.old.rows self.old.columns self.old.sum self.old.part self.old.index) }
-        ensures same { IsNone result → self.new ≡ self.old }
-    {
-        let index = self.index;
-        match self.part {
-            Part::Corner => None,
-            Part::Even => {
-                let count = inner_count(self.columns, self.sum, index);
-                if count == 0 {
-                    return None;
-                }
-                self.index = index + 2 * count;
-                Some(Run::Rising(Diagonal {
-                    row: self.sum - index,
-                    column: index,
-                    count,
-                }))
-            }
-            Part::Odd => {
-                let count = inner_count(self.rows, self.sum, index);
-                if count == 0 {
-                    return None;
-                }
-                self.index = index + 2 * count;
-                Some(Run::Falling(Diagonal {
-                    row: index,
-                    column: self.sum - index,
-                    count,
-                }))
-            }
-        }
-    }
-
-    /// Gives the next shapes: one, or all up to the next that has wrapped cells.
-    #[inline(always)]
-    pub(crate) fn next_run(&mut self) -> Option<Run>
-        requires safe { StepsAreSafe self.old }
-        ensures left { IfSome result
-            (λ run. shapes_left self.old ≡ shapes_of run ++ shapes_left self.new) }
-        ensures none { IsNone result → shapes_left self.old ≡ [] }
-        ensures inner { IfSome result (IsInnerRun self.old.rows self.old.columns) }
-        ensures safe { StepsAreSafe self.new }
-        ensures rows { self.new.rows ≡ self.old.rows }
-        ensures columns { self.new.columns ≡ self.old.columns }
-        ensures fewer { IfSome result (λ run.
-            steps_left self.new.rows self.new.columns self.new.sum self.new.part self.new.index
-            < steps_left self.old.rows self.old.columns self.old.sum self.old.part self.old.index) }
-    {
-        while self.rows + self.columns > self.sum + 1 {
-            if let Some(run) = self.next_diagonal() {
-                return Some(run);
-            }
-            if let Some(shape) = self.step() {
-                return Some(Run::One(shape));
             }
         }
         None

@@ -7,6 +7,7 @@ pub use Rattle.dm_symbol.proofs.NormalGrids.{normal_grid_is_one}
 pub use Rattle.dm_symbol.proofs.NormalReadings.{normal_grid_fits, one_normal_result}
 pub use Rattle.dm_symbol.proofs.ReadItems.{no_more_items_are_read, read_is_message}
 pub use Rattle.dm_symbol.proofs.Readings.{one_given}
+pub use Rattle.dm_symbol.proofs.Rooms.{room_for_each, room_for_most}
 pub use Rattle.dm_symbol.proofs.SizeFacts.{has_that_side}
 pub use Rattle.dm_symbol.proofs.SymbolResults.{normal_symbol, reads_symbol, result_of_symbol}
 pub use Rattle.dm_symbol.proofs.WriteSteps.{too_long_fits_none}

@@ -21,10 +21,19 @@ mod LightDoubt
 mod SymbolReadings
 mod SymbolReadSteps
 mod SymbolWriteSteps
-mod LaidData
 mod SymbolNormals
 mod SmallestSymbols
 mod SymbolCompletions
+mod Rooms
 mod SymbolGrids
 mod SymbolResults
+mod SymbolOutcomes
+mod LetterReadings
+mod LetterReadSteps
+mod LetterMessages
+mod LetterDoubt
+mod WrittenWords
+mod WrittenLetters
+mod NormalLetters
+mod GridResults
 pub mod Exported

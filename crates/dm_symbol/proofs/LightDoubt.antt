@@ -14,13 +14,12 @@ use Rattle.dm_modules.specs.Sizes.{SizeEntry, mapping_rows, mapping_columns, cod
 use Rattle.dm_modules.specs.Modules.{ModulesView, rows_of}
 use Rattle.dm_modules.specs.Border.{is_fault}
 use Rattle.dm_modules.specs.Blocks.{places_of_block}
-use Rattle.dm_symbol.specs.declared.symbol.reading.SymbolReading.{SymbolReading}
-use Rattle.dm_symbol.specs.declared.symbol.inspection.SymbolInspection.{SymbolInspection}
+use Rattle.dm_symbol.specs.declared.symbol.inspection.SymbolInspectionIn.{SymbolInspectionIn}
 use Rattle.dm_symbol.specs.declared.reading.ReadFault.{ReadFault}
 use Rattle.dm_symbol.specs.declared.reading.ReadFault.TheVariants as fault
 use Rattle.dm_symbol.specs.declared.normalising.NormalFault.{NormalFault}
 use Rattle.dm_symbol.specs.Doubt.{is_doubtful, is_doubtful_bit, is_erased, erased_in, is_sure_fault, sure_fault_count}
-use Rattle.dm_symbol.specs.SymbolReading.{AreRestored, ReadsSymbol, SymbolReadResult, block_readings}
+use Rattle.dm_symbol.specs.SymbolReading.{ReadingView, AreRestored, ReadsSymbol, SymbolReadResult, block_readings}
 use Rattle.dm_symbol.specs.SymbolReading.{symbol_reading_of}
 use Rattle.dm_symbol.specs.SymbolNormal.{NormalSymbolResult}
 use Rattle.dm_symbol.specs.SymbolInspection.{IsSymbolInspection}
@@ -110,16 +109,16 @@ module _ (doubtful : ModulesView) (light : AreLight doubtful) where
 
   module _ (modules : ModulesView) where
     -- All border faults are sure.
-    faults_alike : sure_fault_count modules None ≡ sure_fault_count modules (Some doubtful)
+    pub faults_alike : sure_fault_count modules None ≡ sure_fault_count modules (Some doubtful)
     faults_alike = same_sure_faults modules None (Some doubtful) (λ row column. sym (light row column))
 
     -- The same places are erased, none.
-    erased_alike : (b : ℕ) → b < modules.size.blocks
+    pub erased_alike : (b : ℕ) → b < modules.size.blocks
         → erased_in modules.size None b ≡ erased_in modules.size (Some doubtful) b
     erased_alike b hb = erased_by_none modules.size b ∙ sym (erased_by_light modules.size b)
 
     -- The same codewords are restored.
-    restored_alike : (words codewords : List ℕ) → AreRestored modules None words codewords
+    pub restored_alike : (words codewords : List ℕ) → AreRestored modules None words codewords
         → AreRestored modules (Some doubtful) words codewords
     restored_alike words codewords h = record {
       words_held = h.words_held;
@@ -129,11 +128,12 @@ module _ (doubtful : ModulesView) (light : AreLight doubtful) where
     }
 
     -- As many faults are within a limit.
-    few_alike : (limit : ℕ) → sure_fault_count modules None ≤ limit → sure_fault_count modules (Some doubtful) ≤ limit
+    pub few_alike : (limit : ℕ) → sure_fault_count modules None ≤ limit
+        → sure_fault_count modules (Some doubtful) ≤ limit
     few_alike limit few = subst (λ n. n ≤ limit) faults_alike few
 
     -- The symbol has the same result of reading.
-    pub read_alike : (extent : Extent) (limit : ℕ) (result : Result SymbolReading ReadFault)
+    pub read_alike : (extent : Extent) (limit : ℕ) (result : Result ReadingView ReadFault)
         → SymbolReadResult extent modules None limit result
         → SymbolReadResult extent modules (Some doubtful) limit result
     read_alike extent limit result (SymbolReadResult.border more e) =
@@ -184,7 +184,7 @@ module _ (doubtful : ModulesView) (light : AreLight doubtful) where
         NormalSymbolResult.fault why (read_alike extent limit (Err why) h) e
 
     -- It has the same inspection.
-    pub shown_alike : (inspection : SymbolInspection) → IsSymbolInspection modules None inspection
+    pub shown_alike : {room : ℕ} (inspection : SymbolInspectionIn room) → IsSymbolInspection modules None inspection
         → IsSymbolInspection modules (Some doubtful) inspection
     shown_alike inspection h = record {
       held = h.held;

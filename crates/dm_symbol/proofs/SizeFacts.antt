@@ -1,16 +1,14 @@
 -- How the numbers in a row of the table of sizes depend on one another.
 use Rattle.std.proofs.Common.{◌≡◌, ℕ, ◌+◌, ◌*◌, ◌/◌, ◌<◌, ◌≤◌, Bool, true, false, cond, ◌&&◌, List, [], ◌∷◌, Some, refl}
-use Rattle.std.proofs.Common.{◌∙◌, ap, length, subst, nat_eq, nat_le, nat_lt, arith}
+use Rattle.std.proofs.Common.{◌∙◌, ap, subst, nat_eq, nat_le, nat_lt, arith}
 use Rattle.std.specs.Prelude.{find}
 use Rattle.std.specs.List.{AllByRecursion, list_all}
-use Rattle.std.proofs.lemmas.List.{length-take-le}
 use Rattle.std.proofs.lemmas.Bool.{and_parts, eqb-true, eq-eqb, ltb-true, leb-true, ne_eqb}
 use Rattle.std.proofs.lemmas.List.Sums.{AllPass-from_list_all}
 use Rattle.std.proofs.lemmas.List.Elements.{recursion_from_All}
 use Rattle.dm_layout.specs.Sizes.{SizeRow, IsRow, size_table, row_for_words, row_with_side, most_data, codeword_count}
 use Rattle.dm_layout.specs.Sizes.{block_data, block_check, block_length}
 use Rattle.dm_layout.proofs.Exported.{found_row, row_facts}
-use Rattle.dm_layout.specs.Words.{WordsView, IsWords, data_of}
 use Rattle.dm_words.specs.declared.extent.Extent.{Extent}
 use Rattle.dm_words.specs.Messages.{most_spelled}
 use Rattle.dm_words.proofs.Exported.{room_for_spelled}
@@ -77,10 +75,6 @@ size_facts s h =
       half = eqb-true _ _ c.1;
     }
 
--- Equal sizes have the same number of blocks.
-pub blocks_of_size : (s t : SizeRow) → s ≡ t → s.blocks ≡ t.blocks
-blocks_of_size s t e = ap (λ r. r.blocks) e
-
 -- The sides of these rows rise, each above the one before.
 abbrev sides_rise : List SizeRow → Bool
 sides_rise [] = true
@@ -130,12 +124,6 @@ pub holds_that_many : (count : ℕ) (s : SizeRow) → row_for_words count ≡ So
 holds_that_many count s h =
     let here = found IsRow (λ r. nat_le count r.data_count) size_table s rows_are_rows h in
     (here.0, leb-true _ _ here.1)
-
--- The data codewords of a symbol are as many as its size has.
-pub data_as_many : (words : WordsView) (list : List ℕ) → IsWords words → list ≡ data_of words
-    → length list ≡ words.size.data_count
-data_as_many words list h is =
-    ap length is ∙ length-take-le words.size.data_count words.list (omega (arith, h.count))
 
 -- A message has room for what a grid says.
 pub room_for_grid : (extent : Extent) (s : SizeRow) → IsRow s → most_spelled extent s.data_count ≤ 1639

@@ -12,9 +12,6 @@ use Rattle.dm_modules.specs.Modules.{ModulesView}
 use Rattle.dm_modules.specs.Words.{WordsView, IsWords, data_of}
 use Rattle.dm_modules.proofs.Exported.{length_of_block, word_of_block}
 use Rattle.dm_modules.proofs.Exported.{one_held, one_laid}
-use Rattle.dm_words.specs.declared.extent.Extent.{Extent}
-use Rattle.dm_words.specs.Messages.{most_spelled}
-use Rattle.dm_words.proofs.Exported.{room_for_spelled}
 use Rattle.dm_modules.proofs.Exported.{size_facts, short_block, some_block_data, block_parts}
 use Rattle.dm_symbol.specs.SymbolBlocks.{words_with, AreOfSize, AreHeldBy, block_in}
 
@@ -33,11 +30,6 @@ pub data_as_many : (words : WordsView) (list : List ℕ) → IsWords words → l
     → length list ≡ words.size.data_count
 data_as_many words list h is =
     ap length is ∙ length-take-le words.size.data_count words.list (omega (arith, h.count))
-
--- A message has room for what any symbol says.
-pub room_for_symbol : (extent : Extent) (s : SizeEntry) → IsSize s → most_spelled extent s.data_count ≤ 3123
-room_for_symbol extent s h =
-    room_for_spelled 3123 extent s.data_count (omega (arith, (size_facts s h).data_fits))
 
 -- Place i of block b is place i * B + b of the symbol.
 pub block_places : (size : SizeEntry) (words : List ℕ) → AreOfSize size words → (b i : ℕ) → b < size.blocks

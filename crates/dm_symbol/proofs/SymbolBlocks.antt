@@ -32,19 +32,6 @@ same_blocks size u v hu hv same =
     ∙ ap (λ block. get_or block (j / size.blocks) 0) (same (j % size.blocks) (mod_below j size.blocks f.some_blocks))
     ∙ sym (place_in_block size v hv j within))
 
--- The only block of a symbol is all of its codewords.
-pub only_block : (size : SizeRow) (words : List ℕ) → AreWordsOf size words → size.blocks ≡ 1 → (b : ℕ)
-    → b < size.blocks → block_at size words b ≡ words
-only_block size words h one b hb =
-    let f = size_facts size h.row in
-    let whole : block_length size
-    ≡ codeword_count size = omega (arith, f.words_dealt, ap (λ n. n * block_length size) one) in
-    let long : length (block_at size words b)
-    ≡ length words = omega (arith, block_lengths size words h b hb, whole, h.count) in
-    ext_get_or 0 (block_at size words b) words long (λ i hi.
-    let here : i * size.blocks + b ≡ i = omega (arith, ap (λ n. i * n) one, one, hb) in
-    block_places size words h b i hb (omega (arith, hi, long, whole, h.count)) ∙ ap (λ j. get_or words j 0) here)
-
 -- A data codeword of a block is a data codeword of the symbol.
 pub data_of_block : (size : SizeRow) (words : List ℕ) → AreWordsOf size words → (b i : ℕ) → b < size.blocks
     → i < block_data size

@@ -81,7 +81,8 @@ sizes_stand : AllByRecursion IsSize size_table
 sizes_stand = found_by_sides size_table table_differs
 
 -- A size that is chosen stands in the table.
-chosen_stands : (choice : SizeChoice) (count : ℕ) (size : SizeEntry) → entry_for choice count ≡ Some size → IsSize size
+pub chosen_stands : (choice : SizeChoice) (count : ℕ) (size : SizeEntry) → entry_for choice count ≡ Some size
+    → IsSize size
 chosen_stands choice count size e =
     at_found IsSize (λ s. takes choice s && nat_le count s.data_count) size_table size sizes_stand e
 
@@ -134,7 +135,7 @@ completion size words h b hb =
     )
 
 -- A symbol has codewords with these data codewords, of which each block is a codeword.
-record HasChecks (size : SizeEntry) (data_words : List ℕ) : Type 0 where
+pub record HasChecks (size : SizeEntry) (data_words : List ℕ) : Type 0 where
   pub list : List ℕ
   pub of_size : AreOfSize size list
   pub front : first_data size list ≡ data_words
@@ -155,7 +156,7 @@ with_zeros size data_words entry long bytes =
     }
 
 -- Data codewords are completed.
-checks_for : (size : SizeEntry) (data_words : List ℕ) → IsSize size → length data_words ≡ size.data_count
+pub checks_for : (size : SizeEntry) (data_words : List ℕ) → IsSize size → length data_words ≡ size.data_count
     → All (λ w. w < 256) data_words → HasChecks size data_words
 checks_for size data_words entry long bytes =
     let u = data_words ++ replicate size.check_count 0 in

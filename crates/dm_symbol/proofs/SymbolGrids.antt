@@ -144,7 +144,7 @@ module _ (s : SizeRow) (cells : List (List Bool)) (e : SizeEntry) (rows : List (
   pub of_modules : (words : List ℕ) → AreWordsOf s words → AreOfSize e words
   of_modules words h = record { size = am.are_modules.size; count = h.count ∙ sym same_count; bytes = h.bytes }
 
-  of_grid : (words : List ℕ) → AreOfSize e words → AreWordsOf s words
+  pub of_grid : (words : List ℕ) → AreOfSize e words → AreWordsOf s words
   of_grid words h = record { row = am.is_grid.row; count = h.count ∙ same_count; bytes = h.bytes }
 
   -- They hold the same words.
@@ -158,7 +158,7 @@ module _ (s : SizeRow) (cells : List (List Bool)) (e : SizeEntry) (rows : List (
         (sym alike.rows) (sym alike.columns) (sym alike.region_rows) (sym alike.region_columns) (sym am.cells) h.bits;
   }
 
-  held : (words : List ℕ) → AreHeldBy modules words → AreHeld grid words
+  pub held : (words : List ℕ) → AreHeldBy modules words → AreHeld grid words
   held words h = record {
     square = am.is_grid;
     codewords = of_grid words h.codewords;

@@ -13,7 +13,6 @@ use Rattle.dm_modules.specs.declared.size.SizeChoice.TheVariants.{Square}
 use Rattle.dm_modules.specs.Sizes.{block_check}
 use Rattle.dm_modules.specs.Modules.{ModulesView}
 use Rattle.dm_symbol.specs.declared.symbol.reading.BlockReading.{BlockReading}
-use Rattle.dm_symbol.specs.declared.symbol.reading.SymbolReading.{SymbolReading}
 use Rattle.dm_symbol.specs.declared.reading.ReadFault.{ReadFault}
 use Rattle.dm_symbol.specs.declared.normalising.NormalFault.{NormalFault}
 use Rattle.dm_symbol.specs.declared.normalising.NormalFault.TheVariants.{Read, TooLong}
@@ -21,7 +20,8 @@ use Rattle.dm_symbol.specs.Doubt.{sure_fault_count, erased_in}
 use Rattle.dm_modules.specs.Holding.{IsLaid}
 use Rattle.dm_words.specs.Spells.{Spells}
 use Rattle.dm_symbol.specs.SymbolBlocks.{words_with, AreCodewordsOf, block_in, first_data}
-use Rattle.dm_symbol.specs.SymbolReading.{AreRestored, ReadsSymbol, SymbolReadResult, symbol_reading_of, block_reading}
+use Rattle.dm_symbol.specs.SymbolReading.{ReadingView, AreRestored, ReadsSymbol, SymbolReadResult}
+use Rattle.dm_symbol.specs.SymbolReading.{symbol_reading_of, block_reading}
 use Rattle.dm_symbol.specs.SymbolReading.{block_readings}
 use Rattle.dm_symbol.specs.NormalSymbol.{IsWrittenIn, IsNormalSymbol, FitsChoice}
 use Rattle.dm_symbol.specs.SymbolNormal.{HasNormalSymbol, HasNoNormalSymbol, NormalSymbolResult, IsSymbolNormalised}
@@ -38,7 +38,7 @@ use Rattle.dm_symbol.proofs.SymbolWriteSteps.{written_spells, written_is_one, wr
 -- ---- what is written is read
 
 -- A list that is made by a function that always gives the same has it at each place.
-map_to_one : (f : ℕ → BlockReading) (r : BlockReading) (a n : ℕ) → ((b : ℕ) → f b ≡ r)
+pub map_to_one : (f : ℕ → BlockReading) (r : BlockReading) (a n : ℕ) → ((b : ℕ) → f b ≡ r)
     → map f (range_with_len a n) ≡ replicate n r
 map_to_one f r a zero e = refl
 map_to_one f r a (suc n) e = ap (λ x. x ∷ map f (range_with_len (a + 1) n)) (e a)
@@ -48,10 +48,10 @@ map_to_one f r a (suc n) e = ap (λ x. x ∷ map f (range_with_len (a + 1) n)) (
 -- is read as what they spell, for every limit, with nothing wrong in it.
 module _ (g : ModulesView) (words : List ℕ) (laid : IsLaid (words_with g.size words) g)
     (checked : AreCodewordsOf g.size words) where
-  no_sure_fault : sure_fault_count g None ≡ 0
+  pub no_sure_fault : sure_fault_count g None ≡ 0
   no_sure_fault = sym (faults_by_none g) ∙ laid.border
 
-  laid_restored : AreRestored g None words words
+  pub laid_restored : AreRestored g None words words
   laid_restored = record {
     words_held = laid.holds;
     of_size = laid.holds.codewords;
@@ -116,7 +116,7 @@ written_result extent choice p m g limit h n =
 -- It has one result.
 pub written_is_read : (extent : Extent) (choice : SizeChoice) (p : Profile) (m : List Item) (g : ModulesView)
     (limit : ℕ)
-    (result : Result SymbolReading ReadFault) → IsMessage m → IsWrittenIn choice p m g
+    (result : Result ReadingView ReadFault) → IsMessage m → IsWrittenIn choice p m g
     → SymbolReadResult extent g None limit result
     ↔ (result ≡ Ok (symbol_reading_of m (replicate g.size.blocks (nothing_wrong (block_check g.size))) 0))
 written_is_read extent choice p m g limit result h n =
@@ -137,7 +137,7 @@ written_symbols_tell choice p m n g h hm hn ng nh = (
 -- ---- one result of normalising
 
 -- Two equal errors say the same.
-err_is : (a b : ReadFault) → ◌≡◌ {A = Result SymbolReading ReadFault} (Err a) (Err b) → a ≡ b
+err_is : (a b : ReadFault) → ◌≡◌ {A = Result ReadingView ReadFault} (Err a) (Err b) → a ≡ b
 err_is a b e = cc
 
 module _ (extent : Extent) (p : Profile) (modules : ModulesView) (doubtful : Option ModulesView) where
@@ -223,22 +223,22 @@ equal_normal_symbols extent other p g h a b d e k l m n hm hn ha hb =
     written_symbols_tell Square p m n a b (symbol_message g d extent k m hm) (symbol_message h e other l n hn) na nb
 
 -- A reading isn't a fault.
-ok_no_fault : (reading : SymbolReading) (why : ReadFault)
-    → ◌≡◌ {A = Result SymbolReading ReadFault} (Ok reading) (Err why) → ⊥
+ok_no_fault : (reading : ReadingView) (why : ReadFault)
+    → ◌≡◌ {A = Result ReadingView ReadFault} (Ok reading) (Err why) → ⊥
 ok_no_fault reading why e = cc
 
 -- What is read in the extent `Usual` is read in `Wide` with the same result.
 pub wide_reads_the_usual_symbol : (modules : ModulesView) (doubtful : Option ModulesView) (limit : ℕ)
-    (reading : SymbolReading)
+    (reading : ReadingView)
     → SymbolReadResult Usual modules doubtful limit (Ok reading)
     → SymbolReadResult Wide modules doubtful limit (Ok reading)
 wide_reads_the_usual_symbol modules doubtful limit reading a = moved (Ok reading) refl a
   where
-    no_reading : (result : Result SymbolReading ReadFault) (why : ReadFault) → result ≡ Ok reading → result ≡ Err why
+    no_reading : (result : Result ReadingView ReadFault) (why : ReadFault) → result ≡ Ok reading → result ≡ Err why
         → SymbolReadResult Wide modules doubtful limit result
     no_reading result why is e = absurd (ok_no_fault reading why (sym is ∙ e))
 
-    moved : (result : Result SymbolReading ReadFault) → result ≡ Ok reading
+    moved : (result : Result ReadingView ReadFault) → result ≡ Ok reading
         → SymbolReadResult Usual modules doubtful limit result
         → SymbolReadResult Wide modules doubtful limit result
     moved result is (SymbolReadResult.border h e) = no_reading result _ is e

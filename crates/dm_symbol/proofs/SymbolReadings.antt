@@ -15,12 +15,12 @@ use Rattle.dm_words.specs.Messages.{IsMessage}
 use Rattle.dm_modules.specs.Sizes.{SizeEntry, block_check, block_length}
 use Rattle.dm_modules.specs.Modules.{ModulesView}
 use Rattle.dm_modules.proofs.Exported.{place_inside, same_by_blocks}
-use Rattle.dm_symbol.specs.declared.symbol.reading.SymbolReading.{SymbolReading}
 use Rattle.dm_symbol.specs.declared.reading.ReadFault.{ReadFault}
 use Rattle.dm_symbol.specs.declared.reading.ReadFault.TheVariants as fault
 use Rattle.dm_symbol.specs.Doubt.{sure_fault_count, erased_in}
 use Rattle.dm_symbol.specs.SymbolBlocks.{words_with, AreOfSize, AreHeldBy, AreBlocksNear, block_in, first_data}
-use Rattle.dm_symbol.specs.SymbolReading.{AreRestored, ReadsSymbol, IsFirstLost, SymbolReadResult, IsSymbolReadAs}
+use Rattle.dm_symbol.specs.SymbolReading.{ReadingView, AreRestored, ReadsSymbol, IsFirstLost, SymbolReadResult}
+use Rattle.dm_symbol.specs.SymbolReading.{IsSymbolReadAs}
 use Rattle.dm_symbol.specs.SymbolReading.{block_readings, symbol_reading_of}
 use Rattle.dm_symbol.proofs.NormalGrids.{one_spelled}
 use Rattle.dm_symbol.proofs.Below.{one_result, spelled_is_message, spelled_wide}
@@ -66,7 +66,7 @@ spelled_not_refused extent words m why bytes hm hw =
     ]
 
 -- Only one block is the first to which no codeword is near.
-first_is_one : (size : SizeEntry) (erased : ℕ → List ℕ) (words : List ℕ) (a b : ℕ) → IsFirstLost size erased words a
+pub first_is_one : (size : SizeEntry) (erased : ℕ → List ℕ) (words : List ℕ) (a b : ℕ) → IsFirstLost size erased words a
     → IsFirstLost size erased words b → a ≡ b
 first_is_one size erased words a b ha hb =
     elim (cases_order a b) [
@@ -75,8 +75,8 @@ first_is_one size erased words a b ha hb =
     ]
 
 -- A reading isn't a fault.
-ok_no_fault : (reading : SymbolReading) (why : ReadFault)
-    → ◌≡◌ {A = Result SymbolReading ReadFault} (Ok reading) (Err why) → ⊥
+ok_no_fault : (reading : ReadingView) (why : ReadFault)
+    → ◌≡◌ {A = Result ReadingView ReadFault} (Ok reading) (Err why) → ⊥
 ok_no_fault reading why e = cc
 
 module _ (modules : ModulesView) (doubtful : Option ModulesView) where
@@ -127,7 +127,7 @@ module _ (modules : ModulesView) (doubtful : Option ModulesView) where
   symbol_message extent limit m h = spelled_is_message extent (first_data size h.codewords) m h.spelled
 
   -- Words that are restored have no block to which no codeword is near.
-  none_lost : (v u c : List ℕ) (b : ℕ) → AreHeldBy modules v → IsFirstLost size erased v b
+  pub none_lost : (v u c : List ℕ) (b : ℕ) → AreHeldBy modules v → IsFirstLost size erased v b
       → AreRestored modules doubtful u c → ⊥
   none_lost v u c b hv first h =
       let same : u ≡ v = held_is_one modules u v h.words_held hv in
@@ -144,11 +144,11 @@ module _ (modules : ModulesView) (doubtful : Option ModulesView) where
       (subst (λ w. Spells extent (first_data size w) m) same spelled) refused
 
   -- This is said of a symbol that is read.
-  abbrev said : List Item → List ℕ → List ℕ → Result SymbolReading ReadFault
+  abbrev said : List Item → List ℕ → List ℕ → Result ReadingView ReadFault
   said m u c = Ok (symbol_reading_of m (block_readings size erased u c) faults)
 
   -- A symbol has at most one result for a limit.
-  pub one_symbol_result : (extent : Extent) (limit : ℕ) (a b : Result SymbolReading ReadFault)
+  pub one_symbol_result : (extent : Extent) (limit : ℕ) (a b : Result ReadingView ReadFault)
       → SymbolReadResult extent modules doubtful limit a → SymbolReadResult extent modules doubtful limit b → a ≡ b
   one_symbol_result extent limit a b (SymbolReadResult.border h e) (SymbolReadResult.border k f) = e ∙ sym f
   one_symbol_result extent limit a b (SymbolReadResult.border h e) (SymbolReadResult.block v y k hv first f) =
@@ -207,7 +207,7 @@ module _ (modules : ModulesView) (doubtful : Option ModulesView) where
   result_of_symbol extent limit m r = SymbolReadResult.message r.words r.codewords m r.border r.restored r.spelled refl
 
   -- Where a symbol is read as a message, the result is a reading of it.
-  pub symbol_read_by_result : (extent : Extent) (limit : ℕ) (result : Result SymbolReading ReadFault) (m : List Item)
+  pub symbol_read_by_result : (extent : Extent) (limit : ℕ) (result : Result ReadingView ReadFault) (m : List Item)
       → SymbolReadResult extent modules doubtful limit result → ReadsSymbol extent modules doubtful limit m
       → IsSymbolReadAs result m
   symbol_read_by_result extent limit result m h r =
@@ -215,7 +215,7 @@ module _ (modules : ModulesView) (doubtful : Option ModulesView) where
       (one_symbol_result extent limit (said m r.words r.codewords) result (result_of_symbol extent limit m r) h) refl
 
   -- Where the result is a reading of a message, the symbol is read as it.
-  pub reads_symbol_by_result : (extent : Extent) (limit : ℕ) (result : Result SymbolReading ReadFault) (m : List Item)
+  pub reads_symbol_by_result : (extent : Extent) (limit : ℕ) (result : Result ReadingView ReadFault) (m : List Item)
       → SymbolReadResult extent modules doubtful limit result → IsSymbolReadAs result m
       → ReadsSymbol extent modules doubtful limit m
   reads_symbol_by_result extent limit result m (SymbolReadResult.border h e) is =

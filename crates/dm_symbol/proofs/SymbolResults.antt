@@ -42,11 +42,11 @@ module _ (grid : GridView) (g : IsGrid grid) where
   abbrev size : SizeEntry
   size = symbol_size grid.size
 
-  abbrev cells_of_symbol : ModulesView
+  abbrev pub cells_of_symbol : ModulesView
   cells_of_symbol = symbol_modules grid
 
   -- They have the cells of the grid.
-  are : AreModulesOf grid cells_of_symbol
+  pub are : AreModulesOf grid cells_of_symbol
   are = record { is_grid = g; are_modules = is_modules grid g; rows = refl; columns = refl; cells = refl }
 
   -- There are as many border faults.

@@ -6,33 +6,15 @@
 -- a caller may name doubtful modules, that all check codewords of a block may be spent so, in every size and with none
 -- kept back for detection, and that a doubtful border module is never counted as wrong, are rules of this project. So a
 -- block that has erased places and no check codeword left tells nothing of whether it was right.
-use Rattle.std.specs.Prelude.{ℕ, Bool, false, not, ◌&&◌, List, map, sum_by, count_by, Option, Some, None}
+use Rattle.std.specs.Prelude.{ℕ, Bool, List, map, Option}
 use Rattle.std.specs.List.{range_with_len, list_any}
 use Rattle.dm_place.specs.Border.{symbol_line}
 use Rattle.dm_place.specs.Placement.{place}
 use Rattle.dm_code.specs.Erased.{erased_places}
 use Rattle.dm_modules.specs.Sizes.{SizeEntry, mapping_rows, mapping_columns, codeword_count}
-use Rattle.dm_modules.specs.Modules.{ModulesView, module_at}
-use Rattle.dm_modules.specs.Border.{is_fault}
+use Rattle.dm_modules.specs.Modules.{ModulesView}
+pub use Rattle.dm_modules.specs.SureFaults.{is_doubtful, is_sure_fault, sure_fault_count}
 use Rattle.dm_modules.specs.Blocks.{places_of_block}
-
--- A module is doubtful if such modules are given, and the one of them at this row and column is dark.
-abbrev pub is_doubtful : Option ModulesView → ℕ → ℕ → Bool
-is_doubtful None row column = false
-is_doubtful (Some doubtful) row column = module_at doubtful row column
-
--- ---- borders
-
--- A border fault is sure if the module isn't doubtful: a border module has the wrong colour, and there is no doubt of
--- its colour.
-abbrev pub is_sure_fault : ModulesView → Option ModulesView → ℕ → ℕ → Bool
-is_sure_fault modules doubtful row column = is_fault modules row column && not (is_doubtful doubtful row column)
-
--- The sure border faults of a symbol are counted over all its modules.
-abbrev pub sure_fault_count : ModulesView → Option ModulesView → ℕ
-sure_fault_count modules doubtful =
-    sum_by (λ row. count_by (is_sure_fault modules doubtful row) (range_with_len 0 modules.size.columns))
-    (range_with_len 0 modules.size.rows)
 
 -- ---- codewords
 

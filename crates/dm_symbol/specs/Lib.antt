@@ -12,6 +12,11 @@ pub mod SymbolNormal
 pub mod SymbolInspection
 pub mod SymbolLaws
 pub mod SmallestSymbol
+pub mod WrittenWords
+pub mod LetterReading
+pub mod NormalLetter
+pub mod LetterNormal
+pub mod LetterLaws
 pub mod inner
 -- Modules of the layers below, which crates above this one find under its name too: `Rattle.dm_symbol.specs.Grid` is
 -- dm_layout/specs/Grid.antt.

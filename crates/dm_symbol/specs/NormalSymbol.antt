@@ -1,13 +1,14 @@
 -- The symbol in which a message is written under a profile, in the smallest size of a choice; and the normal symbol of
 -- a message, which is the one in the smallest square. That this symbol is chosen among those that say the same is a
 -- rule of this project.
-use Rattle.std.specs.Prelude.{◌≡◌, ℕ, List, Some, IsSome, length, Result, IfOk, IsOk, OnErr, ◌↔◌}
+use Rattle.std.specs.Prelude.{◌≡◌, ◌≤◌, ℕ, List, Some, IsSome, IfSome, length, Result, IfOk}
+use Rattle.std.specs.Prelude.{IsOk, OnErr, ◌↔◌}
 use Rattle.dm_words.specs.declared.item.Item.{Item}
 use Rattle.dm_words.specs.declared.fault.TooLong.{TooLong}
 use Rattle.dm_words.specs.declared.profile.Profile.{Profile}
 use Rattle.dm_modules.specs.declared.size.SizeChoice.{SizeChoice}
 use Rattle.dm_modules.specs.declared.size.SizeChoice.TheVariants.{Square}
-use Rattle.dm_modules.specs.Sizes.{entry_for}
+use Rattle.dm_modules.specs.Sizes.{entry_for, codeword_count}
 use Rattle.dm_modules.specs.Modules.{ModulesView}
 use Rattle.dm_modules.specs.Holding.{IsLaid}
 use Rattle.dm_words.specs.NormalForm.{normal_form}
@@ -17,6 +18,12 @@ use Rattle.dm_symbol.specs.SymbolBlocks.{words_with, AreCodewordsOf, first_data}
 -- The message fits some size of the choice: one with at least as many data codewords as its normal form has codewords.
 abbrev pub FitsChoice : SizeChoice → Profile → List Item → Type 0
 FitsChoice choice profile message = IsSome (entry_for choice (length (normal_form profile message)))
+
+-- If the message fits some size of the choice, the smallest of these has at most so many rows and so many codewords. So
+-- there is room for the symbol in which the message is written.
+abbrev pub HasRoomFor : SizeChoice → Profile → List Item → ℕ → ℕ → Type 0
+HasRoomFor choice profile message rows words = IfSome (entry_for choice (length (normal_form profile message)))
+    (λ size. (size.rows ≤ rows) × (codeword_count size ≤ words))
 
 -- The message is written in the modules, in a size of the choice.
 pub record IsWrittenIn (choice : SizeChoice) (profile : Profile) (message : List Item)

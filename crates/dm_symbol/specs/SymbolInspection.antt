@@ -1,9 +1,9 @@
 -- Which codewords a symbol of any size holds, and which they are once each block to which a codeword is near, but for
 -- what is doubtful, is restored.
-use Rattle.std.specs.Prelude.{◌≡◌, Option, length}
+use Rattle.std.specs.Prelude.{◌≡◌, ℕ, Option, length}
 use Rattle.dm_modules.specs.Modules.{ModulesView}
 use Rattle.dm_modules.specs.Holding.{Holds}
-use Rattle.dm_symbol.specs.declared.symbol.inspection.SymbolInspection.{SymbolInspection}
+use Rattle.dm_symbol.specs.declared.symbol.inspection.SymbolInspectionIn.{SymbolInspectionIn}
 use Rattle.dm_symbol.specs.Doubt.{erased_in, sure_fault_count}
 use Rattle.dm_symbol.specs.SymbolBlocks.{AreOfSize}
 use Rattle.dm_symbol.specs.SymbolReading.{AreBlocksMended}
@@ -11,8 +11,8 @@ use Rattle.dm_symbol.specs.SymbolReading.{AreBlocksMended}
 -- The inspection of a symbol gives the codewords that it holds; the same, with each block restored as far as it can be;
 -- what reading says of each block, or `None` where no codeword is near to it; and how many modules of the borders
 -- surely have the wrong colour.
-pub record IsSymbolInspection (modules : ModulesView) (doubtful : Option ModulesView)
-    (inspection : SymbolInspection) : Type 0 where
+pub record IsSymbolInspection {room : ℕ} (modules : ModulesView) (doubtful : Option ModulesView)
+    (inspection : SymbolInspectionIn room) : Type 0 where
   pub held : Holds modules inspection.held
   pub same_size : inspection.mended.size ≡ modules.size
   pub of_size : AreOfSize modules.size inspection.mended.list

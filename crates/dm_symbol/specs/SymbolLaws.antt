@@ -1,29 +1,30 @@
 -- What holds of all messages and of the symbols of all sizes. The bytes of a message are numbers of 0 to 255.
-use Rattle.std.specs.Prelude.{◌≡◌, ℕ, ◌-◌, ◌*◌, false, List, Option, Some, None, Result, Ok, Err, map, replicate, ◌↔◌}
+use Rattle.std.specs.Prelude.{◌≡◌, ◌≤◌, ℕ, ◌-◌, ◌*◌, false, List, Option, Some, None, Result, Ok, Err, map, replicate}
+use Rattle.std.specs.Prelude.{◌↔◌}
 use Rattle.dm_words.specs.declared.extent.Extent.{Extent}
 use Rattle.dm_words.specs.declared.extent.Extent.TheVariants.{Usual, Wide}
 use Rattle.dm_words.specs.declared.item.Item.{Item}
 use Rattle.dm_words.specs.declared.profile.Profile.{Profile}
 use Rattle.dm_words.specs.Messages.{IsMessage}
+use Rattle.dm_words.specs.Smallest.{IsTaken}
 use Rattle.dm_layout.specs.Sizes as squares
 use Rattle.dm_layout.specs.Grid.{GridView, IsGrid, symbol_modules}
 use Rattle.dm_code.specs.Codeword.{IsNear}
 use Rattle.dm_code.specs.Erased.{IsNearBut}
 use Rattle.dm_modules.specs.declared.size.SizeChoice.{SizeChoice}
-use Rattle.dm_modules.specs.Sizes.{SizeEntry, block_check}
+use Rattle.dm_modules.specs.Sizes.{SizeEntry, block_check, codeword_count, most_rows, most_codewords}
 use Rattle.dm_modules.specs.Modules.{ModulesView, IsModules, module_at}
 use Rattle.dm_modules.specs.Border.{border_fault_count}
 use Rattle.dm_symbol.specs.declared.symbol.reading.BlockReading.{BlockReading}
-use Rattle.dm_symbol.specs.declared.symbol.reading.SymbolReading.{SymbolReading}
-use Rattle.dm_symbol.specs.declared.symbol.inspection.SymbolInspection.{SymbolInspection}
+use Rattle.dm_symbol.specs.declared.symbol.inspection.SymbolInspectionIn.{SymbolInspectionIn}
 use Rattle.dm_symbol.specs.declared.reading.Reading.{Reading}
 use Rattle.dm_symbol.specs.declared.reading.ReadFault.{ReadFault}
 use Rattle.dm_symbol.specs.declared.normalising.NormalFault.{NormalFault}
 use Rattle.dm_symbol.specs.Doubt.{erased_in, sure_fault_count}
 use Rattle.dm_symbol.specs.NormalGrid.{IsNormalGrid}
 use Rattle.dm_symbol.specs.Reading.{Reads, ReadResult}
-use Rattle.dm_symbol.specs.SymbolReading.{ReadsSymbol, SymbolReadResult, symbol_reading_of}
-use Rattle.dm_symbol.specs.NormalSymbol.{IsWrittenIn, FitsChoice, IsNormalSymbol}
+use Rattle.dm_symbol.specs.SymbolReading.{ReadingView, ReadsSymbol, SymbolReadResult, symbol_reading_of}
+use Rattle.dm_symbol.specs.NormalSymbol.{IsWrittenIn, FitsChoice, HasRoomFor, IsNormalSymbol}
 use Rattle.dm_symbol.specs.SymbolNormal.{HasNormalSymbol, NormalSymbolResult}
 use Rattle.dm_symbol.specs.SymbolInspection.{IsSymbolInspection}
 
@@ -44,7 +45,7 @@ AreLight modules = (row column : ℕ) → module_at modules row column ≡ false
 -- Where the modules that are given as doubtful are all light, a symbol is read as it is with none given.
 abbrev pub LightDoubtIsNoDoubt : Type 0
 LightDoubtIsNoDoubt =
-    (extent : Extent) (modules doubtful : ModulesView) (limit : ℕ) (result : Result SymbolReading ReadFault)
+    (extent : Extent) (modules doubtful : ModulesView) (limit : ℕ) (result : Result ReadingView ReadFault)
     → AreLight doubtful → SymbolReadResult extent modules None limit result
     → SymbolReadResult extent modules (Some doubtful) limit result
 
@@ -59,7 +60,7 @@ LightDoubtNormalisesAlike =
 -- And so it is inspected.
 abbrev pub LightDoubtShowsAlike : Type 0
 LightDoubtShowsAlike =
-    (modules doubtful : ModulesView) (inspection : SymbolInspection) → AreLight doubtful
+    (room : ℕ) (modules doubtful : ModulesView) (inspection : SymbolInspectionIn room) → AreLight doubtful
     → IsSymbolInspection modules None inspection → IsSymbolInspection modules (Some doubtful) inspection
 
 -- With the same doubtful modules, a symbol is read as at most one message, whatever the extents and the limits.
@@ -73,7 +74,7 @@ OneSymbolMessage =
 abbrev pub SymbolReadResultIsOne : Type 0
 SymbolReadResultIsOne =
     (extent : Extent) (modules : ModulesView) (doubtful : Option ModulesView) (limit : ℕ)
-    (result other : Result SymbolReading ReadFault) → SymbolReadResult extent modules doubtful limit result
+    (result other : Result ReadingView ReadFault) → SymbolReadResult extent modules doubtful limit result
     → SymbolReadResult extent modules doubtful limit other → result ≡ other
 
 -- A symbol has at most one result of normalising for an extent, a profile, doubtful modules and a limit.
@@ -86,7 +87,7 @@ NormalSymbolResultIsOne =
 -- What is read in the extent `Usual` is read in `Wide` with the same result.
 abbrev pub WideReadsTheUsualSymbol : Type 0
 WideReadsTheUsualSymbol =
-    (modules : ModulesView) (doubtful : Option ModulesView) (limit : ℕ) (reading : SymbolReading)
+    (modules : ModulesView) (doubtful : Option ModulesView) (limit : ℕ) (reading : ReadingView)
     → SymbolReadResult Usual modules doubtful limit (Ok reading)
     → SymbolReadResult Wide modules doubtful limit (Ok reading)
 
@@ -95,6 +96,19 @@ abbrev pub AWrittenSymbolIsThere : Type 0
 AWrittenSymbolIsThere =
     (choice : SizeChoice) (profile : Profile) (message : List Item) → IsMessage message
     → FitsChoice choice profile message → (modules : ModulesView) × IsWrittenIn choice profile message modules
+
+-- Where there is room for each size of the choice, there is room for the symbol in which a message is written.
+abbrev pub RoomForEachServes : Type 0
+RoomForEachServes =
+    (choice : SizeChoice) (profile : Profile) (message : List Item) (rows words : ℕ)
+    → ((size : SizeEntry) → IsTaken choice size → (size.rows ≤ rows) × (codeword_count size ≤ words))
+    → HasRoomFor choice profile message rows words
+
+-- So there is in room for the most rows and the most codewords that a symbol has, whatever the choice.
+abbrev pub MostRoomServes : Type 0
+MostRoomServes =
+    (choice : SizeChoice) (profile : Profile) (message : List Item) (rows words : ℕ) → most_rows ≤ rows
+    → most_codewords ≤ words → HasRoomFor choice profile message rows words
 
 -- This is said of a block of k check codewords in which nothing is wrong and nothing erased.
 abbrev pub nothing_wrong : ℕ → BlockReading
@@ -106,7 +120,7 @@ abbrev pub WrittenSymbolIsRead : Type 0
 WrittenSymbolIsRead =
     (extent : Extent) (choice : SizeChoice) (profile : Profile) (message : List Item) (modules : ModulesView)
     (limit : ℕ)
-    (result : Result SymbolReading ReadFault) → IsMessage message → IsWrittenIn choice profile message modules
+    (result : Result ReadingView ReadFault) → IsMessage message → IsWrittenIn choice profile message modules
     → SymbolReadResult extent modules None limit result
     ↔ (result ≡ Ok (symbol_reading_of message
     (replicate modules.size.blocks (nothing_wrong (block_check modules.size))) 0))
@@ -159,7 +173,7 @@ abbrev pub none_erased : ℕ → ℕ → BlockReading
 none_erased k count = record { corrected = count; erased = 0; left = k - 2 * count }
 
 -- What reading gives for a grid whose blocks have k check codewords each, it gives for the symbol with its cells.
-abbrev pub symbol_result : ℕ → Result Reading ReadFault → Result SymbolReading ReadFault
+abbrev pub symbol_result : ℕ → Result Reading ReadFault → Result ReadingView ReadFault
 symbol_result k (Ok reading) =
     Ok (symbol_reading_of reading.message (map (none_erased k) reading.corrected.items) reading.border_faults)
 symbol_result k (Err why) = Err why

@@ -7,12 +7,11 @@ use Rattle.dm_words.specs.declared.profile.Profile.{Profile}
 use Rattle.dm_modules.specs.declared.size.SizeChoice.TheVariants.{Square}
 use Rattle.dm_modules.specs.Modules.{ModulesView}
 use Rattle.dm_words.specs.Outcomes.{outcome}
-use Rattle.dm_symbol.specs.declared.symbol.reading.SymbolReading.{SymbolReading}
 use Rattle.dm_symbol.specs.declared.reading.ReadFault.{ReadFault}
 use Rattle.dm_symbol.specs.declared.normalising.NormalFault.{NormalFault}
 use Rattle.dm_symbol.specs.declared.normalising.NormalFault.TheVariants.{Read, TooLong}
 use Rattle.dm_symbol.specs.NormalSymbol.{IsNormalSymbol, FitsChoice}
-use Rattle.dm_symbol.specs.SymbolReading.{ReadsSymbol, SymbolReadResult}
+use Rattle.dm_symbol.specs.SymbolReading.{ReadingView, ReadsSymbol, SymbolReadResult}
 
 -- The symbol is read as a message, and this is the normal symbol of that message.
 pub record HasNormalSymbol (extent : Extent) (profile : Profile) (modules : ModulesView) (doubtful : Option ModulesView)
@@ -54,7 +53,7 @@ pub record IsSymbolNormalised (extent : Extent) (profile : Profile) (modules : M
 -- the symbol says, where there is a normal symbol and where the message fits no square. After a fault the target of the
 -- normal symbol is as it was.
 pub record IsSymbolNormalisedTo {U : Type 0} (extent : Extent) (profile : Profile) (modules : ModulesView)
-    (doubtful : Option ModulesView) (limit : ℕ) (done : Result U NormalFault) (reading : SymbolReading)
+    (doubtful : Option ModulesView) (limit : ℕ) (done : Result U NormalFault) (reading : ReadingView)
     (before after : ModulesView) : Type 0 where
   pub normal : IsSymbolNormalised extent profile modules doubtful limit (outcome done after)
   pub reading_is : OnOk done (SymbolReadResult extent modules doubtful limit (Ok reading))

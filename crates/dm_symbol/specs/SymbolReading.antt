@@ -12,7 +12,7 @@ use Rattle.dm_modules.specs.Modules.{ModulesView}
 use Rattle.dm_words.specs.Spells.{Spells}
 use Rattle.dm_words.specs.Refused.{Refused}
 use Rattle.dm_symbol.specs.declared.symbol.reading.BlockReading.{BlockReading}
-use Rattle.dm_symbol.specs.declared.symbol.reading.SymbolReading.{SymbolReading}
+use Rattle.dm_symbol.specs.declared.symbol.reading.SymbolReadingIn.{SymbolReadingIn}
 use Rattle.dm_symbol.specs.declared.reading.ReadFault.{ReadFault}
 use Rattle.dm_symbol.specs.declared.reading.ReadFault.TheVariants as fault
 use Rattle.dm_symbol.specs.Doubt.{sure_fault_count, erased_in}
@@ -73,10 +73,20 @@ block_readings size erased words codewords =
     map (λ b. block_reading (block_check size) (erased b) (block_in size words b) (block_in size codewords b))
     (range_with_len 0 size.blocks)
 
+-- A reading has a message, what is said of each block, in order, and a number of sure border faults.
+pub record ReadingView : Type 0 where
+  pub message : List Item
+  pub blocks : List BlockReading
+  pub border_faults : ℕ
+
+-- What stands in a target of a reading is a reading, whatever room for the message the target has.
+abbrev pub reading_in : {room : ℕ} → SymbolReadingIn room → ReadingView
+reading_in target =
+    record { message = target.message; blocks = target.blocks.items; border_faults = target.border_faults }
+
 -- This is the reading with this message, this of each block, and this number of sure border faults.
-abbrev pub symbol_reading_of : List Item → List BlockReading → ℕ → SymbolReading
-symbol_reading_of message blocks faults =
-    record { message = message; blocks = record { items = blocks }; border_faults = faults }
+abbrev pub symbol_reading_of : List Item → List BlockReading → ℕ → ReadingView
+symbol_reading_of message blocks faults = record { message = message; blocks = blocks; border_faults = faults }
 
 -- The result for a symbol in an extent is the first of these that there is: the number of sure border faults, if it is
 -- more than `limit`; the first block to which no codeword is near; the fault with which the data codewords, restored,
@@ -84,7 +94,7 @@ symbol_reading_of message blocks faults =
 -- Where codewords are restored, one of the last two is there, and by a law no more than one. That they are looked for
 -- in this order is a rule of this project.
 pub data SymbolReadResult (extent : Extent) (modules : ModulesView) (doubtful : Option ModulesView) (limit : ℕ)
-    (result : Result SymbolReading ReadFault) : Type 0 where
+    (result : Result ReadingView ReadFault) : Type 0 where
   border : limit < sure_fault_count modules doubtful → result ≡ Err (fault.Border (sure_fault_count modules doubtful))
       → SymbolReadResult extent modules doubtful limit result
   block : (words : List ℕ) (index : ℕ) → sure_fault_count modules doubtful ≤ limit → AreHeldBy modules words
@@ -101,14 +111,14 @@ pub data SymbolReadResult (extent : Extent) (modules : ModulesView) (doubtful : 
       → SymbolReadResult extent modules doubtful limit result
 
 -- The result is a reading of this message.
-abbrev pub IsSymbolReadAs : Result SymbolReading ReadFault → List Item → Type 0
+abbrev pub IsSymbolReadAs : Result ReadingView ReadFault → List Item → Type 0
 IsSymbolReadAs result wanted = MatchResult result (λ reading. reading.message ≡ wanted) (λ _. ⊥)
 
 -- What reading a symbol gives: the result defined above; a reading of a message exactly where the symbol is read as
 -- that message; and a number of border faults exactly where the sure ones are more than `limit`, and this is their
 -- number.
 pub record IsSymbolRead (extent : Extent) (modules : ModulesView) (doubtful : Option ModulesView) (limit : ℕ)
-    (result : Result SymbolReading ReadFault) : Type 0 where
+    (result : Result ReadingView ReadFault) : Type 0 where
   pub result_is : SymbolReadResult extent modules doubtful limit result
   pub message : (m : List Item) → IsSymbolReadAs result m ↔ ReadsSymbol extent modules doubtful limit m
   pub border : (count : ℕ) → (result ≡ Err (fault.Border count))

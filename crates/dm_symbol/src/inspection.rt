@@ -1,14 +1,12 @@
 //! Inspection: the codewords of a grid before and after correction, whether it can be read or not.
 
-ghost use Rattle.std.specs.Prelude.{◌≡◌, ◌<◌, ℕ, None, get_or, length};
-ghost use Rattle.dm_layout.specs.Grid.{GridView};
-ghost use Rattle.dm_layout.specs.Sizes.{block_check};
-ghost use Rattle.dm_symbol.specs.Blocks.{AreWordsOf, block_at};
-ghost use Rattle.dm_symbol.specs.Inspection.{IsInspection, IsBlockCorrected};
+ghost use Rattle.std.specs.Prelude.{◌≡◌, ◌≤◌, length, map, option_map};
+ghost use Rattle.dm_symbol.specs.Inspection.{IsInspection};
 
-use crate::correction::correct_block;
+use crate::symbol::inspection::{SymbolInspectionIn, inspect_symbol_to};
+use crate::symbol::reading::BlockReading;
 use arrayvec::ArrayVec;
-use dm_layout::{Grid, MOST_BLOCKS, Words, border_faults, lift};
+use dm_layout::{Grid, MOST_BLOCKS, MOST_CODEWORDS, Words};
 
 /// The codewords of a grid, and the same corrected as far as they can be.
 #[derive(Clone, Debug, Drop, PartialEq, Eq)]
@@ -28,31 +26,30 @@ pub struct Inspection {
 pub fn inspect(grid: &Grid) -> Inspection
     ensures { IsInspection grid.now result }
 {
-    let held = lift(grid);
-    let mut mended = Words::new(held.size(), held.list());
-    let corrected = correct_each(&mut mended);
+    let size = grid.size();
+    // For the proof alone: what `check_count` ensures says that the codewords fit.
+    let _checks = size.check_count();
+    let mut inspected = SymbolInspectionIn::<MOST_CODEWORDS>::new(size.symbol());
+    inspect_symbol_to(grid.as_symbol(), None, &mut inspected);
     Inspection {
-        held,
-        mended,
-        corrected,
-        border_faults: border_faults(grid),
+        held: Words::new(size, inspected.held.list()),
+        mended: Words::new(size, inspected.mended.list()),
+        corrected: corrected_counts(&inspected.blocks),
+        border_faults: inspected.border_faults,
     }
 }
 
-/// Corrects each block to the codeword near it, and gives in how many codewords each was wrong, or None where no
-/// codeword is near, and the block stays as it is.
-fn correct_each(words: &mut Words) -> ArrayVec<Option<u8>, MOST_BLOCKS>
-    ensures size { words.new.size ≡ words.old.size }
-    ensures words { AreWordsOf words.old.size words.new.list }
-    ensures count { length result.items ≡ words.old.size.blocks }
-    ensures corrected { (b : ℕ) → b < words.old.size.blocks
-        → IsBlockCorrected (block_check words.old.size)
-        (block_at words.old.size words.old.list b) (block_at words.old.size words.new.list b)
-        (get_or result.items b None) }
+/// Gives in how many codewords each of these blocks was wrong, or None where no codeword is near it.
+fn corrected_counts(blocks: &[Option<BlockReading>]) -> ArrayVec<Option<u8>, MOST_BLOCKS>
+    requires { length blocks.now ≤ MOST_BLOCKS }
+    ensures { result.items ≡ map (option_map (λ block. block.corrected)) blocks.now }
 {
     let mut counts = ArrayVec::new();
-    for b in 0..words.size().blocks() {
-        counts.push(correct_block(words, usize::from(b)));
+    for block in blocks {
+        counts.push(match block {
+            Some(block) => Some(block.corrected),
+            None => None,
+        });
     }
     counts
 }

@@ -6,6 +6,7 @@ ghost use Rattle.dm_symbol.specs.Laws.{ReadResultIsThere, NormalResultIsThere, A
 ghost use Rattle.dm_symbol.specs.Laws.{TurnedCellsAreRead, NormalTwiceIsOnce, TheLastProfileDecides};
 ghost use Rattle.dm_symbol.specs.Laws.{EqualNormalGridsMeanEqualMessages, AMacroIsItsText};
 
+pub mod letters;
 pub mod symbols;
 
 /// Two normal grids under one profile are equal exactly where their messages are.

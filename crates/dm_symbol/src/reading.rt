@@ -1,17 +1,14 @@
 //! Reading: the message that a grid says.
 
-ghost use Rattle.std.specs.Prelude.{◌≡◌, ◌≤◌, ◌<◌, ◌↔◌, ℕ, List, [], OnOk, IfErr};
-ghost use Rattle.dm_words.specs.declared.item.Item.{Item};
-ghost use Rattle.dm_layout.specs.Border.{border_fault_count};
-ghost use Rattle.dm_symbol.specs.Blocks.{AreWordsOf, BlocksAreNear, distances};
-ghost use Rattle.dm_words.specs.Messages.{most_spelled};
+ghost use Rattle.std.specs.Prelude.{◌≡◌, ◌≤◌, ℕ, [], length, map};
 ghost use Rattle.dm_words.specs.Outcomes.{outcome};
-ghost use Rattle.dm_symbol.specs.Reading.{IsRead, IsFirstBeyond, reading_of};
+ghost use Rattle.dm_symbol.specs.Reading.{IsRead, reading_of};
 
-use crate::correction::correct_block;
+use crate::symbol::reading::{BlockReading, ReadOptions, read_parts};
 use arrayvec::ArrayVec;
-use dm_layout::{Grid, MOST_BLOCKS, Words, border_faults, lift_to};
-use dm_words::{Extent, Message, MessageIn, WordFault, message_to_as};
+use dm_layout::{Grid, MOST_BLOCKS, MOST_CODEWORDS};
+use dm_modules::SymbolWordsIn;
+use dm_words::{Extent, Message, WordFault};
 
 /// What a grid says, and how much of it was wrong.
 #[derive(Clone, Debug, Default, Drop, PartialEq, Eq)]
@@ -79,70 +76,38 @@ pub fn read_to(
     ensures same { (count : ℕ) → result ≡ Err (ReadFault.Border count)
         → reading.new ≡ reading.old }
 {
-    // For the proof alone: what `size` ensures says that the message has room.
-    let _size = grid.size();
-    read_message_to(
+    let size = grid.size();
+    // For the proof alone: what `check_count` ensures says that the codewords fit.
+    let _checks = size.check_count();
+    let mut words = SymbolWordsIn::<MOST_CODEWORDS>::zeros(size.symbol());
+    let mut blocks = ArrayVec::new();
+    let how = ReadOptions {
         extent,
-        grid,
         border_limit,
+        doubtful: None,
+    };
+    match read_parts(
+        grid.as_symbol(),
+        how,
+        &mut words,
         &mut reading.message,
-        &mut reading.corrected,
+        &mut blocks,
         &mut reading.border_faults,
-    )
-}
-
-/// Does the same as [`read_to`] with the parts of a reading in targets of their own: the message, the number of
-/// corrected codewords of each block, and the number of wrong modules of the borders. The message may have any room
-/// that is enough for what the data codewords of the grid's size can spell in the extent: two items for each, and at
-/// [`Extent::Wide`] seven more. A small one is made faster than one that serves every grid.
-pub fn read_message_to<const ROOM: usize>(
-    extent: Extent,
-    grid: &Grid,
-    border_limit: u16,
-    message: &mut MessageIn<ROOM>,
-    corrected: &mut ArrayVec<u8, MOST_BLOCKS>,
-    faults: &mut u16,
-) -> Result<(), ReadFault>
-    requires { most_spelled extent grid.now.size.data_count ≤ ROOM }
-    ensures read { IsRead extent grid.now border_limit
-        (outcome result (reading_of message.new corrected.new.items faults.new)) }
-    ensures same { (count : ℕ) → result ≡ Err (ReadFault.Border count)
-        → (message.new ≡ message.old) × (corrected.new ≡ corrected.old)
-        × (faults.new ≡ faults.old) }
-{
-    let border_faults = border_faults(grid);
-    if border_faults > border_limit {
-        return Err(ReadFault::Border(border_faults));
-    }
-    *faults = border_faults;
-    let mut words = Words::zeros(grid.size());
-    lift_to(grid, &mut words);
-    match correct_blocks(&mut words, corrected) {
+    ) {
         Ok(()) => {}
-        Err(b) => return Err(ReadFault::Block(b)),
+        Err(fault) => return Err(fault),
     }
-    match message_to_as(extent, words.data_part(), message) {
-        Ok(()) => Ok(()),
-        Err(fault) => Err(ReadFault::Words(fault)),
-    }
+    count_corrected(&blocks, &mut reading.corrected);
+    Ok(())
 }
 
-/// Corrects each block to the codeword near it, and leaves in `counts` in how many codewords each was wrong; or gives
-/// the first block that no codeword is near.
-fn correct_blocks(words: &mut Words, counts: &mut ArrayVec<u8, MOST_BLOCKS>) -> Result<(), u8>
-    ensures size { words.new.size ≡ words.old.size }
-    ensures words { AreWordsOf words.old.size words.new.list }
-    ensures near { OnOk result (BlocksAreNear words.old.size words.old.list words.new.list) }
-    ensures counts { OnOk result (counts.new.items
-        ≡ distances words.old.size words.old.list words.new.list) }
-    ensures beyond { IfErr result (λ b. IsFirstBeyond words.old.size words.old.list b) }
+/// Leaves in `counts` in how many codewords each of these blocks was wrong.
+fn count_corrected(blocks: &[BlockReading], counts: &mut ArrayVec<u8, MOST_BLOCKS>)
+    requires { length blocks.now ≤ MOST_BLOCKS }
+    ensures { counts.new.items ≡ map (λ block. block.corrected) blocks.now }
 {
     counts.clear();
-    for b in 0..words.size().blocks() as u8 {
-        match correct_block(words, usize::from(b)) {
-            Some(changed) => counts.push(changed),
-            None => return Err(b),
-        }
+    for block in blocks {
+        counts.push(block.corrected);
     }
-    Ok(())
 }

@@ -1,8 +1,6 @@
 //! Symbols of any size, squares and rectangles, with doubtful modules or none.
 
 pub(crate) mod correction;
-pub(crate) mod doubt;
-pub mod grids;
 pub mod inspection;
 pub mod normalising;
 pub mod reading;

@@ -1,19 +1,16 @@
 //! Writing: the normal grid of a message.
 
-ghost use Rattle.std.specs.Prelude.{◌≡◌, ◌≢◌, ◌≤◌, ◌<◌, ℕ, Some, length, replicate, OnErr};
-ghost use Rattle.dm_code.specs.Codeword.{IsCodeword};
-ghost use Rattle.dm_layout.specs.Sizes.{block_check, row_with_side};
+ghost use Rattle.std.specs.Prelude.{◌≡◌, Some, replicate, OnErr};
+ghost use Rattle.dm_layout.specs.Sizes.{row_with_side};
 ghost use Rattle.dm_layout.specs.Grid.{square_of_rows};
-ghost use Rattle.dm_symbol.specs.Blocks.{AreWordsOf, BlocksAreCodewords, block_at, data_part};
 ghost use Rattle.dm_words.specs.Outcomes.{outcome};
 ghost use Rattle.dm_symbol.specs.NormalGrid.{IsWritten};
 
+use crate::symbol::writing::complete_with;
 use arrayvec::ArrayVec;
-use dm_code::encode;
-use dm_layout::{Grid, Size, Words, block, lay_to, put_block_checks};
-use dm_words::{
-    LARGEST_ROOM, MOST_DATA, Message, MessageIn, Profile, TooLong, add_pads, normal_words_in,
-};
+use dm_layout::{Grid, MOST_CODEWORDS, Size, lay_symbol_to};
+use dm_modules::SymbolWordsIn;
+use dm_words::{MOST_DATA, Message, Profile, TooLong, add_pads, normal_words_in};
 
 /// Gives the normal grid of a message under [`Profile::Ascii`]: what [`write_as`] gives for that profile.
 pub fn write(message: &Message) -> Result<Grid, TooLong>
@@ -42,19 +39,8 @@ pub fn write_to(profile: Profile, message: &Message, grid: &mut Grid) -> Result<
     ensures written { IsWritten profile message.now (outcome result grid.new) }
     ensures same { OnErr result (grid.new ≡ grid.old) }
 {
-    write_message_to(profile, message, grid)
-}
-
-/// Does the same as [`write_to`] with a message of any room up to [`LARGEST_ROOM`].
-pub fn write_message_to<const ROOM: usize>(
-    profile: Profile,
-    message: &MessageIn<ROOM>,
-    grid: &mut Grid,
-) -> Result<(), TooLong>
-    requires { ROOM ≤ LARGEST_ROOM }
-    ensures written { IsWritten profile message.now (outcome result grid.new) }
-    ensures same { OnErr result (grid.new ≡ grid.old) }
-{
+    // Room for the codewords of any size. It is made before the first return, so that it is cleared only once.
+    let mut words = SymbolWordsIn::<MOST_CODEWORDS>::zeros(grid.size().symbol());
     let mut list = ArrayVec::<u8, MOST_DATA>::new();
     match normal_words_in(profile, message, &mut list) {
         Ok(()) => {}
@@ -64,9 +50,8 @@ pub fn write_message_to<const ROOM: usize>(
         return Err(TooLong);
     };
     add_pads(&mut list, size);
-    let mut words = Words::zeros(size);
-    complete_with(&mut words, &list);
-    lay_to(&words, grid);
+    complete_with(&mut words, size.symbol(), &list);
+    lay_symbol_to(&words, grid);
     Ok(())
 }
 
@@ -80,65 +65,4 @@ pub fn light_grid() -> Grid
         Ok(grid) => grid,
         Err(_) => unreachable!(),
     }
-}
-
-/// Puts these data codewords, and the check codewords that complete them. The codewords are the caller's, since a list
-/// for the largest symbol would be copied to be given back.
-pub(crate) fn complete_with(words: &mut Words, list: &[u8])
-    requires { length list.now ≡ words.old.size.data_count }
-    ensures size { words.new.size ≡ words.old.size }
-    ensures data_words { data_part words.old.size words.new.list ≡ list.now }
-    ensures checked { BlocksAreCodewords words.old.size words.new.list }
-{
-    words.put_data(list);
-    complete(words);
-}
-
-/// Puts the check codewords, which make each block a codeword of its Reed-Solomon code; the data codewords stay.
-fn complete(words: &mut Words)
-    ensures size { words.new.size ≡ words.old.size }
-    ensures data_words { data_part words.old.size words.new.list
-        ≡ data_part words.old.size words.old.list }
-    ensures checked { BlocksAreCodewords words.old.size words.new.list }
-{
-    let blocks = words.size().blocks();
-    if blocks == 1 {
-        complete_only_block(words);
-        return;
-    }
-    for b in 0..usize::from(blocks) {
-        complete_block(words, b);
-    }
-}
-
-/// Puts the check codewords of a symbol that has one block.
-fn complete_only_block(words: &mut Words)
-    requires { words.old.size.blocks ≡ 1 }
-    ensures size { words.new.size ≡ words.old.size }
-    ensures data_words { data_part words.old.size words.new.list
-        ≡ data_part words.old.size words.old.list }
-    ensures checked { BlocksAreCodewords words.old.size words.new.list }
-{
-    let size = words.size();
-    let checks = encode(words.data_part(), usize::from(size.block_check()));
-    words.put_checks(&checks);
-}
-
-/// Puts the check codewords of one block: its data codewords stay, and it becomes a codeword of its Reed-Solomon code.
-fn complete_block(words: &mut Words, b: usize)
-    requires { b < words.old.size.blocks }
-    ensures size { words.new.size ≡ words.old.size }
-    ensures words { AreWordsOf words.old.size words.new.list }
-    ensures data_words { data_part words.old.size words.new.list
-        ≡ data_part words.old.size words.old.list }
-    ensures checked { IsCodeword (block_check words.old.size)
-        (block_at words.old.size words.new.list b) }
-    ensures others { (a : ℕ) → a < words.old.size.blocks → a ≢ b
-        → block_at words.old.size words.new.list a ≡ block_at words.old.size words.old.list a }
-{
-    let size = words.size();
-    let mut list = block(words, b);
-    list.truncate(usize::from(size.block_data()));
-    let checks = encode(&list, usize::from(size.block_check()));
-    put_block_checks(words, b, &checks);
 }

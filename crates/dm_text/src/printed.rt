@@ -83,7 +83,7 @@ fn push_row(text: &mut GatheredText, grid: &Grid, row: u16)
     ensures { text.new.items ≡ text.old.items ++ map character_of (get_or grid.now.rows row []) ++
         lf ∷ [] }
 {
-    push_cells(text, grid.row(row), grid.size().side());
+    push_cells(text, grid.as_symbol().row(row), grid.size().side());
     text.push(LF);
 }
 

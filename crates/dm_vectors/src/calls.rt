@@ -7,7 +7,8 @@ use arrayvec::ArrayVec;
 use dm_code::{encode, syndromes};
 use dm_layout::{Grid, LARGEST_SIDE, MOST_CODEWORDS, Size, Words, table};
 use dm_symbol::{
-    Extent, Message, NormalFault, Profile, ReadFault, Reading, SymbolReading, TooLong, light_grid,
+    Extent, Message, NormalFault, Profile, ReadFault, ReadOptions, Reading, Symbol, SymbolReading,
+    SymbolSize, SymbolWords, TooLong, light_grid, read_symbol_to,
 };
 use gf301::{Poly, generator};
 
@@ -152,18 +153,61 @@ pub(crate) fn read_as(extent: Extent, grid: &Grid, limit: u16) -> Result<Reading
     }
 }
 
-/// Reads a grid into `reading`, of whose cells these are doubtful, and nothing where they are those of another size.
+/// Gives a module of a symbol this colour, where there is such a module.
+fn put(symbol: &mut Symbol, row: u16, column: u16, dark: bool) {
+    let size = symbol.size();
+    if row < size.rows() && column < size.columns() {
+        symbol.put(row, column, dark);
+    }
+}
+
+/// The symbol with the cells of a grid, where there is one of its size.
+fn symbol_of(grid: &Grid) -> Option<Symbol> {
+    let side = grid.size().side();
+    let size = SymbolSize::of(side, side)?;
+    // For the proof alone: what `rows` ensures says that there is room.
+    let _rows = size.rows();
+    let mut symbol = Symbol::light(size);
+    for row in 0..side {
+        for column in 0..side {
+            put(&mut symbol, row, column, is_dark_at(grid, row, column));
+        }
+    }
+    Some(symbol)
+}
+
+/// Reads a symbol into `reading`, of whose modules these are doubtful, and nothing where they are those of another
+/// size.
+fn read_symbol(
+    symbol: &Symbol,
+    doubtful: &Symbol,
+    border_limit: u16,
+    reading: &mut SymbolReading,
+) -> Option<Result<(), ReadFault>> {
+    if doubtful.size() != symbol.size() {
+        return None;
+    }
+    let how = ReadOptions {
+        extent: Extent::Usual,
+        border_limit,
+        doubtful: Some(doubtful),
+    };
+    let size = symbol.size();
+    // For the proof alone: what these ensure says that there is room.
+    let _room = (size.data_count(), size.check_count());
+    let mut words = SymbolWords::zeros(size);
+    Some(read_symbol_to(symbol, how, &mut words, reading))
+}
+
+/// Reads the symbol with the cells of a grid into `reading`, of which these are doubtful, and nothing where they are
+/// those of another size.
 pub(crate) fn read_doubtful(
     grid: &Grid,
     doubtful: &Grid,
     limit: u16,
     reading: &mut SymbolReading,
 ) -> Option<Result<(), ReadFault>> {
-    if doubtful.size() == grid.size() {
-        Some(dm_symbol::read_doubtful_to(Extent::Usual, grid, doubtful, limit, reading))
-    } else {
-        None
-    }
+    read_symbol(&symbol_of(grid)?, &symbol_of(doubtful)?, limit, reading)
 }
 
 pub(crate) fn normal_read_as(

@@ -1,6 +1,6 @@
 //! Sizes, modules, codewords and blocks of all sizes, squares and rectangles: `dm_modules`.
 
-use dm_modules::{MOST_MODULES, Modules, SymbolSize, SymbolWords};
+use dm_modules::{Symbol, SymbolSize, SymbolWords};
 
 mod blocks;
 mod faults;
@@ -17,21 +17,27 @@ pub(crate) fn words_of(rows: u16, columns: u16, list: &[u8]) -> Option<SymbolWor
     }
 }
 
-/// The modules that are drawn line by line, 1 for dark.
-pub(crate) fn modules_of(rows: u16, columns: u16, lines: &[&str]) -> Option<Modules> {
-    let mut list = [false; MOST_MODULES];
-    let mut count = 0;
-    for line in lines {
-        for module in line.as_bytes() {
-            if count < MOST_MODULES {
-                list[count] = *module == b'1';
-                count += 1;
-            }
+/// The symbol whose modules are drawn line by line, 1 for dark, where each line has as many as there are columns.
+pub(crate) fn symbol_of(rows: u16, columns: u16, lines: &[&str]) -> Option<Symbol> {
+    let size = SymbolSize::of(rows, columns)?;
+    // For the proof alone: what `rows` ensures says that there is room.
+    let _rows = size.rows();
+    let mut symbol = Symbol::light(size);
+    for (row, line) in lines.iter().enumerate() {
+        if line.len() != usize::from(columns) {
+            return None;
+        }
+        for (column, module) in line.as_bytes().iter().enumerate() {
+            put(&mut symbol, row, column, *module == b'1');
         }
     }
-    if count <= MOST_MODULES {
-        Modules::new(rows, columns, &list[..count]).ok()
-    } else {
-        None
+    Some(symbol)
+}
+
+/// Gives a module this colour, where there is such a module.
+pub(crate) fn put(symbol: &mut Symbol, row: usize, column: usize, dark: bool) {
+    let size = symbol.size();
+    if row < usize::from(size.rows()) && column < usize::from(size.columns()) {
+        symbol.put(row as u16, column as u16, dark);
     }
 }

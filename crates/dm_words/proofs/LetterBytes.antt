@@ -13,7 +13,7 @@ use Rattle.dm_words.specs.Designators.{IsDesignator, one, two, three, designator
 use Rattle.dm_words.specs.Heads.{IsHead, SpellsHead, programming, appended, head_words}
 use Rattle.dm_words.specs.Laws.{AreCodewords}
 use Rattle.dm_words.specs.Letters.{LetterView, IsLetter, AreMarks}
-use Rattle.dm_words.specs.LetterForm.{marked_ascii, form_by, letter_form}
+use Rattle.dm_words.specs.LetterForm.{ascii_with_marks, form_by, letter_form}
 use Rattle.dm_words.specs.Messages.{IsItem}
 use Rattle.dm_words.specs.Pads.{padded}
 use Rattle.dm_words.proofs.AsciiWords.{AreItems, ascii_bytes}
@@ -43,7 +43,7 @@ head_bytes words said (appended indicator symbol right index count is e) =
 
 -- So are items with marks.
 marked_bytes : (before most : ℕ) (items : List Item) (marks : List Mark) → AreItems items → AreMarks before most marks
-    → AreBytes (marked_ascii before items marks)
+    → AreBytes (ascii_with_marks before items marks)
 marked_bytes before most items [] fit are = ascii_bytes items fit
 marked_bytes before most items (m ∷ marks) fit are =
     let n = m.place - before in
@@ -59,7 +59,7 @@ form_bytes : (profile : Profile) (said : Option Head) (items : List Item) (marks
 form_bytes profile None items [] right fit are = normal_form_bytes profile items fit
 form_bytes profile None items (m ∷ marks) right fit are = marked_bytes 0 (length items) items (m ∷ marks) fit are
 form_bytes profile (Some said) items marks right fit are =
-    AreBytes-append (head_words (Some said)) (marked_ascii 0 items marks)
+    AreBytes-append (head_words (Some said)) (ascii_with_marks 0 items marks)
     (head_bytes (head_words (Some said)) said (head_says said right)) (marked_bytes 0
     (length items) items marks fit are)
 

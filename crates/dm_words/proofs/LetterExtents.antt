@@ -2,7 +2,7 @@
 use Rattle.std.proofs.Common.{◌≡◌, ◌⊎◌, ◌≤◌, ◌<◌, ℕ, List, [], length, refl, sym, ap, subst, ◌∙◌, arith}
 use Rattle.std.proofs.Common.{None}
 use Rattle.std.proofs.Common.{Result, Ok, Err, inl, inr, Option}
-use Rattle.std.proofs.lemmas.List.Elements.{All-from_get_or}
+use Rattle.std.proofs.lemmas.List.Elements.{All-from_get_or, recursion_from_All}
 use Rattle.dm_words.specs.declared.extent.Extent.{Extent}
 use Rattle.dm_words.specs.declared.extent.Extent.TheVariants.{Usual, Wide}
 use Rattle.dm_words.specs.declared.item.Item.{Item}
@@ -29,7 +29,7 @@ use Rattle.dm_words.proofs.LetterForms.{letter_form_says}
 use Rattle.dm_words.proofs.NormalForms.{normal_form_spells}
 use Rattle.dm_words.proofs.Pairs.{IsBytes}
 use Rattle.dm_words.proofs.SaidLetters.{said_is_letter}
-use Rattle.dm_words.proofs.WholeLetters.{spelled_reads, refused_reads}
+use Rattle.dm_words.proofs.WholeLetters.{spelled_reads, refused_reads, one_result as one_letter}
 use Rattle.dm_words.proofs.WideLetters.{wide_is_letter, letter_is_wide}
 
 -- Numbers of 0 to 255 are codewords.
@@ -96,6 +96,20 @@ refused_is_one extent words f g fit (RefusedIn.of_letter is r) (RefusedIn.of_let
     let a = refused_reads words f r in
     let b = refused_reads words g t in
     cc
+
+-- Codewords say a letter in an extent, or are refused in it.
+pub said_or_refused : (extent : Extent) (words : List ℕ) → AreCodewords words
+    → ((l : LetterView) × SaysIn extent words l) ⊎ ((f : LetterFault) × RefusedIn extent words f)
+said_or_refused Usual words fit =
+    elim (one_result Usual words fit) [
+      | inl s ↦ inl (as_letter s.message, SaysIn.of_message s.message refl s.spells refl)
+      | inr r ↦ inr (fault.Word r.why, RefusedIn.of_message r.why refl r.refused refl)
+    ]
+said_or_refused Wide words fit =
+    elim (one_letter words (recursion_from_All (λ w. w < 256) words fit)) [
+      | inl s ↦ inl (s.letter, SaysIn.of_letter refl s.spells)
+      | inr r ↦ inr (r.why, RefusedIn.of_letter refl r.refused)
+    ]
 
 -- The normal form of a letter, with pads, says it in each extent in which it can be said.
 pub form_says_in : (extent : Extent) (profile : Profile) (l : LetterView) (count : ℕ) → IsLetter l → IsSaidIn extent l

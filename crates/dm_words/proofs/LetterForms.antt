@@ -20,7 +20,7 @@ use Rattle.dm_words.specs.Designators.{designator}
 use Rattle.dm_words.specs.Heads.{IsHead, head_words}
 use Rattle.dm_words.specs.Letters.{LetterView, AreMarks, IsLetter, Said, Items, Number, IsLetterPart, part, mark}
 use Rattle.dm_words.specs.Letters.{AreLetterParts, said_items, said_marks, headed, SpellsLetter}
-use Rattle.dm_words.specs.LetterForm.{mark_words, marked_ascii, form_by, letter_form}
+use Rattle.dm_words.specs.LetterForm.{mark_words, ascii_with_marks, form_by, letter_form}
 use Rattle.dm_words.proofs.AsciiWords.{AreItems, units_of, pads_end}
 use Rattle.dm_words.proofs.Designators.{designator_says}
 use Rattle.dm_words.proofs.Heads.{head_says}
@@ -116,7 +116,7 @@ ascii_parts before items rest words marks fit free whole are =
 
 -- Items with marks are what parts say, whose words are the items in ASCII from mark to mark, and the marks.
 parts_of : (before : ℕ) (items : List Item) (marks : List Mark) → AreItems items
-    → AreMarks before (before + length items) marks → HasParts before items marks (marked_ascii before items marks)
+    → AreMarks before (before + length items) marks → HasParts before items marks (ascii_with_marks before items marks)
 parts_of before items [] fit are =
     let h = ascii_parts before items [] [] [] fit tt refl refl in
     subst (λ (i : List Item). HasParts before i [] (ascii items)) (append-nil items)
@@ -138,9 +138,9 @@ parts_of before items (m ∷ marks) fit are =
     ap (λ (k : ℕ). (let q : Mark = record { place = k; number = m.number } in q) ∷ said_marks k (whats r.parts)) there
     ∙ ap (λ (ms : List Mark). m ∷ ms) r.marks_are in
     let h = ascii_parts before (take n items) (p ∷ r.parts) (mark_words m
-    ++ marked_ascii m.place (drop n items) marks) (m ∷ marks) fits.0 (free, r.free)
+    ++ ascii_with_marks m.place (drop n items) marks) (m ∷ marks) fits.0 (free, r.free)
     (ap (λ (w : List ℕ). mark_words m ++ w) r.whole) marked in
-    subst (λ (i : List Item). HasParts before i (m ∷ marks) (marked_ascii before items (m ∷ marks)))
+    subst (λ (i : List Item). HasParts before i (m ∷ marks) (ascii_with_marks before items (m ∷ marks)))
     (ap (λ (i : List Item). take n items ++ i) r.items_are ∙ take-append-drop n items) h
 
 -- Parts that say this, and pads behind them, from a place on.
@@ -157,9 +157,10 @@ letter_parts place first count ps words free whole = record {
 
 -- A letter with marks and without a head is said by its form.
 marked_says : (items : List Item) (marks : List Mark) (count : ℕ) → AreItems items → AreMarks 0 (length items) marks
-    → SpellsLetter (padded (marked_ascii 0 items marks) count) (record { head = None; items = items; marks = marks })
+    → SpellsLetter (padded (ascii_with_marks 0 items marks) count)
+    (record { head = None; items = items; marks = marks })
 marked_says items marks count fit are =
-    let words = marked_ascii 0 items marks in
+    let words = ascii_with_marks 0 items marks in
     let whole : length items ≡ 0 + length items = omega arith in
     let h = parts_of 0 items marks fit (subst (λ (k : ℕ). AreMarks 0 k marks) whole are) in
     subst (λ (ms : List Mark). SpellsLetter (padded words count) (record { head = None; items = items; marks = ms }))
@@ -170,11 +171,11 @@ marked_says items marks count fit are =
 -- A letter with a head is said by its form.
 headed_says : (said : Head) (items : List Item) (marks : List Mark) (count : ℕ) → IsHead (Some said) → AreItems items
     → AreMarks 0 (length items) marks
-    → SpellsLetter (padded (head_words (Some said) ++ marked_ascii 0 items marks) count)
+    → SpellsLetter (padded (head_words (Some said) ++ ascii_with_marks 0 items marks) count)
     (record { head = Some said; items = items; marks = marks })
 headed_says said items marks count right fit are =
     let first = head_words (Some said) in
-    let words = marked_ascii 0 items marks in
+    let words = ascii_with_marks 0 items marks in
     let all = first ++ words in
     let p = pads (length all + 1) (count - length all) in
     let whole : length items ≡ 0 + length items = omega arith in

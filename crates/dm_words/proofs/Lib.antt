@@ -4,6 +4,7 @@ mod Heads
 mod Openings
 mod Marks
 mod LetterParts
+mod Fnc1Places
 mod WholeLetters
 mod SaidLetters
 mod LetterLoops

@@ -9,7 +9,7 @@ use Rattle.dm_words.specs.declared.letters.mark.Mark.{Mark}
 use Rattle.dm_words.specs.Ascii.{ascii}
 use Rattle.dm_words.specs.Designators.{most_assigned, eci_word, designator}
 use Rattle.dm_words.specs.Letters.{AreMarks}
-use Rattle.dm_words.specs.LetterForm.{mark_words, marked_ascii}
+use Rattle.dm_words.specs.LetterForm.{mark_words, ascii_with_marks}
 use Rattle.dm_words.specs.inner.Scan.Results.{unit_words, unit_items}
 use Rattle.dm_words.proofs.LetterForms.{marks_within}
 use Rattle.dm_words.proofs.NormalForms.{two_words}
@@ -22,9 +22,9 @@ pub record Turn (items : List Item) (marks : List Mark) (before i place number :
   pub within : place ≤ length items
   pub assigned : number ≤ most_assigned
   pub in_order : AreMarks place (length items) (drop (i + 1) marks)
-  pub words : marked_ascii before (drop before items) (drop i marks)
+  pub words : ascii_with_marks before (drop before items) (drop i marks)
       ≡ ascii (take (place - before) (drop before items))
-      ++ ((eci_word ∷ designator number) ++ marked_ascii place (drop place items) (drop (i + 1) marks))
+      ++ ((eci_word ∷ designator number) ++ ascii_with_marks place (drop place items) (drop (i + 1) marks))
 
 -- A turn of the loop takes the next mark.
 pub turn : (items : List Item) (marks : List Mark) (before i : ℕ) (d : Mark) → i < length marks
@@ -43,15 +43,15 @@ turn items marks before i d lt are =
       within = marks_within m.place (length items) (drop (i + 1) marks) a.2;
       assigned = a.1;
       in_order = a.2;
-      words = ap (marked_ascii before (drop before items)) here
+      words = ap (ascii_with_marks before (drop before items)) here
           ∙ ap (λ (r : List Item). ascii (take n (drop before items))
-          ++ (mark_words m ++ marked_ascii m.place r (drop (i + 1) marks))) rest;
+          ++ (mark_words m ++ ascii_with_marks m.place r (drop (i + 1) marks))) rest;
     }
 
 -- Behind the last mark, the other items are written in ASCII.
 pub last : (items : List Item) (marks : List Mark) (before i : ℕ) → length marks ≤ i
-    → marked_ascii before (drop before items) (drop i marks) ≡ ascii (drop before items)
-last items marks before i le = at_drop_all (λ (r : List Mark). marked_ascii before (drop before items) r) marks i le
+    → ascii_with_marks before (drop before items) (drop i marks) ≡ ascii (drop before items)
+last items marks before i le = at_drop_all (λ (r : List Mark). ascii_with_marks before (drop before items) r) marks i le
 
 -- The items up to a mark take at most two codewords each.
 pub piece_short : (items : List Item) (before place : ℕ) → before ≤ place → place ≤ length items
@@ -64,26 +64,26 @@ piece_short items before place from within =
 pub count_turn : (items : List Item) (marks : List Mark) (before i place number total sum a m : ℕ)
     → Turn items marks before i place number
     → a ≡ length (ascii (take (place - before) (drop before items))) → m ≡ length (eci_word ∷ designator number)
-    → total ≡ sum + length (marked_ascii before (drop before items) (drop i marks))
-    → total ≡ (sum + (a + m)) + length (marked_ascii place (drop place items) (drop (i + 1) marks))
+    → total ≡ sum + length (ascii_with_marks before (drop before items) (drop i marks))
+    → total ≡ (sum + (a + m)) + length (ascii_with_marks place (drop place items) (drop (i + 1) marks))
 count_turn items marks before i place number total sum a m t first second so_far =
     let piece = ascii (take (place - before) (drop before items)) in
-    let rest = marked_ascii place (drop place items) (drop (i + 1) marks) in
+    let rest = ascii_with_marks place (drop place items) (drop (i + 1) marks) in
     let mark = eci_word ∷ designator number in
     omega (arith, so_far, first, second, ap length t.words, length-append piece (mark ++ rest), length-append mark rest)
 
 -- There is room for the items up to the next mark, and for the mark.
 pub fits_turn : (items : List Item) (marks : List Mark) (before i place number : ℕ) (base all words : List ℕ)
     → Turn items marks before i place number
-    → base ++ all ≡ words ++ marked_ascii before (drop before items) (drop i marks)
+    → base ++ all ≡ words ++ ascii_with_marks before (drop before items) (drop i marks)
     → length words
     + (length (ascii (take (place - before) (drop before items))) + length (eci_word ∷ designator number)) ≤
     length base + length all
 fits_turn items marks before i place number base all words t so_far =
     let piece = ascii (take (place - before) (drop before items)) in
-    let rest = marked_ascii place (drop place items) (drop (i + 1) marks) in
+    let rest = ascii_with_marks place (drop place items) (drop (i + 1) marks) in
     let mark = eci_word ∷ designator number in
-    let left = marked_ascii before (drop before items) (drop i marks) in
+    let left = ascii_with_marks before (drop before items) (drop i marks) in
     omega (
       arith,
       ap length so_far,
@@ -97,7 +97,8 @@ fits_turn items marks before i place number base all words t so_far =
 -- There is room for the items up to the next mark.
 pub piece_fits : (items : List Item) (marks : List Mark) (before i place number most : ℕ) (base all words : List ℕ)
     → Turn items marks before i place number
-    → base ++ all ≡ words ++ marked_ascii before (drop before items) (drop i marks) → length base + length all ≤ most
+    → base ++ all ≡ words ++ ascii_with_marks before (drop before items) (drop i marks)
+    → length base + length all ≤ most
     → length words + length (ascii (take (place - before) (drop before items))) ≤ most
 piece_fits items marks before i place number most base all words t so_far room =
     omega (arith, fits_turn items marks before i place number base all words t so_far, room)
@@ -105,7 +106,8 @@ piece_fits items marks before i place number most base all words t so_far room =
 -- There is room for the mark behind them.
 pub mark_fits : (items : List Item) (marks : List Mark) (before i place number most : ℕ) (base all words new : List ℕ)
     → Turn items marks before i place number
-    → base ++ all ≡ words ++ marked_ascii before (drop before items) (drop i marks) → length base + length all ≤ most
+    → base ++ all ≡ words ++ ascii_with_marks before (drop before items) (drop i marks)
+    → length base + length all ≤ most
     → new ≡ words ++ ascii (take (place - before) (drop before items))
     → length new + length (eci_word ∷ designator number) ≤ most
 mark_fits items marks before i place number most base all words new t so_far room is =
@@ -119,10 +121,11 @@ mark_fits items marks before i place number most base all words new t so_far roo
 
 -- Behind the last mark, there is room for the other items.
 pub last_fits : (items : List Item) (marks : List Mark) (before i most : ℕ) (base all words : List ℕ) → length marks ≤ i
-    → base ++ all ≡ words ++ marked_ascii before (drop before items) (drop i marks) → length base + length all ≤ most
+    → base ++ all ≡ words ++ ascii_with_marks before (drop before items) (drop i marks)
+    → length base + length all ≤ most
     → length words + length (ascii (take (length items - before) (drop before items))) ≤ most
 last_fits items marks before i most base all words le so_far room =
-    let left = marked_ascii before (drop before items) (drop i marks) in
+    let left = ascii_with_marks before (drop before items) (drop i marks) in
     let whole : length (ascii (take (length items - before) (drop before items)))
     ≡ length left = ap (λ (r : List Item). length (ascii r)) (take_rest items before)
     ∙ sym (ap length (last items marks before i le)) in
@@ -131,13 +134,13 @@ last_fits items marks before i most base all words le so_far room =
 -- The codewords are added up to the next mark and with it.
 pub add_turn : (items : List Item) (marks : List Mark) (before i place number : ℕ) (total words new newer : List ℕ)
     → Turn items marks before i place number
-    → total ≡ words ++ marked_ascii before (drop before items) (drop i marks) → new ≡ words
+    → total ≡ words ++ ascii_with_marks before (drop before items) (drop i marks) → new ≡ words
     ++ ascii (take (place - before) (drop before items))
     → newer ≡ new ++ (eci_word ∷ designator number) → total ≡ newer
-    ++ marked_ascii place (drop place items) (drop (i + 1) marks)
+    ++ ascii_with_marks place (drop place items) (drop (i + 1) marks)
 add_turn items marks before i place number total words new newer t so_far first second =
     let piece = ascii (take (place - before) (drop before items)) in
-    let rest = marked_ascii place (drop place items) (drop (i + 1) marks) in
+    let rest = ascii_with_marks place (drop place items) (drop (i + 1) marks) in
     let mark = eci_word ∷ designator number in
     so_far ∙ ap (λ (r : List ℕ). words ++ r) t.words ∙ sym (append_assoc words piece (mark ++ rest))
     ∙ sym (append_assoc (words ++ piece) mark rest)

@@ -1,10 +1,6 @@
 -- The normal form of a letter: its data codewords, without pads, as a profile chooses for it (ISO/IEC 16022, ECI
 -- encodation, structured append, reader programming). The choice is a rule of this project.
-use Rattle.std.specs.Prelude.{◌≡◌, ◌≤◌, ◌<◌, ◌↔◌, ℕ, ◌-◌, List, [], ◌∷◌, ◌++◌, length, take, drop, Option, Some, None}
-use Rattle.std.specs.Prelude.{Result, IfOk, IsErr}
-use Rattle.arrayvec.specs.ArrayVec.{ArrayVec}
-use Rattle.dm_layout.specs.Sizes.{most_data}
-use Rattle.dm_words.specs.declared.fault.TooLong.{TooLong}
+use Rattle.std.specs.Prelude.{ℕ, ◌-◌, List, [], ◌∷◌, ◌++◌, take, drop, Option, Some, None}
 use Rattle.dm_words.specs.declared.item.Item.{Item}
 use Rattle.dm_words.specs.declared.letters.head.Head.{Head}
 use Rattle.dm_words.specs.declared.letters.mark.Mark.{Mark}
@@ -21,27 +17,19 @@ mark_words mark = eci_word ∷ designator mark.number
 
 -- Behind so many items, further items with marks are written in ASCII from mark to mark, and each mark at its place. So
 -- no pair of digits is taken across a mark.
-abbrev pub marked_ascii : ℕ → List Item → List Mark → List ℕ
-marked_ascii before items [] = ascii items
-marked_ascii before items (mark ∷ marks) =
+abbrev pub ascii_with_marks : ℕ → List Item → List Mark → List ℕ
+ascii_with_marks before items [] = ascii items
+ascii_with_marks before items (mark ∷ marks) =
     ascii (take (mark.place - before) items)
-    ++ (mark_words mark ++ marked_ascii mark.place (drop (mark.place - before) items) marks)
+    ++ (mark_words mark ++ ascii_with_marks mark.place (drop (mark.place - before) items) marks)
 
 -- The normal form of a letter without a head and marks is that of its items. That of another one is, under each
 -- profile, the codewords of its head, and its items with their marks in ASCII.
 abbrev pub form_by : Profile → Option Head → List Item → List Mark → List ℕ
 form_by profile None items [] = normal_form profile items
-form_by profile None items (mark ∷ marks) = marked_ascii 0 items (mark ∷ marks)
-form_by profile (Some head) items marks = head_words (Some head) ++ marked_ascii 0 items marks
+form_by profile None items (mark ∷ marks) = ascii_with_marks 0 items (mark ∷ marks)
+form_by profile (Some head) items marks = head_words (Some head) ++ ascii_with_marks 0 items marks
 
 -- Under a profile, this is the normal form of a letter that is right.
 abbrev pub letter_form : Profile → LetterView → List ℕ
 letter_form profile letter = form_by profile letter.head letter.items letter.marks
-
--- What choosing the codewords of a letter under a profile gives: its normal form, unless this has more codewords than
--- the largest symbol holds.
-pub record IsLetterFormResult (profile : Profile) (letter : LetterView)
-    (result : Result (ArrayVec ℕ) TooLong) : Type 0 where
-  pub words : IfOk result (λ words. words.items ≡ letter_form profile letter)
-  pub most : IfOk result (λ words. length words.items ≤ most_data)
-  pub too_long : IsErr result ↔ (most_data < length (letter_form profile letter))

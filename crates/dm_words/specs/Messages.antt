@@ -28,8 +28,8 @@ IsMessage message = All IsItem message
 abbrev pub largest_data : ℕ
 largest_data = 1558
 
--- In the usual extent a symbol says at most this many items: two for each data codeword of the largest size. A macro
--- adds some in the wide one.
+-- In the usual extent a square of at most 104 rows says at most this many items: two for each data codeword of the
+-- largest of these. A macro adds some in the wide one.
 abbrev pub most_items : ℕ
 most_items = 2 * most_data
 

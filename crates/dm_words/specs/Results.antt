@@ -23,8 +23,8 @@ pub record IsMessageResult (extent : Extent) (words : List ℕ) (result : Result
   pub most : IfOk result (λ m. length m ≤ most_spelled extent (length words))
   pub bytes : IfOk result (λ m. IsMessage m)
 
--- What choosing the codewords of a message under a profile gives: its normal form, unless this has more codewords than
--- the largest symbol holds.
+-- What choosing the codewords of a message under a profile for a square of at most 104 rows gives: its normal form,
+-- unless this has more codewords than the largest of these squares holds.
 pub record IsNormalFormResult (profile : Profile) (message : List Item) (result : Result (ArrayVec ℕ) TooLong) : Type
     0 where
   pub words : IfOk result (λ words. words.items ≡ normal_form profile message)

@@ -4,6 +4,7 @@ pub mod Costs
 pub mod CostLanes
 pub mod Written
 pub mod Ways
+pub mod Fnc1
 pub mod LetterScan
 pub mod LetterContents
 pub mod MarkedForms

@@ -3,21 +3,19 @@
 //! why other lists are refused, and the codewords in which a message is written.
 //!
 //! Reading: [`message_of()`] gives the [`Message`] of [`Item`]s that a list spells in the usual extent, or the
-//! [`WordFault`] with which the list is refused, [`message_of_as()`] the same in either extent; [`message_to()`] and
-//! [`message_to_as()`] write the message into a target.
+//! [`WordFault`] with which the list is refused; [`message_to_as()`] reads the message in either extent into a target.
 //!
-//! Writing: [`normal_words()`] gives the codewords of a message under a [`Profile`], or [`TooLong`], and
-//! [`normal_words_to()`] writes them into a target. Under one profile they are ASCII ([`ascii_words()`]), under the
-//! other whatever is shorter, ASCII or one segment of Base 256 ([`shorter_words()`]). [`smallest_words_to()`] writes
-//! codewords of the smallest size of a choice that has any that spell the message in an extent into a target.
-//! [`padded()`] gives codewords with pads up to the data codewords of a size, and [`add_pads()`] adds the pads in a
-//! target. [`normal_words_in()`] and [`pad_to()`] do the same in targets of any room up to [`LARGEST_DATA`] codewords,
-//! for symbols that are no squares or larger ones.
+//! Writing: [`normal_words_in()`] writes the codewords of a message under a [`Profile`] into a target, or says that
+//! they are [`TooLong`]. Under one profile they are ASCII ([`ascii_words()`]), under the other whatever is shorter,
+//! ASCII or one segment of Base 256 ([`shorter_words()`]). [`smallest_words_to()`] writes codewords of the smallest
+//! size of a choice that has any that spell the message in an extent into a target. [`padded()`] gives codewords with
+//! pads up to the data codewords of a size; [`add_pads()`] adds the pads in a target, and [`pad_to()`] in one of any
+//! room up to [`LARGEST_DATA`] codewords, for symbols that are no squares or larger ones.
 //!
-//! Letters: [`letter_of()`] gives the [`Letter`] that a list says, which is a [`Head`] or none, items and [`Mark`]s, or
-//! the [`LetterFault`] with which the list is refused, and [`letter_to()`] writes it into a target. [`letter_words()`]
-//! and [`letter_words_to()`] give the codewords of a letter. [`head_of()`], [`head_words()`], [`designator_of()`] and
-//! [`designator_words()`] read and write a head or a designator alone.
+//! Letters: [`letter_to_as()`] reads the [`Letter`] that a list says in an extent into a target, which is a [`Head`] or
+//! none, items and [`Mark`]s, or gives the [`LetterFault`] with which the list is refused. [`letter_words_in()`] writes
+//! the codewords of a letter. [`head_of()`], [`head_words()`], [`designator_of()`] and [`designator_words()`] read and
+//! write a head or a designator alone.
 //!
 //! Limits: up to [`LARGEST_DATA`] codewords are read and written. A square has up to [`MOST_DATA`], for which a
 //! [`Message`] or a [`Letter`] serves: it has room for [`MESSAGE_ROOM`] items, of which the usual extent takes
@@ -60,13 +58,13 @@ pub use letters::fault::LetterFault;
 pub use letters::head::{Appended, HEAD_ROOM, Head, head_of, head_words};
 pub use letters::letter::{Letter, LetterIn};
 pub use letters::mark::Mark;
-pub use letters::normal_form::{letter_words, letter_words_in, letter_words_to};
-pub use letters::reading::{letter_of, letter_to, letter_to_as};
+pub use letters::normal_form::letter_words_in;
+pub use letters::reading::letter_to_as;
 pub use letters::symbology::symbology_number;
 pub use limits::{LARGEST_DATA, LARGEST_MARKS, LARGEST_ROOM, MESSAGE_ROOM, MOST_ITEMS, MOST_MARKS};
 pub use message::{Message, MessageIn};
-pub use normal_form::{ascii_words, normal_words, normal_words_in, normal_words_to, shorter_words};
+pub use normal_form::{ascii_words, normal_words_in, shorter_words};
 pub use pad::{add_pads, pad_to, padded};
 pub use profile::Profile;
-pub use reading::{message_of, message_of_as, message_to, message_to_as};
+pub use reading::{message_of, message_to_as};
 pub use smallest::smallest_words_to;

@@ -23,7 +23,7 @@ use dm_layout::MOST_DATA;
 pub fn ascii_words(message: &Message) -> Result<ArrayVec<u8, MOST_DATA>, TooLong>
     ensures { IsNormalFormResult Profile.Ascii message.now result }
 {
-    normal_words(Profile::Ascii, message)
+    words_of(Profile::Ascii, message)
 }
 
 /// Gives the shorter codewords of a message, without pads: one segment of Base 256 from the first codeword on, if the
@@ -33,39 +33,25 @@ pub fn ascii_words(message: &Message) -> Result<ArrayVec<u8, MOST_DATA>, TooLong
 pub fn shorter_words(message: &Message) -> Result<ArrayVec<u8, MOST_DATA>, TooLong>
     ensures { IsNormalFormResult Profile.Shorter message.now result }
 {
-    normal_words(Profile::Shorter, message)
+    words_of(Profile::Shorter, message)
 }
 
-/// Gives the codewords of a message under a profile: those of [`ascii_words()`] or of [`shorter_words()`]. `TooLong`
-/// exactly where they are more than `MOST_DATA`.
-pub fn normal_words(profile: Profile, message: &Message) -> Result<ArrayVec<u8, MOST_DATA>, TooLong>
+/// Gives the codewords of a message under a profile.
+fn words_of(profile: Profile, message: &Message) -> Result<ArrayVec<u8, MOST_DATA>, TooLong>
     ensures { IsNormalFormResult profile message.now result }
 {
     let mut words = ArrayVec::new();
-    match normal_words_to(profile, message, &mut words) {
+    match normal_words_in(profile, message, &mut words) {
         Ok(()) => Ok(words),
         Err(TooLong) => Err(TooLong),
     }
 }
 
-/// Does the same as [`normal_words()`] in a target: after `Ok`, `words` holds these codewords, whatever it held before.
-/// After `TooLong` it holds what it held before. Under [`Profile::Shorter`] this does the same work as under
-/// [`Profile::Ascii`], except that it may write a segment too, or instead of ASCII.
-pub fn normal_words_to(
-    profile: Profile,
-    message: &Message,
-    words: &mut ArrayVec<u8, MOST_DATA>,
-) -> Result<(), TooLong>
-    ensures form { IsNormalFormResult profile message.now (outcome result words.new) }
-    ensures same { OnErr result (words.new.items ≡ words.old.items) }
-{
-    normal_words_in(profile, message, words)
-}
-
-/// Does the same as [`normal_words_to()`] with a message of any room, at most [`LARGEST_ROOM`] items, in a target with
-/// room for `N` codewords, at least 3 as each symbol has: after `Ok`, `words` holds the codewords of the message under
-/// the profile, whatever it held before. `TooLong` exactly where they are more than `N`; then it holds what it held
-/// before.
+/// Writes the codewords of a message under a profile, those of [`ascii_words()`] or of [`shorter_words()`], into a
+/// target with room for `N` codewords, at least 3 as each symbol has; the message may have any room, at most
+/// [`LARGEST_ROOM`] items. After `Ok`, `words` holds these codewords, whatever it held before. `TooLong` exactly where
+/// they are more than `N`; then it holds what it held before. Under [`Profile::Shorter`] this does the same work as
+/// under [`Profile::Ascii`], except that it may write a segment too, or instead of ASCII.
 pub fn normal_words_in<const ROOM: usize, const N: usize>(
     profile: Profile,
     message: &MessageIn<ROOM>,

@@ -219,42 +219,18 @@ pub fn message_of(words: &[u8]) -> Result<Message, WordFault>
     requires { length words.now ≤ MOST_DATA }
     ensures { IsMessageResult Extent.Usual words.now result }
 {
-    message_of_as(Extent::Usual, words)
-}
-
-/// Does the same as [`message_of()`] in a target with room for two items for each codeword, of which there are at most
-/// [`LARGEST_DATA`]: after `Ok`, `message` holds the message, whatever it held before. After a fault it holds some
-/// message.
-pub fn message_to<const ROOM: usize>(
-    words: &[u8],
-    message: &mut MessageIn<ROOM>,
-) -> Result<(), WordFault>
-    requires short { length words.now ≤ LARGEST_DATA }
-    requires room { 2 * length words.now ≤ ROOM }
-    ensures { IsMessageResult Extent.Usual words.now (outcome result message.new) }
-{
-    message_to_as(Extent::Usual, words, message)
-}
-
-/// Gives the message that the data codewords of a symbol spell, in any encodation of the extent, or the fault with
-/// which they are refused, as [`message_of()`] does at [`Extent::Usual`]. At [`Extent::Wide`] it reads EDIFACT too; a
-/// macro as the first codeword gives the message its header and its trailer, so it has up to seven items more than two
-/// for each codeword; and an Upper Shift that waits where a run of C40 or Text ends is dropped. ISO/IEC 16022,
-/// encodation schemes, 05 and 06 macro characters.
-pub fn message_of_as(extent: Extent, words: &[u8]) -> Result<Message, WordFault>
-    requires { length words.now ≤ MOST_DATA }
-    ensures { IsMessageResult extent words.now result }
-{
     let mut message = Message::new();
-    match message_to_as(extent, words, &mut message) {
+    match message_to_as(Extent::Usual, words, &mut message) {
         Ok(()) => Ok(message),
         Err(fault) => Err(fault),
     }
 }
 
-/// Does the same as [`message_of_as()`] in a target with room for all that so many codewords, at most [`LARGEST_DATA`],
-/// can spell in the extent: after `Ok`, `message` holds the message, whatever it held before. After a fault it holds
-/// some message.
+/// Does the same as [`message_of()`] for an extent, in a target with room for all that so many codewords, at most
+/// [`LARGEST_DATA`], can spell in it: after `Ok`, `message` holds the message, whatever it held before. After a fault
+/// it holds some message. At [`Extent::Wide`] EDIFACT is read too; a macro as the first codeword gives the message its
+/// header and its trailer, so it has up to seven items more than two for each codeword; and an Upper Shift that waits
+/// where a run of C40 or Text ends is dropped. ISO/IEC 16022, encodation schemes, 05 and 06 macro characters.
 pub fn message_to_as<const ROOM: usize>(
     extent: Extent,
     words: &[u8],

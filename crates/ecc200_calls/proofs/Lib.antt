@@ -2,10 +2,8 @@ pub mod Packing
 pub mod Unpacking
 pub mod Rows
 pub mod MadeSymbols
-pub mod Sides
-pub mod Given
-pub mod NoDoubt
-pub mod SquareReadings
+pub mod OfGiven
+pub mod Rooms
 pub mod Written
 pub mod Structure
 pub mod Bits

@@ -1,19 +1,17 @@
 -- The modules of a symbol make it again.
-use Rattle.std.proofs.Common.{◌≡◌, ◌∙◌, ℕ, zero, suc, ◌+◌, ◌-◌, ◌*◌, ◌/◌, ◌%◌, ◌<◌, ◌≤◌, Bool, true, false, List, []}
+use Rattle.std.proofs.Common.{◌≡◌, ◌∙◌, ℕ, zero, suc, ◌+◌, ◌-◌, ◌*◌, ◌<◌, Bool, true, false, List, []}
 use Rattle.std.proofs.Common.{◌∷◌, ◌++◌, length, length-append, map, take, get_or, Some, refl, sym, ap, arith}
 use Rattle.std.specs.Prelude.{All}
-use Rattle.std.specs.List.{flat_map, range_with_len}
-use Rattle.std.proofs.Math.Nat.{mul-le-mul_right, div-add-mod, lt_of_mul-lt-mul_right}
+use Rattle.std.specs.List.{flat_map}
 use Rattle.std.proofs.Math.Seq.{get_or-append_right, take-append_seam}
-use Rattle.std.proofs.lemmas.List.{get_or_append_left, get_or-map, length-map, ext_get_or}
-use Rattle.std.proofs.lemmas.List.Elements.{All-get_or, All-head, All-tail}
-use Rattle.std.proofs.lemmas.List.FromFn.{fill_by_all}
-use Rattle.dm_modules.specs.Sizes.{SizeEntry, area, entry_with}
+use Rattle.std.proofs.lemmas.List.{get_or_append_left, get_or-map, length-map}
+use Rattle.std.proofs.lemmas.List.Elements.{All-head, All-tail}
+use Rattle.dm_modules.specs.Sizes.{SizeEntry, entry_with}
 use Rattle.dm_modules.specs.Modules.{ModulesView, IsModules, is_dark_number, rows_of}
-use Rattle.dm_modules.proofs.Exported.{module_by}
 use Rattle.ecc200_calls.specs.Laws.{ModulesMakeTheSymbol, OneSymbolIsMade}
 use Rattle.ecc200_calls.specs.Modules.{AreModulesOf, module_of, modules_of}
 use Rattle.ecc200_calls.specs.Symbols.{symbol_shown}
+use Rattle.ecc200_calls.proofs.Packing.{all_packed}
 
 -- A module as a number is dark where it is.
 dark_again : (dark : Bool) → is_dark_number (module_of dark) ≡ dark
@@ -58,24 +56,12 @@ module_at (line ∷ rows) side (suc r) c wide lr lc =
 symbol_again : (symbol : ModulesView) → IsModules symbol
     → AreModulesOf symbol.size.rows symbol.size.columns (modules_of symbol) symbol
 symbol_again symbol well =
-    let rows = symbol.size.rows in
     let columns = symbol.size.columns in
-    let count : length (modules_of symbol) ≡ rows * columns =
-    count_of_rows symbol.rows columns well.width ∙ ap (λ n. n * columns) well.height in
-    let cell = λ (r c : ℕ). get_or (map is_dark_number (modules_of symbol)) (r * columns + c) false in
-    record {
-      count = count;
-      size = well.size;
-      colours = fill_by_all (λ r. map (cell r) (range_with_len 0 columns)) symbol.rows rows [] well.height (λ r lr.
-          let high : r < length symbol.rows = omega (arith, lr, well.height) in
-          fill_by_all (cell r) (get_or symbol.rows r []) columns false
-          (All-get_or (λ l. length l ≡ columns) symbol.rows r [] high well.width) (λ c lc.
-          let room : (r + 1) * columns ≤ rows * columns = mul-le-mul_right columns (omega (arith, lr)) in
-          let within : r * columns + c < length (modules_of symbol) = omega (arith, count, room, lc) in
-          sym (get_or-map is_dark_number (modules_of symbol) (r * columns + c) 0 false within
-          ∙ ap is_dark_number (module_at symbol.rows columns r c well.width high lc)
-          ∙ dark_again (get_or (get_or symbol.rows r []) c false))));
-    }
+    all_packed symbol (modules_of symbol) well
+    (count_of_rows symbol.rows columns well.width ∙ ap (λ n. n * columns) well.height)
+    (λ r c lr lc.
+    sym (ap is_dark_number (module_at symbol.rows columns r c well.width (omega (arith, lr, well.height)) lc)
+    ∙ dark_again (get_or (get_or symbol.rows r []) c false)))
 
 -- As many of the modules that are given as the symbol has are those of the symbol.
 pub made : ModulesMakeTheSymbol
@@ -105,37 +91,3 @@ one_made rows columns modules symbol other a b =
     let first : symbol ≡ (let m : ModulesView = record { size = other.size; rows = symbol.rows } in m) =
     ap (λ s. let m : ModulesView = record { size = s; rows = symbol.rows } in m) size in
     first ∙ ap (λ r. let m : ModulesView = record { size = other.size; rows = r } in m) lines
-
--- ---- colours that stand row by row
-
--- The modules of rows whose colours are listed row by row are the numbers of these colours.
-pub numbers_of_colours : (symbol : ModulesView) (colours : List Bool) → IsModules symbol
-    → length colours ≡ area symbol.size → symbol.rows ≡ rows_of symbol.size.rows symbol.size.columns colours
-    → map module_of colours ≡ modules_of symbol
-numbers_of_colours symbol colours well count e =
-    let rows = symbol.size.rows in
-    let columns = symbol.size.columns in
-    let many : length (modules_of symbol) ≡ rows * columns =
-    count_of_rows symbol.rows columns well.width ∙ ap (λ n. n * columns) well.height in
-    let long : length (map module_of colours) ≡ length (modules_of symbol) =
-    length-map colours module_of ∙ count ∙ sym many in
-    ext_get_or 0 (map module_of colours) (modules_of symbol) long (λ i hi.
-    let parts = div-add-mod i columns in
-    let r : ℕ = i / columns in
-    let c : ℕ = i % columns in
-    let there : r * columns + c ≡ i = omega (arith, parts) in
-    let inside : i < rows * columns = omega (arith, hi, long, many) in
-    let some : 0 < columns = some_columns rows columns i inside in
-    let lc : c < columns = omega (arith, some) in
-    let below : r * columns < rows * columns = omega (arith, there, inside) in
-    let lr : r < rows = lt_of_mul-lt-mul_right columns below in
-    get_or-map module_of colours i false 0 (omega (arith, inside, count))
-    ∙ ap (λ j. module_of (get_or colours j false)) (sym there)
-    ∙ ap module_of (sym (module_by rows columns (λ p q. get_or colours (p * columns + q) false) r c lr lc))
-    ∙ ap (λ lines. module_of (get_or (get_or lines r []) c false)) (sym e)
-    ∙ sym (module_at symbol.rows columns r c well.width (omega (arith, lr, well.height)) lc)
-    ∙ ap (λ j. get_or (modules_of symbol) j 0) there)
-  where
-    some_columns : (n k i : ℕ) → i < n * k → 0 < k
-    some_columns n zero i l = let none : n * 0 ≡ 0 = omega arith in absurd (omega (arith, none, l))
-    some_columns n (suc k) i l = omega arith

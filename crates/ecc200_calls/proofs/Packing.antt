@@ -1,8 +1,9 @@
 -- Rows of modules that are packed into one number, module after module from the right.
-use Rattle.std.proofs.Common.{◌≡◌, ℕ, zero, suc, ◌+◌, ◌-◌, ◌*◌, ◌/◌, ◌%◌, ◌^◌, ◌<◌, ◌≤◌, Bool, true, false, cond}
-use Rattle.std.proofs.Common.{nat_eq, List, length, get_or, refl, sym, ◌∙◌, ap, arith, mul_comm, Fits, map, take, drop}
+use Rattle.std.proofs.Common.{◌≡◌, ◌≢◌, ℕ, zero, suc, ◌+◌, ◌-◌, ◌*◌, ◌/◌, ◌%◌, ◌^◌, ◌<◌, ◌≤◌, Bool, true, false, cond}
+use Rattle.std.proofs.Common.{nat_eq, List, [], length, get_or, refl, sym, ◌∙◌, ap, arith, mul_comm, Fits}
+use Rattle.std.proofs.Common.{map, take, drop}
 use Rattle.std.proofs.Common.{subst, bit_or, inl, inr}
-use Rattle.std.specs.Int.{w128}
+use Rattle.std.specs.Int.{w16}
 use Rattle.std.proofs.Math.Facts.{Fits-bits}
 use Rattle.std.proofs.Math.Pow.{pow_mono}
 use Rattle.std.proofs.Math.Nat.{pow-suc, div-div-eq-div-mul}
@@ -17,9 +18,12 @@ use Rattle.std.specs.Int.Bits.{or_shifted_r}
 use Rattle.std.proofs.lemmas.Nat.{pow-add}
 use Rattle.std.proofs.lemmas.Nat.Bits.{bit_at_cat_low, bit_at_cat_high}
 use Rattle.std.proofs.lemmas.Simd.{bit_mask_l, mask_l-lt, length-chunk, get_or-chunk}
-use Rattle.dm_symbol.specs.Grid.{is_dark_in, square_of, square_of_rows}
-use Rattle.dm_layout.proofs.Exported.{same_squares, square_of_prefix}
-use Rattle.dm_modules.specs.Modules.{is_dark_number as is_dark}
+use Rattle.std.specs.List.{range_with_len}
+use Rattle.std.proofs.lemmas.List.Elements.{All-get_or}
+use Rattle.std.proofs.lemmas.List.FromFn.{fill_by_all}
+use Rattle.dm_modules.specs.Sizes.{area}
+use Rattle.ecc200_calls.specs.Modules.{AreModulesOf}
+use Rattle.dm_modules.specs.Modules.{ModulesView, IsModules, module_at, is_dark_bit, is_dark_number as is_dark}
 
 -- The next power of 2 is twice the last one.
 pow_next : (i : ℕ) → 2 ^ (i + 1) ≡ 2 ^ i * 2
@@ -39,20 +43,20 @@ from_bool_one false = refl
 pub packed_small : (row i : ℕ) (b : Bool) → row < 2 ^ i → 2 * row + from_bool b < 2 ^ (i + 1)
 packed_small row i b h = omega (arith, pow_next i, from_bool_small b, h)
 
--- A number of 128 bits has room for i + 1 bits where i is below 127.
-pub packed_fits : (row i : ℕ) (b : Bool) → row < 2 ^ i → i < 127 → Fits w128 (2 * row + from_bool b)
+-- A number of 16 bits has room for i + 1 bits where i is below 15.
+pub packed_fits : (row i : ℕ) (b : Bool) → row < 2 ^ i → i < 15 → Fits w16 (2 * row + from_bool b)
 packed_fits row i b h l =
-    let k : 2 ^ (i + 1) < 2 ^ 128 = pow_below (i + 1) 128 (omega arith) in
-    Fits-bits 128 tt (omega (arith, k, packed_small row i b h))
+    let k : 2 ^ (i + 1) < 2 ^ 16 = pow_below (i + 1) 16 (omega arith) in
+    Fits-bits 16 tt (omega (arith, k, packed_small row i b h))
 
 -- The bit that is added comes first.
-dark_first : (row : ℕ) (b : Bool) → is_dark_in (2 * row + from_bool b) 0 ≡ b
+dark_first : (row : ℕ) (b : Bool) → is_dark_bit (2 * row + from_bool b) 0 ≡ b
 dark_first row b =
     let e : (2 * row + from_bool b) / 1 % 2 ≡ from_bool b = omega (arith, from_bool_small b) in
     ap (λ x. nat_eq x 1) e ∙ from_bool_one b
 
 -- The other bits move up by one.
-dark_next : (row c : ℕ) (b : Bool) → is_dark_in (2 * row + from_bool b) (c + 1) ≡ is_dark_in row c
+dark_next : (row c : ℕ) (b : Bool) → is_dark_bit (2 * row + from_bool b) (c + 1) ≡ is_dark_bit row c
 dark_next row c b =
     let e : (2 * row + from_bool b) / 2 ≡ row = omega (arith, from_bool_small b) in
     let d : 2 ^ (c + 1) ≡ 2 * 2 ^ c = pow_next c ∙ mul_comm (2 ^ c) 2 in
@@ -61,9 +65,9 @@ dark_next row c b =
 
 -- One more module is packed, from the right.
 pub packed_more : (modules : List ℕ) (i row : ℕ) → i < length modules
-    → ((c : ℕ) → c < i → is_dark_in row c ≡ is_dark (get_or modules (length modules - i + c) 0))
+    → ((c : ℕ) → c < i → is_dark_bit row c ≡ is_dark (get_or modules (length modules - i + c) 0))
     → (c : ℕ) → c < i + 1
-    → is_dark_in (2 * row + from_bool (is_dark (get_or modules (length modules - 1 - i) 0))) c ≡
+    → is_dark_bit (2 * row + from_bool (is_dark (get_or modules (length modules - 1 - i) 0))) c ≡
     is_dark (get_or modules (length modules - (i + 1) + c) 0)
 packed_more modules i row l h zero k =
     let e : length modules - 1 - i ≡ length modules - (i + 1) + 0 = omega (arith, l) in
@@ -72,19 +76,8 @@ packed_more modules i row l h (suc c) k =
     let b : Bool = is_dark (get_or modules (length modules - 1 - i) 0) in
     let s : suc c ≡ c + 1 = omega arith in
     let e : length modules - i + c ≡ length modules - (i + 1) + suc c = omega (arith, l) in
-    ap (λ j. is_dark_in (2 * row + from_bool b) j) s ∙ dark_next row c b ∙ h c (omega (arith, k))
+    ap (λ j. is_dark_bit (2 * row + from_bool b) j) s ∙ dark_next row c b ∙ h c (omega (arith, k))
     ∙ ap (λ j. is_dark (get_or modules j 0)) e
-
--- The packed rows of a square have its modules.
-pub square_packed : (side : ℕ) (modules rows : List ℕ) → length modules ≡ side * side
-    → ((r c : ℕ) → r < side → c < side → is_dark_in (get_or rows r 0) c ≡ is_dark (get_or modules (r * side + c) 0))
-    → square_of_rows side (take side rows) ≡ square_of side (map is_dark modules)
-square_packed side modules rows count cells =
-    sym (square_of_prefix side rows)
-    ∙ same_squares side (λ r. is_dark_in (get_or rows r 0)) (λ r c. get_or (map is_dark modules) (r * side + c) false)
-    (λ r c lr lc.
-    let room : (r + 1) * side ≤ side * side = mul-le-mul_right side (omega (arith, lr)) in
-    cells r c lr lc ∙ sym (get_or-map is_dark modules (r * side + c) 0 false (omega (arith, count, room, lc))))
 
 -- ---- sixteen modules together
 
@@ -107,9 +100,9 @@ together_is row next column low small few =
 -- Where the modules before a column are packed, and those from it on beside them, the modules before a later column
 -- are.
 pub together_more : (modules : List ℕ) (row next column across : ℕ) → row < 2 ^ column
-    → ((k : ℕ) → k < column → k < across → is_dark_in row k ≡ is_dark (get_or modules k 0))
-    → ((k : ℕ) → k < 16 → column + k < across → is_dark_in next k ≡ is_dark (get_or modules (column + k) 0))
-    → (k : ℕ) → k < column + 16 → k < across → is_dark_in (next * 2 ^ column + row) k ≡ is_dark (get_or modules k 0)
+    → ((k : ℕ) → k < column → k < across → is_dark_bit row k ≡ is_dark (get_or modules k 0))
+    → ((k : ℕ) → k < 16 → column + k < across → is_dark_bit next k ≡ is_dark (get_or modules (column + k) 0))
+    → (k : ℕ) → k < column + 16 → k < across → is_dark_bit (next * 2 ^ column + row) k ≡ is_dark (get_or modules k 0)
 together_more modules row next column across small before after k l within = elim (cases_lt k column) [
   | inl lt ↦ ap (λ b. nat_eq b 1) (bit_at_cat_low next column row k lt) ∙ before k lt within
   | inr ge ↦
@@ -128,10 +121,6 @@ rest_at xs at k d l =
     take_all (length xs - at) (drop at xs) (omega (arith, length-drop at xs)) in
     (omega (arith, ap length whole, length-drop at xs), ap (λ ys. get_or ys k d) whole ∙ get_or-drop at xs k d)
 
--- Fewer than sixteen bits are less than sixteen.
-pub short_small : (n k : ℕ) → n < 2 ^ k → k < 16 → n < 2 ^ 16
-short_small n k small l = omega (arith, small, pow_below k 16 l)
-
 -- The mask of n modules has n bits.
 pub mask_small : (n : ℕ) (modules : List ℕ) (bits : ℕ) → bits ≡ mask_l (map is_dark (chunk 0 n modules)) →
     n ≤ length modules → bits < 2 ^ n
@@ -149,12 +138,63 @@ cond_one false = refl
 -- Its bits are the modules.
 pub mask_dark : (n : ℕ) (modules : List ℕ) (bits : ℕ) → bits ≡ mask_l (map is_dark (chunk 0 n modules))
     → n ≤ length modules
-    → (column : ℕ) → column < n → column < length modules → is_dark_in bits column ≡ is_dark (get_or modules column 0)
+    → (column : ℕ) → column < n → column < length modules → is_dark_bit bits column ≡ is_dark (get_or modules column 0)
 mask_dark n modules bits e long column l within =
     let block = chunk 0 n modules in
     let count : length block ≡ n = length-chunk 0 n modules (omega (arith, long)) in
-    ap (λ b. is_dark_in b column) e ∙ ap (λ b. nat_eq b 1) (bit_mask_l (map is_dark block) column)
+    ap (λ b. is_dark_bit b column) e ∙ ap (λ b. nat_eq b 1) (bit_mask_l (map is_dark block) column)
     ∙ cond_one (get_or (map is_dark block) column false)
     ∙ get_or-map is_dark block column 0 false (omega (arith, count, l))
     ∙ ap is_dark (get_or-chunk 0 n modules column 0 l
     ∙ ap (λ j. get_or modules j 0) (let first : 0 + column ≡ column = omega arith in first))
+
+-- ---- all rows
+
+-- A row that is put by the numbers of its two parts has the colours that these parts have.
+pub both_parts : (symbol : ModulesView) (row columns start end : ℕ) (colour : ℕ → Bool)
+    → ((c : ℕ) → c < 128 → c < columns → module_at symbol row c ≡ is_dark_bit start c)
+    → ((c : ℕ) → 128 + c < columns → module_at symbol row (128 + c) ≡ is_dark_bit end c)
+    → ((c : ℕ) → c < 128 → c < columns → is_dark_bit start c ≡ colour c)
+    → ((c : ℕ) → 128 + c < columns → is_dark_bit end c ≡ colour (128 + c))
+    → (c : ℕ) → c < columns → module_at symbol row c ≡ colour c
+both_parts symbol row columns start end colour put_start put_end start_is end_is c l = elim (cases_lt c 128) [
+  | inl lt ↦ put_start c lt l ∙ start_is c lt l
+  | inr ge ↦
+      let k = c - 128 in
+      let there : 128 + k ≡ c = omega (arith, ge) in
+      let inside : 128 + k < columns = omega (arith, there, l) in
+      ap (module_at symbol row) (sym there) ∙ put_end k inside ∙ end_is k inside ∙ ap colour there
+]
+
+-- Where the rows above one have the colours of their numbers, and it has them too, the rows above the next one have.
+pub above_more : (old new : ModulesView) (numbers : List ℕ) (row rows columns : ℕ) → row < rows
+    → ((c : ℕ) → c < columns → module_at new row c ≡ is_dark (get_or numbers (row * columns + c) 0))
+    → ((r c : ℕ) → r < rows → c < columns → r ≢ row → module_at new r c ≡ module_at old r c)
+    → ((r c : ℕ) → r < row → c < columns → module_at old r c ≡ is_dark (get_or numbers (r * columns + c) 0))
+    → (r c : ℕ) → r < row + 1 → c < columns → module_at new r c ≡ is_dark (get_or numbers (r * columns + c) 0)
+above_more old new numbers row rows columns low here others above r c lr lc = elim (cases_lt r row) [
+  | inl lt ↦ others r c (omega (arith, lt, low)) lc (λ e. omega (arith, e, lt)) ∙ above r c lt lc
+  | inr ge ↦
+      let e : r ≡ row = omega (arith, ge, lr) in
+      ap (λ q. module_at new q c) e ∙ here c lc ∙ ap (λ q. is_dark (get_or numbers (q * columns + c) 0)) (sym e)
+]
+
+-- Where each module has the colour of its number, the numbers are those of the symbol.
+pub all_packed : (symbol : ModulesView) (numbers : List ℕ) → IsModules symbol → length numbers ≡ area symbol.size
+    → ((r c : ℕ) → r < symbol.size.rows → c < symbol.size.columns
+    → module_at symbol r c ≡ is_dark (get_or numbers (r * symbol.size.columns + c) 0))
+    → AreModulesOf symbol.size.rows symbol.size.columns numbers symbol
+all_packed symbol numbers well count cells =
+    let rows = symbol.size.rows in
+    let columns = symbol.size.columns in
+    let cell = λ (r c : ℕ). get_or (map is_dark numbers) (r * columns + c) false in
+    record {
+      count = count;
+      size = well.size;
+      colours = fill_by_all (λ r. map (cell r) (range_with_len 0 columns)) symbol.rows rows [] well.height (λ r lr.
+          fill_by_all (cell r) (get_or symbol.rows r []) columns false
+          (All-get_or (λ l. length l ≡ columns) symbol.rows r [] (omega (arith, lr, well.height)) well.width) (λ c lc.
+          let room : (r + 1) * columns ≤ rows * columns = mul-le-mul_right columns (omega (arith, lr)) in
+          cells r c lr lc
+          ∙ sym (get_or-map is_dark numbers (r * columns + c) 0 false (omega (arith, count, room, lc)))));
+    }

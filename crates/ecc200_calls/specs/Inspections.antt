@@ -1,14 +1,14 @@
 -- What the library gives for a symbol that is to be inspected.
-use Rattle.std.specs.Prelude.{◌≡◌, ◌≢◌, ℕ, ◌*◌, List, map, length, Option, Some, None}
+use Rattle.std.specs.Prelude.{◌≡◌, ℕ, List, map, length, Option, Some, None}
 use Rattle.dm_symbol.specs.declared.BlockReading.{BlockReading}
-use Rattle.dm_symbol.specs.declared.SymbolInspection.{SymbolInspection}
+use Rattle.dm_symbol.specs.declared.SymbolInspectionIn.{SymbolInspectionIn}
 use Rattle.dm_modules.specs.Modules.{ModulesView}
 use Rattle.dm_symbol.specs.SymbolInspection.{IsSymbolInspection}
 use Rattle.ecc200_calls.specs.declared.fault.Fault.{Fault}
 use Rattle.ecc200_calls.specs.declared.inspection.InspectionOut.{InspectionOut}
 use Rattle.ecc200_calls.specs.Arrays.{over}
-use Rattle.ecc200_calls.specs.Faults.{no_fault, wrong_doubt}
-use Rattle.ecc200_calls.specs.Modules.{AreGiven, AreModulesOf, IsGivenFault}
+use Rattle.ecc200_calls.specs.Faults.{no_fault}
+use Rattle.ecc200_calls.specs.Modules.{AreGiven, IsGivenFault}
 
 -- After a fault there is that fault, the arrays are as they were before, and all else is 0.
 abbrev pub no_inspection : Fault → InspectionOut → InspectionOut
@@ -43,7 +43,7 @@ left_shown (Some block) = block.left
 left_shown None = 0
 
 -- An inspection of a symbol with these rows and columns is given in this way.
-abbrev pub inspection_shown : ℕ → ℕ → SymbolInspection → InspectionOut → InspectionOut
+abbrev pub inspection_shown : {room : ℕ} → ℕ → ℕ → SymbolInspectionIn room → InspectionOut → InspectionOut
 inspection_shown rows columns inspection before =
     record {
       fault = no_fault;
@@ -62,19 +62,10 @@ inspection_shown rows columns inspection before =
 -- The inspection of a symbol, with these of its modules doubtful, is given.
 pub record IsInspectionGiven (rows columns : ℕ) (symbol : ModulesView) (doubtful : Option ModulesView)
     (before after : InspectionOut) : Type 0 where
-  pub inspection : SymbolInspection
+  pub room : ℕ
+  pub inspection : SymbolInspectionIn room
   pub inspection_is : IsSymbolInspection symbol doubtful inspection
   pub shown : after ≡ inspection_shown rows columns inspection before
-
--- Where these numbers say which modules of a symbol are doubtful, the fault that they aren't as many as its modules is
--- given, or the inspection of the symbol.
-pub data IsDoubtfulGiven (rows columns : ℕ) (symbol : ModulesView) (doubt : List ℕ) (before after : InspectionOut)
-    : Type 0 where
-  other_count : length doubt ≢ rows * columns → after ≡ no_inspection wrong_doubt before
-      → IsDoubtfulGiven rows columns symbol doubt before after
-  inspected : (doubtful : ModulesView) → AreModulesOf rows columns doubt doubtful
-      → IsInspectionGiven rows columns symbol (Some doubtful) before after
-      → IsDoubtfulGiven rows columns symbol doubt before after
 
 -- Inspecting these modules gives the reason why they make no symbol, or the inspection of their symbol.
 pub data IsInspectResult (rows columns : ℕ) (modules doubt : List ℕ) (before after : InspectionOut) : Type 0 where

@@ -1,18 +1,17 @@
 -- What the library gives for a symbol that is to be read.
-use Rattle.std.specs.Prelude.{◌≡◌, ◌≢◌, ℕ, ◌+◌, ◌*◌, ◌/◌, List, length, map, Option, Some, None, Result, Ok, Err}
+use Rattle.std.specs.Prelude.{◌≡◌, ℕ, ◌+◌, ◌/◌, List, length, map, Option, Some, None, Result, Ok, Err}
 use Rattle.dm_symbol.specs.declared.Extent.{Extent}
 use Rattle.dm_symbol.specs.declared.BlockReading.{BlockReading}
-use Rattle.dm_symbol.specs.declared.SymbolReading.{SymbolReading}
 use Rattle.dm_symbol.specs.declared.ReadFault.{ReadFault}
 use Rattle.dm_modules.specs.Modules.{ModulesView}
-use Rattle.dm_symbol.specs.SymbolReading.{SymbolReadResult}
+use Rattle.dm_symbol.specs.SymbolReading.{ReadingView, SymbolReadResult}
 use Rattle.ecc200_calls.specs.declared.fault.Fault.{Fault}
 use Rattle.ecc200_calls.specs.declared.reading.ReadingOut.{ReadingOut}
 use Rattle.ecc200_calls.specs.Arrays.{over}
 use Rattle.ecc200_calls.specs.Extents.{extent_of}
-use Rattle.ecc200_calls.specs.Faults.{no_fault, no_such_extent, read_fault, wrong_doubt}
+use Rattle.ecc200_calls.specs.Faults.{no_fault, no_such_extent, read_fault}
 use Rattle.ecc200_calls.specs.Items.{numbers_of}
-use Rattle.ecc200_calls.specs.Modules.{AreGiven, AreModulesOf, IsGivenFault}
+use Rattle.ecc200_calls.specs.Modules.{AreGiven, IsGivenFault}
 
 -- The usual border limit of a symbol is an eighth of its rows and columns together, rounded down, by a rule of this
 -- project: a quarter of the side of a square.
@@ -46,42 +45,32 @@ no_reading why before =
     }
 
 -- A reading of a symbol with these rows and columns is given in this way.
-abbrev pub reading_shown : ℕ → ℕ → SymbolReading → ReadingOut → ReadingOut
+abbrev pub reading_shown : ℕ → ℕ → ReadingView → ReadingOut → ReadingOut
 reading_shown rows columns reading before =
     record {
       fault = no_fault;
       rows = rows;
       columns = columns;
       border_faults = reading.border_faults;
-      block_count = length reading.blocks.items;
+      block_count = length reading.blocks;
       item_count = length reading.message;
-      corrected = over (map corrected_in reading.blocks.items) before.corrected;
-      erased = over (map erased_in reading.blocks.items) before.erased;
-      left = over (map left_in reading.blocks.items) before.left;
+      corrected = over (map corrected_in reading.blocks) before.corrected;
+      erased = over (map erased_in reading.blocks) before.erased;
+      left = over (map left_in reading.blocks) before.left;
       items = over (numbers_of reading.message) before.items;
     }
 
 -- A result is given as its reading, or as its fault.
-abbrev pub result_shown : ℕ → ℕ → Result SymbolReading ReadFault → ReadingOut → ReadingOut
+abbrev pub result_shown : ℕ → ℕ → Result ReadingView ReadFault → ReadingOut → ReadingOut
 result_shown rows columns (Ok reading) before = reading_shown rows columns reading before
 result_shown rows columns (Err why) before = no_reading (read_fault why) before
 
 -- The result of reading a symbol in an extent, with these of its modules doubtful, is given.
 pub record IsReadingGiven (extent : Extent) (rows columns : ℕ) (symbol : ModulesView) (doubtful : Option ModulesView)
     (limit : ℕ) (before after : ReadingOut) : Type 0 where
-  pub result : Result SymbolReading ReadFault
+  pub result : Result ReadingView ReadFault
   pub result_is : SymbolReadResult extent symbol doubtful limit result
   pub shown : after ≡ result_shown rows columns result before
-
--- Where these numbers say which modules of a symbol are doubtful, the fault that they aren't as many as its modules is
--- given, or the result of reading the symbol.
-pub data IsDoubtfulGiven (extent : Extent) (rows columns : ℕ) (symbol : ModulesView) (doubt : List ℕ) (limit : ℕ)
-    (before after : ReadingOut) : Type 0 where
-  other_count : length doubt ≢ rows * columns → after ≡ no_reading wrong_doubt before
-      → IsDoubtfulGiven extent rows columns symbol doubt limit before after
-  read : (doubtful : ModulesView) → AreModulesOf rows columns doubt doubtful
-      → IsReadingGiven extent rows columns symbol (Some doubtful) limit before after
-      → IsDoubtfulGiven extent rows columns symbol doubt limit before after
 
 -- Reading these modules in an extent gives the reason why they make no symbol, or the result of reading their symbol.
 pub data ExtentResult (extent : Extent) (rows columns : ℕ) (modules doubt : List ℕ) (limit : ℕ)

@@ -1,5 +1,5 @@
 -- What the library gives for a message that is to be written, and for a symbol that is to be normalised.
-use Rattle.std.specs.Prelude.{◌≡◌, ◌≢◌, ℕ, ◌*◌, List, length, nat_eq, if◌then◌else◌, Option, Some, None, get_or, min}
+use Rattle.std.specs.Prelude.{◌≡◌, ℕ, List, nat_eq, if◌then◌else◌, Option, Some, None, get_or, min}
 use Rattle.std.specs.Prelude.{Result, Ok, Err}
 use Rattle.dm_symbol.specs.declared.Extent.{Extent}
 use Rattle.dm_symbol.specs.declared.Item.{Item}
@@ -18,9 +18,9 @@ use Rattle.ecc200_calls.specs.Arrays.{over}
 use Rattle.ecc200_calls.specs.Choices.{choice_of}
 use Rattle.ecc200_calls.specs.Extents.{extent_of}
 use Rattle.ecc200_calls.specs.Faults.{no_fault, normal_fault, too_long, foreign, no_such_profile, no_such_extent}
-use Rattle.ecc200_calls.specs.Faults.{no_such_choice, wrong_doubt}
+use Rattle.ecc200_calls.specs.Faults.{no_such_choice}
 use Rattle.ecc200_calls.specs.Items.{IsFirstForeign, numbers_of}
-use Rattle.ecc200_calls.specs.Modules.{AreGiven, AreModulesOf, IsGivenFault, modules_of}
+use Rattle.ecc200_calls.specs.Modules.{AreGiven, IsGivenFault, modules_of}
 
 -- After a fault there is that fault, the modules are as they were before, and all else is 0.
 abbrev pub no_symbol : Fault → SymbolOut → SymbolOut
@@ -97,16 +97,6 @@ pub record IsNormalGiven (extent : Extent) (profile : Profile) (symbol : Modules
   pub result : Result ModulesView NormalFault
   pub result_is : NormalSymbolResult extent profile symbol doubtful limit result
   pub shown : after ≡ normal_shown result before
-
--- Where these numbers say which modules of a symbol are doubtful, the fault that they aren't as many as its modules is
--- given, or the result of normalising the symbol.
-pub data IsDoubtfulGiven (extent : Extent) (profile : Profile) (rows columns : ℕ) (symbol : ModulesView)
-    (doubt : List ℕ) (limit : ℕ) (before after : SymbolOut) : Type 0 where
-  other_count : length doubt ≢ rows * columns → after ≡ no_symbol wrong_doubt before
-      → IsDoubtfulGiven extent profile rows columns symbol doubt limit before after
-  normal : (doubtful : ModulesView) → AreModulesOf rows columns doubt doubtful
-      → IsNormalGiven extent profile symbol (Some doubtful) limit before after
-      → IsDoubtfulGiven extent profile rows columns symbol doubt limit before after
 
 -- The result for modules in an extent and under a profile is why they make no symbol, or the result of normalising
 -- their symbol.

@@ -1,4 +1,4 @@
 pub mod PlaceSteps
 pub mod UnpackedCells
-pub mod SquareReadings
-pub mod NoDoubt
+pub mod Given
+pub mod Rooms

@@ -1,18 +1,20 @@
 //! Inspecting.
 
-ghost use Rattle.std.specs.Prelude.{◌≡◌, ◌≤◌, IfSome, Some, length, map, option_map};
-ghost use Rattle.dm_modules.specs.Sizes.{entry_with};
+ghost use Rattle.std.specs.Prelude.{◌≡◌, ◌≤◌, IfSome, IsTrue, length, map, option_map};
+ghost use Rattle.dm_modules.specs.Sizes.{area, codeword_count};
 ghost use Rattle.ecc200_calls.specs.Arrays.{over};
-ghost use Rattle.ecc200_calls.specs.Inspections.{IsDoubtfulGiven, IsInspectResult, IsInspectionGiven, corrected_shown};
-ghost use Rattle.ecc200_calls.specs.Inspections.{erased_shown, inspection_shown, left_shown, no_inspection};
+ghost use Rattle.ecc200_calls.specs.Inspections.{IsInspectResult, IsInspectionGiven, corrected_shown, erased_shown};
+ghost use Rattle.ecc200_calls.specs.Inspections.{inspection_shown, left_shown, no_inspection};
+ghost use Rattle.ecc200_calls.specs.inner.Given.{IsOfGiven};
+ghost use Rattle.ecc200_calls.specs.inner.Rooms.{HasRoom};
 
 use crate::arrays::put_bytes;
 use crate::fault::Fault;
-use crate::modules::{make_doubtful, make_modules, none_doubtful};
-use crate::square_inspection::inspect_square;
-use crate::squares::is_grid_square;
-use dm_modules::{BorrowedModules, MOST_BLOCKS, MOST_CODEWORDS};
-use dm_symbol::{BlockReading, SymbolInspection, inspect_borrowed_to};
+use crate::given::{Given, check_given};
+use crate::modules::put_modules;
+use crate::room::*;
+use dm_modules::{MOST_BLOCKS, MOST_CODEWORDS, SymbolIn, SymbolSize};
+use dm_symbol::{BlockReading, SymbolInspectionIn, inspect_symbol_to};
 
 /// This is shown instead of the number of corrected codewords where a block is beyond correction.
 const BEYOND: u8 = 255;
@@ -45,75 +47,62 @@ pub fn inspect(
     ensures out { IsInspectResult rows columns modules.now doubtful.now out.old out.new }
     ensures code { result ≡ out.new.fault.code }
 {
-    inspect_given(modules, doubtful, rows, columns, out);
+    match check_given(modules, doubtful, rows, columns) {
+        Ok(given) => in_room!(
+            Room::of(given.size),
+            inspect_given::<_, _, _>(modules, doubtful, given, out)
+        ),
+        Err(why) => show_fault(out, why),
+    }
     out.fault.code
 }
 
-/// Shows the inspection of the symbol of these modules, or why they make none.
-fn inspect_given(modules: &[u8], doubtful: &[u8], rows: u16, columns: u16, out: &mut InspectionOut)
-    ensures { IsInspectResult rows columns modules.now doubtful.now out.old out.new }
-{
-    if is_grid_square(rows, columns) {
-        inspect_square(modules, doubtful, rows, out);
-    } else {
-        inspect_symbol(modules, doubtful, rows, columns, out);
-    }
-}
-
-/// Does so for a symbol of any size. It stands by itself, so that squares leave no room for its inspection
-/// on the stack.
+/// Shows the inspection of the symbol of these modules in a room that serves for it. It stands by itself, so that no
+/// other room is left for it on the stack.
 #[inline(never)]
-fn inspect_symbol(modules: &[u8], doubtful: &[u8], rows: u16, columns: u16, out: &mut InspectionOut)
-    ensures { IsInspectResult rows columns modules.now doubtful.now out.old out.new }
-{
-    match make_modules(modules, rows, columns) {
-        Ok(symbol) => {
-            if none_doubtful(doubtful, rows, columns) {
-                inspect_modules(&symbol, None, rows, columns, out);
-            } else {
-                inspect_doubtful(&symbol, doubtful, rows, columns, out);
-            }
-        }
-        Err(why) => show_fault(out, why),
-    }
-}
-
-/// Does so where these of the modules are doubtful, whose numbers aren't 0.
-fn inspect_doubtful(
-    symbol: &BorrowedModules<u8>,
-    numbers: &[u8],
-    rows: u16,
-    columns: u16,
+fn inspect_given<const ROWS: usize, const WORDS: usize, const ITEMS: usize>(
+    modules: &[u8],
+    doubtful: &[u8],
+    given: Given,
     out: &mut InspectionOut,
 )
-    requires { entry_with rows columns ≡ Some symbol.now.size }
-    ensures { IsDoubtfulGiven rows columns symbol.now numbers.now out.old out.new }
+    requires room { HasRoom ROWS WORDS ITEMS given.size }
+    requires modules { length modules.now ≡ area given.size }
+    requires doubtful { IsTrue given.doubt → length doubtful.now ≡ area given.size }
+    ensures { IsOfGiven given.size modules.now doubtful.now given.doubt (λ symbol doubtful.
+        IsInspectionGiven given.size.rows given.size.columns symbol doubtful out.old out.new) }
 {
-    match make_doubtful(numbers, rows, columns) {
-        Ok(doubtful) => inspect_modules(symbol, Some(&doubtful), rows, columns, out),
-        Err(why) => show_fault(out, why),
+    let mut symbol = SymbolIn::<ROWS>::light(given.size);
+    put_modules(&mut symbol, modules);
+    if given.doubt {
+        let mut marked = SymbolIn::<ROWS>::light(given.size);
+        put_modules(&mut marked, doubtful);
+        inspect_symbol::<ROWS, WORDS>(&symbol, Some(&marked), out);
+    } else {
+        inspect_symbol::<ROWS, WORDS>(&symbol, None, out);
     }
 }
 
 /// Shows the inspection of a symbol of whose modules these are doubtful.
-fn inspect_modules(
-    symbol: &BorrowedModules<u8>,
-    doubtful: Option<&BorrowedModules<u8>>,
-    rows: u16,
-    columns: u16,
+fn inspect_symbol<const ROWS: usize, const WORDS: usize>(
+    symbol: &SymbolIn<ROWS>,
+    doubtful: Option<&SymbolIn<ROWS>>,
     out: &mut InspectionOut,
 )
-    requires { IfSome doubtful (λ doubtful. doubtful.now.size ≡ symbol.now.size) }
-    ensures { IsInspectionGiven rows columns symbol.now (option_map (λ d. d.now) doubtful.entry)
-        out.old out.new }
+    requires doubtful { IfSome doubtful (λ doubtful. doubtful.now.size ≡ symbol.now.size) }
+    requires codewords { codeword_count symbol.now.size ≤ WORDS }
+    requires room { WORDS ≤ MOST_CODEWORDS }
+    ensures { IsInspectionGiven symbol.now.size.rows symbol.now.size.columns symbol.now
+        (option_map (λ d. d.now) doubtful.entry) out.old out.new }
 {
-    let mut inspection = SymbolInspection::new();
-    inspect_borrowed_to(symbol, doubtful, &mut inspection);
-    show_inspection(out, rows, columns, &inspection);
+    let size = symbol.size();
+    let mut inspection = SymbolInspectionIn::<WORDS>::new(size);
+    inspect_symbol_to(symbol, doubtful, &mut inspection);
+    show_inspection(out, size, &inspection);
 }
 
 /// Shows a fault in place of an inspection.
-pub(crate) fn show_fault(out: &mut InspectionOut, why: Fault)
+fn show_fault(out: &mut InspectionOut, why: Fault)
     ensures { out.new ≡ no_inspection why out.old }
 {
     out.fault = why;
@@ -124,24 +113,24 @@ pub(crate) fn show_fault(out: &mut InspectionOut, why: Fault)
     out.codeword_count = 0;
 }
 
-/// Shows an inspection of a symbol with these rows and columns.
-pub(crate) fn show_inspection(
+/// Shows an inspection of a symbol of this size.
+fn show_inspection<const WORDS: usize>(
     out: &mut InspectionOut,
-    rows: u16,
-    columns: u16,
-    inspection: &SymbolInspection,
+    size: SymbolSize,
+    inspection: &SymbolInspectionIn<WORDS>,
 )
-    ensures { out.new ≡ inspection_shown rows columns inspection.now out.old }
+    ensures { out.new ≡ inspection_shown size.rows size.columns inspection.now out.old }
 {
+    let blocks = inspection.blocks.as_slice();
     out.fault = Fault::none();
-    out.rows = rows;
-    out.columns = columns;
+    out.rows = size.rows();
+    out.columns = size.columns();
     out.border_faults = inspection.border_faults;
-    out.block_count = inspection.blocks.len() as u16;
+    out.block_count = blocks.len() as u16;
     out.codeword_count = inspection.held.list().len() as u16;
-    put_corrected(&mut out.corrected, inspection.blocks.as_slice());
-    put_erased(&mut out.erased, inspection.blocks.as_slice());
-    put_left(&mut out.left, inspection.blocks.as_slice());
+    put_corrected(&mut out.corrected, blocks);
+    put_erased(&mut out.erased, blocks);
+    put_left(&mut out.left, blocks);
     put_bytes(&mut out.held, inspection.held.list());
     put_bytes(&mut out.mended, inspection.mended.list());
 }

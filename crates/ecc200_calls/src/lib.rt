@@ -13,15 +13,15 @@
 //! Each function is total, takes no memory but its stack, and keeps nothing between calls. It writes nothing but `out`,
 //! and of the arrays in it only the elements that count. What they give is defined in `specs/`, on the definitions of
 //! `dm_symbol` for symbols of every size: `Readings`, `Symbols`, `Inspections`, `Places`, `Sizes`; `Laws` has the laws
-//! of these definitions, which the functions of [`laws`] prove. Squares of sides 10 to 104 are read,
-//! normalised and written as grids, which is faster; a law of `dm_symbol` says that the results are the same. They are
-//! read as grids also where modules are doubtful, and inspected so, by calls of `dm_symbol` whose contracts say so.
+//! of these definitions, which the functions of [`laws`] prove. A caller's bytes are packed into rows of bits, and a
+//! symbol is unpacked over them, in `modules` alone; and `room` alone says how much room a call takes for its work.
 #![tactic(auto)]
 
 mod arrays;
 mod choice;
 mod extent;
 mod fault;
+mod given;
 mod inspection;
 mod interface;
 pub mod laws;
@@ -31,10 +31,8 @@ mod normalising;
 mod place_table;
 mod profile;
 mod reading;
+mod room;
 mod size_table;
-mod square_inspection;
-mod square_reading;
-mod squares;
 mod symbol;
 mod writing;
 

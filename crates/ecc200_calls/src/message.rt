@@ -1,42 +1,18 @@
 //! Messages as numbers: a byte is itself, FNC1 is 256.
 
-ghost use Rattle.std.specs.Prelude.{◌≡◌, ◌≤◌, ◌<◌, length, All, IfSome, IfNone, IsTrue, false};
-ghost use Rattle.dm_symbol.specs.declared.Extent.{Extent};
-ghost use Rattle.dm_words.specs.Messages.{most_spelled};
+ghost use Rattle.std.specs.Prelude.{◌≡◌, ◌≤◌, ◌<◌, ◌+◌, ◌*◌, ◌∷◌, List, length, All, IfSome, IfNone};
+ghost use Rattle.dm_symbol.specs.declared.Item.{Item};
+ghost use Rattle.dm_symbol.specs.declared.Profile.{Profile};
+ghost use Rattle.dm_symbol.specs.Ascii.{ascii};
 ghost use Rattle.dm_symbol.specs.Messages.{IsMessage};
+ghost use Rattle.dm_symbol.specs.NormalForm.{normal_form};
 ghost use Rattle.ecc200_calls.specs.Arrays.{over};
 ghost use Rattle.ecc200_calls.specs.Items.{IsFirstForeign, number_of, numbers_of};
 
-use dm_symbol::{Item, MESSAGE_ROOM, MessageIn};
-use dm_words::MOST_DATA;
+use dm_symbol::{Item, LARGEST_ROOM, MessageIn};
 
 /// The number of FNC1.
 const FNC1: u16 = 256;
-
-/// A symbol with at most this many data codewords says few items: squares up to side 32 and most rectangles.
-const FEW_WORDS: u16 = 62;
-
-/// The items for which a message of few has room: two for each of so many data codewords, and seven more, as the
-/// message of a macro can have. To clear a small room takes less time than to clear one for any message.
-pub(crate) const FEW_ITEMS: usize = 131;
-
-/// Whether so many data codewords spell few items, in any extent.
-#[inline]
-pub(crate) fn spell_few(words: u16) -> bool
-    ensures few { IsTrue result → (extent : Extent) → most_spelled extent words ≤ FEW_ITEMS }
-    ensures more { result ≡ false → FEW_WORDS < words }
-{
-    words <= FEW_WORDS
-}
-
-/// Whether so many data codewords spell no more than those of the largest grid, in any extent.
-#[inline]
-pub(crate) fn spell_as_grids(words: u16) -> bool
-    ensures fit { IsTrue result → (extent : Extent) → most_spelled extent words ≤ MESSAGE_ROOM }
-    ensures more { result ≡ false → MOST_DATA < words }
-{
-    usize::from(words) <= MOST_DATA
-}
 
 /// Gives the place of the first of these numbers that stands for no item.
 pub(crate) fn first_foreign(numbers: &[u16]) -> Option<usize>
@@ -44,6 +20,30 @@ pub(crate) fn first_foreign(numbers: &[u16]) -> Option<usize>
     ensures none { IfNone result (All (λ number. number ≤ 256) numbers.now) }
 {
     numbers.iter().position(|number| *number > FNC1)
+}
+
+/// Gives the most codewords that these items take in a normal form: those of each by itself in ASCII.
+pub(crate) fn most_words(items: &[Item]) -> usize
+    requires { length items.now ≤ LARGEST_ROOM }
+    ensures words { (profile : Profile) → length (normal_form profile items.now) ≤ result }
+    ensures few { result ≤ 2 * length items.now }
+{
+    let mut most = 0;
+    for item in items {
+        most += word_count(*item);
+    }
+    most
+}
+
+/// Gives how many codewords an item takes at most in ASCII.
+fn word_count(item: Item) -> usize
+    ensures words { (rest : List Item) → length (ascii (item ∷ rest)) ≤ result + length (ascii rest) }
+    ensures few { result ≤ 2 }
+{
+    match item {
+        Item::Byte(byte) => { if byte < 128 { 1 } else { 2 } }
+        Item::Fnc1 => 1,
+    }
 }
 
 /// Gives the message of these numbers.

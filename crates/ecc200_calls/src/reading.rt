@@ -1,23 +1,22 @@
 //! Reading.
 
-ghost use Rattle.std.specs.Prelude.{◌≡◌, ◌≤◌, ◌/◌, IfSome, None, Some, length, map, option_map};
-ghost use Rattle.dm_words.specs.Messages.{most_spelled};
-ghost use Rattle.dm_symbol.specs.SymbolReading.{symbol_reading_of};
-ghost use Rattle.dm_modules.specs.Sizes.{entry_with};
+ghost use Rattle.std.specs.Prelude.{◌≡◌, ◌≤◌, ◌/◌, IfSome, IsTrue, length, map, option_map};
+ghost use Rattle.dm_modules.specs.Sizes.{area};
+ghost use Rattle.dm_symbol.specs.SymbolReading.{reading_in};
 ghost use Rattle.ecc200_calls.specs.Arrays.{over};
-ghost use Rattle.ecc200_calls.specs.Readings.{ExtentResult, IsDoubtfulGiven, IsReadResult, IsReadingGiven};
-ghost use Rattle.ecc200_calls.specs.Readings.{corrected_in, erased_in};
+ghost use Rattle.ecc200_calls.specs.Readings.{ExtentResult, IsReadResult, IsReadingGiven, corrected_in, erased_in};
 ghost use Rattle.ecc200_calls.specs.Readings.{left_in, no_reading, reading_shown, usual_limit};
+ghost use Rattle.ecc200_calls.specs.inner.Given.{IsOfGiven};
+ghost use Rattle.ecc200_calls.specs.inner.Rooms.{HasRoom};
 
 use crate::extent::extent_of;
 use crate::fault::{Fault, read_fault};
-use crate::message::{FEW_ITEMS, put_message, spell_as_grids, spell_few};
-use crate::modules::{make_doubtful, make_modules, none_doubtful};
-use crate::square_reading::read_square;
-use crate::squares::is_grid_square;
-use arrayvec::ArrayVec;
-use dm_modules::{BorrowedModules, MOST_BLOCKS};
-use dm_symbol::{BlockReading, Extent, MESSAGE_ROOM, MessageIn, read_borrowed_message_to};
+use crate::given::{Given, check_given};
+use crate::message::put_message;
+use crate::modules::put_modules;
+use crate::room::*;
+use dm_modules::{MOST_BLOCKS, SymbolIn, SymbolSize, SymbolWordsIn};
+use dm_symbol::{BlockReading, Extent, ReadOptions, SymbolReadingIn, read_symbol_to};
 use dm_words::LARGEST_ROOM;
 
 /// What a symbol says, and how much of it was wrong. After a fault all but the fault and the arrays is 0.
@@ -51,7 +50,9 @@ pub fn read(
     ensures code { result ≡ out.new.fault.code }
 {
     match extent_of(extent) {
-        Some(extent) => read_given(extent, modules, doubtful, rows, columns, border_limit, out),
+        Some(extent) => {
+            read_in_extent(extent, modules, doubtful, rows, columns, border_limit, out)
+        }
         None => show_fault(out, Fault::no_such_extent(extent)),
     }
     out.fault.code
@@ -66,7 +67,7 @@ pub fn usual_limit(rows: u16, columns: u16) -> u16
 }
 
 /// Shows what the symbol of these modules says in an extent, or why it says nothing.
-fn read_given(
+fn read_in_extent(
     extent: Extent,
     modules: &[u8],
     doubtful: &[u8],
@@ -78,127 +79,73 @@ fn read_given(
     ensures { ExtentResult extent rows columns modules.now doubtful.now border_limit out.old
         out.new }
 {
-    if is_grid_square(rows, columns) {
-        read_square(extent, modules, doubtful, rows, border_limit, out);
-    } else {
-        read_symbol(extent, modules, doubtful, rows, columns, border_limit, out);
-    }
-}
-
-/// Shows what the symbol of these modules says in an extent, or why it says nothing, for a symbol of any size. It
-/// stands by itself, so that squares leave no room for its reading on the stack.
-#[inline(never)]
-fn read_symbol(
-    extent: Extent,
-    modules: &[u8],
-    doubtful: &[u8],
-    rows: u16,
-    columns: u16,
-    border_limit: u16,
-    out: &mut ReadingOut,
-)
-    ensures { ExtentResult extent rows columns modules.now doubtful.now border_limit out.old
-        out.new }
-{
-    match make_modules(modules, rows, columns) {
-        Ok(symbol) => {
-            if none_doubtful(doubtful, rows, columns) {
-                read_modules(extent, &symbol, None, rows, columns, border_limit, out);
-            } else {
-                read_doubtful(extent, &symbol, doubtful, rows, columns, border_limit, out);
-            }
-        }
-        Err(why) => show_fault(out, why),
-    }
-}
-
-/// Does so where these of the modules are doubtful, whose numbers aren't 0.
-fn read_doubtful(
-    extent: Extent,
-    symbol: &BorrowedModules<u8>,
-    numbers: &[u8],
-    rows: u16,
-    columns: u16,
-    border_limit: u16,
-    out: &mut ReadingOut,
-)
-    requires { entry_with rows columns ≡ Some symbol.now.size }
-    ensures { IsDoubtfulGiven extent rows columns symbol.now numbers.now border_limit out.old
-        out.new }
-{
-    match make_doubtful(numbers, rows, columns) {
-        Ok(doubtful) => read_modules(
-            extent,
-            symbol,
-            Some(&doubtful),
-            rows,
-            columns,
-            border_limit,
-            out,
+    match check_given(modules, doubtful, rows, columns) {
+        Ok(given) => in_room!(
+            Room::of(given.size),
+            read_given::<_, _, _>(extent, modules, doubtful, given, border_limit, out)
         ),
         Err(why) => show_fault(out, why),
     }
 }
 
-/// Shows what a symbol says in an extent, of whose modules these are doubtful, or why it says nothing.
-fn read_modules(
+/// Does so in a room that serves for the symbol. It stands by itself, so that no other room is left for it on the
+/// stack.
+#[inline(never)]
+fn read_given<const ROWS: usize, const WORDS: usize, const ITEMS: usize>(
     extent: Extent,
-    symbol: &BorrowedModules<u8>,
-    doubtful: Option<&BorrowedModules<u8>>,
-    rows: u16,
-    columns: u16,
+    modules: &[u8],
+    doubtful: &[u8],
+    given: Given,
     border_limit: u16,
     out: &mut ReadingOut,
 )
-    requires { IfSome doubtful (λ doubtful. doubtful.now.size ≡ symbol.now.size) }
-    ensures { IsReadingGiven extent rows columns symbol.now
-        (option_map (λ d. d.now) doubtful.entry) border_limit out.old out.new }
+    requires room { HasRoom ROWS WORDS ITEMS given.size }
+    requires modules { length modules.now ≡ area given.size }
+    requires doubtful { IsTrue given.doubt → length doubtful.now ≡ area given.size }
+    ensures { IsOfGiven given.size modules.now doubtful.now given.doubt (λ symbol doubtful.
+        IsReadingGiven extent given.size.rows given.size.columns symbol doubtful border_limit
+        out.old out.new) }
 {
-    let words = symbol.size().data_count();
-    if spell_few(words) {
-        read_modules_in::<FEW_ITEMS>(extent, symbol, doubtful, rows, columns, border_limit, out);
-    } else if spell_as_grids(words) {
-        read_modules_in::<MESSAGE_ROOM>(extent, symbol, doubtful, rows, columns, border_limit, out);
+    let mut symbol = SymbolIn::<ROWS>::light(given.size);
+    put_modules(&mut symbol, modules);
+    if given.doubt {
+        let mut marked = SymbolIn::<ROWS>::light(given.size);
+        put_modules(&mut marked, doubtful);
+        read_symbol::<ROWS, WORDS, ITEMS>(extent, &symbol, Some(&marked), border_limit, out);
     } else {
-        read_modules_in::<LARGEST_ROOM>(extent, symbol, doubtful, rows, columns, border_limit, out);
+        read_symbol::<ROWS, WORDS, ITEMS>(extent, &symbol, None, border_limit, out);
     }
 }
 
-/// Does so by way of a message with room for what the symbol says.
-fn read_modules_in<const ROOM: usize>(
+/// Shows what a symbol says in an extent, of whose modules these are doubtful, or why it says nothing.
+fn read_symbol<const ROWS: usize, const WORDS: usize, const ITEMS: usize>(
     extent: Extent,
-    symbol: &BorrowedModules<u8>,
-    doubtful: Option<&BorrowedModules<u8>>,
-    rows: u16,
-    columns: u16,
+    symbol: &SymbolIn<ROWS>,
+    doubtful: Option<&SymbolIn<ROWS>>,
     border_limit: u16,
     out: &mut ReadingOut,
 )
+    requires room { HasRoom ROWS WORDS ITEMS symbol.now.size }
     requires doubtful { IfSome doubtful (λ doubtful. doubtful.now.size ≡ symbol.now.size) }
-    requires spelled { most_spelled extent symbol.now.size.data_count ≤ ROOM }
-    requires most { ROOM ≤ LARGEST_ROOM }
-    ensures { IsReadingGiven extent rows columns symbol.now
+    ensures { IsReadingGiven extent symbol.now.size.rows symbol.now.size.columns symbol.now
         (option_map (λ d. d.now) doubtful.entry) border_limit out.old out.new }
 {
-    let mut message = MessageIn::<ROOM>::new();
-    let mut blocks = ArrayVec::new();
-    let mut faults = 0;
-    match read_borrowed_message_to(
+    let size = symbol.size();
+    let how = ReadOptions {
         extent,
-        symbol,
-        doubtful,
         border_limit,
-        &mut message,
-        &mut blocks,
-        &mut faults,
-    ) {
-        Ok(()) => show_reading(out, rows, columns, &message, &blocks, faults),
+        doubtful,
+    };
+    let mut words = SymbolWordsIn::<WORDS>::zeros(size);
+    let mut reading = SymbolReadingIn::<ITEMS>::new();
+    match read_symbol_to(symbol, how, &mut words, &mut reading) {
+        Ok(()) => show_reading(out, size, &reading),
         Err(why) => show_fault(out, read_fault(why)),
     }
 }
 
 /// Shows a fault in place of a reading.
-pub(crate) fn show_fault(out: &mut ReadingOut, why: Fault)
+fn show_fault(out: &mut ReadingOut, why: Fault)
     ensures { out.new ≡ no_reading why out.old }
 {
     out.fault = why;
@@ -209,30 +156,26 @@ pub(crate) fn show_fault(out: &mut ReadingOut, why: Fault)
     out.item_count = 0;
 }
 
-/// Shows a reading of a symbol with these rows and columns: its message, what became of each block, and the number of
-/// border faults.
-pub(crate) fn show_reading<const ROOM: usize>(
+/// Shows a reading of a symbol of this size.
+fn show_reading<const ITEMS: usize>(
     out: &mut ReadingOut,
-    rows: u16,
-    columns: u16,
-    message: &MessageIn<ROOM>,
-    blocks: &ArrayVec<BlockReading, MOST_BLOCKS>,
-    faults: u16,
+    size: SymbolSize,
+    reading: &SymbolReadingIn<ITEMS>,
 )
-    requires { ROOM ≤ LARGEST_ROOM }
-    ensures { out.new ≡ reading_shown rows columns
-        (symbol_reading_of message.now blocks.now.items faults) out.old }
+    requires { ITEMS ≤ LARGEST_ROOM }
+    ensures { out.new ≡ reading_shown size.rows size.columns (reading_in reading.now) out.old }
 {
+    let blocks = reading.blocks.as_slice();
     out.fault = Fault::none();
-    out.rows = rows;
-    out.columns = columns;
-    out.border_faults = faults;
+    out.rows = size.rows();
+    out.columns = size.columns();
+    out.border_faults = reading.border_faults;
     out.block_count = blocks.len() as u16;
-    put_corrected(&mut out.corrected, blocks.as_slice());
-    put_erased(&mut out.erased, blocks.as_slice());
-    put_left(&mut out.left, blocks.as_slice());
-    out.item_count = message.items().len() as u16;
-    put_message(&mut out.items, message);
+    put_corrected(&mut out.corrected, blocks);
+    put_erased(&mut out.erased, blocks);
+    put_left(&mut out.left, blocks);
+    out.item_count = reading.message.items().len() as u16;
+    put_message(&mut out.items, &reading.message);
 }
 
 /// Writes the numbers of wrong codewords of these blocks over the first ones.

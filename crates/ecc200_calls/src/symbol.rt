@@ -1,14 +1,11 @@
 //! Symbols as they are given to C.
 
 ghost use Rattle.std.specs.Prelude.{◌≡◌};
-ghost use Rattle.dm_symbol.specs.Grid.{symbol_modules};
 ghost use Rattle.ecc200_calls.specs.Symbols.{no_symbol, symbol_shown};
 
 use crate::fault::Fault;
-use crate::modules::put_modules;
-use crate::squares::put_cells;
-use dm_modules::{MOST_MODULES, Modules};
-use dm_symbol::Grid;
+use crate::modules::show_modules;
+use dm_modules::{MOST_MODULES, SymbolIn};
 
 /// A symbol: the first `rows * columns` modules, row by row from the top, 1 for dark. After a fault all but the fault
 /// and the modules is 0.
@@ -30,24 +27,13 @@ pub(crate) fn show_fault(out: &mut SymbolOut, why: Fault)
     out.columns = 0;
 }
 
-/// Shows the symbol of a grid.
-pub(crate) fn show_grid(out: &mut SymbolOut, grid: &Grid)
-    ensures { out.new ≡ symbol_shown (symbol_modules grid.now) out.old }
-{
-    let side = grid.size().side();
-    out.fault = Fault::none();
-    out.rows = side;
-    out.columns = side;
-    put_cells(&mut out.modules, grid);
-}
-
-/// Shows a symbol of any size.
-pub(crate) fn show_modules(out: &mut SymbolOut, symbol: &Modules)
+/// Shows a symbol.
+pub(crate) fn show_symbol<const ROWS: usize>(out: &mut SymbolOut, symbol: &SymbolIn<ROWS>)
     ensures { out.new ≡ symbol_shown symbol.now out.old }
 {
     let size = symbol.size();
     out.fault = Fault::none();
     out.rows = size.rows();
     out.columns = size.columns();
-    put_modules(&mut out.modules, symbol);
+    show_modules(&mut out.modules, symbol);
 }

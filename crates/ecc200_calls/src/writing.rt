@@ -1,23 +1,20 @@
 //! Writing.
 
-ghost use Rattle.std.specs.Prelude.{◌≡◌, ◌≤◌, All};
-ghost use Rattle.dm_symbol.specs.declared.SizeChoice.TheVariants.{Square};
+ghost use Rattle.std.specs.Prelude.{◌≡◌, ◌≤◌, All, length};
 ghost use Rattle.ecc200_calls.specs.Symbols.{ChoiceResult, IsMessageGiven, IsWriteResult, IsWritingGiven};
+ghost use Rattle.ecc200_calls.specs.inner.Rooms.{HasRoomToWrite};
 
 use crate::choice::{How, choice_of};
 use crate::fault::Fault;
-use crate::message::{FEW_ITEMS, first_foreign, message_of_bytes, message_of_numbers};
-use crate::modules::light_modules;
+use crate::message::{first_foreign, message_of_bytes, message_of_numbers};
 use crate::profile::profile_of;
-use crate::symbol::{SymbolOut, show_fault, show_grid, show_modules};
-use dm_modules::MOST_DATA;
-use dm_symbol::{
-    LARGEST_ROOM, MESSAGE_ROOM, MOST_ITEMS, MessageIn, Profile, SizeChoice, TooLong, WriteOptions,
-    light_grid, write_message_to, write_symbol_to,
-};
+use crate::room::*;
+use crate::symbol::{SymbolOut, show_fault, show_symbol};
+use dm_modules::{MOST_DATA, SymbolIn, SymbolWordsIn};
+use dm_symbol::{MessageIn, Profile, TooLong, WriteOptions, write_symbol_to};
 
 /// The most items that any symbol holds in a normal form: two for each data codeword.
-const LARGEST_ITEMS: usize = 2 * MOST_DATA;
+const MOST_WRITTEN: usize = 2 * MOST_DATA;
 
 /// Writes the symbol of the message of these numbers.
 pub fn write(items: &[u16], how: &How, out: &mut SymbolOut) -> u16
@@ -59,7 +56,7 @@ fn write_bytes_chosen(bytes: &[u8], profile: Profile, how: How, out: &mut Symbol
     ensures { ChoiceResult profile bytes.now how out.old out.new }
 {
     match choice_of(how) {
-        Some(size) => write_these_bytes(bytes, WriteOptions { profile, size }, out),
+        Some(size) => write_items_of_bytes(bytes, WriteOptions { profile, size }, out),
         None => show_fault(out, Fault::no_such_choice(how.shape)),
     }
 }
@@ -77,84 +74,89 @@ fn write_items(items: &[u16], how: WriteOptions, out: &mut SymbolOut)
     }
 }
 
-/// Does so where each number stands for an item.
+/// Does so where each number stands for an item. A message with more items than two for each data codeword of the
+/// largest symbol fits no size.
 fn write_numbers(items: &[u16], how: WriteOptions, out: &mut SymbolOut)
     requires { All (λ item. item ≤ 256) items.now }
     ensures { IsWritingGiven how.size how.profile items.now out.old out.new }
 {
-    if items.len() > LARGEST_ITEMS {
+    if items.len() > MOST_WRITTEN {
         show_fault(out, Fault::too_long());
-    } else if items.len() > MOST_ITEMS {
-        write_symbol(&message_of_numbers::<LARGEST_ROOM>(items), how, out);
-    } else if items.len() > FEW_ITEMS {
-        write_message(&message_of_numbers::<MESSAGE_ROOM>(items), how, out);
     } else {
-        write_message(&message_of_numbers::<FEW_ITEMS>(items), how, out);
+        in_room!(
+            Room::of_items(items.len()),
+            write_these_numbers::<_>(items, how, out)
+        );
     }
+}
+
+/// Does so in a room that serves. It stands by itself, so that no other room is left for it on the stack.
+#[inline(never)]
+fn write_these_numbers<const ITEMS: usize>(items: &[u16], how: WriteOptions, out: &mut SymbolOut)
+    requires items { All (λ item. item ≤ 256) items.now }
+    requires room { length items.now ≤ ITEMS }
+    requires most { ITEMS ≤ LARGEST_ITEMS }
+    ensures { IsWritingGiven how.size how.profile items.now out.old out.new }
+{
+    write_message(&message_of_numbers::<ITEMS>(items), how, out);
 }
 
 /// Shows the symbol of the message of these bytes, or why there is none.
-fn write_these_bytes(bytes: &[u8], how: WriteOptions, out: &mut SymbolOut)
+fn write_items_of_bytes(bytes: &[u8], how: WriteOptions, out: &mut SymbolOut)
     ensures { IsWritingGiven how.size how.profile bytes.now out.old out.new }
 {
-    if bytes.len() > LARGEST_ITEMS {
+    if bytes.len() > MOST_WRITTEN {
         show_fault(out, Fault::too_long());
-    } else if bytes.len() > MOST_ITEMS {
-        write_symbol(&message_of_bytes::<LARGEST_ROOM>(bytes), how, out);
-    } else if bytes.len() > FEW_ITEMS {
-        write_message(&message_of_bytes::<MESSAGE_ROOM>(bytes), how, out);
     } else {
-        write_message(&message_of_bytes::<FEW_ITEMS>(bytes), how, out);
+        in_room!(
+            Room::of_items(bytes.len()),
+            write_these_bytes::<_>(bytes, how, out)
+        );
     }
 }
 
-/// Shows the symbol in which a message is written, or that it fits no size of the choice. A square is written as a grid
-/// if it fits one, which is faster.
-fn write_message<const ROOM: usize>(
-    message: &MessageIn<ROOM>,
+/// Does so in a room that serves, as for numbers.
+#[inline(never)]
+fn write_these_bytes<const ITEMS: usize>(bytes: &[u8], how: WriteOptions, out: &mut SymbolOut)
+    requires room { length bytes.now ≤ ITEMS }
+    requires most { ITEMS ≤ LARGEST_ITEMS }
+    ensures { IsWritingGiven how.size how.profile bytes.now out.old out.new }
+{
+    write_message(&message_of_bytes::<ITEMS>(bytes), how, out);
+}
+
+/// Shows the symbol in which a message is written, or that it fits no size of the choice.
+pub(crate) fn write_message<const ITEMS: usize>(
+    message: &MessageIn<ITEMS>,
     how: WriteOptions,
     out: &mut SymbolOut,
 )
-    requires { ROOM ≤ LARGEST_ROOM }
+    requires { ITEMS ≤ LARGEST_ITEMS }
     ensures { IsMessageGiven how.size how.profile message.now out.old out.new }
 {
-    match how.size {
-        SizeChoice::Square => write_square(message, how.profile, out),
-        _ => write_symbol(message, how, out),
-    }
+    in_room!(
+        Room::of_message(how.size, message.items()),
+        write_symbol::<_, _, ITEMS>(message, how, out)
+    );
 }
 
-/// Shows the normal symbol of a message, or that it fits no square.
-pub(crate) fn write_square<const ROOM: usize>(
-    message: &MessageIn<ROOM>,
-    profile: Profile,
-    out: &mut SymbolOut,
-)
-    requires { ROOM ≤ LARGEST_ROOM }
-    ensures { IsMessageGiven Square profile message.now out.old out.new }
-{
-    let mut grid = light_grid();
-    match write_message_to(profile, message, &mut grid) {
-        Ok(()) => show_grid(out, &grid),
-        Err(TooLong) => {
-            let size = SizeChoice::Square;
-            write_symbol(message, WriteOptions { profile, size }, out);
-        }
-    }
-}
-
-/// Shows the symbol in which a message is written, of whatever size, or that it fits no size of the choice.
-pub(crate) fn write_symbol<const ROOM: usize>(
-    message: &MessageIn<ROOM>,
+/// Does so in a room that serves for the symbol. It stands by itself, so that no other room is left for it on the
+/// stack.
+#[inline(never)]
+fn write_symbol<const ROWS: usize, const WORDS: usize, const ITEMS: usize>(
+    message: &MessageIn<ITEMS>,
     how: WriteOptions,
     out: &mut SymbolOut,
 )
-    requires { ROOM ≤ LARGEST_ROOM }
+    requires most { ITEMS ≤ LARGEST_ITEMS }
+    requires room { HasRoomToWrite ROWS WORDS how.size message.now }
     ensures { IsMessageGiven how.size how.profile message.now out.old out.new }
 {
-    let mut symbol = light_modules();
-    match write_symbol_to(message, how, &mut symbol) {
-        Ok(()) => show_modules(out, &symbol),
+    let size = smallest_size();
+    let mut words = SymbolWordsIn::<WORDS>::zeros(size);
+    let mut symbol = SymbolIn::<ROWS>::light(size);
+    match write_symbol_to(message, how, &mut words, &mut symbol) {
+        Ok(()) => show_symbol(out, &symbol),
         Err(TooLong) => show_fault(out, Fault::too_long()),
     }
 }

@@ -1,8 +1,8 @@
--- How modules and codewords are kept: at the start of an array that is large enough for those of every size. The views
--- and the invariants of their types cite this.
-use Rattle.std.specs.Prelude.{◌≡◌, ℕ, ◌<◌, ◌≤◌, Bool, List, length, take, All}
-use Rattle.dm_modules.specs.Sizes.{SizeEntry, IsSize, area, codeword_count, most_modules, most_codewords}
-use Rattle.dm_modules.specs.Modules.{ModulesView, rows_of}
+-- How symbols and codewords are kept: at the start of arrays that are large enough. The views and the invariants of
+-- their types cite this.
+use Rattle.std.specs.Prelude.{◌≡◌, ℕ, ◌-◌, ◌<◌, ◌≤◌, Bool, List, length, take, All, get_or, nat_lt, if◌then◌else◌}
+use Rattle.dm_modules.specs.Sizes.{SizeEntry, IsSize, codeword_count}
+use Rattle.dm_modules.specs.Modules.{ModulesView, is_dark_bit, rows_by}
 use Rattle.dm_modules.specs.Words.{WordsView}
 
 -- The codewords of a size that are kept in a list of bytes are the first of these bytes.
@@ -16,22 +16,19 @@ pub record AreKeptIn (room : ℕ) (size : SizeEntry) (kept : List ℕ) : Type 0 
   pub count : length kept ≡ room
   pub bytes : All (λ word. word < 256) kept
 
--- They are kept in as many bytes as a symbol can have codewords at most.
-abbrev pub AreKept : SizeEntry → List ℕ → Type 0
-AreKept = AreKeptIn most_codewords
+-- In the numbers of a row, a module before column 128 is a bit of the first, and one from there on a bit of the second.
+abbrev pub kept_cell : List ℕ → List ℕ → ℕ → ℕ → Bool
+kept_cell rows ends row column =
+    if nat_lt column 128 then is_dark_bit (get_or rows row 0) column else is_dark_bit (get_or ends row 0) (column - 128)
 
--- The modules of a size that are kept in a list have the first of it as their rows, one after the other.
-abbrev pub kept_modules : SizeEntry → List Bool → ModulesView
-kept_modules size kept = record { size = size; rows = rows_of size.rows size.columns kept }
+-- The symbol of a size that is kept in these numbers has the first of them as its rows.
+abbrev pub kept_symbol : SizeEntry → List ℕ → List ℕ → ModulesView
+kept_symbol size rows ends = record { size = size; rows = rows_by size.rows size.columns (kept_cell rows ends) }
 
--- Modules of the size are kept in this list if the size stands in the table and the list is as long as a symbol can
--- have modules at most.
-pub record HasRoom (size : SizeEntry) (kept : List Bool) : Type 0 where
+-- A symbol of the size is kept in these numbers if the size stands in the table and has no more rows than there is room
+-- for, and there are as many numbers of each kind as there is room for.
+pub record IsKept (room : ℕ) (size : SizeEntry) (rows ends : List ℕ) : Type 0 where
   pub entry : IsSize size
-  pub fits : area size ≤ most_modules
-  pub count : length kept ≡ most_modules
-
--- So many modules are as many as the size has, which stands in the table.
-pub record IsCountOf (size : SizeEntry) (count : ℕ) : Type 0 where
-  pub entry : IsSize size
-  pub all : count ≡ area size
+  pub fits : size.rows ≤ room
+  pub height : length rows ≡ room
+  pub end_height : length ends ≡ room

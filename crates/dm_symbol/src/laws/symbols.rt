@@ -5,6 +5,7 @@ ghost use Rattle.dm_symbol.specs.SymbolLaws.{LightDoubtIsNoDoubt, LightDoubtNorm
 ghost use Rattle.dm_symbol.specs.SymbolLaws.{SymbolReadResultIsOne, NormalSymbolResultIsOne, WideReadsTheUsualSymbol};
 ghost use Rattle.dm_symbol.specs.SymbolLaws.{WrittenSymbolIsRead, WrittenSymbolsTellMessages, NormalSymbolTwiceIsOnce};
 ghost use Rattle.dm_symbol.specs.SymbolLaws.{EqualNormalSymbolsMeanEqualMessages, GridsAreReadAsSymbols};
+ghost use Rattle.dm_symbol.specs.SymbolLaws.{RoomForEachServes, MostRoomServes};
 ghost use Rattle.dm_symbol.specs.SymbolLaws.{AWrittenSymbolIsThere, GridsHaveTheResultsOfSymbols};
 ghost use Rattle.dm_symbol.specs.SymbolLaws.{NormalGridsAreNormalSymbols};
 
@@ -34,6 +35,13 @@ pub fn one_symbol_message_is_read()
 /// What is read in the usual extent has the same result in the wide one.
 pub fn wide_reads_the_usual_symbol()
     ensures { WideReadsTheUsualSymbol }
+{}
+
+/// Where there is room for the rows and the codewords of each size of a choice, as there is where there is room for the
+/// most of any symbol, there is room for the symbol in which a message is written.
+pub fn room_for_each_size_serves()
+    ensures each { RoomForEachServes }
+    ensures most { MostRoomServes }
 {}
 
 /// A message that fits a size of a choice is written in some symbol; so one that fits a square has a normal symbol.

@@ -1,24 +1,26 @@
-//! Correction of a block of a symbol of any size, where it stands.
+//! Correction of a block of a symbol of any size, where it stands, with some of its places doubtful or none.
 
-ghost use Rattle.std.specs.Prelude.{◌≡◌, ◌≢◌, ◌*◌, ◌<◌, ◌≤◌, ℕ, [], Some, IfOk, IfSome, MatchResult, option_map};
+ghost use Rattle.std.specs.Prelude.{◌≡◌, ◌≢◌, ◌*◌, ◌<◌, ◌≤◌, ℕ, [], Some, IfOk, IfSome};
+ghost use Rattle.std.specs.Prelude.{MatchResult, length, map, option_map};
 ghost use Rattle.dm_code.specs.Codeword.{IsCodeword, IsNear, distance};
-ghost use Rattle.dm_modules.specs.Sizes.{block_check};
+ghost use Rattle.dm_modules.specs.Sizes.{block_check, block_length};
+ghost use Rattle.dm_modules.specs.Blocks.{block_of};
+ghost use Rattle.dm_modules.specs.Holding.{Holds};
 ghost use Rattle.dm_symbol.specs.Reading.{HasNear};
 ghost use Rattle.dm_symbol.specs.SymbolBlocks.{AreOfSize, block_in};
 ghost use Rattle.dm_symbol.specs.SymbolReading.{IsBlockRestored};
-ghost use Rattle.dm_symbol.specs.inner.Marks.{marked_in};
+ghost use Rattle.dm_symbol.specs.inner.Marks.{is_mark, marked_in};
 
-use crate::symbol::doubt::marked_places;
 use crate::symbol::reading::BlockReading;
 use arrayvec::ArrayVec;
 use dm_code::{BeyondLimit, LONGEST_WORD, Quick, correct_erased, correct_to};
-use dm_modules::{SymbolWords, block, put_block};
+use dm_modules::{LONGEST_BLOCK, SymbolIn, SymbolWordsIn, block, lift, put_block};
 
 /// Restores a block to the codeword that is near to it but for the places that have marks, and gives what became of it,
 /// or None where no codeword is near and it stays. With no marks, none of its places is erased.
-pub(crate) fn restore_block(
-    words: &mut SymbolWords,
-    marks: Option<&SymbolWords>,
+pub(crate) fn restore_block<const WORDS: usize>(
+    words: &mut SymbolWordsIn<WORDS>,
+    marks: Option<&SymbolWordsIn<WORDS>>,
     b: usize,
 ) -> Option<BlockReading>
     requires block { b < words.old.size.blocks }
@@ -39,7 +41,10 @@ pub(crate) fn restore_block(
 }
 
 /// Restores a block none of whose places is erased. A block without errors isn't touched.
-fn correct_block(words: &mut SymbolWords, b: usize) -> Option<BlockReading>
+fn correct_block<const WORDS: usize>(
+    words: &mut SymbolWordsIn<WORDS>,
+    b: usize,
+) -> Option<BlockReading>
     requires { b < words.old.size.blocks }
     ensures size { words.new.size ≡ words.old.size }
     ensures words { AreOfSize words.old.size words.new.list }
@@ -66,8 +71,8 @@ fn correct_block(words: &mut SymbolWords, b: usize) -> Option<BlockReading>
 
 /// Gives in how many codewords a block is wrong, and leaves in `fixed` the codeword near it, if it isn't one itself.
 /// The codewords of a symbol that has one block are that block, and aren't copied.
-fn codeword_near(
-    words: &SymbolWords,
+fn codeword_near<const WORDS: usize>(
+    words: &SymbolWordsIn<WORDS>,
     b: usize,
     fixed: &mut ArrayVec<u8, LONGEST_WORD>,
 ) -> Result<u8, BeyondLimit>
@@ -93,7 +98,11 @@ fn codeword_near(
 }
 
 /// Restores a block whose places are erased that have marks.
-fn correct_marked(words: &mut SymbolWords, marks: &SymbolWords, b: usize) -> Option<BlockReading>
+fn correct_marked<const WORDS: usize>(
+    words: &mut SymbolWordsIn<WORDS>,
+    marks: &SymbolWordsIn<WORDS>,
+    b: usize,
+) -> Option<BlockReading>
     requires block { b < words.old.size.blocks }
     requires marks { marks.now.size ≡ words.old.size }
     ensures size { words.new.size ≡ words.old.size }
@@ -116,4 +125,35 @@ fn correct_marked(words: &mut SymbolWords, marks: &SymbolWords, b: usize) -> Opt
         erased: restored.erased,
         left: restored.left,
     })
+}
+
+/// Gives the marks that doubtful modules make, which are the codewords that they hold. One that isn't 0 erases the
+/// codeword at its place.
+pub(crate) fn marks_for<const ROWS: usize, const WORDS: usize>(
+    words: &SymbolWordsIn<WORDS>,
+    doubtful: &SymbolIn<ROWS>,
+) -> SymbolWordsIn<WORDS>
+    requires { doubtful.now.size ≡ words.now.size }
+    ensures { Holds doubtful.now result }
+{
+    // For the proof alone: what `size` ensures says that the marks have room.
+    let _size = words.size();
+    lift(doubtful)
+}
+
+/// Says of each place of block `b` whether its codeword is erased.
+fn marked_places<const WORDS: usize>(
+    marks: &SymbolWordsIn<WORDS>,
+    b: usize,
+) -> ArrayVec<bool, LONGEST_BLOCK>
+    requires { b < marks.now.size.blocks }
+    ensures value { result.items ≡ map is_mark (block_of marks.now.size.blocks b marks.now.list) }
+    ensures length { length result.items ≡ block_length marks.now.size b }
+{
+    let words = block(marks, b);
+    let mut erased = ArrayVec::new();
+    for i in 0..words.len() {
+        erased.push(words[i] != 0);
+    }
+    erased
 }

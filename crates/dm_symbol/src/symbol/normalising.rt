@@ -1,13 +1,15 @@
 //! Normalising a symbol of any size: the normal symbol of what it says.
 
 ghost use Rattle.std.specs.Prelude.{◌≡◌, ◌≤◌, IfSome, option_map};
+ghost use Rattle.dm_words.specs.Messages.{most_spelled};
+ghost use Rattle.dm_symbol.specs.SymbolReading.{reading_in};
 ghost use Rattle.dm_symbol.specs.SymbolNormal.{IsSymbolNormalisedTo};
 
 use crate::normalising::NormalFault;
-use crate::symbol::reading::{ReadOptions, SymbolReading, read_symbol_to};
+use crate::symbol::reading::{ReadOptions, SymbolReadingIn, read_symbol_to};
 use crate::symbol::writing::{WriteOptions, write_symbol_to};
-use dm_modules::{Modules, SizeChoice};
-use dm_words::{Profile, TooLong};
+use dm_modules::{SizeChoice, Symbol, SymbolIn, SymbolWords};
+use dm_words::{LARGEST_ROOM, Profile, TooLong};
 
 /// Gives the normal symbol, under a profile, of the message that a symbol says, whatever its shape, size, encodation
 /// and damage: the one in which the message is written in the smallest square. Two symbols that are read, each in its
@@ -17,20 +19,25 @@ use dm_words::{Profile, TooLong};
 /// After `Ok`, `normal` is the normal symbol and `reading` is what the symbol says, whatever they were before. The
 /// fault is `Read` where [`read_symbol_to`] refuses the symbol, with its fault, and `TooLong` where no square holds the
 /// message. After a fault `normal` is as it was; `reading` is what the symbol says after `TooLong` too, and some
-/// reading after `Read`.
-pub fn normal_symbol_to(
+/// reading after `Read`. `words` is room for the codewords of either symbol.
+pub fn normal_symbol_to<const ROWS: usize, const ITEMS: usize>(
+    symbol: &SymbolIn<ROWS>,
+    how: ReadOptions<ROWS>,
     profile: Profile,
-    modules: &Modules,
-    how: ReadOptions,
-    reading: &mut SymbolReading,
-    normal: &mut Modules,
+    words: &mut SymbolWords,
+    reading: &mut SymbolReadingIn<ITEMS>,
+    normal: &mut Symbol,
 ) -> Result<(), NormalFault>
-    requires { IfSome how.doubtful (λ doubtful. doubtful.now.size ≡ modules.now.size) }
-    ensures { IsSymbolNormalisedTo how.entry.extent profile modules.now
-        (option_map (λ d. d.now) how.entry.doubtful) how.entry.border_limit result reading.new
-        normal.old normal.new }
+    requires doubtful { IfSome how.doubtful (λ doubtful. doubtful.now.size ≡ symbol.now.size) }
+    requires items { most_spelled how.extent symbol.now.size.data_count ≤ ITEMS }
+    requires room { ITEMS ≤ LARGEST_ROOM }
+    ensures { IsSymbolNormalisedTo how.entry.extent profile symbol.now
+        (option_map (λ d. d.now) how.entry.doubtful) how.entry.border_limit result
+        (reading_in reading.new) normal.old normal.new }
 {
-    match read_symbol_to(modules, how, reading) {
+    // For the proof alone: what `size` ensures says that `words` have room for the codewords.
+    let _size = symbol.size();
+    match read_symbol_to(symbol, how, words, reading) {
         Ok(()) => {}
         Err(fault) => return Err(NormalFault::Read(fault)),
     }
@@ -38,7 +45,7 @@ pub fn normal_symbol_to(
         profile,
         size: SizeChoice::Square,
     };
-    match write_symbol_to(&reading.message, square, normal) {
+    match write_symbol_to(&reading.message, square, words, normal) {
         Ok(()) => Ok(()),
         Err(TooLong) => Err(NormalFault::TooLong),
     }

@@ -1,31 +1,32 @@
 //! Reading a symbol of any size: the message that its modules say.
 
-ghost use Rattle.std.specs.Prelude.{◌≡◌, ◌≤◌, ◌<◌, ℕ, [], None, Some, OnOk, IfErr, IfSome};
-ghost use Rattle.std.specs.Prelude.{option_map};
+ghost use Rattle.std.specs.Prelude.{◌≡◌, ◌≤◌, ◌<◌, ℕ, List, [], None, Some, OnOk, IfErr, IfSome};
+ghost use Rattle.std.specs.Prelude.{length, option_map};
+ghost use Rattle.dm_modules.specs.Sizes.{codeword_count};
 ghost use Rattle.dm_words.specs.Messages.{most_spelled};
 ghost use Rattle.dm_words.specs.Outcomes.{outcome};
 ghost use Rattle.dm_symbol.specs.Doubt.{erased_in};
 ghost use Rattle.dm_symbol.specs.inner.Marks.{marked_in};
 ghost use Rattle.dm_symbol.specs.SymbolBlocks.{AreOfSize, AreBlocksNear};
-ghost use Rattle.dm_symbol.specs.SymbolReading.{IsSymbolRead, IsFirstLost, block_readings, symbol_reading_of};
+ghost use Rattle.dm_symbol.specs.SymbolReading.{IsSymbolRead, AreRestored, IsFirstLost, block_readings};
+ghost use Rattle.dm_symbol.specs.SymbolReading.{reading_in, symbol_reading_of};
 
 use crate::reading::ReadFault;
-use crate::symbol::correction::restore_block;
-use crate::symbol::doubt::sure_faults;
+use crate::symbol::correction::{marks_for, restore_block};
 use arrayvec::ArrayVec;
-use dm_modules::{BorrowedModules, Colour, MOST_BLOCKS, Modules, SymbolWords, lift_borrowed};
+use dm_modules::{MOST_BLOCKS, SymbolIn, SymbolWordsIn, border_faults, lift_to};
 use dm_words::{Extent, LARGEST_ROOM, MessageIn, message_to_as};
 
 /// How a symbol is read.
 #[derive(Clone, Copy)]
-pub struct ReadOptions<'a> {
+pub struct ReadOptions<'a, const ROWS: usize> {
     /// Which data codewords are read.
     pub extent: Extent,
     /// How many modules of the borders may have the wrong colour, those not counted that are doubtful.
     pub border_limit: u16,
-    /// The doubtful modules, if any are known: modules of the symbol's size, dark where a module of the symbol is
+    /// The doubtful modules, if any are known: a symbol of the same size, dark where a module of the symbol is
     /// doubtful. None where no module is.
-    pub doubtful: Option<&'a Modules>,
+    pub doubtful: Option<&'a SymbolIn<ROWS>>,
 }
 
 /// What became of a block of a symbol that was read.
@@ -40,23 +41,26 @@ pub struct BlockReading {
     pub left: u8,
 }
 
-/// What a symbol says, and how much of it was wrong.
+/// What a symbol says, and how much of it was wrong, with room for a message of at most `ITEMS` items.
 #[derive(Clone, Debug, Default, Drop, PartialEq, Eq)]
-pub struct SymbolReading {
-    /// The message, with room for what any symbol says.
-    pub message: MessageIn<LARGEST_ROOM>,
+pub struct SymbolReadingIn<const ITEMS: usize> {
+    /// The message.
+    pub message: MessageIn<ITEMS>,
     /// What became of each block, in order.
     pub blocks: ArrayVec<BlockReading, MOST_BLOCKS>,
     /// How many modules of the borders have the wrong colour and aren't doubtful.
     pub border_faults: u16,
 }
 
-impl SymbolReading {
+/// What a symbol says, with room for what any symbol does.
+pub type SymbolReading = SymbolReadingIn<LARGEST_ROOM>;
+
+impl<const ITEMS: usize> SymbolReadingIn<ITEMS> {
     /// Gives the reading of an empty message, into which [`read_symbol_to`] can read.
-    pub fn new() -> SymbolReading
-        ensures { result ≡ symbol_reading_of [] [] 0 }
+    pub fn new() -> SymbolReadingIn<ITEMS>
+        ensures { reading_in result ≡ symbol_reading_of [] [] 0 }
     {
-        SymbolReading {
+        SymbolReadingIn {
             message: MessageIn::new(),
             blocks: ArrayVec::new(),
             border_faults: 0,
@@ -77,97 +81,75 @@ impl SymbolReading {
 /// codewords and its [`left`](BlockReading::left) is 0, that is likely. What is read at [`Extent::Usual`] is read at
 /// [`Extent::Wide`] as the same.
 ///
-/// After `Ok`, `reading` holds what the symbol says, whatever it held before. After `Border` it is as it was, and
-/// after another fault it holds some reading.
+/// After `Ok`, `reading` holds what the symbol says, whatever it held before. After `Border` it is as it was, and after
+/// another fault it holds some reading. `words` is room for the codewords, whatever they were before; after `Ok` it
+/// holds them as they were restored.
 ///
-/// Doubtful modules, where there are any, are modules of the symbol's size.
-pub fn read_symbol_to(
-    modules: &Modules,
-    how: ReadOptions,
-    reading: &mut SymbolReading,
+/// Doubtful modules, where there are any, are a symbol of the same size. The rooms are for what a symbol of this size
+/// has: all its codewords, and the items that its data codewords can spell in the extent, two for each and at
+/// [`Extent::Wide`] seven more. Small rooms are made faster than those that serve every symbol.
+pub fn read_symbol_to<const ROWS: usize, const WORDS: usize, const ITEMS: usize>(
+    symbol: &SymbolIn<ROWS>,
+    how: ReadOptions<ROWS>,
+    words: &mut SymbolWordsIn<WORDS>,
+    reading: &mut SymbolReadingIn<ITEMS>,
 ) -> Result<(), ReadFault>
-    requires { IfSome how.doubtful (λ doubtful. doubtful.now.size ≡ modules.now.size) }
-    ensures read { IsSymbolRead how.entry.extent modules.now (option_map (λ d. d.now) how.entry.doubtful)
-        how.entry.border_limit (outcome result reading.new) }
+    requires doubtful { IfSome how.doubtful (λ doubtful. doubtful.now.size ≡ symbol.now.size) }
+    requires codewords { codeword_count symbol.now.size ≤ WORDS }
+    requires items { most_spelled how.extent symbol.now.size.data_count ≤ ITEMS }
+    ensures read { IsSymbolRead how.entry.extent symbol.now
+        (option_map (λ d. d.now) how.entry.doubtful) how.entry.border_limit
+        (outcome result (reading_in reading.new)) }
     ensures same { (count : ℕ) → result ≡ Err (ReadFault.Border count)
         → reading.new ≡ reading.old }
+    ensures restored { OnOk result ((held : List ℕ) × AreRestored symbol.now
+        (option_map (λ d. d.now) how.entry.doubtful) held words.new.list) }
+    ensures size { OnOk result (words.new.size ≡ symbol.now.size) }
 {
-    let borrowed = modules.as_borrowed();
-    match how.doubtful {
-        None => read_borrowed_to(how.extent, &borrowed, None, how.border_limit, reading),
-        Some(doubtful) => {
-            let doubtful = doubtful.as_borrowed();
-            read_borrowed_to(
-                how.extent,
-                &borrowed,
-                Some(&doubtful),
-                how.border_limit,
-                reading,
-            )
-        }
-    }
-}
-
-/// Does the same as [`read_symbol_to`] with modules where a caller keeps them. They are read in an extent, with at most
-/// so many wrong modules of the borders that aren't doubtful. Doubtful modules, where there are any, are modules of the
-/// symbol's size.
-pub fn read_borrowed_to<C: Colour>(
-    extent: Extent,
-    modules: &BorrowedModules<C>,
-    doubtful: Option<&BorrowedModules<C>>,
-    border_limit: u16,
-    reading: &mut SymbolReading,
-) -> Result<(), ReadFault>
-    requires { IfSome doubtful (λ doubtful. doubtful.now.size ≡ modules.now.size) }
-    ensures read { IsSymbolRead extent modules.now (option_map (λ d. d.now) doubtful.entry)
-        border_limit (outcome result reading.new) }
-    ensures same { (count : ℕ) → result ≡ Err (ReadFault.Border count)
-        → reading.new ≡ reading.old }
-{
-    // For the proof alone: what `size` ensures says that the message has room.
-    let _size = modules.size();
-    read_borrowed_message_to(
-        extent,
-        modules,
-        doubtful,
-        border_limit,
+    read_parts(
+        symbol,
+        how,
+        words,
         &mut reading.message,
         &mut reading.blocks,
         &mut reading.border_faults,
     )
 }
 
-/// Does the same as [`read_borrowed_to`] with the parts of a reading in targets of their own: the message, what became
-/// of each block, and the number of wrong modules of the borders. The message may have any room that is enough for what
-/// the data codewords of the symbol's size can spell in the extent: two items for each, and at [`Extent::Wide`] seven
-/// more. A small one is made faster than one that serves every symbol.
-pub fn read_borrowed_message_to<C: Colour, const ROOM: usize>(
-    extent: Extent,
-    modules: &BorrowedModules<C>,
-    doubtful: Option<&BorrowedModules<C>>,
-    border_limit: u16,
-    message: &mut MessageIn<ROOM>,
+/// Does the same as [`read_symbol_to`] with the parts of a reading in targets of their own: the message, what became of
+/// each block, and the number of wrong modules of the borders.
+pub(crate) fn read_parts<const ROWS: usize, const WORDS: usize, const ITEMS: usize>(
+    symbol: &SymbolIn<ROWS>,
+    how: ReadOptions<ROWS>,
+    words: &mut SymbolWordsIn<WORDS>,
+    message: &mut MessageIn<ITEMS>,
     blocks: &mut ArrayVec<BlockReading, MOST_BLOCKS>,
     faults: &mut u16,
 ) -> Result<(), ReadFault>
-    requires doubtful { IfSome doubtful (λ doubtful. doubtful.now.size ≡ modules.now.size) }
-    requires room { most_spelled extent modules.now.size.data_count ≤ ROOM }
-    ensures read { IsSymbolRead extent modules.now (option_map (λ d. d.now) doubtful.entry)
-        border_limit (outcome result (symbol_reading_of message.new blocks.new.items faults.new)) }
+    requires doubtful { IfSome how.doubtful (λ doubtful. doubtful.now.size ≡ symbol.now.size) }
+    requires codewords { codeword_count symbol.now.size ≤ WORDS }
+    requires items { most_spelled how.extent symbol.now.size.data_count ≤ ITEMS }
+    ensures read { IsSymbolRead how.entry.extent symbol.now
+        (option_map (λ d. d.now) how.entry.doubtful) how.entry.border_limit
+        (outcome result (symbol_reading_of message.new blocks.new.items faults.new)) }
     ensures same { (count : ℕ) → result ≡ Err (ReadFault.Border count)
         → (message.new ≡ message.old) × (blocks.new ≡ blocks.old) × (faults.new ≡ faults.old) }
+    ensures restored { OnOk result ((held : List ℕ) × AreRestored symbol.now
+        (option_map (λ d. d.now) how.entry.doubtful) held words.new.list) }
+    ensures size { OnOk result (words.new.size ≡ symbol.now.size) }
+    ensures count { OnOk result (length blocks.new.items ≡ symbol.now.size.blocks) }
 {
-    let border_faults = sure_faults(modules, doubtful);
-    if border_faults > border_limit {
+    let border_faults = border_faults(symbol, how.doubtful);
+    if border_faults > how.border_limit {
         return Err(ReadFault::Border(border_faults));
     }
     *faults = border_faults;
-    let mut words = lift_borrowed(modules);
-    match restore_blocks(&mut words, doubtful, blocks) {
+    lift_to(symbol, words);
+    match restore_blocks(words, how.doubtful, blocks) {
         Ok(()) => {}
         Err(b) => return Err(ReadFault::Block(b)),
     }
-    match message_to_as(extent, words.data_part(), message) {
+    match message_to_as(how.extent, words.data_part(), message) {
         Ok(()) => Ok(()),
         Err(fault) => Err(ReadFault::Words(fault)),
     }
@@ -175,9 +157,9 @@ pub fn read_borrowed_message_to<C: Colour, const ROOM: usize>(
 
 /// Restores each block to the codeword that is near to it but for what is doubtful, and leaves in `blocks` what became
 /// of each; or gives the first block to which none is near.
-fn restore_blocks<C: Colour>(
-    words: &mut SymbolWords,
-    doubtful: Option<&BorrowedModules<C>>,
+fn restore_blocks<const ROWS: usize, const WORDS: usize>(
+    words: &mut SymbolWordsIn<WORDS>,
+    doubtful: Option<&SymbolIn<ROWS>>,
     blocks: &mut ArrayVec<BlockReading, MOST_BLOCKS>,
 ) -> Result<(), u8>
     requires { IfSome doubtful (λ doubtful. doubtful.now.size ≡ words.old.size) }
@@ -192,15 +174,37 @@ fn restore_blocks<C: Colour>(
 {
     match doubtful {
         None => restore_each(words, None, blocks),
-        Some(doubtful) => restore_each(words, Some(&lift_borrowed(doubtful)), blocks),
+        Some(doubtful) => restore_doubtful(words, doubtful, blocks),
     }
+}
+
+/// Does the same as [`restore_blocks`] where modules are doubtful. It isn't inlined, so that the marks take room on the
+/// stack only where there are any.
+#[inline(never)]
+fn restore_doubtful<const ROWS: usize, const WORDS: usize>(
+    words: &mut SymbolWordsIn<WORDS>,
+    doubtful: &SymbolIn<ROWS>,
+    blocks: &mut ArrayVec<BlockReading, MOST_BLOCKS>,
+) -> Result<(), u8>
+    requires { doubtful.now.size ≡ words.old.size }
+    ensures size { words.new.size ≡ words.old.size }
+    ensures words { AreOfSize words.old.size words.new.list }
+    ensures near { OnOk result (AreBlocksNear words.old.size
+        (erased_in words.old.size (Some doubtful.now)) words.old.list words.new.list) }
+    ensures readings { OnOk result (blocks.new.items ≡ block_readings words.old.size
+        (erased_in words.old.size (Some doubtful.now)) words.old.list words.new.list) }
+    ensures lost { IfErr result (λ b. IsFirstLost words.old.size
+        (erased_in words.old.size (Some doubtful.now)) words.old.list b) }
+{
+    let marks = marks_for(words, doubtful);
+    restore_each(words, Some(&marks), blocks)
 }
 
 /// Restores each block to the codeword that is near to it but for the places that have marks, and leaves in `blocks`
 /// what became of each; or gives the first block to which none is near.
-pub(crate) fn restore_each(
-    words: &mut SymbolWords,
-    marks: Option<&SymbolWords>,
+fn restore_each<const WORDS: usize>(
+    words: &mut SymbolWordsIn<WORDS>,
+    marks: Option<&SymbolWordsIn<WORDS>>,
     blocks: &mut ArrayVec<BlockReading, MOST_BLOCKS>,
 ) -> Result<(), u8>
     requires { IfSome marks (λ marks. marks.now.size ≡ words.old.size) }

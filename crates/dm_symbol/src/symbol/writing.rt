@@ -1,21 +1,18 @@
 //! Writing a message in a symbol: in the smallest size of a choice.
 
-ghost use Rattle.std.specs.Prelude.{◌≡◌, ◌≢◌, ◌<◌, ◌≤◌, ℕ, length, IfSome, OnErr};
+ghost use Rattle.std.specs.Prelude.{◌≡◌, ◌≢◌, ◌<◌, ◌≤◌, ℕ, length, OnErr};
 ghost use Rattle.dm_code.specs.Codeword.{IsCodeword};
-ghost use Rattle.dm_layout.specs.Sizes.{symbol_size};
-ghost use Rattle.dm_modules.specs.Sizes.{block_check};
+ghost use Rattle.dm_modules.specs.Sizes.{block_check, codeword_count};
 ghost use Rattle.dm_words.specs.Outcomes.{outcome};
 ghost use Rattle.dm_symbol.specs.SymbolBlocks.{AreOfSize, AreCodewordsOf, block_in, first_data};
-ghost use Rattle.dm_symbol.specs.NormalSymbol.{IsSymbolWritten};
+ghost use Rattle.dm_symbol.specs.NormalSymbol.{IsSymbolWritten, HasRoomFor};
 ghost use Rattle.dm_symbol.specs.SmallestSymbol.{IsSmallestWritten};
-ghost use Rattle.dm_symbol.specs.inner.LaidData.{HasData};
 
-use crate::writing::{complete_with, light_grid};
 use arrayvec::ArrayVec;
 use dm_code::encode;
-use dm_layout::{Size, Words};
 use dm_modules::{
-    MOST_DATA, Modules, SizeChoice, SymbolSize, SymbolWords, block, lay_to, put_block_checks,
+    MOST_DATA, SizeChoice, Symbol, SymbolIn, SymbolSize, SymbolWords, SymbolWordsIn, block, lay_to,
+    put_block_checks,
 };
 use dm_words::{
     Extent, LARGEST_ROOM, MessageIn, Profile, TooLong, normal_words_in, pad_to, smallest_words_to,
@@ -30,20 +27,25 @@ pub struct WriteOptions {
     pub size: SizeChoice,
 }
 
-/// Writes a message of any room up to [`LARGEST_ROOM`] (ISO/IEC 16022, symbol construction): after `Ok`, `modules`,
-/// whatever they were before, are the symbol of the codewords that the profile chooses, pads and check codewords, in
-/// the smallest size of the choice that holds them: the one of the smallest area, and of those of equal area the one
-/// with the fewest columns. The fault is `TooLong` exactly where no size of the choice holds them; then `modules` are
-/// as they were. The work is that of the codewords, and a look at each module.
-pub fn write_symbol_to<const ROOM: usize>(
-    message: &MessageIn<ROOM>,
+/// Writes a message of any room up to [`LARGEST_ROOM`] (ISO/IEC 16022, symbol construction): after `Ok`, `symbol`,
+/// whatever it was before, is that of the codewords that the profile chooses, pads and check codewords, in the smallest
+/// size of the choice that holds them: the one of the smallest area, and of those of equal area the one with the fewest
+/// columns. The fault is `TooLong` exactly where no size of the choice holds them; then `symbol` is as it was. `words`
+/// is room for the codewords, whatever they were before.
+///
+/// Both have room for that size. A [`Symbol`] and [`SymbolWords`] have room for every size; small ones, which serve
+/// where the choice is of small sizes, are made faster.
+pub fn write_symbol_to<const ITEMS: usize, const WORDS: usize, const ROWS: usize>(
+    message: &MessageIn<ITEMS>,
     how: WriteOptions,
-    modules: &mut Modules,
+    words: &mut SymbolWordsIn<WORDS>,
+    symbol: &mut SymbolIn<ROWS>,
 ) -> Result<(), TooLong>
-    requires { ROOM ≤ LARGEST_ROOM }
+    requires items { ITEMS ≤ LARGEST_ROOM }
+    requires room { HasRoomFor how.size how.profile message.now ROWS WORDS }
     ensures written { IsSymbolWritten how.size how.profile message.now
-        (outcome result modules.new) }
-    ensures same { OnErr result (modules.new ≡ modules.old) }
+        (outcome result symbol.new) }
+    ensures same { OnErr result (symbol.new ≡ symbol.old) }
 {
     let mut list = ArrayVec::<u8, MOST_DATA>::new();
     match normal_words_in(how.profile, message, &mut list) {
@@ -54,95 +56,77 @@ pub fn write_symbol_to<const ROOM: usize>(
         return Err(TooLong);
     };
     pad_to(&mut list, size.data_count() as usize);
-    lay_data(&list, size, modules);
+    complete_with(words, size, &list);
+    lay_to(words, symbol);
     Ok(())
 }
 
 /// Writes a message in its smallest symbol for readers of an extent (ISO/IEC 16022, encodation schemes, which leave the
-/// choice of encodations to the writer): after `Ok`, `modules`, whatever they were before, are a symbol that is read as
-/// the message in the extent, with nothing wrong in it, and no symbol of a smaller size of the choice is read as the
+/// choice of encodations to the writer): after `Ok`, `symbol`, whatever it was before, is one that is read as the
+/// message in the extent, with nothing wrong in it, and no symbol of a smaller size of the choice is read as the
 /// message, whatever its codewords are. The data codewords are ASCII where that size has room for these; else those of
 /// the usual extent, where it has room for any. The fault is `TooLong` exactly where no symbol of the choice is read as
-/// the message; then `modules` are as they were. The work grows with the number of items, and there is a look at each
-/// module.
-pub fn write_smallest_to<const ROOM: usize>(
+/// the message; then `symbol` is as it was. `words` is room for the codewords, whatever they were before. The work
+/// grows with the number of items.
+pub fn write_smallest_to<const ITEMS: usize>(
     extent: Extent,
-    message: &MessageIn<ROOM>,
+    message: &MessageIn<ITEMS>,
     choice: SizeChoice,
-    modules: &mut Modules,
+    words: &mut SymbolWords,
+    symbol: &mut Symbol,
 ) -> Result<(), TooLong>
-    requires { ROOM ≤ LARGEST_ROOM }
-    ensures written { IsSmallestWritten extent choice message.now (outcome result modules.new) }
-    ensures same { OnErr result (modules.new ≡ modules.old) }
+    requires { ITEMS ≤ LARGEST_ROOM }
+    ensures written { IsSmallestWritten extent choice message.now (outcome result symbol.new) }
+    ensures same { OnErr result (symbol.new ≡ symbol.old) }
 {
     let mut list = ArrayVec::<u8, MOST_DATA>::new();
     match smallest_words_to(extent, message, choice, &mut list) {
         Ok(size) => {
-            lay_data(&list, size, modules);
+            complete_with(words, size, &list);
+            lay_to(words, symbol);
             Ok(())
         }
         Err(TooLong) => Err(TooLong),
     }
 }
 
-/// Turns `modules`, whatever they were, into the symbol of this size with these data codewords. A square that can be a
-/// grid is laid as one, by rows of bits, which is faster than module by module.
-fn lay_data(list: &[u8], size: SymbolSize, modules: &mut Modules)
-    requires { length list.now ≡ size.data_count }
-    ensures { HasData size list.now modules.new }
-{
-    match grid_size(size) {
-        Some(square) => lay_grid(list, size, square, modules),
-        None => lay_to(&with_checks(list, size), modules),
-    }
-}
-
-/// Gives the size of the grids that have the modules of a symbol of this size, if there are any.
-fn grid_size(size: SymbolSize) -> Option<Size>
-    ensures { IfSome result (λ square. symbol_size square ≡ size) }
-{
-    if size.rows() == size.columns() {
-        Size::of_side(size.rows())
-    } else {
-        None
-    }
-}
-
-/// Lays these data codewords in a grid, and turns `modules` into its cells.
-fn lay_grid(list: &[u8], size: SymbolSize, square: Size, modules: &mut Modules)
-    requires same { symbol_size square ≡ size }
+/// Turns `words`, whatever they were, into the codewords of a symbol of this size with these data codewords: the check
+/// codewords make each block a codeword of its Reed-Solomon code.
+pub(crate) fn complete_with<const WORDS: usize>(
+    words: &mut SymbolWordsIn<WORDS>,
+    size: SymbolSize,
+    list: &[u8],
+)
+    requires room { codeword_count size ≤ WORDS }
     requires count { length list.now ≡ size.data_count }
-    ensures { HasData size list.now modules.new }
+    ensures size { words.new.size ≡ size }
+    ensures data_words { first_data size words.new.list ≡ list.now }
+    ensures checked { AreCodewordsOf size words.new.list }
 {
-    let mut words = Words::zeros(square);
-    complete_with(&mut words, list);
-    let mut grid = light_grid();
-    dm_layout::lay_to(&words, &mut grid);
-    modules.set_rows(size, grid.kept_rows());
+    words.resize(size);
+    words.put_data(list);
+    complete(words);
 }
 
-/// Gives the codewords of a symbol of this size with these data codewords: the check codewords make each block a
-/// codeword of its Reed-Solomon code.
-fn with_checks(list: &[u8], size: SymbolSize) -> SymbolWords
-    requires { length list.now ≡ size.data_count }
-    ensures size { result.size ≡ size }
-    ensures data_words { first_data size result.list ≡ list.now }
-    ensures checked { AreCodewordsOf size result.list }
+/// Puts the check codewords, which make each block a codeword of its Reed-Solomon code; the data codewords stay.
+fn complete<const WORDS: usize>(words: &mut SymbolWordsIn<WORDS>)
+    ensures size { words.new.size ≡ words.old.size }
+    ensures data_words { first_data words.old.size words.new.list
+        ≡ first_data words.old.size words.old.list }
+    ensures checked { AreCodewordsOf words.old.size words.new.list }
 {
-    let mut words = SymbolWords::with_data(size, list);
-    let blocks = size.blocks();
+    let blocks = words.size().blocks();
     if blocks == 1 {
-        complete_only_block(&mut words);
-        return words;
+        complete_only_block(words);
+        return;
     }
     for b in 0..usize::from(blocks) {
-        complete_block(&mut words, b);
+        complete_block(words, b);
     }
-    words
 }
 
 /// Puts the check codewords of a symbol that has one block.
-fn complete_only_block(words: &mut SymbolWords)
+fn complete_only_block<const WORDS: usize>(words: &mut SymbolWordsIn<WORDS>)
     requires { words.old.size.blocks ≡ 1 }
     ensures size { words.new.size ≡ words.old.size }
     ensures data_words { first_data words.old.size words.new.list
@@ -155,7 +139,7 @@ fn complete_only_block(words: &mut SymbolWords)
 }
 
 /// Puts the check codewords of one block: its data codewords stay, and it becomes a codeword of its Reed-Solomon code.
-fn complete_block(words: &mut SymbolWords, b: usize)
+fn complete_block<const WORDS: usize>(words: &mut SymbolWordsIn<WORDS>, b: usize)
     requires { b < words.old.size.blocks }
     ensures size { words.new.size ≡ words.old.size }
     ensures words { AreOfSize words.old.size words.new.list }

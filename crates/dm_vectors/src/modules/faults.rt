@@ -1,43 +1,19 @@
-//! Colours that make no modules, and modules with wrong borders.
+//! Symbols with wrong borders.
 
 ghost use Rattle.std.specs.Prelude.{◌≡◌};
 
 use crate::claims::holds;
 use crate::modules::words_of;
-use dm_modules::{
-    Modules, ModulesFault, SymbolSize, border_colour, border_faults, border_faults_but, lay,
-};
-
-/// Why so many light modules make no symbol of these rows and columns, or None where they make one.
-fn fault_of(rows: u16, columns: u16, count: usize) -> Option<ModulesFault> {
-    if count <= 400 {
-        Modules::new(rows, columns, &[false; 400][..count]).err()
-    } else {
-        None
-    }
-}
-
-#[test]
-fn other_counts_and_sizes_are_refused(rt: HostRuntime) {
-    holds(&rt, fault_of(8, 18, 144).is_none());
-    holds(&rt, fault_of(8, 18, 143) == Some(ModulesFault::WrongCount));
-    holds(&rt, fault_of(18, 8, 144) == Some(ModulesFault::NoSuchSize));
-    holds(&rt, fault_of(0, 0, 0) == Some(ModulesFault::NoSuchSize));
-    holds(&rt, fault_of(0, 18, 1) == Some(ModulesFault::WrongCount));
-    holds(
-        &rt,
-        fault_of(8, 65535, 144) == Some(ModulesFault::WrongCount),
-    );
-}
+use dm_modules::{Symbol, SymbolSize, border_colour, border_faults, lay};
 
 /// Gives a module the other colour, where there is such a module.
-fn turn(modules: &mut Modules, row: u16, column: u16)
-    ensures { modules.new.size ≡ modules.old.size }
+fn turn(symbol: &mut Symbol, row: u16, column: u16)
+    ensures { symbol.new.size ≡ symbol.old.size }
 {
-    let size = modules.size();
+    let size = symbol.size();
     if row < size.rows() && column < size.columns() {
-        let dark = modules.is_dark(row, column);
-        modules.put(row, column, !dark);
+        let dark = symbol.is_dark(row, column);
+        symbol.put(row, column, !dark);
     }
 }
 
@@ -47,16 +23,18 @@ fn wrong_border_modules_are_counted(rt: HostRuntime) {
         holds(&rt, false);
         return;
     };
-    let mut modules = lay(&words);
-    holds(&rt, border_faults(&modules) == 0);
-    turn(&mut modules, 0, 0);
-    turn(&mut modules, 7, 31);
-    turn(&mut modules, 3, 15);
-    turn(&mut modules, 3, 16);
-    holds(&rt, border_faults(&modules) == 4);
-    turn(&mut modules, 3, 14);
-    turn(&mut modules, 1, 17);
-    holds(&rt, border_faults(&modules) == 4);
+    // For the proof alone: what `rows` ensures says that there is room.
+    let _rows = words.size().rows();
+    let mut symbol: Symbol = lay(&words);
+    holds(&rt, border_faults(&symbol, None) == 0);
+    turn(&mut symbol, 0, 0);
+    turn(&mut symbol, 7, 31);
+    turn(&mut symbol, 3, 15);
+    turn(&mut symbol, 3, 16);
+    holds(&rt, border_faults(&symbol, None) == 4);
+    turn(&mut symbol, 3, 14);
+    turn(&mut symbol, 1, 17);
+    holds(&rt, border_faults(&symbol, None) == 4);
 }
 
 #[test]
@@ -65,15 +43,17 @@ fn doubtful_border_modules_are_not_counted(rt: HostRuntime) {
         holds(&rt, false);
         return;
     };
-    let mut modules = lay(&words);
-    let mut doubtful = Modules::light(modules.size());
-    turn(&mut modules, 0, 0);
-    turn(&mut modules, 7, 31);
-    turn(&mut modules, 3, 15);
-    holds(&rt, border_faults_but(&modules, &doubtful) == 3);
+    // For the proof alone: what `rows` ensures says that there is room.
+    let _rows = words.size().rows();
+    let mut symbol: Symbol = lay(&words);
+    let mut doubtful = Symbol::light(symbol.size());
+    turn(&mut symbol, 0, 0);
+    turn(&mut symbol, 7, 31);
+    turn(&mut symbol, 3, 15);
+    holds(&rt, border_faults(&symbol, Some(&doubtful)) == 3);
     turn(&mut doubtful, 7, 31);
     turn(&mut doubtful, 3, 16);
-    holds(&rt, border_faults_but(&modules, &doubtful) == 2);
+    holds(&rt, border_faults(&symbol, Some(&doubtful)) == 2);
 }
 
 /// The colour that a border of 8 x 32 prescribes at a row and a column.

@@ -2,18 +2,20 @@
 //! one with regions side by side, one with corner 3, and one whose rows are wrapped a second time.
 
 use crate::claims::holds;
-use crate::modules::{modules_of, words_of};
+use crate::modules::{symbol_of, words_of};
 use dm_modules::{border_faults, lay, lift};
 
-/// Whether these modules hold these codewords, have right borders, and are those in which the codewords are laid.
+/// Whether this symbol holds these codewords, has right borders, and is the one in which the codewords are laid.
 fn is_printed(rows: u16, columns: u16, words: &[u8], lines: &[&str]) -> bool {
     let Some(words) = words_of(rows, columns, words) else {
         return false;
     };
-    let Some(modules) = modules_of(rows, columns, lines) else {
+    let Some(symbol) = symbol_of(rows, columns, lines) else {
         return false;
     };
-    lift(&modules) == words && border_faults(&modules) == 0 && lay(&words) == modules
+    // For the proof alone: what these ensure says that there is room.
+    let _room = (symbol.size().check_count(), words.size().rows());
+    lift(&symbol) == words && border_faults(&symbol, None) == 0 && lay(&words) == symbol
 }
 
 /// The codewords of a symbol of 8 x 18, data and then checks.

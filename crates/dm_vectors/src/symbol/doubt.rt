@@ -1,4 +1,4 @@
-//! Squares of whose cells some are doubtful, read as grids.
+//! Squares of whose modules some are doubtful.
 
 use super::*;
 use dm_symbol::{BlockReading, SymbolReading};

@@ -15,7 +15,20 @@ fn letter(words: &[u8]) -> Result<Letter, LetterFault> {
     if words.len() > MOST_DATA {
         return Err(LetterFault::Append(0));
     }
-    letter_of(words)
+    let mut letter = Letter::new();
+    match letter_to_as(Extent::Wide, words, &mut letter) {
+        Ok(()) => Ok(letter),
+        Err(fault) => Err(fault),
+    }
+}
+
+/// The codewords of the letter in its normal form under the profile.
+fn form_of(profile: Profile, letter: &Letter) -> Result<ArrayVec<u8, MOST_DATA>, TooLong> {
+    let mut words = ArrayVec::new();
+    match letter_words_in(profile, letter, &mut words) {
+        Ok(()) => Ok(words),
+        Err(TooLong) => Err(TooLong),
+    }
 }
 
 /// Whether the items are these bytes, of which 232 stands for FNC1.
@@ -81,6 +94,47 @@ fn are_refused(rows: &[(&[u8], LetterFault)]) -> bool {
                     return false;
                 }
             }
+        }
+    }
+    true
+}
+
+/// The number of the symbology identifier of the codewords, and 0 where they say no letter.
+fn identifier(words: &[u8]) -> u8 {
+    if words.len() > MOST_DATA {
+        return 0;
+    }
+    let mut letter = Letter::new();
+    match letter_to_as(Extent::Wide, words, &mut letter) {
+        Ok(()) => symbology_number(words, &letter),
+        Err(_) => 0,
+    }
+}
+
+/// Codewords, and the number of their symbology identifier.
+static IDENTIFIED_ROWS: [(&[u8], u8); 15] = [
+    (&[241, 27, 66, 67, 68, 129], 4),
+    (&[233, 28, 1, 2, 66, 129], 1),
+    (&[234, 142, 164, 186, 129], 1),
+    (&[236, 241, 27, 66, 129], 4),
+    (&[232, 241, 27, 66], 5),
+    (&[66, 232, 67], 3),
+    (&[233, 15, 1, 1, 232, 66], 2),
+    (&[240, 241, 4, 39, 192, 67], 1),
+    (&[230, 87, 199, 254, 241, 27, 66], 4),
+    (&[50, 51, 232], 1),
+    (&[142, 232], 3),
+    (&[230, 10, 121, 129], 1),
+    (&[234, 230, 232], 3),
+    (&[240, 232, 66], 3),
+    (&[236, 232, 66], 3),
+];
+
+/// Whether the codewords of each row have its identifier.
+fn are_identified(rows: &[(&[u8], u8)]) -> bool {
+    for (words, number) in rows {
+        if identifier(words) != *number {
+            return false;
         }
     }
     true
@@ -240,7 +294,7 @@ fn is_written(words: &[u8]) -> bool {
     let Ok(letter) = letter(words) else {
         return false;
     };
-    match letter_words(Profile::Shorter, &letter) {
+    match form_of(Profile::Shorter, &letter) {
         Ok(form) => form.as_slice() == words,
         Err(TooLong) => false,
     }
@@ -258,7 +312,7 @@ fn are_written(rows: &[&[u8]]) -> bool {
 
 /// Whether a letter is written and read back.
 fn is_read_back(written: &Letter) -> bool {
-    match letter_words(Profile::Ascii, written) {
+    match form_of(Profile::Ascii, written) {
         Ok(form) => match letter(form.as_slice()) {
             Ok(found) => found == *written,
             Err(_) => false,
@@ -279,6 +333,11 @@ fn of_many_with_mark(count: usize) -> Letter {
 }
 
 #[test]
+fn letters_have_their_identifiers(rt: HostRuntime) {
+    holds(&rt, are_identified(&IDENTIFIED_ROWS));
+}
+
+#[test]
 fn letters_are_written(rt: HostRuntime) {
     holds(&rt, are_written(&WRITTEN_ROWS));
 }
@@ -286,7 +345,7 @@ fn letters_are_written(rt: HostRuntime) {
 #[test]
 fn long_letters_are_read_back(rt: HostRuntime) {
     holds(&rt, is_read_back(&of_many_with_mark(MOST_DATA - 5)));
-    let too_long = letter_words(Profile::Ascii, &of_many_with_mark(MOST_DATA - 4));
+    let too_long = form_of(Profile::Ascii, &of_many_with_mark(MOST_DATA - 4));
     holds(&rt, too_long == Err(TooLong));
     let mut cleared = of_many_with_mark(3);
     cleared.clear();

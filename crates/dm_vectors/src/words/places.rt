@@ -19,7 +19,7 @@ static SHORTER: [(&[u8], &[u8]); 3] = [
 
 /// Whether the codewords are written into their place, with pads up to the size of side 12.
 fn is_written_to(message: &Message, words: &mut ArrayVec<u8, MOST_DATA>) -> bool {
-    if normal_words_to(Profile::Shorter, message, words).is_err() {
+    if normal_words_in(Profile::Shorter, message, words).is_err() {
         return false;
     }
     match Size::of_side(12) {
@@ -36,7 +36,7 @@ fn read_to(words: &[u8], message: &mut Message) -> Result<(), WordFault> {
     if words.len() > MOST_DATA {
         return Err(WordFault::LeftOut(0, 0));
     }
-    message_to(words, message)
+    message_to_as(Extent::Usual, words, message)
 }
 
 /// Whether the places hold the codewords of the text, and the message that these spell.
@@ -51,7 +51,7 @@ fn hold(places: &mut Places, text: &[u8], expected: &[u8]) -> bool {
 
 /// Whether the normal codewords of the letter A are written into their place under the profile.
 fn holds_letter(profile: Profile, places: &mut Places) -> bool {
-    normal_words_to(profile, &places.message, &mut places.words).is_ok()
+    normal_words_in(profile, &places.message, &mut places.words).is_ok()
         && places.words.as_slice() == [66].as_slice()
 }
 

@@ -4,7 +4,11 @@ use super::*;
 
 /// The normal codewords of the message under the profile.
 fn normal_of(profile: Profile, message: &Message) -> Option<ArrayVec<u8, MOST_DATA>> {
-    normal_words(profile, message).ok()
+    let mut words = ArrayVec::new();
+    match normal_words_in(profile, message, &mut words) {
+        Ok(()) => Some(words),
+        Err(TooLong) => None,
+    }
 }
 
 /// Whether the codewords, with pads up to the smallest size that holds them, are read as the message.

@@ -14,10 +14,7 @@ fn is_smallest(extent: Extent, message: &Message, expected: &[u8]) -> bool {
 
 /// Whether the codewords are read in an extent as the message.
 fn is_read(extent: Extent, words: &[u8], message: &Message) -> bool {
-    if words.len() > MOST_DATA {
-        return false;
-    }
-    match message_of_as(extent, words) {
+    match super::wide::message_in(extent, words) {
         Ok(found) => has_items(&found, message.items()),
         Err(_) => false,
     }

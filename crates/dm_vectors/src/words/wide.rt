@@ -8,7 +8,11 @@ pub(super) fn message_in(extent: Extent, words: &[u8]) -> Result<Message, WordFa
     if words.len() > MOST_DATA {
         return Err(WordFault::LeftOut(0, 0));
     }
-    message_of_as(extent, words)
+    let mut message = Message::new();
+    match message_to_as(extent, words, &mut message) {
+        Ok(()) => Ok(message),
+        Err(fault) => Err(fault),
+    }
 }
 
 /// Whether the codewords spell these bytes in the wide extent.

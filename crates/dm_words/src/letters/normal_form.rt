@@ -5,8 +5,7 @@ ghost use Rattle.dm_words.specs.Ascii.{ascii};
 ghost use Rattle.dm_words.specs.Designators.{eci_word, designator};
 ghost use Rattle.dm_words.specs.Heads.{IsHead, head_words};
 ghost use Rattle.dm_words.specs.Letters.{AreMarks};
-ghost use Rattle.dm_words.specs.LetterForm.{IsLetterFormResult, letter_form, marked_ascii};
-ghost use Rattle.dm_words.specs.Outcomes.{outcome};
+ghost use Rattle.dm_words.specs.LetterForm.{letter_form, ascii_with_marks};
 ghost use Rattle.dm_words.specs.inner.MarkedForms.{is_plain};
 
 use crate::ascii::{ascii_form, unit_at, write_unit};
@@ -14,13 +13,12 @@ use crate::fault::TooLong;
 use crate::item::Item;
 use crate::letters::designator::{ECI, MOST_ASSIGNED, designator_words};
 use crate::letters::head::{Head, head_words};
-use crate::letters::letter::{Letter, LetterIn};
+use crate::letters::letter::LetterIn;
 use crate::letters::mark::Mark;
 use crate::limits::{LARGEST_DATA, LARGEST_MARKS, LARGEST_ROOM};
 use crate::normal_form::normal_words_in;
 use crate::profile::Profile;
 use arrayvec::ArrayVec;
-use dm_layout::MOST_DATA;
 
 /// Gives how many codewords a mark of this number has: ECI and the designator.
 fn mark_length(number: u32) -> usize
@@ -41,7 +39,7 @@ fn marked_length(items: &[Item], marks: &[Mark]) -> usize
     requires few { length items.now ≤ LARGEST_ROOM }
     requires few_marks { length marks.now ≤ LARGEST_MARKS }
     requires in_order { AreMarks 0 (length items.now) marks.now }
-    ensures value { result ≡ length (marked_ascii 0 items.now marks.now) }
+    ensures value { result ≡ length (ascii_with_marks 0 items.now marks.now) }
     ensures most { result ≤ 2 * LARGEST_ROOM + 4 * LARGEST_MARKS }
 {
     let mut length = 0;
@@ -87,9 +85,9 @@ fn add_mark_words<const N: usize>(number: u32, words: &mut ArrayVec<u8, N>)
 /// Adds items with marks: the items in ASCII from mark to mark, and the marks.
 fn add_marked<const N: usize>(items: &[Item], marks: &[Mark], words: &mut ArrayVec<u8, N>)
     requires in_order { AreMarks 0 (length items.now) marks.now }
-    requires room { length words.old.items + length (marked_ascii 0 items.now marks.now)
+    requires room { length words.old.items + length (ascii_with_marks 0 items.now marks.now)
         ≤ N }
-    ensures { words.new.items ≡ words.old.items ++ marked_ascii 0 items.now marks.now }
+    ensures { words.new.items ≡ words.old.items ++ ascii_with_marks 0 items.now marks.now }
 {
     let mut before = 0;
     for mark in marks {
@@ -135,9 +133,9 @@ fn write_marked<const N: usize>(
     requires few { length items.now ≤ LARGEST_ROOM }
     requires few_marks { length marks.now ≤ LARGEST_MARKS }
     requires in_order { AreMarks 0 (length items.now) marks.now }
-    ensures form { OnOk result (words.new.items ≡ head_words head ++ marked_ascii 0 items.now marks.now) }
+    ensures form { OnOk result (words.new.items ≡ head_words head ++ ascii_with_marks 0 items.now marks.now) }
     ensures too_long { IsErr result
-        ↔ (N < length (head_words head ++ marked_ascii 0 items.now marks.now)) }
+        ↔ (N < length (head_words head ++ ascii_with_marks 0 items.now marks.now)) }
     ensures same { OnErr result (words.new.items ≡ words.old.items) }
 {
     let length = head_words_length(head) + marked_length(items, marks);
@@ -150,37 +148,12 @@ fn write_marked<const N: usize>(
     Ok(())
 }
 
-/// Gives the codewords of a letter under a profile, without pads. Those of a letter without a head and marks are the
-/// codewords of its items, as [`normal_words()`](crate::normal_words) gives them. Those of another letter are its
-/// head's, and its items in ASCII from mark to mark with each mark at its place, as ECI and the designator.
-/// `TooLong` exactly where they are more than `MOST_DATA`.
-pub fn letter_words(profile: Profile, letter: &Letter) -> Result<ArrayVec<u8, MOST_DATA>, TooLong>
-    ensures { IsLetterFormResult profile letter.now result }
-{
-    let mut words = ArrayVec::new();
-    match letter_words_to(profile, letter, &mut words) {
-        Ok(()) => Ok(words),
-        Err(TooLong) => Err(TooLong),
-    }
-}
-
-/// Does the same as [`letter_words()`] in a target: after `Ok`, `words` holds these codewords, whatever it held
-/// before. After `TooLong` it holds what it held before.
-pub fn letter_words_to(
-    profile: Profile,
-    letter: &Letter,
-    words: &mut ArrayVec<u8, MOST_DATA>,
-) -> Result<(), TooLong>
-    ensures form { IsLetterFormResult profile letter.now (outcome result words.new) }
-    ensures same { OnErr result (words.new.items ≡ words.old.items) }
-{
-    letter_words_in(profile, letter, words)
-}
-
-/// Does the same as [`letter_words_to()`] with a letter of any room, at most [`LARGEST_ROOM`] items and
-/// [`LARGEST_MARKS`] marks, in a target with room for `N` codewords, at least 3 as each symbol has: after `Ok`, `words`
-/// holds the codewords of the letter under the profile, whatever it held before. `TooLong` exactly where they are more
-/// than `N`; then it holds what it held before.
+/// Writes the codewords of a letter under a profile, without pads, into a target with room for `N` codewords, at least
+/// 3 as each symbol has; the letter may have any room, at most [`LARGEST_ROOM`] items and [`LARGEST_MARKS`] marks.
+/// Those of a letter without a head and marks are the codewords of its items, as [`normal_words_in()`] writes them.
+/// Those of another letter are its head's, and its items in ASCII from mark to mark with each mark at its place, as ECI
+/// and the designator. After `Ok`, `words` holds these codewords, whatever it held before. `TooLong` exactly where they
+/// are more than `N`; then it holds what it held before.
 pub fn letter_words_in<const ROOM: usize, const MARKS: usize, const N: usize>(
     profile: Profile,
     letter: &LetterIn<ROOM, MARKS>,

@@ -19,14 +19,13 @@ use crate::letters::content::Content;
 use crate::letters::designator::{ECI, first_designator};
 use crate::letters::fault::LetterFault;
 use crate::letters::head::Head;
-use crate::letters::letter::{Letter, LetterIn};
+use crate::letters::letter::LetterIn;
 use crate::letters::opening::{Opened, Opening, opening_of};
 use crate::limits::{LARGEST_DATA, LARGEST_ROOM};
 use crate::macros::{add_header, add_trailer};
 use crate::message::MessageIn;
 use crate::numbers::number_at;
 use crate::reading::{message_to_as, next_part};
-use dm_layout::MOST_DATA;
 
 /// Takes the mark whose ECI stands at an index: adds it, and gives the number of its codewords.
 fn mark_part<const ROOM: usize, const MARKS: usize>(
@@ -201,26 +200,64 @@ fn read_content<const ROOM: usize, const MARKS: usize>(
     }
 }
 
-/// Gives the letter that the data codewords of a symbol say, or the fault with which they are refused. The list is
-/// the whole data part, at most `MOST_DATA` codewords, so its end is the end of the symbol. It is read as
-/// [`message_of_as()`](crate::message_of_as) reads at [`Extent::Wide`], and with ECI, structured append and reader
-/// programming; a macro may stand behind empty runs of C40, Text or X12 too. `LetterFault` says when each fault
-/// comes. ISO/IEC 16022, ECI encodation, structured append, reader programming.
-pub fn letter_of(words: &[u8]) -> Result<Letter, LetterFault>
-    requires { length words.now ≤ MOST_DATA }
-    ensures { IsLetterResult words.now result }
+/// Reads the letter that the data codewords of a symbol say, in an extent, into a target with room for all that so many
+/// codewords, at most [`LARGEST_DATA`], can say, and for one mark for each two of them: after `Ok`, `letter` holds the
+/// letter, whatever it held before. After a fault it has no head, no item and no mark. The list is the whole data part,
+/// so its end is the end of the symbol.
+///
+/// At [`Extent::Usual`] the codewords are read as [`message_to_as()`] reads them, and what they spell is a letter
+/// without a head and marks. At [`Extent::Wide`] they are read so too, and with ECI, structured append and reader
+/// programming; a macro may stand behind empty runs of C40, Text or X12. What is read at [`Extent::Usual`] is read at
+/// [`Extent::Wide`] as the same. Codewords that spell a message take no more work than that message does.
+/// [`LetterFault`] says when each fault comes. ISO/IEC 16022, ECI encodation, structured append, reader programming.
+pub fn letter_to_as<const ROOM: usize, const MARKS: usize>(
+    extent: Extent,
+    words: &[u8],
+    letter: &mut LetterIn<ROOM, MARKS>,
+) -> Result<(), LetterFault>
+    requires short { length words.now ≤ LARGEST_DATA }
+    requires most { ROOM ≤ LARGEST_ROOM }
+    requires room { most_spelled extent (length words.now) ≤ ROOM }
+    requires marks { length words.now ≤ 2 * MARKS }
+    ensures read { IsLetterResultIn extent words.now (outcome result letter.new) }
+    ensures emptied { OnErr result
+        (letter.new ≡ record { head = None; items = []; marks = [] }) }
 {
-    let mut letter = Letter::new();
-    match letter_to(words, &mut letter) {
-        Ok(()) => Ok(letter),
-        Err(fault) => Err(fault),
+    letter.clear();
+    match message_to_as(extent, words, &mut letter.content.message) {
+        Ok(()) => Ok(()),
+        Err(fault) => refused_to(extent, words, fault, letter),
     }
 }
 
-/// Does the same as [`letter_of()`] in a target with room for all that so many codewords, at most [`LARGEST_DATA`], can
-/// say, and for one mark for each two of them: after `Ok`, `letter` holds the letter, whatever it held before. After a
-/// fault it has no head, no item and no mark.
-pub fn letter_to<const ROOM: usize, const MARKS: usize>(
+/// Reads codewords that spell no message in an extent, and have this fault in it, into the letter: they may say a
+/// letter that is no message.
+fn refused_to<const ROOM: usize, const MARKS: usize>(
+    extent: Extent,
+    words: &[u8],
+    fault: WordFault,
+    letter: &mut LetterIn<ROOM, MARKS>,
+) -> Result<(), LetterFault>
+    requires short { length words.now ≤ LARGEST_DATA }
+    requires most { ROOM ≤ LARGEST_ROOM }
+    requires room { most_spelled extent (length words.now) ≤ ROOM }
+    requires marks { length words.now ≤ 2 * MARKS }
+    requires refused { Refused extent words.now fault }
+    ensures read { IsLetterResultIn extent words.now (outcome result letter.new) }
+    ensures emptied { OnErr result
+        (letter.new ≡ record { head = None; items = []; marks = [] }) }
+{
+    match extent {
+        Extent::Usual => {
+            letter.clear();
+            Err(LetterFault::Word(fault))
+        }
+        Extent::Wide => wide_letter_to(words, letter),
+    }
+}
+
+/// Reads the letter that codewords say in the wide extent.
+fn wide_letter_to<const ROOM: usize, const MARKS: usize>(
     words: &[u8],
     letter: &mut LetterIn<ROOM, MARKS>,
 ) -> Result<(), LetterFault>
@@ -241,45 +278,5 @@ pub fn letter_to<const ROOM: usize, const MARKS: usize>(
             letter.head = None;
             Err(fault)
         }
-    }
-}
-
-/// Does the same as [`letter_to()`] for an extent: at [`Extent::Usual`] the codewords are read as
-/// [`message_to()`](crate::message_to) reads them, and what they spell is a letter without a head and marks. What is
-/// read at [`Extent::Usual`] is read at [`Extent::Wide`] as the same. Codewords that spell a message take no more work
-/// than that message does.
-pub fn letter_to_as(extent: Extent, words: &[u8], letter: &mut Letter) -> Result<(), LetterFault>
-    requires { length words.now ≤ MOST_DATA }
-    ensures read { IsLetterResultIn extent words.now (outcome result letter.new) }
-    ensures emptied { OnErr result
-        (letter.new ≡ record { head = None; items = []; marks = [] }) }
-{
-    letter.clear();
-    match message_to_as(extent, words, &mut letter.content.message) {
-        Ok(()) => Ok(()),
-        Err(fault) => refused_to(extent, words, fault, letter),
-    }
-}
-
-/// Reads codewords that spell no message in an extent, and have this fault in it, into the letter: they may say a
-/// letter that is no message.
-fn refused_to(
-    extent: Extent,
-    words: &[u8],
-    fault: WordFault,
-    letter: &mut Letter,
-) -> Result<(), LetterFault>
-    requires short { length words.now ≤ MOST_DATA }
-    requires refused { Refused extent words.now fault }
-    ensures read { IsLetterResultIn extent words.now (outcome result letter.new) }
-    ensures emptied { OnErr result
-        (letter.new ≡ record { head = None; items = []; marks = [] }) }
-{
-    match extent {
-        Extent::Usual => {
-            letter.clear();
-            Err(LetterFault::Word(fault))
-        }
-        Extent::Wide => letter_to(words, letter),
     }
 }

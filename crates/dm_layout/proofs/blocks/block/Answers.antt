@@ -1,56 +1,20 @@
-use Rattle.std.proofs.Common.{◌≡◌, ◌+◌, ◌*◌, ◌/◌, ◌∙◌, sym, ap, [], ◌∷◌, ◌++◌, map, get_or, take, length, arith, lit<}
-use Rattle.std.specs.List.{range_with_len}
-use Rattle.std.proofs.lemmas.List.FromFn.{map-range_with_len_more, length-map-range_with_len}
-use Rattle.dm_layout.specs.Sizes.{SizeRow, block_data}
-use Rattle.dm_layout.proofs.TableRows.{row_facts}
-use Rattle.dm_layout.proofs.BlockLemmas.{steps_of_block, walk_of_block, data_of_block}
+use Rattle.std.proofs.Common.{◌∙◌, ◌<◌, ap, sym, subst, take}
+use Rattle.dm_layout.specs.Sizes.{block_length}
+use Rattle.dm_layout.specs.Words.{WordsView}
+use Rattle.dm_layout.proofs.KeptSymbols.{kept_data, kept_whole}
 use Rattle.dm_layout.proofs.blocks.block.Goals as goal
-
-pub push-requires : goal.push-requires
-push-requires c =
-    let words = c.size.ensures.words in
-    let same : c.blocks-blocks.result ≡ c.args.words.now.size.blocks =
-    c.blocks-blocks.ensures.value ∙ ap (λ (s : SizeRow). s.blocks) c.size.ensures.value in
-    let steps =
-    steps_of_block c.args.words.now c.blocks-blocks.result c.list-list.result.now words same
-    c.list-list.ensures.value in
-    let far = (row_facts c.args.words.now.size words.row).short in
-    let so_far : length c.loop-i.block.items ≡ c.loop-i.i =
-    ap length c.loop-i.invariant ∙ length-map-range_with_len
-    (λ k. get_or c.list-list.result.now (k * c.blocks-blocks.result + c.args.b) 0) 0 c.loop-i.i in
-    (lit< tt, omega (arith, steps, far, so_far))
-
-pub loop-i-preserved : goal.loop-i-preserved
-loop-i-preserved c =
-    c.push.ensures.items
-    ∙ ap (λ xs. xs ++ get_or c.list-list.result.now (c.loop-i.i * c.blocks-blocks.result + c.args.b) 0 ∷ [])
-    c.loop-i.invariant
-    ∙ sym (map-range_with_len_more (λ k. get_or c.list-list.result.now (k * c.blocks-blocks.result + c.args.b) 0) 0
-    c.loop-i.i c.loop-i.i (omega arith))
-
-pub returns-clause-value : goal.returns-clause-value
-returns-clause-value c =
-    let same : c.blocks-blocks.result ≡ c.args.words.now.size.blocks =
-    c.blocks-blocks.ensures.value ∙ ap (λ (s : SizeRow). s.blocks) c.size.ensures.value in
-    let all : c.loop-i.i ≡ length c.list-list.result.now / c.blocks-blocks.result = omega arith in
-    c.loop-i.invariant
-    ∙ ap (λ m. map (λ k. get_or c.list-list.result.now (k * c.blocks-blocks.result + c.args.b) 0) (range_with_len 0 m))
-    all
-    ∙ walk_of_block c.args.words.now c.blocks-blocks.result c.args.b c.list-list.result.now c.size.ensures.words
-    c.requires same c.list-list.ensures.value
 
 pub returns-clause-length : goal.returns-clause-length
 returns-clause-length c =
-    let same : c.blocks-blocks.result ≡ c.args.words.now.size.blocks =
-    c.blocks-blocks.ensures.value ∙ ap (λ (s : SizeRow). s.blocks) c.size.ensures.value in
-    let all : c.loop-i.i ≡ length c.list-list.result.now / c.blocks-blocks.result = omega arith in
-    ap length c.loop-i.invariant
-    ∙ length-map-range_with_len (λ k. get_or c.list-list.result.now (k * c.blocks-blocks.result + c.args.b) 0) 0
-    c.loop-i.i
-    ∙ all ∙ steps_of_block c.args.words.now c.blocks-blocks.result c.list-list.result.now c.size.ensures.words same
-    c.list-list.ensures.value
+    let size = c.words.inside.symbol.size in
+    let below = subst (λ (w : WordsView). c.args.b < w.size.blocks) (sym c.words.view_is) c.requires in
+    c.block.ensures.length ∙ kept_whole size c.args.b c.words.invariant below
+    ∙ ap (λ (w : WordsView). block_length w.size) c.words.view_is
 
 pub returns-clause-data : goal.returns-clause-data
 returns-clause-data c =
-    ap (take (block_data c.args.words.now.size)) (returns-clause-value c)
-    ∙ data_of_block c.args.words.now c.args.b c.size.ensures.words c.requires
+    let size = c.words.inside.symbol.size in
+    let below = subst (λ (w : WordsView). c.args.b < w.size.blocks) (sym c.words.view_is) c.requires in
+    rw (← c.words.view_is) (ap (λ n. take n c.block.result.items) (sym (kept_data size c.args.b c.words.invariant
+    below))
+    ∙ c.block.ensures.data)

@@ -1,53 +1,17 @@
-use Rattle.std.proofs.Common.{◌≡◌, ◌+◌, ◌*◌, ◌%◌, ◌<◌, ◌∙◌, sym, ap, get_or, arith}
-use Rattle.dm_layout.specs.Sizes.{SizeRow}
+use Rattle.std.proofs.Common.{◌∙◌, ◌<◌, ap, sym, subst, lit<}
+use Rattle.dm_layout.specs.Sizes.{block_length}
 use Rattle.dm_layout.specs.Words.{WordsView}
-use Rattle.dm_layout.proofs.BlockLemmas.{next_inside, put_gives, others_stay, put_one, stay_one}
+use Rattle.dm_layout.proofs.KeptSymbols.{kept_whole}
 use Rattle.dm_layout.proofs.blocks.put_block.Goals as goal
 
-pub put-requires : goal.put-requires
-put-requires c =
-    let same : c.blocks-blocks.result ≡ c.args.words.now.size.blocks =
-    c.blocks-blocks.ensures.value ∙ ap (λ (s : SizeRow). s.blocks) c.size.ensures.value in
-    next_inside c.args.words.now c.loop-i.words c.blocks-blocks.result c.args.b c.loop-i.i c.args.list.now
-    c.size.ensures.words c.loop-i.invariant.words c.loop-i.invariant.size
-    same c.requires.block c.requires.length c.loop-i-test.true
-
-pub loop-i-preserved : goal.loop-i-preserved
-loop-i-preserved c =
-    let same : c.blocks-blocks.result ≡ c.args.words.now.size.blocks =
-    c.blocks-blocks.ensures.value ∙ ap (λ (s : SizeRow). s.blocks) c.size.ensures.value in
-    let below : c.args.b < c.blocks-blocks.result = omega (arith, same, c.requires.block) in
-    let inside =
-    next_inside c.args.words.now c.loop-i.words c.blocks-blocks.result c.args.b c.loop-i.i c.args.list.now
-    c.size.ensures.words c.loop-i.invariant.words c.loop-i.invariant.size
-    same c.requires.block c.requires.length c.loop-i-test.true in
-    let list = ap (λ (w : WordsView). w.list) c.put.ensures.value in
-    record {
-      words = c.put.ensures.words;
-      size = ap (λ (w : WordsView). w.size) c.put.ensures.value ∙ c.loop-i.invariant.size;
-      put = λ k l.
-          ap (λ ws. get_or ws (k * c.blocks-blocks.result + c.args.b) 0) list
-          ∙ put_one c.blocks-blocks.result c.args.b c.loop-i.i c.loop-i.words.list c.args.list.now below inside
-          c.loop-i.invariant.put k l;
-      others =
-          λ j h. ap (λ ws. get_or ws j 0) list ∙ stay_one c.blocks-blocks.result c.args.b c.loop-i.i _
-          c.loop-i.words.list c.args.words.now.list below c.loop-i.invariant.others j h;
-    }
-
-pub returns-clause-put : goal.returns-clause-put
-returns-clause-put c =
-    let same : c.blocks-blocks.result ≡ c.args.words.now.size.blocks =
-    c.blocks-blocks.ensures.value ∙ ap (λ (s : SizeRow). s.blocks) c.size.ensures.value in
-    put_gives c.args.words.now c.loop-i.words c.args.b c.args.list.now c.size.ensures.words c.loop-i.invariant.words
-    c.loop-i.invariant.size c.requires.block c.requires.length
-    (λ k l. ap (λ n. get_or c.loop-i.words.list (k * n + c.args.b) 0) (sym same)
-    ∙ c.loop-i.invariant.put k (omega arith))
-
-pub returns-clause-others : goal.returns-clause-others
-returns-clause-others c =
-    let same : c.blocks-blocks.result ≡ c.args.words.now.size.blocks =
-    c.blocks-blocks.ensures.value ∙ ap (λ (s : SizeRow). s.blocks) c.size.ensures.value in
-    λ a below other.
-    others_stay c.args.words.now c.loop-i.words c.args.b a c.size.ensures.words c.loop-i.invariant.words
-    c.loop-i.invariant.size below other
-    (λ j h. c.loop-i.invariant.others j (λ e. h (ap (λ n. j % n) (sym same) ∙ e)))
+pub put_block-requires : goal.put_block-requires
+put_block-requires c =
+    let size = c.words.inside.symbol.size in
+    let below = subst (λ (w : WordsView). c.args.b < w.size.blocks) (sym c.words.view_is) c.requires.block in (
+      lit< tt,
+      (
+        below,
+        c.requires.length ∙ ap (λ (w : WordsView). block_length w.size) (sym c.words.view_is)
+            ∙ sym (kept_whole size c.args.b c.words.invariant below),
+      ),
+    )

@@ -1,82 +1,13 @@
-use Rattle.std.proofs.Common.{◌≡◌, ◌+◌, ◌*◌, ◌%◌, ◌<◌, ◌∙◌, ℕ, refl, sym, ap, get_or, arith}
-use Rattle.dm_layout.specs.Sizes.{SizeRow, block_data}
+use Rattle.std.proofs.Common.{◌∙◌, ◌++◌, ◌<◌, ap, sym, subst, take}
 use Rattle.dm_layout.specs.Words.{WordsView}
-use Rattle.dm_layout.proofs.BlockLemmas.{check_inside, check_put, finished, finished_front, finished_length}
-use Rattle.dm_layout.proofs.BlockLemmas.{finished_is, finished_parts}
-use Rattle.dm_layout.proofs.BlockLemmas.{put_gives, others_stay, stay_one}
+use Rattle.dm_layout.specs.Blocks.{block_of}
+use Rattle.dm_layout.proofs.KeptSymbols.{kept_data}
 use Rattle.dm_layout.proofs.blocks.put_block_checks.Goals as goal
-
-pub loop-i-init : goal.loop-i-init
-loop-i-init c =
-    let w = c.args.words.now in
-    let same : c.from-blocks.result ≡ w.size.blocks = c.from-blocks.ensures ∙ c.blocks-2.ensures.value
-    ∙ ap (λ (s : SizeRow). s.blocks) c.size-size.ensures.value in
-    record {
-      words = c.size-size.ensures.words;
-      size = refl;
-      put = λ k l.
-          ap (λ (n : ℕ). get_or w.list (k * n + c.args.b) 0) same
-          ∙ finished_front w c.args.b c.args.checks.now c.size-size.ensures.words c.requires.block c.requires.length k
-          (omega (arith, l));
-      others = λ j h. refl;
-    }
-
-pub put-requires : goal.put-requires
-put-requires c =
-    let w = c.args.words.now in
-    let same : c.from-blocks.result ≡ w.size.blocks = c.from-blocks.ensures ∙ c.blocks-2.ensures.value
-    ∙ ap (λ (s : SizeRow). s.blocks) c.size-size.ensures.value in
-    let front : c.from-front.result ≡ block_data w.size = c.from-front.ensures ∙ c.block_data.ensures.value
-    ∙ ap (λ (s : SizeRow). block_data s) c.size-size.ensures.value in
-    check_inside w c.args.b c.args.checks.now c.size-size.ensures.words c.requires.block c.requires.length
-    c.loop-i.words c.from-blocks.result c.from-front.result c.loop-i.i c.loop-i.invariant.words c.loop-i.invariant.size
-    same front c.loop-i-test.true
-
-pub loop-i-preserved : goal.loop-i-preserved
-loop-i-preserved c =
-    let w = c.args.words.now in
-    let i = c.loop-i.invariant in
-    let same : c.from-blocks.result ≡ w.size.blocks = c.from-blocks.ensures ∙ c.blocks-2.ensures.value
-    ∙ ap (λ (s : SizeRow). s.blocks) c.size-size.ensures.value in
-    let front : c.from-front.result ≡ block_data w.size = c.from-front.ensures ∙ c.block_data.ensures.value
-    ∙ ap (λ (s : SizeRow). block_data s) c.size-size.ensures.value in
-    let below : c.args.b < c.from-blocks.result = omega (arith, same, c.requires.block) in
-    let inside =
-    check_inside w c.args.b c.args.checks.now c.size-size.ensures.words c.requires.block c.requires.length
-    c.loop-i.words c.from-blocks.result c.from-front.result c.loop-i.i i.words i.size same front c.loop-i-test.true in
-    let list = ap (λ (v : WordsView). v.list) c.put.ensures.value in
-    record {
-      words = c.put.ensures.words;
-      size = ap (λ (v : WordsView). v.size) c.put.ensures.value ∙ i.size;
-      put = λ k l.
-          ap (λ ws. get_or ws (k * c.from-blocks.result + c.args.b) 0) list
-          ∙ check_put w c.args.b c.args.checks.now c.size-size.ensures.words c.requires.block c.requires.length
-          c.loop-i.words.list c.from-blocks.result c.from-front.result c.loop-i.i below front inside i.put k l;
-      others = λ j h.
-          ap (λ ws. get_or ws j 0) list ∙ stay_one c.from-blocks.result c.args.b (c.from-front.result + c.loop-i.i) _
-          c.loop-i.words.list w.list below i.others j h;
-    }
 
 pub returns-clause-put : goal.returns-clause-put
 returns-clause-put c =
-    let w = c.args.words.now in
-    let same : c.from-blocks.result ≡ w.size.blocks = c.from-blocks.ensures ∙ c.blocks-2.ensures.value
-    ∙ ap (λ (s : SizeRow). s.blocks) c.size-size.ensures.value in
-    let long =
-    finished_length w c.args.b c.args.checks.now c.size-size.ensures.words c.requires.block c.requires.length in
-    let parts =
-    finished_parts w c.args.b c.args.checks.now c.size-size.ensures.words c.requires.block c.requires.length in
-    put_gives w c.loop-i.words c.args.b (finished w c.args.b c.args.checks.now) c.size-size.ensures.words
-    c.loop-i.invariant.words c.loop-i.invariant.size c.requires.block long
-    (λ k l. ap (λ n. get_or c.loop-i.words.list (k * n + c.args.b) 0) (sym same)
-    ∙ c.loop-i.invariant.put k (omega (arith, l, parts, c.loop-i-test.false)))
-    ∙ finished_is w c.args.b c.args.checks.now c.size-size.ensures.words c.requires.block c.requires.length
-
-pub returns-clause-others : goal.returns-clause-others
-returns-clause-others c =
-    let same : c.from-blocks.result ≡ c.args.words.now.size.blocks = c.from-blocks.ensures ∙ c.blocks-2.ensures.value
-    ∙ ap (λ (s : SizeRow). s.blocks) c.size-size.ensures.value in
-    λ a below other.
-    others_stay c.args.words.now c.loop-i.words c.args.b a c.size-size.ensures.words c.loop-i.invariant.words
-    c.loop-i.invariant.size below other
-    (λ j h. c.loop-i.invariant.others j (λ e. h (ap (λ n. j % n) (sym same) ∙ e)))
+    let w = c.words.inside.symbol in
+    let below = subst (λ (v : WordsView). c.args.b < v.size.blocks) (sym c.words.view_is) c.requires.block in
+    rw (← c.words.view_is) (c.put_block_checks.ensures.put
+    ∙ ap (λ n. take n (block_of w.size.blocks c.args.b w.list) ++ c.args.checks.now)
+    (kept_data w.size c.args.b c.words.invariant below))

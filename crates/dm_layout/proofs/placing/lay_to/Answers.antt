@@ -1,34 +1,37 @@
-use Rattle.std.proofs.Common.{◌∙◌, ap, arith}
-use Rattle.dm_layout.specs.Sizes.{SizeRow}
-use Rattle.dm_layout.proofs.Squares.{one_laid}
-use Rattle.dm_layout.proofs.PlacementRows.{side_at_row}
-use Rattle.dm_layout.proofs.Squares.{one_list}
+use Rattle.std.proofs.Common.{◌≡◌, lit<, subst}
+use Rattle.dm_modules.specs.Modules.{ModulesView}
+use Rattle.dm_modules.specs.Words as symbols
+use Rattle.dm_modules.specs.Holding as holding
+use Rattle.dm_layout.specs.Words.{WordsView}
+use Rattle.dm_layout.specs.Holds.{IsLaid}
+use Rattle.dm_layout.specs.inner.Keeping.{IsKept, kept_grid, kept_words}
+use Rattle.dm_layout.proofs.KeptSymbols.{kept_fits, kept_laid}
+use Rattle.dm_layout.proofs.Squares.{one_laid, one_list}
 use Rattle.dm_layout.proofs.placing.lay_to.Goals as goal
 
-pub lay_rows-requires-else-mapping-le-NARROW_MAPPING : goal.lay_rows-requires-else-mapping-le-NARROW_MAPPING
-lay_rows-requires-else-mapping-le-NARROW_MAPPING c =
-    let e = c.mapping.ensures.value ∙ ap (λ (s : SizeRow). s.mapping) c.size.ensures.value in
-    let most = side_at_row c.size.result c.mapping.result c.mapping.ensures.row c.mapping.ensures.value in
-    omega (arith, e, most)
+pub lay_to-requires : goal.lay_to-requires
+lay_to-requires c = (lit< tt, (lit< tt, kept_fits c.words.inside.symbol.size c.words.invariant))
 
-pub returns-then-mapping-le-NARROW_MAPPING-clause-no_other_grid :
-    goal.returns-then-mapping-le-NARROW_MAPPING-clause-no_other_grid
-returns-then-mapping-le-NARROW_MAPPING-clause-no_other_grid c =
-    λ other h. one_laid c.args.words.now other c.lay_rows.new.grid h c.lay_rows.ensures
+-- The codewords are laid in the grid that is kept as the symbol they are laid in.
+laid : (m : ModulesView) (w : symbols.WordsView) (words : WordsView) → IsKept w.size → kept_words w ≡ words →
+    holding.IsLaid w m → IsLaid words (kept_grid m)
+laid m w words k e h =
+    subst (λ v. IsLaid v (kept_grid m)) e (kept_laid m w (subst IsKept h.holds.same_size k) h)
 
-pub returns-then-mapping-le-NARROW_MAPPING-clause-no_other_words :
-    goal.returns-then-mapping-le-NARROW_MAPPING-clause-no_other_words
-returns-then-mapping-le-NARROW_MAPPING-clause-no_other_words c =
-    λ other h. one_list c.lay_rows.new.grid other c.args.words.now h c.lay_rows.ensures.holds
+pub returns-clause-no_other_grid : goal.returns-clause-no_other_grid
+returns-clause-no_other_grid c =
+    let e = c.lay_to.ensures in
+    let all : holding.IsLaid c.words.inside.symbol c.lay_to.new.symbol =
+    record { holds = e.holds; border = e.border; fixed_square = e.fixed_square } in
+    λ other h.
+    one_laid c.args.words.now other (kept_grid c.lay_to.new.symbol) h
+    (laid c.lay_to.new.symbol c.words.inside.symbol c.args.words.now c.words.invariant c.words.view_is all)
 
-pub returns-else-mapping-le-NARROW_MAPPING-clause-no_other_grid :
-    goal.returns-else-mapping-le-NARROW_MAPPING-clause-no_other_grid
-returns-else-mapping-le-NARROW_MAPPING-clause-no_other_grid c =
-    λ other h. one_laid c.args.words.now other c.lay_rows-else-mapping-le-NARROW_MAPPING.new.grid h
-    c.lay_rows-else-mapping-le-NARROW_MAPPING.ensures
-
-pub returns-else-mapping-le-NARROW_MAPPING-clause-no_other_words :
-    goal.returns-else-mapping-le-NARROW_MAPPING-clause-no_other_words
-returns-else-mapping-le-NARROW_MAPPING-clause-no_other_words c = λ other h.
-    one_list c.lay_rows-else-mapping-le-NARROW_MAPPING.new.grid other c.args.words.now h
-    c.lay_rows-else-mapping-le-NARROW_MAPPING.ensures.holds
+pub returns-clause-no_other_words : goal.returns-clause-no_other_words
+returns-clause-no_other_words c =
+    let e = c.lay_to.ensures in
+    let all : holding.IsLaid c.words.inside.symbol c.lay_to.new.symbol =
+    record { holds = e.holds; border = e.border; fixed_square = e.fixed_square } in
+    λ other h.
+    one_list (kept_grid c.lay_to.new.symbol) other c.args.words.now h
+    (laid c.lay_to.new.symbol c.words.inside.symbol c.args.words.now c.words.invariant c.words.view_is all).holds

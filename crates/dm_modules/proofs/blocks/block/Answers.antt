@@ -7,7 +7,7 @@ use Rattle.dm_modules.proofs.BlockLemmas.{steps_of_block, walk_of_block, data_of
 use Rattle.dm_modules.proofs.blocks.block.Goals as goal
 
 pub push-requires : goal.push-requires
-push-requires c =
+push-requires g c =
     let words = c.size.ensures.words in
     let same : c.blocks-blocks.result ≡ c.args.words.now.size.blocks =
     c.blocks-blocks.ensures.value ∙ ap (λ (s : SizeEntry). s.blocks) c.size.ensures.value in
@@ -21,7 +21,7 @@ push-requires c =
     (lit< tt, omega (arith, steps, far, so_far))
 
 pub loop-i-preserved : goal.loop-i-preserved
-loop-i-preserved c =
+loop-i-preserved g c =
     c.push.ensures.items
     ∙ ap (λ xs. xs ++ get_or c.list-list.result.now (c.loop-i.i * c.blocks-blocks.result + c.args.b) 0 ∷ [])
     c.loop-i.invariant
@@ -29,7 +29,7 @@ loop-i-preserved c =
     c.loop-i.i c.loop-i.i (omega arith))
 
 pub returns-clause-value : goal.returns-clause-value
-returns-clause-value c =
+returns-clause-value g c =
     let same : c.blocks-blocks.result ≡ c.args.words.now.size.blocks =
     c.blocks-blocks.ensures.value ∙ ap (λ (s : SizeEntry). s.blocks) c.size.ensures.value in
     let all : c.loop-i.i ≡ share (length c.list-list.result.now) c.blocks-blocks.result c.args.b = omega arith in
@@ -40,7 +40,7 @@ returns-clause-value c =
     c.list-list.ensures.value
 
 pub returns-clause-length : goal.returns-clause-length
-returns-clause-length c =
+returns-clause-length g c =
     let same : c.blocks-blocks.result ≡ c.args.words.now.size.blocks =
     c.blocks-blocks.ensures.value ∙ ap (λ (s : SizeEntry). s.blocks) c.size.ensures.value in
     let all : c.loop-i.i ≡ share (length c.list-list.result.now) c.blocks-blocks.result c.args.b = omega arith in
@@ -51,6 +51,6 @@ returns-clause-length c =
     same c.list-list.ensures.value
 
 pub returns-clause-data : goal.returns-clause-data
-returns-clause-data c =
-    ap (take (block_data c.args.words.now.size c.args.b)) (returns-clause-value c)
+returns-clause-data g c =
+    ap (take (block_data c.args.words.now.size c.args.b)) (returns-clause-value g c)
     ∙ data_of_block c.args.words.now c.args.b c.size.ensures.words c.requires

@@ -1,19 +1,21 @@
-use Rattle.std.proofs.Common.{◌≡◌, ◌+◌, ◌*◌, ◌%◌, ◌<◌, ◌∙◌, sym, ap, get_or, arith}
+use Rattle.std.proofs.Common.{rules, ◌≡◌, ◌+◌, ◌*◌, ◌%◌, ◌<◌, ◌∙◌, sym, ap, get_or, arith}
 use Rattle.dm_modules.specs.Sizes.{SizeEntry}
 use Rattle.dm_modules.specs.Words.{WordsView}
 use Rattle.dm_modules.proofs.BlockLemmas.{next_inside, put_gives, others_stay, put_one, stay_one}
 use Rattle.dm_modules.proofs.blocks.put_block.Goals as goal
 
 pub put-requires : goal.put-requires
-put-requires c =
+put-requires g c =
     let same : c.blocks-blocks.result ≡ c.args.words.now.size.blocks =
-    c.blocks-blocks.ensures.value ∙ ap (λ (s : SizeEntry). s.blocks) c.size.ensures.value in
-    next_inside c.args.words.now c.loop-i.words c.blocks-blocks.result c.args.b c.loop-i.i c.args.list.now
-    c.loop-i.invariant.words c.loop-i.invariant.size
-    same c.requires.block c.requires.length c.loop-i-test.true
+    c.blocks-blocks.ensures.value ∙ ap (λ (s : SizeEntry). s.blocks) c.size.ensures.value in (
+      search rules,
+      next_inside c.args.words.now c.loop-i.words c.blocks-blocks.result c.args.b c.loop-i.i c.args.list.now
+          c.loop-i.invariant.words c.loop-i.invariant.size
+          same c.requires.block c.requires.length c.loop-i-test.true,
+    )
 
 pub loop-i-preserved : goal.loop-i-preserved
-loop-i-preserved c =
+loop-i-preserved g c =
     let same : c.blocks-blocks.result ≡ c.args.words.now.size.blocks =
     c.blocks-blocks.ensures.value ∙ ap (λ (s : SizeEntry). s.blocks) c.size.ensures.value in
     let below : c.args.b < c.blocks-blocks.result = omega (arith, same, c.requires.block) in
@@ -35,7 +37,7 @@ loop-i-preserved c =
     }
 
 pub returns-clause-put : goal.returns-clause-put
-returns-clause-put c =
+returns-clause-put g c =
     let same : c.blocks-blocks.result ≡ c.args.words.now.size.blocks =
     c.blocks-blocks.ensures.value ∙ ap (λ (s : SizeEntry). s.blocks) c.size.ensures.value in
     put_gives c.args.words.now c.loop-i.words c.args.b c.args.list.now c.loop-i.invariant.words c.loop-i.invariant.size
@@ -44,7 +46,7 @@ returns-clause-put c =
     ∙ c.loop-i.invariant.put k (omega arith))
 
 pub returns-clause-others : goal.returns-clause-others
-returns-clause-others c =
+returns-clause-others g c =
     let same : c.blocks-blocks.result ≡ c.args.words.now.size.blocks =
     c.blocks-blocks.ensures.value ∙ ap (λ (s : SizeEntry). s.blocks) c.size.ensures.value in
     λ a below other.

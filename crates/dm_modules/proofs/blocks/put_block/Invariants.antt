@@ -3,7 +3,7 @@ use Rattle.dm_modules.specs.Words.{IsWords}
 use Rattle.dm_modules.proofs.blocks.put_block.Given as goal
 
 abbrev pub invariant-loop-i : goal.invariant-loop-i
-invariant-loop-i l = record {
+invariant-loop-i g l = record {
   words : IsWords l.words;
   size : l.words.size ≡ l.fn.words.size;
   put : (k : ℕ) → k < l.i → get_or l.words.list (k * l.blocks + l.b) 0 ≡ get_or l.list k 0;

@@ -1,4 +1,4 @@
-use Rattle.std.proofs.Common.{◌≡◌, ◌+◌, ◌*◌, ◌%◌, ◌<◌, ◌∙◌, ℕ, refl, sym, ap, get_or, arith}
+use Rattle.std.proofs.Common.{rules, ◌≡◌, ◌+◌, ◌*◌, ◌%◌, ◌<◌, ◌∙◌, ℕ, refl, sym, ap, get_or, arith}
 use Rattle.dm_modules.specs.Sizes.{SizeEntry, block_data}
 use Rattle.dm_modules.specs.Words.{WordsView}
 use Rattle.dm_modules.proofs.BlockChecks.{check_inside, check_put, finished, finished_front, finished_length}
@@ -7,7 +7,7 @@ use Rattle.dm_modules.proofs.BlockLemmas.{put_gives, others_stay, stay_one}
 use Rattle.dm_modules.proofs.blocks.put_block_checks.Goals as goal
 
 pub loop-i-init : goal.loop-i-init
-loop-i-init c =
+loop-i-init g c =
     let w = c.args.words.now in
     let same : c.from-blocks.result ≡ w.size.blocks = c.from-blocks.ensures ∙ c.blocks-2.ensures.value
     ∙ ap (λ (s : SizeEntry). s.blocks) c.size-size.ensures.value in
@@ -22,18 +22,21 @@ loop-i-init c =
     }
 
 pub put-requires : goal.put-requires
-put-requires c =
+put-requires g c =
     let w = c.args.words.now in
     let same : c.from-blocks.result ≡ w.size.blocks = c.from-blocks.ensures ∙ c.blocks-2.ensures.value
     ∙ ap (λ (s : SizeEntry). s.blocks) c.size-size.ensures.value in
     let front : c.from-front.result ≡ block_data w.size c.args.b = c.from-front.ensures ∙ c.block_data.ensures.value
-    ∙ ap (λ (s : SizeEntry). block_data s c.args.b) c.size-size.ensures.value in
-    check_inside w c.args.b c.args.checks.now c.size-size.ensures.words c.requires.block c.requires.length
-    c.loop-i.words c.from-blocks.result c.from-front.result c.loop-i.i c.loop-i.invariant.words c.loop-i.invariant.size
-    same front c.loop-i-test.true
+    ∙ ap (λ (s : SizeEntry). block_data s c.args.b) c.size-size.ensures.value in (
+      search rules,
+      check_inside w c.args.b c.args.checks.now c.size-size.ensures.words c.requires.block c.requires.length
+          c.loop-i.words c.from-blocks.result c.from-front.result c.loop-i.i c.loop-i.invariant.words
+          c.loop-i.invariant.size
+          same front c.loop-i-test.true,
+    )
 
 pub loop-i-preserved : goal.loop-i-preserved
-loop-i-preserved c =
+loop-i-preserved g c =
     let w = c.args.words.now in
     let i = c.loop-i.invariant in
     let same : c.from-blocks.result ≡ w.size.blocks = c.from-blocks.ensures ∙ c.blocks-2.ensures.value
@@ -58,7 +61,7 @@ loop-i-preserved c =
     }
 
 pub returns-clause-put : goal.returns-clause-put
-returns-clause-put c =
+returns-clause-put g c =
     let w = c.args.words.now in
     let same : c.from-blocks.result ≡ w.size.blocks = c.from-blocks.ensures ∙ c.blocks-2.ensures.value
     ∙ ap (λ (s : SizeEntry). s.blocks) c.size-size.ensures.value in
@@ -72,7 +75,7 @@ returns-clause-put c =
     ∙ c.loop-i.invariant.put k (omega (arith, l, parts, c.loop-i-test.false)))
 
 pub returns-clause-others : goal.returns-clause-others
-returns-clause-others c =
+returns-clause-others g c =
     let same : c.from-blocks.result ≡ c.args.words.now.size.blocks = c.from-blocks.ensures ∙ c.blocks-2.ensures.value
     ∙ ap (λ (s : SizeEntry). s.blocks) c.size-size.ensures.value in
     λ a below other.

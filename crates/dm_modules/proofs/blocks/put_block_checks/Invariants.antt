@@ -6,7 +6,7 @@ use Rattle.dm_modules.proofs.blocks.put_block_checks.Given as goal
 
 -- The codewords of the block before this check codeword stand at their places.
 abbrev pub invariant-loop-i : goal.invariant-loop-i
-invariant-loop-i l = record {
+invariant-loop-i g l = record {
   words : IsWords l.words;
   size : l.words.size ≡ l.fn.words.size;
   put : (k : ℕ) → k < block_data l.fn.words.size l.b + l.i → get_or l.words.list (k * l.blocks + l.b) 0 ≡

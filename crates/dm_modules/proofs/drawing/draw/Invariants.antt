@@ -1,11 +1,10 @@
-use Rattle.std.proofs.Common.{◌≡◌, ℕ, ◌<◌}
-use Rattle.dm_modules.specs.Modules.{IsModules, module_at}
-use Rattle.dm_modules.specs.inner.Drawing.{drawn_colour}
+use Rattle.std.proofs.Common.{◌+◌, ◌*◌}
+use Rattle.dm_modules.specs.inner.Reading.{look_in}
+use Rattle.dm_modules.specs.inner.RowDrawing.{IsDrawn}
 use Rattle.dm_modules.proofs.drawing.draw.Given as goal
 
-abbrev pub invariant-loop-row : goal.invariant-loop-row
-invariant-loop-row l = record {
-  size : l.modules.size ≡ l.size;
-  modules : IsModules l.modules;
-  colours : (r c : ℕ) → r < l.row → c < l.size.columns → module_at l.modules r c ≡ drawn_colour l.size l.mapping r c;
+abbrev pub invariant-loop-region : goal.invariant-loop-region
+invariant-loop-region g l = record {
+  drawn : IsDrawn l.fn.size (λ r c. look_in (g.R.BitRows.numbers l.rows) (r + 2) (c + 4))
+      (l.region * (l.fn.size.region_rows + 2)) l.symbol;
 }

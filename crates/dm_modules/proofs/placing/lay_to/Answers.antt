@@ -2,9 +2,9 @@ use Rattle.dm_modules.proofs.LaidModules.{one_held, one_laid}
 use Rattle.dm_modules.proofs.placing.lay_to.Goals as goal
 
 pub returns-clause-no_other_modules : goal.returns-clause-no_other_modules
-returns-clause-no_other_modules c =
-    λ other laid. one_laid c.args.words.now other c.lay_by_size.new.modules laid c.lay_by_size.ensures
+returns-clause-no_other_modules g c =
+    λ other laid. one_laid c.args.words.now other c.lay_by_width.new.symbol laid c.lay_by_width.ensures
 
 pub returns-clause-no_other_words : goal.returns-clause-no_other_words
-returns-clause-no_other_words c =
-    λ other holds. one_held c.lay_by_size.new.modules other c.args.words.now holds c.lay_by_size.ensures.holds
+returns-clause-no_other_words g c =
+    λ other holds. one_held c.lay_by_width.new.symbol other c.args.words.now holds c.lay_by_width.ensures.holds

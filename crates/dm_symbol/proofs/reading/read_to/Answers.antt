@@ -1,7 +1,66 @@
-use Rattle.std.proofs.Common.{rules}
+use Rattle.std.proofs.Common.{◌≡◌, ◌≤◌, ◌∙◌, [], length, map, None, Ok, Err, ap, subst, sym, arith, rules}
+use Rattle.dm_modules.specs.Modules.{ModulesView}
+use Rattle.dm_modules.specs.Sizes.{codeword_count}
+use Rattle.dm_layout.specs.Sizes.{symbol_size}
+use Rattle.dm_layout.specs.Grid.{symbol_modules}
+use Rattle.dm_layout.proofs.Exported.{row_facts}
+use Rattle.dm_words.specs.Messages.{most_spelled}
+use Rattle.dm_symbol.specs.declared.symbol.reading.BlockReading.{BlockReading}
+use Rattle.dm_symbol.specs.SymbolReading.{SymbolReadResult, symbol_reading_of}
 use Rattle.dm_symbol.proofs.SizeFacts.{room_for_grid}
+use Rattle.dm_symbol.proofs.ReadSteps.{is_read}
+use Rattle.dm_symbol.proofs.GridResults.{grid_result}
 use Rattle.dm_symbol.proofs.reading.read_to.Goals as goal
 
-pub read_message_to-requires : goal.read_message_to-requires
-read_message_to-requires c =
-    (search rules, room_for_grid c.args.extent c.args.grid.now.size c.size-size.ensures.grid.row)
+pub zeros-words-requires : goal.zeros-words-requires
+zeros-words-requires c =
+    let same = ap codeword_count c.symbol.ensures.value in
+    (search rules, omega (arith, same, c.check_count-checks.ensures.most))
+
+pub read_parts-requires : goal.read_parts-requires
+read_parts-requires c =
+    let s = c.args.grid.now.size in
+    let m = c.as_symbol.result.now in
+    let size : m.size ≡ symbol_size s = ap (λ (n : ModulesView). n.size) c.as_symbol.ensures in
+    let count : codeword_count m.size ≤ 1152 =
+    let same = ap codeword_count size in
+    let few = (row_facts s c.size-size.ensures.grid.row).codewords in omega (arith, same, few) in
+    let items : most_spelled c.args.extent m.size.data_count ≤ 1639 =
+    subst (λ n. most_spelled c.args.extent n.data_count ≤ 1639) (sym size)
+    (room_for_grid c.args.extent s c.size-size.ensures.grid.row) in
+    (search rules, (search rules, (search rules, (search rules, (tt, (count, items))))))
+
+pub count_corrected-requires : goal.count_corrected-requires
+count_corrected-requires c =
+    let s = c.args.grid.now.size in
+    let few = (row_facts s c.size-size.ensures.grid.row).few_blocks in
+    let count = c.in-Ok.ensures.count ∙ ap (λ (n : ModulesView). n.size.blocks) c.as_symbol.ensures in
+    omega (arith, ap length c.deref.ensures.0, count, few)
+
+pub returns-in-Err-clause-read : goal.returns-in-Err-clause-read
+returns-in-Err-clause-read c =
+    let e = c.args.extent in
+    let grid = c.args.grid.now in
+    let limit = c.args.border_limit in
+    let why = c.in-Err.fault in
+    let read : SymbolReadResult e (symbol_modules grid) None limit (Err why) =
+    subst (λ s. SymbolReadResult e s None limit (Err why)) c.as_symbol.ensures c.in-Err.ensures.read.result_is in
+    is_read e grid limit (Err why)
+    (grid_result {U = Unit {0}} e grid limit [] [] [] 0 (Err why) c.size-size.ensures.grid read tt)
+
+pub returns-clause-read : goal.returns-clause-read
+returns-clause-read c =
+    let e = c.args.extent in
+    let grid = c.args.grid.now in
+    let limit = c.args.border_limit in
+    let message = c.read_parts.new.message in
+    let blocks = c.read_parts.new.blocks.items in
+    let counts = c.count_corrected.new.counts.items in
+    let faults = c.read_parts.new.faults in
+    let read : SymbolReadResult e (symbol_modules grid) None limit (Ok (symbol_reading_of message blocks faults)) =
+    subst (λ s. SymbolReadResult e s None limit (Ok (symbol_reading_of message blocks faults))) c.as_symbol.ensures
+    c.in-Ok.ensures.read.result_is in
+    let told : counts ≡ map (λ (b : BlockReading). b.corrected) blocks =
+    c.count_corrected.ensures ∙ ap (map (λ (b : BlockReading). b.corrected)) c.deref.ensures.0 in
+    is_read e grid limit _
+    (grid_result {U = Unit {0}} e grid limit message blocks counts faults (Ok tt) c.size-size.ensures.grid read told)

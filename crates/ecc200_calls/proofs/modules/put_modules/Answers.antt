@@ -1,11 +1,51 @@
-use Rattle.std.proofs.Common.{◌∙◌, ap}
-use Rattle.ecc200_calls.specs.Arrays.{over}
-use Rattle.ecc200_calls.proofs.MadeSymbols.{numbers_of_colours}
+use Rattle.std.proofs.Common.{◌≡◌, ◌<◌, ◌≤◌, ◌∙◌, ◌+◌, ◌-◌, ◌*◌, ℕ, sym, ap, arith, get_or, take, drop, length, subst}
+use Rattle.std.proofs.Math.Nat.{mul-le-mul_right}
+use Rattle.dm_modules.specs.Modules.{ModulesView, module_at, is_dark_number as is_dark}
+use Rattle.dm_modules.specs.Sizes.{SizeEntry, area}
+use Rattle.ecc200_calls.specs.Modules.{AreModulesOf}
+use Rattle.ecc200_calls.proofs.Packing.{above_more, all_packed, both_parts, rest_at}
 use Rattle.ecc200_calls.proofs.modules.put_modules.Goals as goal
 
-pub returns : goal.returns
-returns c =
-    c.put_colours.ensures
-    ∙ ap (λ numbers. over numbers c.args.all.now)
-    (numbers_of_colours c.args.symbol.now c.list.result.now c.size-size.ensures.modules c.list.ensures.count
-    c.list.ensures.rows)
+pub loop-row-preserved : goal.loop-row-preserved
+loop-row-preserved g c =
+    let i = c.loop-row.invariant in
+    let row = c.loop-row.row in
+    let old : ModulesView = c.loop-row.symbol in
+    let new : ModulesView = c.put_row.new.self in
+    let modules = c.args.modules.now in
+    let columns = old.size.columns in
+    let same : new.size ≡ old.size = c.put_row.ensures.size in
+    let at = c.from.result * c.from-columns.result in
+    let start : at ≡ row * columns =
+    ap (λ n. n * c.from-columns.result) c.from.ensures ∙ ap (λ n. row * n) i.across in
+    let low : row < old.size.rows = omega (arith, c.loop-row-test.true, i.last) in
+    let room : (row + 1) * columns ≤ old.size.rows * columns = mul-le-mul_right columns (omega (arith, low)) in
+    let count : length modules ≡ area old.size = c.requires ∙ ap area (sym i.size) in
+    let wide : c.from-columns.result ≡ columns = i.across in
+    let rest = take (length modules - at) (drop at modules) in
+    let here : (k : ℕ) → k < columns → module_at new row k ≡ is_dark (get_or modules (row * columns + k) 0) =
+    λ k l.
+    both_parts new row columns c.pack_start.result c.pack_end.result (λ j. is_dark (get_or rest j 0))
+    c.put_row.ensures.start c.put_row.ensures.end
+    (λ j few inside. c.pack_start.ensures j few (omega (arith, inside, wide)))
+    (λ j inside. c.pack_end.ensures j (omega (arith, inside, wide))) k l
+    ∙ ap is_dark ((rest_at modules at k 0 (omega (arith, start, room, count, l))).1
+    ∙ ap (λ n. get_or modules (n + k) 0) start) in
+    record {
+      above = subst (λ (s : SizeEntry). (r k : ℕ) → r < row + 1 → k < s.columns
+          → module_at new r k ≡ is_dark (get_or modules (r * s.columns + k) 0)) (sym same)
+          (above_more old new modules row old.size.rows columns low here c.put_row.ensures.others i.above);
+      size = same ∙ i.size;
+      well = c.put_row.ensures.modules;
+      last = i.last ∙ ap (λ (s : SizeEntry). s.rows) (sym same);
+      across = i.across ∙ ap (λ (s : SizeEntry). s.columns) (sym same);
+    }
+
+pub returns-clause-modules : goal.returns-clause-modules
+returns-clause-modules g c =
+    let i = c.loop-row.invariant in
+    let symbol : ModulesView = c.loop-row.symbol in
+    let count : length c.args.modules.now ≡ area symbol.size = c.requires ∙ ap area (sym i.size) in
+    subst (λ (s : SizeEntry). AreModulesOf s.rows s.columns c.args.modules.now symbol) i.size
+    (all_packed symbol c.args.modules.now i.well count
+    (λ r k lr lk. i.above r k (omega (arith, lr, c.loop-row-test.false, i.last)) lk))

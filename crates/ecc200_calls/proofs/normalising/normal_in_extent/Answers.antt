@@ -4,7 +4,8 @@ use Rattle.ecc200_calls.proofs.normalising.normal_in_extent.Goals as goal
 
 pub returns-in-Some : goal.returns-in-Some
 returns-in-Some c =
-    ProfileResult.under_profile c.in-Some.profile (sym c.profile_of.ensures ∙ c.in-Some.is) c.normal_given.ensures
+    ProfileResult.under_profile c.in-Some.profile (sym c.profile_of.ensures ∙ c.in-Some.is)
+    c.normal_under_profile.ensures
 
 pub returns-in-None : goal.returns-in-None
 returns-in-None c =

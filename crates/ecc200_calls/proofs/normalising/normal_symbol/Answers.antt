@@ -1,22 +1,20 @@
-use Rattle.ecc200_calls.specs.Modules.{IsGivenFault}
-use Rattle.ecc200_calls.specs.Symbols.{NormalisedResult}
-use Rattle.ecc200_calls.proofs.Given.{normal_given}
-use Rattle.ecc200_calls.proofs.NoDoubt.{normal_sure}
+use Rattle.std.proofs.Common.{Err, option_map, refl, ◌∙◌, ap}
+use Rattle.dm_symbol.specs.declared.NormalFault.TheVariants.{Read}
+use Rattle.dm_symbol.specs.SymbolNormal.{NormalSymbolResult}
+use Rattle.ecc200_calls.specs.Symbols.{no_symbol}
+use Rattle.ecc200_calls.proofs.Written.{normal_of_message}
 use Rattle.ecc200_calls.proofs.normalising.normal_symbol.Goals as goal
 
-pub returns-then-none_doubtful : goal.returns-then-none_doubtful
-returns-then-none_doubtful c =
-    normal_sure c.args.rows c.args.columns c.args.modules.now c.in-Ok.symbol c.in-Ok.ensures.symbol
-    c.args.extent c.args.profile c.args.doubtful.now c.args.border_limit c.args.out.now c.normal_modules.new.out
-    (c.none_doubtful.ensures.none c.if-none_doubtful.true) c.normal_modules.ensures
-
-pub returns-else-none_doubtful : goal.returns-else-none_doubtful
-returns-else-none_doubtful c =
-    normal_given c.args.extent c.args.profile c.args.rows c.args.columns c.args.modules.now c.args.doubtful.now
-    c.args.border_limit
-    c.args.out.now c.normal_doubtful.new.out c.in-Ok.symbol c.in-Ok.ensures.symbol
-    (c.none_doubtful.ensures.some c.if-none_doubtful.false) c.normal_doubtful.ensures
+pub returns-in-Ok : goal.returns-in-Ok
+returns-in-Ok g c =
+    let message = c.read_symbol_to.new.reading.message in
+    normal_of_message c.args.extent c.args.profile c.args.symbol.now (option_map (λ d. d.now) c.args.doubtful)
+    c.args.border_limit message c.args.out.now c.write_message.new.out ((c.in-Ok.ensures.read.message message).0 refl)
+    c.write_message.ensures
 
 pub returns-in-Err : goal.returns-in-Err
-returns-in-Err c =
-    NormalisedResult.not_given c.in-Err.why (IsGivenFault.of_modules c.in-Err.ensures.fault) c.show_fault.ensures
+returns-in-Err g c = record {
+  result = Err (Read c.in-Err.why);
+  result_is = NormalSymbolResult.fault c.in-Err.why c.in-Err.ensures.read.result_is refl;
+  shown = c.show_fault.ensures ∙ ap (λ why. no_symbol why c.args.out.now) c.read_fault.ensures;
+}

@@ -1,21 +1,20 @@
-use Rattle.ecc200_calls.specs.Modules.{IsGivenFault}
-use Rattle.ecc200_calls.specs.Readings.{ExtentResult}
-use Rattle.ecc200_calls.proofs.Given.{read_given}
-use Rattle.ecc200_calls.proofs.NoDoubt.{read_sure}
+use Rattle.std.proofs.Common.{Err, Ok, ◌∙◌, ap}
+use Rattle.dm_symbol.specs.SymbolReading.{reading_in}
+use Rattle.dm_modules.specs.Sizes.{SizeEntry}
+use Rattle.ecc200_calls.specs.Readings.{no_reading, reading_shown}
 use Rattle.ecc200_calls.proofs.reading.read_symbol.Goals as goal
 
-pub returns-then-none_doubtful : goal.returns-then-none_doubtful
-returns-then-none_doubtful c =
-    read_sure c.args.rows c.args.columns c.args.modules.now c.in-Ok.symbol c.in-Ok.ensures.symbol
-    c.args.extent c.args.doubtful.now c.args.border_limit c.args.out.now c.read_modules.new.out
-    (c.none_doubtful.ensures.none c.if-none_doubtful.true) c.read_modules.ensures
-
-pub returns-else-none_doubtful : goal.returns-else-none_doubtful
-returns-else-none_doubtful c =
-    read_given c.args.extent c.args.rows c.args.columns c.args.modules.now c.args.doubtful.now c.args.border_limit
-    c.args.out.now c.read_doubtful.new.out c.in-Ok.symbol c.in-Ok.ensures.symbol
-    (c.none_doubtful.ensures.some c.if-none_doubtful.false) c.read_doubtful.ensures
+pub returns-in-Ok : goal.returns-in-Ok
+returns-in-Ok g c = record {
+  result = Ok (reading_in c.read_symbol_to.new.reading);
+  result_is = c.in-Ok.ensures.read.result_is;
+  shown = c.show_reading.ensures ∙ ap (λ (s : SizeEntry). reading_shown s.rows s.columns
+      (reading_in c.read_symbol_to.new.reading) c.args.out.now) c.size-size.ensures.value;
+}
 
 pub returns-in-Err : goal.returns-in-Err
-returns-in-Err c =
-    ExtentResult.not_given c.in-Err.why (IsGivenFault.of_modules c.in-Err.ensures.fault) c.show_fault.ensures
+returns-in-Err g c = record {
+  result = Err c.in-Err.why;
+  result_is = c.in-Err.ensures.read.result_is;
+  shown = c.show_fault.ensures ∙ ap (λ why. no_reading why c.args.out.now) c.read_fault.ensures;
+}

@@ -4,7 +4,7 @@ use Rattle.ecc200_calls.proofs.writing.write_bytes_chosen.Goals as goal
 
 pub returns-in-Some : goal.returns-in-Some
 returns-in-Some c =
-    ChoiceResult.in_choice c.in-Some.size (sym c.choice_of.ensures ∙ c.in-Some.is) c.write_these_bytes.ensures
+    ChoiceResult.in_choice c.in-Some.size (sym c.choice_of.ensures ∙ c.in-Some.is) c.write_items_of_bytes.ensures
 
 pub returns-in-None : goal.returns-in-None
 returns-in-None c =

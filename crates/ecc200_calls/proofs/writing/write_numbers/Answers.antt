@@ -2,35 +2,15 @@ use Rattle.std.proofs.Common.{◌∙◌, Err, refl, ap}
 use Rattle.ecc200_calls.specs.Faults.{too_long}
 use Rattle.ecc200_calls.specs.Symbols.{WrittenResult, no_symbol}
 use Rattle.ecc200_calls.proofs.Messages.{message_there, too_many}
-use Rattle.ecc200_calls.proofs.Written.{writing_given}
 use Rattle.ecc200_calls.proofs.writing.write_numbers.Goals as goal
 
-pub returns-then-items-gt-LARGEST_ITEMS : goal.returns-then-items-gt-LARGEST_ITEMS
-returns-then-items-gt-LARGEST_ITEMS c =
+pub returns-then-items-gt-MOST_WRITTEN : goal.returns-then-items-gt-MOST_WRITTEN
+returns-then-items-gt-MOST_WRITTEN c =
     let there = message_there c.args.items.now c.requires in
     record {
       result = Err too_long;
       result_is = WrittenResult.no_size there.0 there.1 there.2
           (too_many c.args.how.size c.args.how.profile there.0 c.args.items.now there.2
-          c.if-items-gt-LARGEST_ITEMS.true) refl;
+          c.if-items-gt-MOST_WRITTEN.true) refl;
       shown = c.show_fault.ensures ∙ ap (λ why. no_symbol why c.args.out.now) c.too_long.ensures;
     }
-
-pub returns-then-items-gt-MOST_ITEMS : goal.returns-then-items-gt-MOST_ITEMS
-returns-then-items-gt-MOST_ITEMS c =
-    writing_given c.args.how.size c.args.how.profile c.args.items.now c.message_of_numbers.result c.args.out.now
-    c.write_symbol.new.out c.message_of_numbers.ensures.message c.message_of_numbers.ensures.numbers
-    c.write_symbol.ensures
-
-pub returns-then-items-gt-FEW_ITEMS : goal.returns-then-items-gt-FEW_ITEMS
-returns-then-items-gt-FEW_ITEMS c =
-    let made = c.message_of_numbers-then-items-gt-FEW_ITEMS in
-    writing_given c.args.how.size c.args.how.profile c.args.items.now made.result c.args.out.now
-    c.write_message.new.out made.ensures.message made.ensures.numbers c.write_message.ensures
-
-pub returns-else-items-gt-FEW_ITEMS : goal.returns-else-items-gt-FEW_ITEMS
-returns-else-items-gt-FEW_ITEMS c =
-    let made = c.message_of_numbers-else-items-gt-FEW_ITEMS in
-    writing_given c.args.how.size c.args.how.profile c.args.items.now made.result c.args.out.now
-    c.write_message-else-items-gt-FEW_ITEMS.new.out made.ensures.message made.ensures.numbers
-    c.write_message-else-items-gt-FEW_ITEMS.ensures

@@ -1,32 +1,30 @@
-use Rattle.std.proofs.Common.{◌≡◌, ℕ, ◌≤◌, Bool, true, false, cond, nat_le, List, [], ◌∷◌, Option, Some, refl, sym}
-use Rattle.std.proofs.Common.{subst}
-use Rattle.std.specs.Prelude.{find, IfSome}
-use Rattle.std.proofs.lemmas.Bool.{leb-true}
-use Rattle.dm_layout.specs.Sizes.{SizeRow, size_table}
-use Rattle.dm_layout.proofs.TableRows.{smallest_for_words}
+use Rattle.std.proofs.Common.{rules, ◌∙◌, sym}
+use Rattle.dm_layout.proofs.SquareSizes.{no_square_for, one_square_for}
+use Rattle.dm_layout.proofs.TableRows.{enough_for_words, none_for_words, row_for_words_row, smallest_for_words}
 use Rattle.dm_layout.proofs.size.Size.for_words.Goals as goal
 
--- The first row with enough data codewords has enough of them.
-first_is_enough : (count : ℕ) (rows : List SizeRow) →
-    IfSome (find (λ row. nat_le count row.data_count) rows) (λ size. count ≤ size.data_count)
-first_is_enough count [] = tt
-first_is_enough count (r ∷ rows) = by_test (nat_le count r.data_count) refl (first_is_enough count rows)
-  where
-    others : Option SizeRow
-    others = find (λ row. nat_le count row.data_count) rows
+pub returns-in_err-for_words-clause-value : goal.returns-in_err-for_words-clause-value
+returns-in_err-for_words-clause-value c =
+    let none = sym (no_square_for c.args.count c.in_err-for_words.ensures.none) in search rules
 
-    by_test : (b : Bool) → nat_le count r.data_count ≡ b → IfSome others (λ size. count ≤ size.data_count) →
-        IfSome (cond b (Some r) others) (λ size. count ≤ size.data_count)
-    by_test true e later = leb-true count r.data_count e
-    by_test false e later = later
+pub returns-in_err-for_words-clause-none : goal.returns-in_err-for_words-clause-none
+returns-in_err-for_words-clause-none c =
+    none_for_words c.args.count c.from_residual.result (returns-in_err-for_words-clause-value c)
 
 pub returns-clause-value : goal.returns-clause-value
-returns-clause-value c = c.first_with.ensures
+returns-clause-value c =
+    let found = c.in_ok-for_words.ensures in
+    c.of_symbol.ensures.value
+    ∙ sym (one_square_for c.args.count c.in_ok-for_words.field-0 found.size found.chosen found.enough found.smallest)
+
+pub returns-clause-row : goal.returns-clause-row
+returns-clause-row c = row_for_words_row c.args.count c.of_symbol.result (returns-clause-value c)
 
 pub returns-clause-enough : goal.returns-clause-enough
-returns-clause-enough c =
-    subst (λ (o : Option SizeRow). IfSome o (λ size. c.args.count ≤ size.data_count)) (sym c.first_with.ensures)
-    (first_is_enough c.args.count size_table)
+returns-clause-enough c = enough_for_words c.args.count c.of_symbol.result (returns-clause-value c)
 
 pub returns-clause-smallest : goal.returns-clause-smallest
-returns-clause-smallest c = smallest_for_words c.args.count c.first_with.result c.first_with.ensures
+returns-clause-smallest c = smallest_for_words c.args.count c.of_symbol.result (returns-clause-value c)
+
+pub returns-clause-none : goal.returns-clause-none
+returns-clause-none c = none_for_words c.args.count c.of_symbol.result (returns-clause-value c)

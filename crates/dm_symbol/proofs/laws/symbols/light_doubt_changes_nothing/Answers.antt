@@ -10,4 +10,4 @@ returns-clause-normal c extent profile modules doubtful limit result light =
     normal_alike doubtful light modules extent profile limit result
 
 pub returns-clause-shown : goal.returns-clause-shown
-returns-clause-shown c modules doubtful inspection light = shown_alike doubtful light modules inspection
+returns-clause-shown c room modules doubtful inspection light = shown_alike doubtful light modules inspection

@@ -8,7 +8,7 @@ use Rattle.dm_symbol.proofs.SymbolBelow.{block_facts, blocks_are, only_block, on
 use Rattle.dm_symbol.proofs.symbol.correction.codeword_near.Goals as goal
 
 pub correct_to-requires-clause-data : goal.correct_to-requires-clause-data
-correct_to-requires-clause-data c =
+correct_to-requires-clause-data g c =
     let w = c.args.words.now in
     let one : w.size.blocks ≡ 1 =
     omega (
@@ -28,7 +28,7 @@ correct_to-requires-clause-data c =
     )
 
 pub correct_to-requires-clause-long : goal.correct_to-requires-clause-long
-correct_to-requires-clause-long c =
+correct_to-requires-clause-long g c =
     let w = c.args.words.now in
     let one : w.size.blocks ≡ 1 =
     omega (
@@ -41,7 +41,7 @@ correct_to-requires-clause-long c =
     omega (arith, ap length c.list.ensures.value, short.0)
 
 pub correct_to-requires-2-clause-data : goal.correct_to-requires-2-clause-data
-correct_to-requires-2-clause-data c =
+correct_to-requires-2-clause-data g c =
     let w = c.args.words.now in
     let f = block_facts w.size c.size-size.ensures.words.size c.args.b c.requires in
     omega (
@@ -55,7 +55,7 @@ correct_to-requires-2-clause-data c =
     )
 
 pub returns-then-blocks-eq1-clause-near : goal.returns-then-blocks-eq1-clause-near
-returns-then-blocks-eq1-clause-near c =
+returns-then-blocks-eq1-clause-near g c =
     let w = c.args.words.now in
     let checks : c.from-checks.result ≡ block_check w.size = c.from-checks.ensures ∙ c.block_check.ensures.value
     ∙ ap block_check c.size-size.ensures.value in
@@ -72,7 +72,7 @@ returns-then-blocks-eq1-clause-near c =
     c.list.result.now (block_in w.size w.list c.args.b) checks same c.correct_to.ensures.near
 
 pub returns-then-blocks-eq1-clause-changed : goal.returns-then-blocks-eq1-clause-changed
-returns-then-blocks-eq1-clause-changed c =
+returns-then-blocks-eq1-clause-changed g c =
     let w = c.args.words.now in
     let one : w.size.blocks ≡ 1 =
     omega (
@@ -87,7 +87,7 @@ returns-then-blocks-eq1-clause-changed c =
     c.correct_to.ensures.changed
 
 pub returns-then-blocks-eq1-clause-itself : goal.returns-then-blocks-eq1-clause-itself
-returns-then-blocks-eq1-clause-itself c e =
+returns-then-blocks-eq1-clause-itself g c e =
     let w = c.args.words.now in
     let checks : c.from-checks.result ≡ block_check w.size = c.from-checks.ensures ∙ c.block_check.ensures.value
     ∙ ap block_check c.size-size.ensures.value in
@@ -104,13 +104,13 @@ returns-then-blocks-eq1-clause-itself c e =
     (subst (IsCodeword c.from-checks.result) same (c.correct_to.ensures.itself.0 e))
 
 pub returns-then-blocks-eq1-clause-few : goal.returns-then-blocks-eq1-clause-few
-returns-then-blocks-eq1-clause-few c =
+returns-then-blocks-eq1-clause-few g c =
     let w = c.args.words.now in
     few_found c.correct_to.result c.correct_to.new.fixed.items (block_check w.size) (block_in w.size w.list c.args.b)
-    (returns-then-blocks-eq1-clause-near c) (returns-then-blocks-eq1-clause-changed c)
+    (returns-then-blocks-eq1-clause-near g c) (returns-then-blocks-eq1-clause-changed g c)
 
 pub returns-clause-near : goal.returns-clause-near
-returns-clause-near c =
+returns-clause-near g c =
     let w = c.args.words.now in
     let checks : c.from-checks.result ≡ block_check w.size = c.from-checks.ensures ∙ c.block_check.ensures.value
     ∙ ap block_check c.size-size.ensures.value in
@@ -119,14 +119,14 @@ returns-clause-near c =
     c.deref.result.now (block_in w.size w.list c.args.b) checks same c.correct_to-2.ensures.near
 
 pub returns-clause-changed : goal.returns-clause-changed
-returns-clause-changed c =
+returns-clause-changed g c =
     let w = c.args.words.now in
     let same : c.deref.result.now ≡ block_in w.size w.list c.args.b = c.deref.ensures.0 ∙ c.block.ensures.value in
     subst (λ v. IfOk c.correct_to-2.result (λ n. n ≢ 0 → n ≡ distance v c.correct_to-2.new.fixed.items)) same
     c.correct_to-2.ensures.changed
 
 pub returns-clause-itself : goal.returns-clause-itself
-returns-clause-itself c e =
+returns-clause-itself g c e =
     let w = c.args.words.now in
     let checks : c.from-checks.result ≡ block_check w.size = c.from-checks.ensures ∙ c.block_check.ensures.value
     ∙ ap block_check c.size-size.ensures.value in
@@ -135,7 +135,7 @@ returns-clause-itself c e =
     (subst (IsCodeword c.from-checks.result) same (c.correct_to-2.ensures.itself.0 e))
 
 pub returns-clause-few : goal.returns-clause-few
-returns-clause-few c =
+returns-clause-few g c =
     let w = c.args.words.now in
     few_found c.correct_to-2.result c.correct_to-2.new.fixed.items (block_check w.size)
-    (block_in w.size w.list c.args.b) (returns-clause-near c) (returns-clause-changed c)
+    (block_in w.size w.list c.args.b) (returns-clause-near g c) (returns-clause-changed g c)

@@ -1,4 +1,4 @@
-use Rattle.std.proofs.Common.{◌≡◌, ◌≢◌, ◌∙◌, length, refl, ap, arith, Ok}
+use Rattle.std.proofs.Common.{◌≡◌, ◌≢◌, ◌∙◌, length, refl, ap, arith, rules, Ok}
 use Rattle.dm_modules.specs.Sizes.{block_check}
 use Rattle.dm_symbol.specs.SymbolBlocks.{block_in}
 use Rattle.dm_symbol.proofs.Distances.{IsPut, put_if}
@@ -8,25 +8,30 @@ use Rattle.dm_symbol.proofs.symbol.correction.correct_block.Goals as goal
 use Rattle.dm_symbol.proofs.symbol.correction.correct_block.Goals.{then-changed-gt0, else-changed-gt0}
 
 pub returns-in_default-clause-restored : goal.returns-in_default-clause-restored
-returns-in_default-clause-restored c =
+returns-in_default-clause-restored g c =
     let w = c.args.words.now in (
       λ n. c.in_default.ensures.near (n.0, plain_near (block_check w.size) (block_in w.size w.list c.args.b) n.0 n.1),
       refl,
     )
 
-pub put_block-requires-clause-length : goal.put_block-requires-clause-length
-put_block-requires-clause-length c =
+pub put_block-requires : goal.put_block-requires
+put_block-requires g c =
     let w = c.args.words.now in
-    let some : c.in-Ok.changed ≢ 0 = λ e. omega (arith, e, c.if-changed-gt0.true) in
-    omega (
-      arith,
-      ap length c.deref.ensures.0,
-      (c.in-Ok.ensures.near some).long,
-      block_lengths w.size w.list c.codeword_near.ensures.words c.args.b c.requires,
+    let some : c.in-Ok.changed ≢ 0 = λ e. omega (arith, e, c.if-changed-gt0.true) in (
+      search rules,
+      (
+        c.requires,
+        omega (
+          arith,
+          ap length c.deref.ensures.0,
+          (c.in-Ok.ensures.near some).long,
+          block_lengths w.size w.list c.codeword_near.ensures.words c.args.b c.requires,
+        ),
+      ),
     )
 
 pub returns-clause-restored : goal.returns-clause-restored
-returns-clause-restored c =
+returns-clause-restored g c =
     let w = c.args.words.now in
     let k = block_check w.size in
     let held = block_in w.size w.list c.args.b in

@@ -1,4 +1,4 @@
-use Rattle.std.proofs.Common.{◌≡◌, ◌∙◌, length, map, refl, sym, ap, arith}
+use Rattle.std.proofs.Common.{◌≡◌, ◌∙◌, length, map, refl, sym, ap, arith, rules}
 use Rattle.dm_modules.specs.Sizes.{SizeEntry, block_check, block_length}
 use Rattle.dm_modules.specs.Blocks.{block_of}
 use Rattle.dm_symbol.specs.SymbolBlocks.{block_in}
@@ -8,7 +8,7 @@ use Rattle.dm_symbol.proofs.SymbolSteps.{near_but_moves, marked_restored}
 use Rattle.dm_symbol.proofs.symbol.correction.correct_marked.Goals as goal
 
 pub correct_erased-requires-clause-data : goal.correct_erased-requires-clause-data
-correct_erased-requires-clause-data c =
+correct_erased-requires-clause-data g c =
     let w = c.args.words.now in
     let f = block_facts w.size c.size.ensures.words.size c.args.b c.requires.block in
     omega (
@@ -22,7 +22,7 @@ correct_erased-requires-clause-data c =
     )
 
 pub correct_erased-requires-clause-same : goal.correct_erased-requires-clause-same
-correct_erased-requires-clause-same c =
+correct_erased-requires-clause-same g c =
     omega (
       arith,
       ap length c.deref-2.ensures.0,
@@ -33,7 +33,7 @@ correct_erased-requires-clause-same c =
     )
 
 pub returns-in_default-clause-restored : goal.returns-in_default-clause-restored
-returns-in_default-clause-restored c =
+returns-in_default-clause-restored g c =
     let w = c.args.words.now in
     let m = c.args.marks.now in
     let b = c.args.b in
@@ -51,19 +51,23 @@ returns-in_default-clause-restored c =
       refl,
     )
 
-pub put_block-requires-clause-length : goal.put_block-requires-clause-length
-put_block-requires-clause-length c =
-    let w = c.args.words.now in
+pub put_block-requires : goal.put_block-requires
+put_block-requires g c = (
+  search rules,
+  (
+    c.requires.block,
     omega (
       arith,
       ap length c.deref-3.ensures.0,
       c.in-Ok.ensures.near.long,
       ap length c.deref.ensures.0,
       c.block.ensures.length,
-    )
+    ),
+  ),
+)
 
 pub returns-clause-restored : goal.returns-clause-restored
-returns-clause-restored c =
+returns-clause-restored g c =
     let w = c.args.words.now in
     let m = c.args.marks.now in
     let b = c.args.b in

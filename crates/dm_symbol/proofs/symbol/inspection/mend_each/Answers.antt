@@ -1,5 +1,5 @@
 use Rattle.std.proofs.Common.{◌≡◌, ◌≢◌, ◌+◌, ◌<◌, ◌∙◌, ◌++◌, ◌∷◌, [], ℕ, List, length, get_or, sym, ap, subst}
-use Rattle.std.proofs.Common.{below_more, arith}
+use Rattle.std.proofs.Common.{below_more, arith, rules}
 use Rattle.std.specs.Prelude.{Option, None, IfSome, option_map}
 use Rattle.std.proofs.lemmas.List.{get_or_append_left, get_or_push, length_push}
 use Rattle.dm_modules.specs.Sizes.{block_check}
@@ -27,24 +27,25 @@ mended_more k erased old before after list b r e mended same fresh now =
     (subst (λ x. IsBlockRestored k (erased b) x (after b) (get_or (list ++ r ∷ []) b None)) fresh
     (subst (λ x. IsBlockRestored k (erased b) (before b) (after b) x) (sym (get_or_push list r None b e)) now))
 
-pub restore_block-requires-clause-block : goal.restore_block-requires-clause-block
-restore_block-requires-clause-block c =
-    let s = c.args.words.now.size in
-    omega (
-      arith,
-      c.from.ensures,
-      c.loop-b-test.true,
-      c.blocks-b-end.ensures.value,
-      blocks_are c.size.result s c.size.ensures.value,
-      blocks_are c.loop-b.words.size s c.loop-b.invariant.size,
+pub restore_block-requires : goal.restore_block-requires
+restore_block-requires g c =
+    let s = c.args.words.now.size in (
+      search rules,
+      (
+        omega (
+          arith,
+          c.from.ensures,
+          c.loop-b-test.true,
+          c.blocks-b-end.ensures.value,
+          blocks_are c.size.result s c.size.ensures.value,
+          blocks_are c.loop-b.words.size s c.loop-b.invariant.size,
+        ),
+        subst (λ s. IfSome c.args.marks (λ m. m.now.size ≡ s)) (sym c.loop-b.invariant.size) c.requires,
+      ),
     )
 
-pub restore_block-requires-clause-marks : goal.restore_block-requires-clause-marks
-restore_block-requires-clause-marks c =
-    subst (λ s. IfSome c.args.marks (λ m. m.now.size ≡ s)) (sym c.loop-b.invariant.size) c.requires
-
 pub loop-b-preserved : goal.loop-b-preserved
-loop-b-preserved c =
+loop-b-preserved g c =
     let i = c.loop-b.invariant in
     let w = c.args.words.now in
     let s = w.size in

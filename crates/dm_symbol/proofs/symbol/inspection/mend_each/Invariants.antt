@@ -8,7 +8,7 @@ use Rattle.dm_symbol.proofs.symbol.inspection.mend_each.Given as goal
 
 -- The blocks before b are restored, and the others are as they were.
 abbrev pub invariant-loop-b : goal.invariant-loop-b
-invariant-loop-b l = record {
+invariant-loop-b g l = record {
   size : l.words.size ≡ l.initial.words.size;
   words : AreOfSize l.initial.words.size l.words.list;
   count : length l.blocks.items ≡ l.b;

@@ -1,17 +1,21 @@
-use Rattle.std.proofs.Common.{refl}
+use Rattle.std.proofs.Common.{refl, arith, rules}
 use Rattle.std.specs.Prelude.{option_map}
 use Rattle.std.proofs.lemmas.Bool.{false≢true}
+use Rattle.dm_modules.specs.declared.size.SizeChoice.TheVariants.{Square}
+use Rattle.dm_modules.specs.Sizes.{most_rows, most_codewords}
+use Rattle.dm_modules.proofs.Exported.{size_facts}
+use Rattle.dm_symbol.proofs.Rooms.{room_for_most}
 use Rattle.dm_symbol.specs.SymbolNormal.{NormalSymbolResult}
 use Rattle.dm_symbol.proofs.SymbolNormals.{is_symbol_normalised}
 use Rattle.dm_symbol.proofs.symbol.normalising.normal_symbol_to.Goals as goal
 
 pub returns-in-Err : goal.returns-in-Err
-returns-in-Err c =
+returns-in-Err g c =
     let how = c.args.how in
     let doubt = option_map (λ d. d.now) how.doubtful in
     record {
       normal =
-          is_symbol_normalised how.extent c.args.profile c.args.modules.now doubt how.border_limit _
+          is_symbol_normalised how.extent c.args.profile c.args.symbol.now doubt how.border_limit _
           (NormalSymbolResult.fault c.in-Err.fault c.in-Err.ensures.read.result_is refl);
       reading_is = tt;
       reading_of_long = λ e. cc;
@@ -19,14 +23,14 @@ returns-in-Err c =
     }
 
 pub returns-in-Ok-write_symbol_to : goal.returns-in-Ok-write_symbol_to
-returns-in-Ok-write_symbol_to c =
+returns-in-Ok-write_symbol_to g c =
     let how = c.args.how in
     let doubt = option_map (λ d. d.now) how.doubtful in
     let message = c.read_symbol_to.new.reading.message in
     record {
       normal =
-          is_symbol_normalised how.extent c.args.profile c.args.modules.now doubt how.border_limit _
-          (NormalSymbolResult.normal c.write_symbol_to.new.modules
+          is_symbol_normalised how.extent c.args.profile c.args.symbol.now doubt how.border_limit _
+          (NormalSymbolResult.normal c.write_symbol_to.new.symbol
           (record {
             message = message;
             read = (c.in-Ok.ensures.read.message message).0 refl;
@@ -38,13 +42,13 @@ returns-in-Ok-write_symbol_to c =
     }
 
 pub returns-in-Err-write_symbol_to : goal.returns-in-Err-write_symbol_to
-returns-in-Err-write_symbol_to c =
+returns-in-Err-write_symbol_to g c =
     let how = c.args.how in
     let doubt = option_map (λ d. d.now) how.doubtful in
     let message = c.read_symbol_to.new.reading.message in
     record {
       normal =
-          is_symbol_normalised how.extent c.args.profile c.args.modules.now doubt how.border_limit _
+          is_symbol_normalised how.extent c.args.profile c.args.symbol.now doubt how.border_limit _
           (NormalSymbolResult.too_long
           (record {
             message = message;
@@ -55,3 +59,15 @@ returns-in-Err-write_symbol_to c =
       reading_of_long = λ e. c.in-Ok.ensures.read.result_is;
       same = c.in-Err-write_symbol_to.ensures.same;
     }
+
+pub read_symbol_to-requires : goal.read_symbol_to-requires
+read_symbol_to-requires g c =
+    let facts = size_facts c.args.symbol.now.size c.size-size.ensures.modules.size in (
+      search rules,
+      (search rules, (search rules, (search rules, (c.requires.doubtful, (facts.codewords, c.requires.items))))),
+    )
+
+pub write_symbol_to-requires : goal.write_symbol_to-requires
+write_symbol_to-requires g c =
+    let room = room_for_most Square c.args.profile c.read_symbol_to.new.reading.message most_rows most_codewords
+    (omega arith) (omega arith) in (search rules, (search rules, (search rules, (c.requires.room, room))))

@@ -1,5 +1,5 @@
 use Rattle.std.proofs.Common.{◌≡◌, ◌≢◌, ◌+◌, ◌<◌, ◌∙◌, ℕ, List, length, get_or, sym, ap, subst}
-use Rattle.std.proofs.Common.{below_more, arith}
+use Rattle.std.proofs.Common.{below_more, arith, rules}
 use Rattle.std.specs.Prelude.{Some, IfSome, option_map}
 use Rattle.std.proofs.lemmas.List.{length_push}
 use Rattle.std.proofs.lemmas.List.FromFn.{fill_by_all}
@@ -13,24 +13,25 @@ use Rattle.dm_symbol.proofs.SymbolBelow.{blocks_are}
 use Rattle.dm_symbol.proofs.SymbolSteps.{nothing_said, said_more}
 use Rattle.dm_symbol.proofs.symbol.reading.restore_each.Goals as goal
 
-pub restore_block-requires-clause-block : goal.restore_block-requires-clause-block
-restore_block-requires-clause-block c =
-    let s = c.args.words.now.size in
-    omega (
-      arith,
-      c.from.ensures,
-      c.loop-b-test.true,
-      c.blocks-b-end.ensures.value,
-      blocks_are c.size.result s c.size.ensures.value,
-      blocks_are c.loop-b.words.size s c.loop-b.invariant.size,
+pub restore_block-requires : goal.restore_block-requires
+restore_block-requires g c =
+    let s = c.args.words.now.size in (
+      search rules,
+      (
+        omega (
+          arith,
+          c.from.ensures,
+          c.loop-b-test.true,
+          c.blocks-b-end.ensures.value,
+          blocks_are c.size.result s c.size.ensures.value,
+          blocks_are c.loop-b.words.size s c.loop-b.invariant.size,
+        ),
+        subst (λ s. IfSome c.args.marks (λ m. m.now.size ≡ s)) (sym c.loop-b.invariant.size) c.requires,
+      ),
     )
 
-pub restore_block-requires-clause-marks : goal.restore_block-requires-clause-marks
-restore_block-requires-clause-marks c =
-    subst (λ s. IfSome c.args.marks (λ m. m.now.size ≡ s)) (sym c.loop-b.invariant.size) c.requires
-
 pub loop-b-preserved : goal.loop-b-preserved
-loop-b-preserved c =
+loop-b-preserved g c =
     let i = c.loop-b.invariant in
     let w = c.args.words.now in
     let s = w.size in
@@ -79,7 +80,7 @@ loop-b-preserved c =
     }
 
 pub returns-in-None-clause-lost : goal.returns-in-None-clause-lost
-returns-in-None-clause-lost c =
+returns-in-None-clause-lost g c =
     let w = c.args.words.now in
     let marks = option_map (λ m. m.now) c.args.marks in
     let b = c.loop-b.b in
@@ -104,7 +105,7 @@ returns-in-None-clause-lost c =
     }
 
 pub returns-clause-near : goal.returns-clause-near
-returns-clause-near c =
+returns-clause-near g c =
     λ b hb. c.loop-b.invariant.near b
     (omega (
       arith,
@@ -115,7 +116,7 @@ returns-clause-near c =
     ))
 
 pub returns-clause-readings : goal.returns-clause-readings
-returns-clause-readings c =
+returns-clause-readings g c =
     let w = c.args.words.now in
     let s = w.size in
     let erased = marked_in s (option_map (λ m. m.now) c.args.marks) in

@@ -10,7 +10,7 @@ use Rattle.dm_symbol.proofs.symbol.reading.restore_each.Given as goal
 
 -- The blocks before b are restored, with what is said of them, and the others are as they were.
 abbrev pub invariant-loop-b : goal.invariant-loop-b
-invariant-loop-b l =
+invariant-loop-b g l =
     let s = l.initial.words.size in
     let erased = marked_in s (option_map (λ m. m.now) l.fn.marks) in
     let old = block_in s l.initial.words.list in

@@ -8,7 +8,7 @@ use Rattle.dm_symbol.proofs.SymbolBelow.{only_block, only_short}
 use Rattle.dm_symbol.proofs.symbol.writing.complete_only_block.Goals as goal
 
 pub encode-checks-requires-clause-room : goal.encode-checks-requires-clause-room
-encode-checks-requires-clause-room c =
+encode-checks-requires-clause-room g c =
     let w = c.args.words.now in
     let none : w.size.check_count / 1 ≡ w.size.check_count = omega arith in
     let count : c.from.result ≡ w.size.check_count = c.from.ensures ∙ c.block_check.ensures.value
@@ -24,7 +24,7 @@ encode-checks-requires-clause-room c =
     )
 
 pub returns-clause-checked : goal.returns-clause-checked
-returns-clause-checked c = λ b hb.
+returns-clause-checked g c = λ b hb.
     let s : SizeEntry = c.args.words.now.size in
     let prefix = data_of c.args.words.now in
     let checks = c.encode-checks.result.items in

@@ -1,5 +1,6 @@
-use Rattle.std.proofs.Common.{◌∙◌, refl}
-use Rattle.dm_symbol.specs.SymbolBlocks.{words_with}
+use Rattle.std.proofs.Common.{◌∙◌, length, refl, ap, arith, rules}
+use Rattle.dm_modules.specs.Sizes.{SizeEntry}
+use Rattle.dm_modules.proofs.Exported.{size_facts}
 use Rattle.dm_symbol.proofs.SmallestSymbols.{laid_is_smallest, is_smallest_written, none_written}
 use Rattle.dm_symbol.proofs.symbol.writing.write_smallest_to.Goals as goal
 
@@ -7,11 +8,27 @@ pub returns-in-Err-clause-written : goal.returns-in-Err-clause-written
 returns-in-Err-clause-written g c =
     none_written c.args.extent c.args.choice c.args.message.now _ (c.in-Err.ensures.smallest.too_long refl)
 
+pub complete_with-requires : goal.complete_with-requires
+complete_with-requires g c =
+    let r = c.in-Ok.ensures.smallest in
+    let facts = size_facts c.in-Ok.size r.smallest.taken.0 in
+    (search rules, (facts.codewords, ap length c.deref.ensures.0 ∙ r.smallest.sized))
+
+pub lay_to-requires : goal.lay_to-requires
+lay_to-requires g c =
+    let facts = size_facts c.in-Ok.size c.in-Ok.ensures.smallest.smallest.taken.0 in
+    let same = ap (λ (s : SizeEntry). s.rows) c.complete_with.ensures.size in
+    (search rules, (search rules, omega (arith, facts.rows_fit, same)))
+
 pub returns-in-Ok-clause-written : goal.returns-in-Ok-clause-written
 returns-in-Ok-clause-written g c =
     let r = c.in-Ok.ensures.smallest in
-    is_smallest_written c.args.extent c.args.choice c.args.message.now c.lay_data.new.modules
-    (laid_is_smallest c.args.extent c.args.choice c.args.message.now c.lay_data.new.modules
-    (words_with c.in-Ok.size c.lay_data.ensures.words) c.in-Ok.size c.smallest_words_to.new.words.items r.smallest
-    r.plainest r.padded refl (c.lay_data.ensures.front ∙ c.deref.ensures.0) c.lay_data.ensures.checked
-    c.lay_data.ensures.laid)
+    is_smallest_written c.args.extent c.args.choice c.args.message.now c.lay_to.new.symbol
+    (laid_is_smallest c.args.extent c.args.choice c.args.message.now c.lay_to.new.symbol c.complete_with.new.words
+    c.in-Ok.size c.smallest_words_to.new.words.items r.smallest r.plainest r.padded c.complete_with.ensures.size
+    (c.complete_with.ensures.data_words ∙ c.deref.ensures.0) c.complete_with.ensures.checked
+    (record {
+      holds = c.lay_to.ensures.holds;
+      border = c.lay_to.ensures.border;
+      fixed_square = c.lay_to.ensures.fixed_square;
+    }))

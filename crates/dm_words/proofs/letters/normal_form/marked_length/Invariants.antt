@@ -1,6 +1,6 @@
 use Rattle.std.proofs.Common.{◌≡◌, ◌+◌, ◌*◌, ◌≤◌, length, drop}
 use Rattle.dm_words.specs.Letters.{AreMarks}
-use Rattle.dm_words.specs.LetterForm.{marked_ascii}
+use Rattle.dm_words.specs.LetterForm.{ascii_with_marks}
 use Rattle.dm_words.proofs.letters.normal_form.marked_length.Given as goal
 
 -- The codewords up to the marks so far are counted.
@@ -9,6 +9,6 @@ invariant-loop-mark l = record {
   within : l.before ≤ length l.items;
   in_order : AreMarks l.before (length l.items) (drop l.mark-index l.marks);
   room : l.length ≤ 2 * l.before + 4 * l.mark-index;
-  so_far : length (marked_ascii 0 l.items l.marks)
-      ≡ l.length + length (marked_ascii l.before (drop l.before l.items) (drop l.mark-index l.marks));
+  so_far : length (ascii_with_marks 0 l.items l.marks)
+      ≡ l.length + length (ascii_with_marks l.before (drop l.before l.items) (drop l.mark-index l.marks));
 }

@@ -1,0 +1,139 @@
+-- Symbols in which letters are written are read as these, and what follows for normal symbols.
+use Rattle.std.proofs.Common.{◌≡◌, ◌↔◌, ℕ, List, replicate, None, Result, Ok, refl, sym}
+use Rattle.std.proofs.Common.{[], ap, subst, ◌∙◌, arith}
+use Rattle.dm_words.specs.declared.extent.Extent.{Extent}
+use Rattle.dm_words.specs.declared.extent.Extent.TheVariants.{Wide}
+use Rattle.dm_words.specs.declared.item.Item.{Item}
+use Rattle.dm_words.specs.declared.profile.Profile.{Profile}
+use Rattle.dm_words.specs.Letters.{LetterView, IsLetter}
+use Rattle.dm_words.specs.LetterExtents.{as_letter, SaysIn, IsSaidIn}
+use Rattle.dm_words.specs.LetterForm.{letter_form}
+use Rattle.dm_words.specs.Pads.{padded}
+use Rattle.dm_words.proofs.Exported.{form_says_in, letter_form_codewords, letter_form_count, said_is_one}
+use Rattle.dm_modules.specs.declared.size.SizeChoice.{SizeChoice}
+use Rattle.dm_modules.specs.Sizes.{SizeEntry, block_check}
+use Rattle.dm_modules.specs.Modules.{ModulesView}
+use Rattle.dm_modules.proofs.Exported.{size_facts}
+use Rattle.dm_symbol.specs.declared.letters.LetterReadFault.{LetterReadFault}
+use Rattle.dm_symbol.specs.Doubt.{erased_in}
+use Rattle.dm_symbol.specs.SymbolBlocks.{block_in}
+use Rattle.dm_symbol.specs.SymbolReading.{block_reading, block_readings}
+use Rattle.dm_symbol.specs.SymbolLaws.{nothing_wrong}
+use Rattle.dm_symbol.specs.NormalSymbol.{IsWrittenIn}
+use Rattle.dm_symbol.specs.LetterReading.{LetterReadingView, ReadsLetter, LetterReadResult}
+use Rattle.dm_words.specs.Symbology.{IsIdentifier}
+use Rattle.dm_symbol.specs.LetterReading.{letter_reading_of}
+use Rattle.dm_symbol.specs.NormalLetter.{LetterFits, IsLetterWrittenIn}
+use Rattle.dm_symbol.proofs.Distances.{distance_to_itself}
+use Rattle.dm_symbol.proofs.LetterReadings.{one_letter_result}
+use Rattle.dm_symbol.proofs.SymbolBelow.{distance_plain}
+use Rattle.dm_symbol.proofs.SymbolDoubt.{erased_by_none}
+use Rattle.dm_symbol.proofs.SymbolNormals.{laid_restored, map_to_one, no_sure_fault}
+use Rattle.dm_symbol.proofs.SymbolSteps.{reading_is}
+use Rattle.dm_symbol.proofs.WrittenWords.{words_written_once, written_hold, written_words_are_there, written_words_tell}
+
+-- ---- messages
+
+-- A letter without a head and marks is written as the message is that has its items.
+pub message_as_letter : (choice : SizeChoice) (p : Profile) (m : List Item) (g : ModulesView)
+    → IsLetterWrittenIn choice p (as_letter m) g ↔ IsWrittenIn choice p m g
+message_as_letter choice p m g = (
+  λ n. record {
+    smallest = n.smallest;
+    words = n.words;
+    laid = n.laid;
+    data_words = n.data_words;
+    checked = n.checked;
+  },
+  λ n. record {
+    smallest = n.smallest;
+    words = n.words;
+    laid = n.laid;
+    data_words = n.data_words;
+    checked = n.checked;
+  },
+)
+
+-- ---- what is written is read
+
+-- Where nothing is doubtful and codewords are held, nothing is wrong in any block.
+pub nothing_is_wrong : (size : SizeEntry) (words : List ℕ)
+    → block_readings size (erased_in size None) words words ≡ replicate size.blocks (nothing_wrong (block_check size))
+nothing_is_wrong size words =
+    let k = block_check size in
+    map_to_one (λ b. block_reading k (erased_in size None b) (block_in size words b) (block_in size words b))
+    (nothing_wrong k) 0 size.blocks (λ b.
+    let block = block_in size words b in
+    let nowhere = distance_plain block block ∙ distance_to_itself block in
+    ap (λ e. block_reading k e block block) (erased_by_none size b)
+    ∙ sym (reading_is k 0 0 k [] block block (sym nowhere) refl (omega arith)))
+
+module _ (choice : SizeChoice) (p : Profile) (l : LetterView) where
+  -- A right letter that fits a size of the choice is written in some symbol.
+  pub written_letter_is_there : IsLetter l → LetterFits choice p l
+      → (modules : ModulesView) × IsLetterWrittenIn choice p l modules
+  written_letter_is_there right fits =
+      written_words_are_there choice (letter_form p l) (letter_form_count p l)
+      (λ count. letter_form_codewords p l count right) fits
+
+  module _ (g : ModulesView) (n : IsLetterWrittenIn choice p l g) (right : IsLetter l) where
+    -- Its data codewords are the normal form with pads, which says the letter.
+    form_says : (extent : Extent) → IsSaidIn extent l → SaysIn extent (padded (letter_form p l) g.size.data_count) l
+    form_says extent said =
+        let few = (size_facts g.size n.laid.holds.codewords.size).data_fits in
+        form_says_in extent p l g.size.data_count right said (written_hold choice (letter_form p l) g n)
+        (omega (arith, few))
+
+    -- It is read as the letter.
+    pub written_reads_letter : (extent : Extent) (limit : ℕ) → IsSaidIn extent l → ReadsLetter extent g None limit l
+    written_reads_letter extent limit said = record {
+      border = omega (arith, no_sure_fault g n.words n.laid n.checked);
+      words = n.words;
+      codewords = n.words;
+      restored = laid_restored g n.words n.laid n.checked;
+      said = subst (λ words. SaysIn extent words l) (sym n.data_words) (form_says extent said);
+    }
+
+    -- This is said of it, where the codewords that are written have this identifier.
+    abbrev pub clean_reading : ℕ → Result LetterReadingView LetterReadFault
+    clean_reading number =
+        Ok (letter_reading_of l number (replicate g.size.blocks (nothing_wrong (block_check g.size))) 0)
+
+    module _ (number : ℕ) (is : IsIdentifier (padded (letter_form p l) g.size.data_count) l number) where
+      -- Nothing is wrong in it.
+      written_letter_result : (extent : Extent) (limit : ℕ) → IsSaidIn extent l
+          → LetterReadResult extent g None limit (clean_reading number)
+      unfolding written_reads_letter
+      written_letter_result extent limit said =
+          let r = written_reads_letter extent limit said in
+          LetterReadResult.letter r.words r.codewords l number r.border r.restored r.said
+          (subst (λ words. IsIdentifier words l number) (sym n.data_words) is)
+          (ap (λ blocks. Ok (letter_reading_of l number blocks 0)) (sym (nothing_is_wrong g.size n.words))
+          ∙ ap (λ faults. Ok (letter_reading_of l number
+          (block_readings g.size (erased_in g.size None) n.words n.words) faults))
+          (sym (no_sure_fault g n.words n.laid n.checked)))
+
+      -- It has that result alone.
+      pub written_letter_is_read : (extent : Extent) (limit : ℕ) (result : Result LetterReadingView LetterReadFault)
+          → IsSaidIn extent l → LetterReadResult extent g None limit result ↔ (result ≡ clean_reading number)
+      written_letter_is_read extent limit result said =
+          let right = written_letter_result extent limit said in (
+            λ a. one_letter_result g None extent limit result _ a right,
+            λ e. subst (LetterReadResult extent g None limit) (sym e) right,
+          )
+
+-- Right letters that are written in the same symbol, in whatever choices, are equal.
+pub written_letters_tell : (choice other : SizeChoice) (p q : Profile) (l k : LetterView) (g : ModulesView) → IsLetter l
+    → IsLetter k → IsLetterWrittenIn choice p l g → IsLetterWrittenIn other q k g → l ≡ k
+written_letters_tell choice other p q l k g hl hk n o =
+    said_is_one Wide Wide (padded (letter_form q k) g.size.data_count) l k
+    (subst (λ words. SaysIn Wide words l) (written_words_tell choice other (letter_form p l) (letter_form q k) g n o)
+    (form_says choice p l g n hl Wide tt)) (form_says other q k g o hk Wide tt)
+
+-- Symbols in which right letters are written are equal exactly where the letters are.
+pub written_symbols_tell_letters : (choice : SizeChoice) (p : Profile) (l k : LetterView) (g h : ModulesView)
+    → IsLetter l → IsLetter k → IsLetterWrittenIn choice p l g → IsLetterWrittenIn choice p k h → (g ≡ h) ↔ (l ≡ k)
+written_symbols_tell_letters choice p l k g h hl hk n o = (
+  λ e. written_letters_tell choice choice p p l k h hl hk (subst (IsLetterWrittenIn choice p l) e n) o,
+  λ e. words_written_once choice (letter_form p k) g h (subst (λ x. IsLetterWrittenIn choice p x g) e n) o,
+)

@@ -1,6 +1,0 @@
-use Rattle.std.proofs.Common.{◌≡◌, map, take}
-use Rattle.dm_symbol.specs.inner.Marks.{is_mark}
-use Rattle.dm_symbol.proofs.symbol.doubt.marked_places.Given as goal
-
-abbrev pub invariant-loop-i : goal.invariant-loop-i
-invariant-loop-i l = l.erased.items ≡ map is_mark (take l.i l.words.items)

@@ -1,0 +1,191 @@
+-- What holds of all letters and of the symbols of all sizes.
+use Rattle.std.specs.Prelude.{◌≡◌, ℕ, List, Option, Some, None, Result, Ok, Err, IsOk, replicate, ◌↔◌, ◌⊎◌}
+use Rattle.dm_words.specs.declared.extent.Extent.{Extent}
+use Rattle.dm_words.specs.declared.extent.Extent.TheVariants.{Usual, Wide}
+use Rattle.dm_words.specs.declared.item.Item.{Item}
+use Rattle.dm_words.specs.declared.profile.Profile.{Profile}
+use Rattle.dm_words.specs.declared.letters.fault.LetterFault.TheVariants as words_fault
+use Rattle.dm_words.specs.Letters.{LetterView, IsLetter}
+use Rattle.dm_words.specs.LetterExtents.{as_letter, IsSaidIn}
+use Rattle.dm_words.specs.LetterForm.{letter_form}
+use Rattle.dm_words.specs.Pads.{padded}
+use Rattle.dm_modules.specs.declared.size.SizeChoice.{SizeChoice}
+use Rattle.dm_modules.specs.Sizes.{block_check}
+use Rattle.dm_modules.specs.Modules.{ModulesView, IsModules}
+use Rattle.dm_symbol.specs.declared.letters.LetterReadFault.{LetterReadFault}
+use Rattle.dm_symbol.specs.declared.letters.LetterReadFault.TheVariants as fault
+use Rattle.dm_symbol.specs.declared.letters.LetterNormalFault.{LetterNormalFault}
+use Rattle.dm_symbol.specs.declared.reading.ReadFault.{ReadFault}
+use Rattle.dm_symbol.specs.declared.reading.ReadFault.TheVariants as message_fault
+use Rattle.dm_symbol.specs.SymbolReading.{ReadingView}
+use Rattle.dm_symbol.specs.SymbolReading.{ReadsSymbol, SymbolReadResult}
+use Rattle.dm_symbol.specs.SymbolLaws.{AreLight, nothing_wrong}
+use Rattle.dm_symbol.specs.NormalSymbol.{IsWrittenIn}
+use Rattle.dm_symbol.specs.LetterReading.{LetterReadingView, ReadsLetter, LetterReadResult}
+use Rattle.dm_words.specs.Symbology.{IsIdentifier}
+use Rattle.dm_symbol.specs.LetterReading.{letter_reading_of}
+use Rattle.dm_symbol.specs.NormalLetter.{LetterFits, IsLetterWrittenIn, IsNormalOfLetter}
+use Rattle.dm_symbol.specs.LetterNormal.{HasNormalLetter, NormalLetterResult}
+
+-- With the same doubtful modules, a symbol is read as at most one letter, whatever the extents and the limits.
+abbrev pub OneSymbolLetter : Type 0
+OneSymbolLetter =
+    (extent other_extent : Extent) (modules : ModulesView) (doubtful : Option ModulesView) (limit other_limit : ℕ)
+    (letter other : LetterView) → ReadsLetter extent modules doubtful limit letter
+    → ReadsLetter other_extent modules doubtful other_limit other → letter ≡ other
+
+-- A letter that a symbol is read as is right, and can be said in the extent: so the laws below, which ask for that,
+-- hold of it.
+abbrev pub ReadLettersAreRight : Type 0
+ReadLettersAreRight =
+    (extent : Extent) (modules : ModulesView) (doubtful : Option ModulesView) (limit : ℕ) (letter : LetterView)
+    → ReadsLetter extent modules doubtful limit letter → IsLetter letter × IsSaidIn extent letter
+
+-- A symbol has some result of reading for an extent, doubtful modules and a limit.
+abbrev pub LetterReadResultIsThere : Type 0
+LetterReadResultIsThere =
+    (extent : Extent) (modules : ModulesView) (doubtful : Option ModulesView) (limit : ℕ) → IsModules modules
+    → (result : Result LetterReadingView LetterReadFault) × LetterReadResult extent modules doubtful limit result
+
+-- A symbol has at most one result of reading for an extent, doubtful modules and a limit.
+abbrev pub LetterReadResultIsOne : Type 0
+LetterReadResultIsOne =
+    (extent : Extent) (modules : ModulesView) (doubtful : Option ModulesView) (limit : ℕ)
+    (result other : Result LetterReadingView LetterReadFault) → LetterReadResult extent modules doubtful limit result
+    → LetterReadResult extent modules doubtful limit other → result ≡ other
+
+-- A symbol has some result of normalising for an extent, a profile, doubtful modules and a limit.
+abbrev pub NormalLetterResultIsThere : Type 0
+NormalLetterResultIsThere =
+    (extent : Extent) (profile : Profile) (modules : ModulesView) (doubtful : Option ModulesView) (limit : ℕ)
+    → IsModules modules
+    → (result : Result ModulesView LetterNormalFault) × NormalLetterResult extent profile modules doubtful limit result
+
+-- A symbol has at most one result of normalising for an extent, a profile, doubtful modules and a limit.
+abbrev pub NormalLetterResultIsOne : Type 0
+NormalLetterResultIsOne =
+    (extent : Extent) (profile : Profile) (modules : ModulesView) (doubtful : Option ModulesView) (limit : ℕ)
+    (result other : Result ModulesView LetterNormalFault)
+    → NormalLetterResult extent profile modules doubtful limit result
+    → NormalLetterResult extent profile modules doubtful limit other → result ≡ other
+
+-- Where the modules that are given as doubtful are all light, a symbol is read as it is with none given.
+abbrev pub LightDoubtReadsLettersAlike : Type 0
+LightDoubtReadsLettersAlike =
+    (extent : Extent) (modules doubtful : ModulesView) (limit : ℕ) (result : Result LetterReadingView LetterReadFault)
+    → AreLight doubtful → LetterReadResult extent modules None limit result
+    → LetterReadResult extent modules (Some doubtful) limit result
+
+-- Where the modules that are given as doubtful are all light, a symbol is normalised as it is with none given.
+abbrev pub LightDoubtNormalisesLettersAlike : Type 0
+LightDoubtNormalisesLettersAlike =
+    (extent : Extent) (profile : Profile) (modules doubtful : ModulesView) (limit : ℕ)
+    (result : Result ModulesView LetterNormalFault) → AreLight doubtful
+    → NormalLetterResult extent profile modules None limit result
+    → NormalLetterResult extent profile modules (Some doubtful) limit result
+
+-- What is read as a message is read, in the same extent, as the letter with its items and without a head and marks.
+abbrev pub MessagesAreReadAsLetters : Type 0
+MessagesAreReadAsLetters =
+    (extent : Extent) (modules : ModulesView) (doubtful : Option ModulesView) (limit : ℕ) (message : List Item)
+    → ReadsSymbol extent modules doubtful limit message
+    → ReadsLetter extent modules doubtful limit (as_letter message)
+
+-- What is read as a letter in the extent `Usual` is read there as a message: the letter has no head and no marks, and
+-- its items are that message.
+abbrev pub UsualLettersAreMessages : Type 0
+UsualLettersAreMessages =
+    (modules : ModulesView) (doubtful : Option ModulesView) (limit : ℕ) (letter : LetterView)
+    → ReadsLetter Usual modules doubtful limit letter
+    → (letter ≡ as_letter letter.items) × ReadsSymbol Usual modules doubtful limit letter.items
+
+-- A fault of reading messages is this one of reading letters.
+abbrev pub letter_fault : ReadFault → LetterReadFault
+letter_fault (message_fault.Border count) = fault.Border count
+letter_fault (message_fault.Block index) = fault.Block index
+letter_fault (message_fault.Words why) = fault.Words (words_fault.Word why)
+
+-- These results say the same: readings of a message and of the letter with its items, and without a head and marks, in
+-- which the same is said of each block and as many border faults are counted; or the same fault.
+abbrev pub SayTheSame : Result ReadingView ReadFault → Result LetterReadingView LetterReadFault → Type 0
+SayTheSame (Ok message) (Ok letter) =
+    (letter.letter ≡ as_letter message.message) × (letter.blocks ≡ message.blocks)
+    × (letter.border_faults ≡ message.border_faults)
+SayTheSame (Ok message) (Err why) = ⊥
+SayTheSame (Err why) (Ok letter) = ⊥
+SayTheSame (Err why) (Err other) = other ≡ letter_fault why
+
+-- In the extent `Usual`, and in each extent in which a symbol is read as a message, the results of reading it as a
+-- message and as a letter say the same.
+abbrev pub MessageResultsAreLetterResults : Type 0
+MessageResultsAreLetterResults =
+    (extent : Extent) (modules : ModulesView) (doubtful : Option ModulesView) (limit : ℕ)
+    (result : Result ReadingView ReadFault) (of_letter : Result LetterReadingView LetterReadFault)
+    → (extent ≡ Usual) ⊎ IsOk result → SymbolReadResult extent modules doubtful limit result
+    → LetterReadResult extent modules doubtful limit of_letter → SayTheSame result of_letter
+
+-- What is read in the extent `Usual` is read in `Wide` with the same result.
+abbrev pub WideReadsTheUsualLetter : Type 0
+WideReadsTheUsualLetter =
+    (modules : ModulesView) (doubtful : Option ModulesView) (limit : ℕ) (reading : LetterReadingView)
+    → LetterReadResult Usual modules doubtful limit (Ok reading)
+    → LetterReadResult Wide modules doubtful limit (Ok reading)
+
+-- A letter without a head and marks is written as the message is that has its items; so it has the same normal symbol.
+abbrev pub MessagesAreWrittenAsLetters : Type 0
+MessagesAreWrittenAsLetters =
+    (choice : SizeChoice) (profile : Profile) (message : List Item) (modules : ModulesView)
+    → IsLetterWrittenIn choice profile (as_letter message) modules ↔ IsWrittenIn choice profile message modules
+
+-- A right letter that fits a size of the choice is written in some symbol; so one that fits a square has a normal
+-- symbol.
+abbrev pub AWrittenLetterIsThere : Type 0
+AWrittenLetterIsThere =
+    (choice : SizeChoice) (profile : Profile) (letter : LetterView) → IsLetter letter → LetterFits choice profile letter
+    → (modules : ModulesView) × IsLetterWrittenIn choice profile letter modules
+
+-- The symbol in which a right letter is written, in whatever choice of sizes, is read as that letter in each extent in
+-- which the letter can be said and for every limit, with nothing wrong in any block and no border fault, and has no
+-- other result; so is the normal symbol. Its identifier is that of the codewords that are written.
+abbrev pub WrittenLetterIsRead : Type 0
+WrittenLetterIsRead =
+    (extent : Extent) (choice : SizeChoice) (profile : Profile) (letter : LetterView) (modules : ModulesView)
+    (limit identifier : ℕ) (result : Result LetterReadingView LetterReadFault) → IsLetter letter
+    → IsSaidIn extent letter → IsLetterWrittenIn choice profile letter modules
+    → IsIdentifier (padded (letter_form profile letter) modules.size.data_count) letter identifier
+    → LetterReadResult extent modules None limit result
+    ↔ (result ≡ Ok (letter_reading_of letter identifier
+    (replicate modules.size.blocks (nothing_wrong (block_check modules.size))) 0))
+
+-- Two symbols in which right letters are written in one choice and under one profile are equal exactly where the
+-- letters are: where heads, items, and numbers and places of marks are.
+abbrev pub WrittenSymbolsTellLetters : Type 0
+WrittenSymbolsTellLetters =
+    (choice : SizeChoice) (profile : Profile) (letter other_letter : LetterView) (modules other : ModulesView)
+    → IsLetter letter → IsLetter other_letter → IsLetterWrittenIn choice profile letter modules
+    → IsLetterWrittenIn choice profile other_letter other → (modules ≡ other) ↔ (letter ≡ other_letter)
+
+-- Normalising twice is the same as normalising once: the normal symbol of a letter that a symbol is read as is its own
+-- normal symbol, for every limit and in every second extent in which that letter can be said. (In the extent `Usual` a
+-- letter with a head or marks can't be: its normal symbol is refused there.)
+abbrev pub NormalLetterTwiceIsOnce : Type 0
+NormalLetterTwiceIsOnce =
+    (extent other_extent : Extent) (profile : Profile) (modules normal : ModulesView) (doubtful : Option ModulesView)
+    (limit other_limit : ℕ) (letter : LetterView) (result : Result ModulesView LetterNormalFault)
+    → ReadsLetter extent modules doubtful limit letter → IsNormalOfLetter profile letter normal
+    → IsSaidIn other_extent letter
+    → NormalLetterResult other_extent profile normal None other_limit result ↔ (result ≡ Ok normal)
+
+-- Two symbols that are read, each in an extent of its own, with doubtful modules and under limits of its own, have
+-- equal normal symbols under one profile exactly where their letters are equal. Their normal symbols may be found under
+-- other limits than their letters.
+abbrev pub EqualNormalSymbolsMeanEqualLetters : Type 0
+EqualNormalSymbolsMeanEqualLetters =
+    (extent other_extent : Extent) (profile : Profile) (modules other normal other_normal : ModulesView)
+    (doubtful other_doubtful : Option ModulesView) (limit other_limit normal_limit other_normal_limit : ℕ)
+    (letter other_letter : LetterView)
+    → ReadsLetter extent modules doubtful limit letter
+    → ReadsLetter other_extent other other_doubtful other_limit other_letter
+    → HasNormalLetter extent profile modules doubtful normal_limit normal
+    → HasNormalLetter other_extent profile other other_doubtful other_normal_limit other_normal
+    → (normal ≡ other_normal) ↔ (letter ≡ other_letter)

@@ -1,0 +1,50 @@
+-- The normal symbol, under a profile, of the letter that a symbol of any size is read as in an extent, with doubtful
+-- modules or none.
+use Rattle.std.specs.Prelude.{◌≡◌, ℕ, Option, Result, Ok, Err, OnOk, OnErr, ◌↔◌}
+use Rattle.dm_words.specs.declared.extent.Extent.{Extent}
+use Rattle.dm_words.specs.declared.profile.Profile.{Profile}
+use Rattle.dm_modules.specs.declared.size.SizeChoice.TheVariants.{Square}
+use Rattle.dm_modules.specs.Modules.{ModulesView}
+use Rattle.dm_words.specs.Letters.{LetterView}
+use Rattle.dm_words.specs.Outcomes.{outcome}
+use Rattle.dm_symbol.specs.declared.letters.LetterReadFault.{LetterReadFault}
+use Rattle.dm_symbol.specs.declared.letters.LetterNormalFault.{LetterNormalFault}
+use Rattle.dm_symbol.specs.declared.letters.LetterNormalFault.TheVariants.{Read, TooLong}
+use Rattle.dm_symbol.specs.LetterReading.{LetterReadingView, ReadsLetter, LetterReadResult}
+use Rattle.dm_symbol.specs.NormalLetter.{IsNormalOfLetter, LetterFits}
+
+-- The symbol is read as a letter, and this is the normal symbol of that letter.
+pub record HasNormalLetter (extent : Extent) (profile : Profile) (modules : ModulesView) (doubtful : Option ModulesView)
+    (limit : ℕ) (normal : ModulesView) : Type 0 where
+  pub letter : LetterView
+  pub read : ReadsLetter extent modules doubtful limit letter
+  pub normal_symbol : IsNormalOfLetter profile letter normal
+
+-- The symbol is read as a letter that fits no square, and so has no normal symbol.
+pub record HasNoNormalLetter (extent : Extent) (profile : Profile) (modules : ModulesView)
+    (doubtful : Option ModulesView) (limit : ℕ) : Type 0 where
+  pub letter : LetterView
+  pub read : ReadsLetter extent modules doubtful limit letter
+  pub too_long : LetterFits Square profile letter → ⊥
+
+-- The result for a symbol is the normal symbol of the letter that it is read as; or that this letter fits no square; or
+-- the fault of reading.
+pub data NormalLetterResult (extent : Extent) (profile : Profile) (modules : ModulesView)
+    (doubtful : Option ModulesView) (limit : ℕ) (result : Result ModulesView LetterNormalFault) : Type 0 where
+  normal : (normal_symbol : ModulesView) → HasNormalLetter extent profile modules doubtful limit normal_symbol
+      → result ≡ Ok normal_symbol → NormalLetterResult extent profile modules doubtful limit result
+  too_long : HasNoNormalLetter extent profile modules doubtful limit → result ≡ Err TooLong
+      → NormalLetterResult extent profile modules doubtful limit result
+  fault : (why : LetterReadFault) → LetterReadResult extent modules doubtful limit (Err why) → result ≡ Err (Read why)
+      → NormalLetterResult extent profile modules doubtful limit result
+
+-- What normalising a symbol gives: the result defined above; and each kind of result is given exactly where its
+-- condition holds.
+pub record IsLetterNormalised (extent : Extent) (profile : Profile) (modules : ModulesView)
+    (doubtful : Option ModulesView) (limit : ℕ) (result : Result ModulesView LetterNormalFault) : Type 0 where
+  pub result_is : NormalLetterResult extent profile modules doubtful limit result
+  pub normal : (normal_symbol : ModulesView) → (result ≡ Ok normal_symbol)
+      ↔ HasNormalLetter extent profile modules doubtful limit normal_symbol
+  pub too_long : (result ≡ Err TooLong) ↔ HasNoNormalLetter extent profile modules doubtful limit
+  pub fault : (why : LetterReadFault) → (result ≡ Err (Read why))
+      ↔ LetterReadResult extent modules doubtful limit (Err why)

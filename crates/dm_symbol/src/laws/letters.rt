@@ -1,0 +1,75 @@
+//! Laws of the definitions of letters and of the symbols that say them. Each function has an empty body: its contract
+//! is the law.
+
+ghost use Rattle.dm_symbol.specs.LetterLaws.{OneSymbolLetter, ReadLettersAreRight, LetterReadResultIsThere};
+ghost use Rattle.dm_symbol.specs.LetterLaws.{LetterReadResultIsOne, NormalLetterResultIsThere, NormalLetterResultIsOne};
+ghost use Rattle.dm_symbol.specs.LetterLaws.{LightDoubtReadsLettersAlike, LightDoubtNormalisesLettersAlike};
+ghost use Rattle.dm_symbol.specs.LetterLaws.{MessagesAreReadAsLetters, UsualLettersAreMessages};
+ghost use Rattle.dm_symbol.specs.LetterLaws.{MessageResultsAreLetterResults, MessagesAreWrittenAsLetters};
+ghost use Rattle.dm_symbol.specs.LetterLaws.{WideReadsTheUsualLetter};
+ghost use Rattle.dm_symbol.specs.LetterLaws.{AWrittenLetterIsThere, WrittenLetterIsRead, WrittenSymbolsTellLetters};
+ghost use Rattle.dm_symbol.specs.LetterLaws.{NormalLetterTwiceIsOnce, EqualNormalSymbolsMeanEqualLetters};
+
+/// With the same doubtful modules, a symbol is read as at most one letter, whatever the extents and the limits; and
+/// that letter is right.
+pub fn one_symbol_letter_is_read()
+    ensures letter { OneSymbolLetter }
+    ensures right { ReadLettersAreRight }
+{}
+
+/// For each extent, limit and doubtful modules, each symbol has one result of reading, and no other; so it has of
+/// normalising, under each profile.
+pub fn each_symbol_has_a_letter_result()
+    ensures there { LetterReadResultIsThere }
+    ensures one { LetterReadResultIsOne }
+    ensures normal_there { NormalLetterResultIsThere }
+    ensures normal_one { NormalLetterResultIsOne }
+{}
+
+/// A right letter that fits a size of a choice is written in some symbol; so one that fits a square has a normal
+/// symbol.
+pub fn a_written_letter_is_there()
+    ensures { AWrittenLetterIsThere }
+{}
+
+/// The symbol in which a right letter is written, in any choice of sizes, is read as that letter in each extent in
+/// which it can be said and for every limit, with nothing corrected; so is its normal symbol. Such symbols are equal
+/// exactly where their letters are.
+pub fn written_letter_is_read()
+    ensures read { WrittenLetterIsRead }
+    ensures tell { WrittenSymbolsTellLetters }
+{}
+
+/// Normalising twice under one profile is the same as normalising once, in each second extent in which the letter can
+/// be said.
+pub fn normal_letter_twice_is_once()
+    ensures { NormalLetterTwiceIsOnce }
+{}
+
+/// Two symbols that are read, each in its own way, have equal normal symbols under one profile exactly where their
+/// letters are equal: where heads, items, and numbers and places of marks are.
+pub fn equal_normal_symbols_mean_equal_letters()
+    ensures { EqualNormalSymbolsMeanEqualLetters }
+{}
+
+/// What is read as a message is read, in the same extent, as the letter with its items and without a head and marks.
+/// What the usual extent reads as a letter is such a message; and in the usual extent, and wherever a message is read,
+/// the results say the same. The letter is written as the message is, so that it has the same normal symbol.
+pub fn messages_are_letters()
+    ensures read { MessagesAreReadAsLetters }
+    ensures usual { UsualLettersAreMessages }
+    ensures results { MessageResultsAreLetterResults }
+    ensures written { MessagesAreWrittenAsLetters }
+{}
+
+/// Where the modules that are given as doubtful are all light, what reading and normalising a symbol gives is what it
+/// gives with none given.
+pub fn light_doubt_leaves_letters()
+    ensures read { LightDoubtReadsLettersAlike }
+    ensures normal { LightDoubtNormalisesLettersAlike }
+{}
+
+/// What is read as a letter in the usual extent has the same result in the wide one.
+pub fn wide_reads_the_usual_letter()
+    ensures { WideReadsTheUsualLetter }
+{}

@@ -1,0 +1,165 @@
+-- What a call gives for the symbol of the modules that it is given, and for the doubtful ones of them.
+use Rattle.std.proofs.Common.{◌≡◌, ℕ, zero, suc, ◌*◌, ◌<◌, Bool, true, false, List, [], ◌∷◌, length, get_or, map, Some}
+use Rattle.std.proofs.Common.{◌≢◌, Option, None, refl, ◌∙◌, ap, arith, subst}
+use Rattle.std.proofs.Common.{nat_eq, ◌&&◌}
+use Rattle.std.proofs.lemmas.Bool.{and_parts, eqb-true}
+use Rattle.dm_symbol.specs.declared.Extent.{Extent}
+use Rattle.dm_symbol.specs.declared.Profile.{Profile}
+use Rattle.dm_symbol.specs.SymbolLaws.{AreLight}
+use Rattle.dm_symbol.proofs.Exported.{light_rows, read_alike, normal_alike, shown_alike}
+use Rattle.dm_modules.specs.Sizes.{SizeEntry, entry_with, size_table}
+use Rattle.dm_modules.proofs.Exported.{found_passes}
+use Rattle.dm_modules.specs.Modules.{ModulesView, is_dark_number, rows_of}
+use Rattle.ecc200_calls.specs.declared.inspection.InspectionOut.{InspectionOut}
+use Rattle.ecc200_calls.specs.declared.reading.ReadingOut.{ReadingOut}
+use Rattle.ecc200_calls.specs.declared.symbol.SymbolOut.{SymbolOut}
+use Rattle.ecc200_calls.specs.Modules.{AreDoubtful, AreGiven, AreModulesOf, IsGivenFault}
+use Rattle.ecc200_calls.specs.Faults.{wrong_doubt}
+use Rattle.ecc200_calls.specs.Readings.{ExtentResult, IsReadingGiven}
+use Rattle.ecc200_calls.specs.Symbols.{IsNormalGiven, NormalisedResult}
+use Rattle.ecc200_calls.specs.Inspections.{IsInspectResult, IsInspectionGiven}
+use Rattle.ecc200_calls.specs.inner.Given.{AreZero, IsKnown, IsOfGiven}
+
+-- The size with these rows and columns has them.
+pub sides_found : (rows columns : ℕ) (size : SizeEntry) → entry_with rows columns ≡ Some size
+    → (size.rows ≡ rows) × (size.columns ≡ columns)
+sides_found rows columns size e =
+    let both =
+    and_parts (nat_eq size.rows rows) (nat_eq size.columns columns)
+    (found_passes (λ s. nat_eq s.rows rows && nat_eq s.columns columns) size_table size e) in
+    (eqb-true _ _ both.0, eqb-true _ _ both.1)
+
+-- Where numbers for doubtful modules are given that aren't as many as the modules of a symbol, that is the fault.
+pub doubt_fault : (rows columns : ℕ) (modules doubt : List ℕ) (size : SizeEntry) → entry_with rows columns ≡ Some size
+    → length modules ≡ rows * columns → doubt ≢ [] → length doubt ≢ rows * columns
+    → IsGivenFault rows columns modules doubt wrong_doubt
+doubt_fault rows columns modules doubt size e count given other =
+    IsGivenFault.of_doubt (record { size = size; rows = rows_of rows columns (map is_dark_number modules) })
+    (record { count = count; size = e; colours = refl }) given other refl
+
+-- Colours whose numbers are 0 are light.
+zeros_are_light : (numbers : List ℕ) → AreZero numbers → (k : ℕ) → k < length (map is_dark_number numbers)
+    → get_or (map is_dark_number numbers) k false ≡ false
+zeros_are_light [] h k l = refl
+zeros_are_light (x ∷ xs) h zero l = ap is_dark_number (h zero (omega arith))
+zeros_are_light (x ∷ xs) h (suc k) l = zeros_are_light xs (λ j m. h (suc j) (omega (arith, m))) k (omega (arith, l))
+
+-- What is so of the symbol of the modules, and of the doubtful ones of them, is so of what is given; if what is so of
+-- the symbol alone is so too where all modules that are given as doubtful are light.
+given_by : (rows columns : ℕ) (modules doubt : List ℕ) (size : SizeEntry) (some : Bool)
+    (Result : ModulesView → Option ModulesView → Type 0) (Whole : Type 0)
+    → ((symbol : ModulesView) (doubtful : Option ModulesView) → AreGiven rows columns modules doubt symbol doubtful
+    → Result symbol doubtful → Whole)
+    → ((symbol doubtful : ModulesView) → AreLight doubtful → Result symbol None → Result symbol (Some doubtful))
+    → IsKnown rows columns modules doubt size some → IsOfGiven size modules doubt some Result → Whole
+given_by rows columns modules doubt size some Result Whole of_symbol alike known of = by_doubt doubt refl of
+  where
+    made : (numbers : List ℕ) (symbol : ModulesView) → AreModulesOf size.rows size.columns numbers symbol
+        → AreModulesOf rows columns numbers symbol
+    made numbers symbol are =
+        subst (λ r. AreModulesOf r columns numbers symbol) known.rows_are
+        (subst (λ c. AreModulesOf size.rows c numbers symbol) known.columns_are are)
+
+    by_doubt : (numbers : List ℕ) → doubt ≡ numbers → IsOfGiven size modules doubt some Result → Whole
+    by_doubt numbers e (IsOfGiven.doubted symbol doubtful some_told are those result) =
+        of_symbol symbol (Some doubtful)
+        (record {
+          modules_are = made modules symbol are;
+          doubtful_are = AreDoubtful.some doubtful (known.doubtful some_told) (made doubt doubtful those) refl;
+        }) result
+    by_doubt [] e (IsOfGiven.sure symbol none_told are result) =
+        of_symbol symbol None
+        (record { modules_are = made modules symbol are; doubtful_are = AreDoubtful.none e refl }) result
+    by_doubt (x ∷ xs) e (IsOfGiven.sure symbol none_told are result) =
+        let light : ModulesView =
+        record { size = size; rows = rows_of rows columns (map is_dark_number doubt) } in
+        let some_numbers : doubt ≢ [] = λ none. cc in
+        let count : length doubt ≡ rows * columns =
+        known.doubt_count some_numbers ∙ ap (λ r. r * size.columns) known.rows_are
+        ∙ ap (λ c. rows * c) known.columns_are in
+        of_symbol symbol (Some light)
+        (record {
+          modules_are = made modules symbol are;
+          doubtful_are = AreDoubtful.some light some_numbers
+              (record { count = count; size = known.entry; colours = refl }) refl;
+        })
+        (alike symbol light
+        (light_rows rows columns (map is_dark_number doubt) (zeros_are_light doubt (known.sure none_told))) result)
+
+module _ (rows columns : ℕ) (modules doubt : List ℕ) (size : SizeEntry) (some : Bool)
+    (known : IsKnown rows columns modules doubt size some) where
+  -- What reading the symbol gives is what the call gives.
+  pub read_of_given : (extent : Extent) (limit : ℕ) (before after : ReadingOut)
+      → IsOfGiven size modules doubt some (λ symbol doubtful.
+      IsReadingGiven extent size.rows size.columns symbol doubtful limit before after)
+      → ExtentResult extent rows columns modules doubt limit before after
+  read_of_given extent limit before after of =
+      given_by rows columns modules doubt size some
+      (λ symbol doubtful. IsReadingGiven extent size.rows size.columns symbol doubtful limit before after)
+      (ExtentResult extent rows columns modules doubt limit before after)
+      (λ symbol doubtful are given. ExtentResult.of_symbol symbol doubtful are
+      (subst (λ r. IsReadingGiven extent r columns symbol doubtful limit before after) known.rows_are
+      (subst (λ c. IsReadingGiven extent size.rows c symbol doubtful limit before after) known.columns_are given)))
+      (λ symbol doubtful light given. record {
+        result = given.result;
+        result_is = read_alike doubtful light symbol extent limit given.result given.result_is;
+        shown = given.shown;
+      }) known of
+
+  -- So it is where the symbol is normalised.
+  pub normal_of_given : (extent : Extent) (profile : Profile) (limit : ℕ) (before after : SymbolOut)
+      → IsOfGiven size modules doubt some (λ symbol doubtful.
+      IsNormalGiven extent profile symbol doubtful limit before after)
+      → NormalisedResult extent profile rows columns modules doubt limit before after
+  normal_of_given extent profile limit before after of =
+      given_by rows columns modules doubt size some
+      (λ symbol doubtful. IsNormalGiven extent profile symbol doubtful limit before after)
+      (NormalisedResult extent profile rows columns modules doubt limit before after)
+      (λ symbol doubtful are given. NormalisedResult.of_symbol symbol doubtful are given)
+      (λ symbol doubtful light given. record {
+        result = given.result;
+        result_is = normal_alike doubtful light symbol extent profile limit given.result given.result_is;
+        shown = given.shown;
+      }) known of
+
+  -- So it is where it is inspected.
+  pub shown_of_given : (before after : InspectionOut)
+      → IsOfGiven size modules doubt some (λ symbol doubtful.
+      IsInspectionGiven size.rows size.columns symbol doubtful before after)
+      → IsInspectResult rows columns modules doubt before after
+  shown_of_given before after of =
+      given_by rows columns modules doubt size some
+      (λ symbol doubtful. IsInspectionGiven size.rows size.columns symbol doubtful before after)
+      (IsInspectResult rows columns modules doubt before after)
+      (λ symbol doubtful are given. IsInspectResult.of_symbol symbol doubtful are
+      (subst (λ r. IsInspectionGiven r columns symbol doubtful before after) known.rows_are
+      (subst (λ c. IsInspectionGiven size.rows c symbol doubtful before after) known.columns_are given)))
+      (λ symbol doubtful light given. record {
+        room = given.room;
+        inspection = given.inspection;
+        inspection_is = shown_alike doubtful light symbol given.inspection given.inspection_is;
+        shown = given.shown;
+      }) known of
+
+-- What is so of a symbol of this size into which the modules are put is so of what is given, where none is doubtful.
+pub sure_given : (size : SizeEntry) (modules doubt : List ℕ) (some : Bool)
+    (Result : SizeEntry → ModulesView → Option ModulesView → Type 0) (before symbol : ModulesView) → some ≡ false
+    → before.size ≡ size → symbol.size ≡ before.size
+    → AreModulesOf before.size.rows before.size.columns modules symbol → Result symbol.size symbol None
+    → IsOfGiven size modules doubt some (Result size)
+sure_given size modules doubt some Result before symbol none_told e same are result =
+    IsOfGiven.sure symbol none_told (subst (λ (s : SizeEntry). AreModulesOf s.rows s.columns modules symbol) e are)
+    (subst (λ (s : SizeEntry). Result s symbol None) (same ∙ e) result)
+
+-- So it is where some are, whose numbers are put into another.
+pub doubted_given : (size : SizeEntry) (modules doubt : List ℕ) (some : Bool)
+    (Result : SizeEntry → ModulesView → Option ModulesView → Type 0) (before symbol other doubtful : ModulesView)
+    → some ≡ true → before.size ≡ size → symbol.size ≡ before.size
+    → AreModulesOf before.size.rows before.size.columns modules symbol → other.size ≡ size
+    → AreModulesOf other.size.rows other.size.columns doubt doubtful → Result symbol.size symbol (Some doubtful)
+    → IsOfGiven size modules doubt some (Result size)
+doubted_given size modules doubt some Result before symbol other doubtful told e same are f those result =
+    IsOfGiven.doubted symbol doubtful told
+    (subst (λ (s : SizeEntry). AreModulesOf s.rows s.columns modules symbol) e are)
+    (subst (λ (s : SizeEntry). AreModulesOf s.rows s.columns doubt doubtful) f those)
+    (subst (λ (s : SizeEntry). Result s symbol (Some doubtful)) (same ∙ e) result)

@@ -1,0 +1,266 @@
+-- Rooms in which there is room for the symbols of some sizes, and for those in which messages are written.
+use Rattle.std.proofs.Common.{◌≡◌, ℕ, zero, suc, ◌+◌, ◌*◌, ◌≤◌, Bool, true, false, cond, not, ◌&&◌, ◌||◌, nat_eq}
+use Rattle.std.proofs.Common.{nat_le}
+use Rattle.std.proofs.Common.{List, [], ◌∷◌, Option, Some, None, length, refl, sym, ◌∙◌, ap, subst, arith}
+use Rattle.std.specs.Prelude.{IfSome, find}
+use Rattle.std.specs.List.{list_all}
+use Rattle.std.proofs.lemmas.Bool.{and_parts, eqb-true, leb-true, le-leb, false≢true}
+use Rattle.std.proofs.lemmas.List.Elements.{recursion_from_All}
+use Rattle.std.proofs.lemmas.List.Sums.{AllPass-from_list_all}
+use Rattle.dm_symbol.specs.declared.Extent.{Extent}
+use Rattle.dm_symbol.specs.declared.Extent.TheVariants.{Usual, Wide}
+use Rattle.dm_symbol.specs.declared.Item.{Item}
+use Rattle.dm_symbol.specs.declared.Profile.{Profile}
+use Rattle.dm_symbol.specs.declared.SizeChoice.{SizeChoice}
+use Rattle.dm_symbol.specs.declared.SizeChoice.TheVariants.{Exact, Square}
+use Rattle.dm_symbol.specs.Messages.{largest_data, most_spelled}
+use Rattle.dm_symbol.specs.NormalForm.{normal_form}
+use Rattle.dm_symbol.proofs.Exported.{room_for_each, room_for_most}
+use Rattle.dm_modules.specs.Sizes.{SizeEntry, IsSize, codeword_count, entry_for, entry_of, most_codewords, size_table}
+use Rattle.dm_modules.specs.Sizes.{takes}
+use Rattle.dm_modules.specs.Words.{WordsView, IsWords}
+use Rattle.dm_modules.proofs.Exported.{at_found, found_passes, same_size, size_facts}
+use Rattle.ecc200_calls.specs.inner.Rooms.{AreWordsFor, IsRoom, HasRoom, HasRoomToWrite}
+
+-- A size with at most so many data codewords has at most so many rows and codewords.
+abbrev fits : ℕ → ℕ → ℕ → SizeEntry → Bool
+fits most rows words size =
+    not (nat_le size.data_count most) || (nat_le size.rows rows && nat_le (codeword_count size) words)
+
+-- Each size is such, for the small room and for the middle one: this is computed.
+small_fits : list_all (fits 62 32 98) size_table ≡ true
+unfolding size_table
+small_fits = refl
+
+middle_fits : list_all (fits 816 104 1152) size_table ≡ true
+unfolding size_table
+middle_fits = refl
+
+-- So many codewords spell at most two items each, and seven more.
+few_spelled : (extent : Extent) (count : ℕ) → most_spelled extent count ≤ 2 * count + 7
+few_spelled Usual count = omega arith
+few_spelled Wide zero = omega arith
+few_spelled Wide (suc count) = omega arith
+
+-- A room for so many rows and codewords is for the sizes with at most so many data codewords.
+module _ (most rows words : ℕ) (each : list_all (fits most rows words) size_table ≡ true) where
+  -- A size with so few data codewords that is found in the table has so few rows and codewords.
+  few : (p : SizeEntry → Bool) (size : SizeEntry) → find p size_table ≡ Some size → size.data_count ≤ most
+      → (size.rows ≤ rows) × (codeword_count size ≤ words)
+  few p size found le =
+      let test : fits most rows words size ≡ true =
+      at_found (λ s. fits most rows words s ≡ true) p size_table size
+      (recursion_from_All (λ s. fits most rows words s ≡ true) size_table
+      (AllPass-from_list_all (fits most rows words) size_table each)) found in
+      let both : (nat_le size.rows rows && nat_le (codeword_count size) words) ≡ true =
+      sym (ap (λ b. not b || (nat_le size.rows rows && nat_le (codeword_count size) words))
+      (le-leb size.data_count most le)) ∙ test in
+      let parts = and_parts (nat_le size.rows rows) (nat_le (codeword_count size) words) both in
+      (leb-true _ _ parts.0, leb-true _ _ parts.1)
+
+  -- There is room for such a symbol, and for what it says.
+  room : (items : ℕ) → 2 * most + 7 ≤ items → items ≤ most_spelled Wide largest_data → IsRoom rows words
+      → (size : SizeEntry) → IsSize size → size.data_count ≤ most → HasRoom rows words items size
+  room items enough few_items is size entry le =
+      let f = few (λ s. nat_eq s.rows size.rows && nat_eq s.columns size.columns) size entry le in
+      record {
+        room = is;
+        high = f.0;
+        long = f.1;
+        spelled = λ extent. omega (arith, few_spelled extent size.data_count, le, enough);
+        most = few_items;
+      }
+
+is_small : IsRoom 32 98
+is_small = record { some_rows = omega arith; some_words = omega arith; few_rows = omega arith; few_words = omega arith }
+
+is_middle : IsRoom 104 1152
+is_middle =
+    record { some_rows = omega arith; some_words = omega arith; few_rows = omega arith; few_words = omega arith }
+
+is_largest : IsRoom 144 2178
+is_largest =
+    record { some_rows = omega arith; some_words = omega arith; few_rows = omega arith; few_words = omega arith }
+
+-- There is room in the small room, in the middle one, and in the largest.
+pub small_room : (size : SizeEntry) → IsSize size → size.data_count ≤ 62 → HasRoom 32 98 131 size
+small_room = room 62 32 98 small_fits 131 (omega arith) (omega arith) is_small
+
+pub middle_room : (size : SizeEntry) → IsSize size → size.data_count ≤ 816 → HasRoom 104 1152 1639 size
+middle_room = room 816 104 1152 middle_fits 1639 (omega arith) (omega arith) is_middle
+
+pub largest_room : (size : SizeEntry) → IsSize size → HasRoom 144 2178 3123 size
+largest_room size entry =
+    let f = size_facts size entry in
+    record {
+      room = is_largest;
+      high = f.rows_fit;
+      long = f.codewords;
+      spelled = λ extent. omega (arith, few_spelled extent size.data_count, f.data_fits);
+      most = omega arith;
+    }
+
+-- ---- rooms to write in
+
+-- Behind a size with more data codewords than so many there is none with so few.
+abbrev splits : ℕ → List SizeEntry → Bool
+splits most [] = true
+splits most (size ∷ rest) =
+    (nat_le size.data_count most || list_all (λ s. not (nat_le s.data_count most)) rest) && splits most rest
+
+-- That is so in the table for the small room and for the middle one: this is computed.
+small_splits : splits 62 size_table ≡ true
+unfolding size_table
+small_splits = refl
+
+middle_splits : splits 816 size_table ≡ true
+unfolding size_table
+middle_splits = refl
+
+-- The size that a choice gives for fewer codewords has so few data codewords too.
+fewer_found : (most : ℕ) (choice : SizeChoice) (fewer count : ℕ) → fewer ≤ count → (sizes : List SizeEntry)
+    → splits most sizes ≡ true → (size other : SizeEntry)
+    → find (λ s. takes choice s && nat_le fewer s.data_count) sizes ≡ Some size
+    → find (λ s. takes choice s && nat_le count s.data_count) sizes ≡ Some other
+    → other.data_count ≤ most → size.data_count ≤ most
+fewer_found most choice fewer count le [] h size other e f small = cc
+fewer_found most choice fewer count le (s ∷ rest) h size other e f small =
+    by_first (takes choice s && nat_le fewer s.data_count) refl e
+    (fewer_found most choice fewer count le rest (and_parts _ (splits most rest) h).1 size other)
+  where
+    parts : ((nat_le s.data_count most || list_all (λ t. not (nat_le t.data_count most)) rest) ≡ true)
+        × (splits most rest ≡ true)
+    parts = and_parts (nat_le s.data_count most || list_all (λ t. not (nat_le t.data_count most)) rest)
+        (splits most rest) h
+
+    -- Where the first size has more, so has each behind it, and the other one.
+    not_more : nat_le s.data_count most ≡ false → ⊥
+    not_more large =
+        let behind : list_all (λ t. not (nat_le t.data_count most)) rest ≡ true =
+        sym (ap (λ b. b || list_all (λ t. not (nat_le t.data_count most)) rest) large) ∙ parts.0 in
+        let all : list_all (λ t. not (nat_le t.data_count most)) (s ∷ rest) ≡ true =
+        ap (λ b. not b && list_all (λ t. not (nat_le t.data_count most)) rest) large ∙ behind in
+        let told : not (nat_le other.data_count most) ≡ true =
+        at_found (λ t. not (nat_le t.data_count most) ≡ true) (λ t. takes choice t && nat_le count t.data_count)
+        (s ∷ rest) other
+        (recursion_from_All (λ t. not (nat_le t.data_count most) ≡ true) (s ∷ rest)
+        (AllPass-from_list_all (λ t. not (nat_le t.data_count most)) (s ∷ rest) all)) f in
+        false≢true (sym (ap not (le-leb other.data_count most small)) ∙ told)
+
+    by_size : (b : Bool) → nat_le s.data_count most ≡ b → s.data_count ≤ most
+    by_size true t = leb-true _ _ t
+    by_size false t = absurd (not_more t)
+
+    -- What fails the test for fewer codewords fails that for more.
+    fails : (a b d : Bool) → (b ≡ true → d ≡ true) → (a && d) ≡ false → (a && b) ≡ false
+    fails false b d h e = refl
+    fails true false d h e = refl
+    fails true true d h e = let both : true ≡ false = sym (h refl) ∙ e in cc
+
+    by_first : (b : Bool) → (takes choice s && nat_le fewer s.data_count) ≡ b
+        → cond b (Some s) (find (λ t. takes choice t && nat_le fewer t.data_count) rest) ≡ Some size
+        → (find (λ t. takes choice t && nat_le fewer t.data_count) rest ≡ Some size
+        → find (λ t. takes choice t && nat_le count t.data_count) rest ≡ Some other → other.data_count ≤ most
+        → size.data_count ≤ most) → size.data_count ≤ most
+    by_first true t g later =
+        let same : s ≡ size = cc in
+        subst (λ (z : SizeEntry). z.data_count ≤ most) same (by_size (nat_le s.data_count most) refl)
+    by_first false t g later =
+        let other_fails : (takes choice s && nat_le count s.data_count) ≡ false =
+        fails (takes choice s) (nat_le count s.data_count) (nat_le fewer s.data_count)
+        (λ l. le-leb fewer s.data_count (omega (arith, le, leb-true count s.data_count l))) t in
+        later g
+        (sym (ap (λ b. cond b (Some s) (find (λ t. takes choice t && nat_le count t.data_count) rest)) other_fails)
+        ∙ f) small
+
+-- Where a choice gives a size with so few data codewords, in either way of looking for one, there is room for the
+-- symbol in which a message is written.
+module _ (most rows words : ℕ) (each : list_all (fits most rows words) size_table ≡ true)
+    (split : splits most size_table ≡ true) (is : IsRoom rows words) where
+  to_write : (choice : SizeChoice) (message : List Item) (count : ℕ) (other : SizeEntry)
+      → AreWordsFor choice message count → entry_for choice count ≡ Some other → IsSize other
+      → other.data_count ≤ most → HasRoomToWrite rows words choice message
+  to_write choice message count other (AreWordsFor.enough codewords) found entry small = record {
+    room = is;
+    written = λ profile. at_most profile (entry_for choice (length (normal_form profile message))) refl;
+  }
+    where
+      at_most : (profile : Profile) (o : Option SizeEntry)
+          → entry_for choice (length (normal_form profile message)) ≡ o
+          → IfSome o (λ size. (size.rows ≤ rows) × (codeword_count size ≤ words))
+      at_most profile None f = tt
+      at_most profile (Some size) f =
+          few most rows words each
+          (λ s. takes choice s && nat_le (length (normal_form profile message)) s.data_count) size f
+          (fewer_found most choice (length (normal_form profile message)) count (codewords profile) size_table split
+          size other f found small)
+  to_write choice message count other (AreWordsFor.asked r c e) found entry small = record {
+    room = is;
+    written = λ profile. room_for_each choice profile message rows words (λ size taken.
+        let mine = exact_sides size (subst (λ ch. takes ch size ≡ true) e taken.1) in
+        let its =
+        exact_sides other (subst (λ ch. takes ch other ≡ true) e
+        (and_parts (takes choice other) (nat_le count other.data_count)
+        (found_passes (λ s. takes choice s && nat_le count s.data_count) size_table other found)).0) in
+        let same : size ≡ other = same_size size other taken.0 entry (mine.0 ∙ sym its.0) (mine.1 ∙ sym its.1) in
+        few most rows words each (λ s. nat_eq s.rows size.rows && nat_eq s.columns size.columns) size taken.0
+        (subst (λ (s : SizeEntry). s.data_count ≤ most) (sym same) small));
+  }
+    where
+      exact_sides : (s : SizeEntry) → takes (Exact r c) s ≡ true → (s.rows ≡ r) × (s.columns ≡ c)
+      exact_sides s t =
+          let both = and_parts (nat_eq s.rows r) (nat_eq s.columns c) t in
+          (eqb-true _ _ both.0, eqb-true _ _ both.1)
+
+-- A size that spells at most so many items has few data codewords.
+few_data : (most count : ℕ) → most_spelled Wide count ≤ 2 * most + 7 → count ≤ most
+few_data most zero le = omega arith
+few_data most (suc count) le = omega arith
+
+-- So it is for the small room and for the middle one.
+pub small_to_write : (choice : SizeChoice) (message : List Item) (count : ℕ) (other : SizeEntry)
+    → AreWordsFor choice message count → entry_for choice count ≡ Some other → IsSize other → HasRoom 32 98 131 other
+    → HasRoomToWrite 32 98 choice message
+small_to_write choice message count other are found entry room =
+    to_write 62 32 98 small_fits small_splits is_small choice message count other are found entry
+    (few_data 62 other.data_count (room.spelled Wide))
+
+pub middle_to_write : (choice : SizeChoice) (message : List Item) (count : ℕ) (other : SizeEntry)
+    → AreWordsFor choice message count → entry_for choice count ≡ Some other → IsSize other
+    → HasRoom 104 1152 1639 other → HasRoomToWrite 104 1152 choice message
+middle_to_write choice message count other are found entry room =
+    to_write 816 104 1152 middle_fits middle_splits is_middle choice message count other are found entry
+    (few_data 816 other.data_count (room.spelled Wide))
+
+-- The largest squares of the small room and of the middle one.
+abbrev small_square : SizeEntry
+small_square = entry_of 32 32 14 14 2 2 62 36 1 false
+
+abbrev middle_square : SizeEntry
+middle_square = entry_of 104 104 24 24 4 4 816 336 6 false
+
+-- A message of which no normal form has more codewords than these have data codewords is written in one of their room.
+pub square_in_small : (message : List Item) → ((profile : Profile) → length (normal_form profile message) ≤ 62)
+    → HasRoomToWrite 32 98 Square message
+unfolding size_table
+square_in_small message few =
+    small_to_write Square message 62 small_square (AreWordsFor.enough few) refl refl
+    (small_room small_square refl (omega arith))
+
+pub square_in_middle : (message : List Item) → ((profile : Profile) → length (normal_form profile message) ≤ 816)
+    → HasRoomToWrite 104 1152 Square message
+unfolding size_table
+square_in_middle message few =
+    middle_to_write Square message 816 middle_square (AreWordsFor.enough few) refl refl
+    (middle_room middle_square refl (omega arith))
+
+-- In the largest room there is always room.
+pub largest_to_write : (choice : SizeChoice) (message : List Item) → HasRoomToWrite 144 2178 choice message
+largest_to_write choice message = record {
+  room = is_largest;
+  written = λ profile. room_for_most choice profile message 144 2178 (omega arith) (omega arith);
+}
+
+-- The codewords of a symbol fit an array that holds those of the largest.
+pub words_fit : (words : WordsView) → IsWords words → length words.list ≤ most_codewords
+words_fit words h = omega (arith, h.count, (size_facts words.size h.size).codewords)

@@ -1,0 +1,32 @@
+use Rattle.std.proofs.Common.{◌≡◌, ◌≤◌, ◌+◌, ◌/◌, ◌^◌, ◌∙◌, ℕ, ap, arith, bit_and, length}
+use Rattle.std.proofs.lemmas.Simd.{length-put_chunk}
+use Rattle.dm_modules.proofs.Exported.{rest_more}
+use Rattle.ecc200_calls.specs.inner.UnpackedCells.{unpacked_cells}
+use Rattle.ecc200_calls.proofs.Unpacking.{behind_chunk, sixteen, unpacked_front, written_more}
+use Rattle.ecc200_calls.proofs.modules.unpack_on.Goals as goal
+
+pub loop-column-preserved : goal.loop-column-preserved
+loop-column-preserved c =
+    let column = c.loop-column.column in
+    let all = c.loop-column.all in
+    let i = c.loop-column.invariant in
+    let place = c.args.start + column in
+    let stored = c.unpack_together.result in
+    let room : place + 16 ≤ length all = omega (arith, c.loop-column-test.true, c.requires.room, i.count) in
+    let part : stored ≡ unpacked_cells 16 (bit_and (c.args.cells / 2 ^ column) 65535) =
+    c.unpack_together.ensures ∙ ap (λ (n : ℕ). unpacked_cells 16 (bit_and n 65535)) i.rest in
+    let long : length stored ≡ 16 = sixteen stored (bit_and (c.args.cells / 2 ^ column) 65535) part in
+    record {
+      count = length-put_chunk place all stored ∙ i.count;
+      written = written_more c.args.start column c.args.cells c.args.all.now all stored room part i.written;
+      behind = behind_chunk place (c.args.start + c.args.width + 16) all stored (omega (arith, room, long))
+          (omega (arith, long, c.loop-column-test.true)) ∙ i.behind;
+      rest = rest_more c.args.cells column c.loop-column.rest i.rest;
+      within = omega (arith, c.loop-column-test.true);
+    }
+
+pub returns-clause-written : goal.returns-clause-written
+returns-clause-written c =
+    let i = c.loop-column.invariant in
+    unpacked_front c.args.start c.args.width c.loop-column.column c.args.cells c.args.all.now c.loop-column.all
+    (omega (arith, c.loop-column-test.false)) (omega (arith, c.requires.room)) i.written

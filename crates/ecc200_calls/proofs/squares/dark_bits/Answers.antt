@@ -1,6 +1,0 @@
-use Rattle.std.proofs.Common.{arith, eqb, not, w8}
-use Rattle.std.proofs.lemmas.Simd.{bitmask_splat}
-use Rattle.ecc200_calls.proofs.squares.dark_bits.Goals as goal
-
-pub returns : goal.returns
-returns c = bitmask_splat w8 (λ x y. not (eqb x y)) c.args.modules 16 0 c.fits-modules.0 (omega arith)

@@ -1,0 +1,39 @@
+-- Rooms for the work with a symbol: for so many rows of modules, codewords, and items of a message.
+use Rattle.std.specs.Prelude.{◌≡◌, ℕ, ◌≤◌, List, length}
+use Rattle.dm_symbol.specs.declared.Extent.{Extent}
+use Rattle.dm_symbol.specs.declared.Extent.TheVariants.{Wide}
+use Rattle.dm_symbol.specs.declared.Item.{Item}
+use Rattle.dm_symbol.specs.declared.Profile.{Profile}
+use Rattle.dm_symbol.specs.declared.SizeChoice.{SizeChoice}
+use Rattle.dm_symbol.specs.declared.SizeChoice.TheVariants.{Exact}
+use Rattle.dm_symbol.specs.Messages.{largest_data, most_spelled}
+use Rattle.dm_symbol.specs.NormalForm.{normal_form}
+use Rattle.dm_symbol.specs.NormalSymbol.{HasRoomFor}
+use Rattle.dm_modules.specs.Sizes.{SizeEntry, codeword_count, most_codewords, most_rows}
+
+-- A room is for no fewer rows and codewords than the smallest symbol has, and for no more than the largest has.
+pub record IsRoom (rows words : ℕ) : Type 0 where
+  pub some_rows : 10 ≤ rows
+  pub some_words : 8 ≤ words
+  pub few_rows : rows ≤ most_rows
+  pub few_words : words ≤ most_codewords
+
+-- There is room for a symbol of this size, for its codewords, and for what it says in any extent, and not for more
+-- items than any symbol says.
+pub record HasRoom (rows words items : ℕ) (size : SizeEntry) : Type 0 where
+  pub room : IsRoom rows words
+  pub high : size.rows ≤ rows
+  pub long : codeword_count size ≤ words
+  pub spelled : (extent : Extent) → most_spelled extent size.data_count ≤ items
+  pub most : items ≤ most_spelled Wide largest_data
+
+-- There is room for the symbol in which a message is written in a choice of sizes, and for its codewords.
+pub record HasRoomToWrite (rows words : ℕ) (choice : SizeChoice) (message : List Item) : Type 0 where
+  pub room : IsRoom rows words
+  pub written : (profile : Profile) → HasRoomFor choice profile message rows words
+
+-- A size of a choice with so many data codewords, or the next larger one, is at least as large as the one in which a
+-- message is written: no normal form of the message has more codewords; or one size is asked for.
+pub data AreWordsFor (choice : SizeChoice) (message : List Item) (words : ℕ) : Type 0 where
+  enough : ((profile : Profile) → length (normal_form profile message) ≤ words) → AreWordsFor choice message words
+  asked : (rows columns : ℕ) → choice ≡ Exact rows columns → AreWordsFor choice message words
