@@ -4,7 +4,7 @@ use Rattle.std.proofs.Common.{ap₂, sym, ◌∙◌, append_assoc, arith, length
 use Rattle.std.specs.Prelude.{◌||◌}
 use Rattle.std.proofs.lemmas.List.{append-nil, at_drop_all}
 use Rattle.dm_words.specs.declared.item.Item.{Item}
-use Rattle.dm_words.specs.declared.item.Item.TheVariants.{Byte}
+use Rattle.dm_words.specs.declared.item.Item.TheVariants.{Byte, Fnc1}
 use Rattle.dm_words.specs.declared.ascii.Unit.{Unit}
 use Rattle.dm_words.specs.declared.ascii.Unit.TheVariants.{One, Digits, Raised, Fnc1}
 use Rattle.dm_words.specs.Ascii.{ascii, is_digit, digit_pair}
@@ -64,13 +64,13 @@ fnc1_end items at true le so_far = so_far
 fnc1_end items at false le so_far = sym (at_drop_all has_fnc1 items at le) ∙ so_far
 
 -- Two digits at an index are the unit there.
-pub pair_begins : (items : List Item) (at b c word : ℕ) → at + 2 ≤ length items → get_or items at (Byte 0) ≡ Byte b
-    → get_or items (at + 1) (Byte 0) ≡ Byte c
+pub pair_begins : (items : List Item) (at b c word : ℕ) → at + 2 ≤ length items → get_or items at Fnc1 ≡ Byte b
+    → get_or items (at + 1) Fnc1 ≡ Byte c
     → is_digit b ≡ true → is_digit c ≡ true → word ≡ digit_pair b c → BeginsAscii (Digits word) items at
 pair_begins items at b c word within first second hb hc is =
-    let behind : (i j : ℕ) (x : Item) → i < length items → get_or items i (Byte 0) ≡ x → suc i ≡ j → drop i items
+    let behind : (i j : ℕ) (x : Item) → i < length items → get_or items i Fnc1 ≡ x → suc i ≡ j → drop i items
     ≡ x ∷ drop j items =
-    λ i j x lt is next. drop-cons items i (Byte 0) lt ∙ ap₂ (λ (y : Item) (k : ℕ). y ∷ drop k items) is next in
+    λ i j x lt is next. drop-cons items i Fnc1 lt ∙ ap₂ (λ (y : Item) (k : ℕ). y ∷ drop k items) is next in
     let cut : drop at items ≡ Byte b ∷ Byte c ∷ drop (at + 2) items =
     behind at (at + 1) (Byte b) (omega arith) first (omega arith)
     ∙ ap (λ (r : List Item). Byte b ∷ r) (behind (at + 1) (at + 2) (Byte c) (omega arith) second (omega arith)) in

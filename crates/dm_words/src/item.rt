@@ -4,14 +4,15 @@ ghost use Rattle.std.specs.Prelude.{◌≡◌};
 ghost use Rattle.dm_words.specs.Messages.{byte_of};
 
 /// An item of a message: a byte, or the function character FNC1. No item is interpreted. There is a default since
-/// `ArrayVec` asks for one; which item it is doesn't matter.
+/// `ArrayVec` asks for one; which item it is doesn't matter. It stands first, so that it is all zeros: a list of them
+/// is then made where it is to stand, by clearing that memory, and isn't copied there.
 #[derive(Clone, Copy, Debug, Default, PartialEq, Eq)]
 pub enum Item {
-    /// A byte, of 0 to 255.
-    Byte(u8),
     /// FNC1 (ISO/IEC 16022, function characters).
     #[default]
     Fnc1,
+    /// A byte, of 0 to 255.
+    Byte(u8),
 }
 
 /// Gives the byte of an item; FNC1 has none, and counts as 0.

@@ -1,6 +1,6 @@
 use Rattle.std.proofs.Common.{◌≡◌, ◌∙◌, ◌<◌, List, length, get_or, ap, arith, true}
 use Rattle.dm_words.specs.declared.item.Item.{Item}
-use Rattle.dm_words.specs.declared.item.Item.TheVariants.{Byte}
+use Rattle.dm_words.specs.declared.item.Item.TheVariants.{Byte, Fnc1}
 use Rattle.dm_words.proofs.Segments.{byte_items-length}
 use Rattle.dm_words.proofs.Frames.{byte_at, bytes_so_far}
 use Rattle.dm_words.proofs.macros.are_bytes.Goals as goal
@@ -13,8 +13,8 @@ pub returns-then-not-is_byte-clause-no : goal.returns-then-not-is_byte-clause-no
 returns-then-not-is_byte-clause-no c =
     λ e. (let lt : c.loop-i.i < length c.args.bytes.now = omega (arith, c.loop-i-test.true) in
     let t : c.is_byte.result
-    ≡ true = c.is_byte.ensures.no (ap (λ (l : List Item). get_or l c.loop-i.i (Byte 0)) e
-    ∙ byte_at c.args.bytes.now c.loop-i.i (Byte 0) lt) in
+    ≡ true = c.is_byte.ensures.no (ap (λ (l : List Item). get_or l c.loop-i.i Fnc1) e
+    ∙ byte_at c.args.bytes.now c.loop-i.i Fnc1 lt) in
     cc)
 
 pub loop-i-preserved : goal.loop-i-preserved
@@ -23,6 +23,6 @@ loop-i-preserved c =
     let lt : c.loop-i.i < length c.args.bytes.now = omega (arith, c.loop-i-test.true) in
     record {
       long = v.long;
-      so_far = bytes_so_far c.args.items.now c.args.bytes.now c.loop-i.i (Byte 0) (omega (arith, lt, v.long)) lt
+      so_far = bytes_so_far c.args.items.now c.args.bytes.now c.loop-i.i Fnc1 (omega (arith, lt, v.long)) lt
           v.so_far (c.is_byte.ensures.yes c.if-not-is_byte.false);
     }

@@ -1,6 +1,6 @@
 use Rattle.std.proofs.Common.{inl, inr, arith, ap, subst, ◌≡◌, ℕ, ◌-◌, List, length, take, drop, rules}
 use Rattle.dm_words.specs.declared.item.Item.{Item}
-use Rattle.dm_words.specs.declared.item.Item.TheVariants.{Byte}
+use Rattle.dm_words.specs.declared.item.Item.TheVariants.{Byte, Fnc1}
 use Rattle.dm_words.specs.declared.smallest.edifact.Group.TheVariants as group
 use Rattle.dm_words.specs.inner.Costs.{parts_cost}
 use Rattle.dm_words.proofs.GroupsWritten.{edifact_begun, edifact_item, edifact_written, IsEdifactSoFar}
@@ -10,7 +10,7 @@ use Rattle.dm_words.proofs.smallest.edifact.write_edifact.Goals as goal
 
 pub loop-words-init : goal.loop-words-init
 loop-words-init g c =
-    let f = first_of_groups c.args.extent c.args.items.now c.args.at (Byte 0) (length c.push.new.self.items)
+    let f = first_of_groups c.args.extent c.args.items.now c.args.at Fnc1 (length c.push.new.self.items)
     c.args.total c.requires.at (omega (arith, c.requires.budget, c.push.ensures.len))
     (omega (arith, c.requires.total)) in
     let begun = edifact_begun c.args.words.now.items c.push.new.self.items c.push.ensures.items in
@@ -21,7 +21,7 @@ loop-words-init g c =
       budget = after_value group.Empty c.push_value-group.result _ c.args.total c.push.new.self.items
           c.push_value-group.new.words.items _ c.push_value-group.ensures f.budget;
       so_far = edifact_item c.args.words.now.items c.push.new.self.items c.push_value-group.new.words.items
-          group.Empty c.push_value-group.result c.args.items.now c.args.at c.args.at (Byte 0) c.byte.result f.byte
+          group.Empty c.push_value-group.result c.args.items.now c.args.at c.args.at Fnc1 c.byte.result f.byte
           (omega arith) c.requires.at f.is f.low f.high c.byte.ensures
           (subst (λ (l : List Item). IsEdifactSoFar c.args.words.now.items c.push.new.self.items group.Empty l)
           (ap (λ (k : ℕ). take k (drop c.args.at c.args.items.now)) zero_is) begun) c.push_value-group.ensures;
@@ -31,7 +31,7 @@ loop-words-init g c =
 
 pub bounds-items-next : goal.bounds-items-next
 bounds-items-next g c =
-    (group_at c.args.extent c.args.items.now c.loop-words.next (Byte 0) _ c.loop-words.group
+    (group_at c.args.extent c.args.items.now c.loop-words.next Fnc1 _ c.loop-words.group
     (length c.loop-words.words.items) c.args.total c.goes_on.result
     (c.requires.plan c.loop-words.next _ c.loop-words.invariant.within) c.loop-words.invariant.budget
     (omega (arith, c.requires.total)) c.goes_on.ensures c.loop-words-test.true).there
@@ -46,7 +46,7 @@ push_value-group-requires-in-loop-words g c = (
       omega (
         arith,
         value_room c.loop-words.group (length c.loop-words.words.items) c.args.total _
-            (group_at c.args.extent c.args.items.now c.loop-words.next (Byte 0) _ c.loop-words.group
+            (group_at c.args.extent c.args.items.now c.loop-words.next Fnc1 _ c.loop-words.group
             (length c.loop-words.words.items) c.args.total c.goes_on.result
             (c.requires.plan c.loop-words.next _ c.loop-words.invariant.within) c.loop-words.invariant.budget
             (omega (arith, c.requires.total)) c.goes_on.ensures c.loop-words-test.true).budget,
@@ -60,7 +60,7 @@ pub loop-words-smaller : goal.loop-words-smaller
 loop-words-smaller g c =
     omega (
       arith,
-      (group_at c.args.extent c.args.items.now c.loop-words.next (Byte 0) _ c.loop-words.group
+      (group_at c.args.extent c.args.items.now c.loop-words.next Fnc1 _ c.loop-words.group
           (length c.loop-words.words.items) c.args.total c.goes_on.result
           (c.requires.plan c.loop-words.next _ c.loop-words.invariant.within) c.loop-words.invariant.budget
           (omega (arith, c.requires.total)) c.goes_on.ensures c.loop-words-test.true).there,
@@ -69,7 +69,7 @@ loop-words-smaller g c =
 pub loop-words-preserved : goal.loop-words-preserved
 loop-words-preserved g c =
     let v = c.loop-words.invariant in
-    let r = group_at c.args.extent c.args.items.now c.loop-words.next (Byte 0) _ c.loop-words.group
+    let r = group_at c.args.extent c.args.items.now c.loop-words.next Fnc1 _ c.loop-words.group
     (length c.loop-words.words.items) c.args.total c.goes_on.result (c.requires.plan c.loop-words.next _ v.within)
     v.budget (omega (arith, c.requires.total)) c.goes_on.ensures c.loop-words-test.true in
     record {
@@ -81,7 +81,7 @@ loop-words-preserved g c =
           c.push_value-group-in-loop-words.ensures r.budget;
       so_far = edifact_item c.args.words.now.items c.loop-words.words.items
           c.push_value-group-in-loop-words.new.words.items c.loop-words.group c.push_value-group-in-loop-words.result
-          c.args.items.now c.args.at c.loop-words.next (Byte 0) c.byte-in-loop-words.result r.byte
+          c.args.items.now c.args.at c.loop-words.next Fnc1 c.byte-in-loop-words.result r.byte
           (omega (arith, v.from)) r.there r.is r.low r.high c.byte-in-loop-words.ensures v.so_far
           c.push_value-group-in-loop-words.ensures;
     }

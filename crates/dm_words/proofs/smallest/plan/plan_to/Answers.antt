@@ -1,7 +1,7 @@
 use Rattle.std.proofs.Common.{◌≡◌, ◌∙◌, ◌-◌, ◌&&◌, Bool, sym, ℕ, drop, get_or, rules, ap, subst, arith, refl}
 use Rattle.std.proofs.lemmas.List.{length-drop}
 use Rattle.dm_words.specs.declared.smallest.plan.Begin.TheVariants.{Two}
-use Rattle.dm_words.specs.declared.item.Item.TheVariants.{Byte}
+use Rattle.dm_words.specs.declared.item.Item.TheVariants.{Byte, Fnc1}
 use Rattle.dm_words.specs.inner.Costs.{Row, row, going_over, is_digit_item, with_ascii, begin_at, step_in, none_going}
 use Rattle.dm_words.specs.inner.CostLanes.{HasRow}
 use Rattle.dm_words.proofs.Plans.{within, turn, plan_more, plan_first, row_within, last_costs, none_small, going_small}
@@ -41,7 +41,7 @@ pub step_of-requires-in-loop-at : goal.step_of-requires-in-loop-at
 step_of-requires-in-loop-at c =
     let w = within c.args.extent c.args.items.now c.loop-at.at _ (omega (arith, c.requires.few)) refl
     (omega (arith, length-drop c.loop-at.at c.args.items.now)) in
-    let x = get_or c.args.items.now (c.loop-at.at - 1) (Byte 0) in
+    let x = get_or c.args.items.now (c.loop-at.at - 1) Fnc1 in
     let next = row c.args.extent (drop c.loop-at.at c.args.items.now) in
     let g = going_over c.args.extent x next in
     let cost = c.choose-choice.ensures.cost next g c.loop-at.invariant.row (going_small c.args.extent x next w)
@@ -52,7 +52,7 @@ pub with_ascii-costs-requires-in-loop-at : goal.with_ascii-costs-requires-in-loo
 with_ascii-costs-requires-in-loop-at c =
     let w = within c.args.extent c.args.items.now c.loop-at.at _ (omega (arith, c.requires.few)) refl
     (omega (arith, length-drop c.loop-at.at c.args.items.now)) in
-    let x = get_or c.args.items.now (c.loop-at.at - 1) (Byte 0) in
+    let x = get_or c.args.items.now (c.loop-at.at - 1) Fnc1 in
     let next = row c.args.extent (drop c.loop-at.at c.args.items.now) in
     let g = going_over c.args.extent x next in
     let cost = c.choose-choice.ensures.cost next g c.loop-at.invariant.row (going_small c.args.extent x next w)
@@ -65,7 +65,7 @@ loop-at-preserved c =
     let extent = c.args.extent in
     let m = c.args.items.now in
     let at = c.loop-at.at in
-    let x = get_or m (at - 1) (Byte 0) in
+    let x = get_or m (at - 1) Fnc1 in
     let next = row extent (drop at m) in
     let w = within c.args.extent c.args.items.now c.loop-at.at _ (omega (arith, c.requires.few)) refl
     (omega (arith, length-drop c.loop-at.at c.args.items.now)) in
@@ -76,7 +76,7 @@ loop-at-preserved c =
     let new = with_ascii choice.cost next.ascii g in
     let behind = c.loop-at.digit_behind in
     let pair = c.is_digit_item-digit.result && behind in
-    let t = turn extent m at x (Byte 0) next new pair g (begin_at choice.begins) choice.cost
+    let t = turn extent m at x Fnc1 next new pair g (begin_at choice.begins) choice.cost
     (step_in c.step_of-in-loop-at.result) (omega (arith, c.loop-at-test.true)) v.in_range refl refl
     (ap (λ (b : Bool). b && behind) c.is_digit_item-digit.ensures ∙ ap (λ (b : Bool). is_digit_item x && b) v.digit)
     refl (c.choose-choice.ensures.cost next g v.row small going)
@@ -85,7 +85,7 @@ loop-at-preserved c =
       in_range = omega (arith, v.in_range);
       room = search rules;
       digit = c.is_digit_item-digit.ensures
-          ∙ digit_here m at x (Byte 0) (omega (arith, c.loop-at-test.true)) v.in_range refl;
+          ∙ digit_here m at x Fnc1 (omega (arith, c.loop-at-test.true)) v.in_range refl;
       row = subst (λ (r : Row). HasRow r c.with_ascii-costs-in-loop-at.result)
           (ap (λ (n : ℕ). with_ascii choice.cost n g) v.row.ascii ∙ t.0)
           (c.with_ascii-costs-in-loop-at.ensures g small going);

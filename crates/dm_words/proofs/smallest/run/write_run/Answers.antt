@@ -1,6 +1,6 @@
 use Rattle.std.proofs.Common.{arith, ap, subst, ◌≡◌, ℕ, ◌-◌, List, length, take, drop, rules}
 use Rattle.dm_words.specs.declared.item.Item.{Item}
-use Rattle.dm_words.specs.declared.item.Item.TheVariants.{Byte}
+use Rattle.dm_words.specs.declared.item.Item.TheVariants.{Byte, Fnc1}
 use Rattle.dm_words.specs.declared.smallest.run.Part.TheVariants as part
 use Rattle.dm_words.specs.inner.Costs.{parts_cost}
 use Rattle.dm_words.proofs.LowerBounds.{leave_bounds}
@@ -11,7 +11,7 @@ use Rattle.dm_words.proofs.smallest.run.write_run.Goals as goal
 pub push_item-part-requires : goal.push_item-part-requires
 push_item-part-requires g c =
     let held =
-    (first_at c.args.extent c.args.set c.args.items.now c.args.at (Byte 0) (length c.push.new.self.items) c.args.total
+    (first_at c.args.extent c.args.set c.args.items.now c.args.at Fnc1 (length c.push.new.self.items) c.args.total
     c.requires.at (omega (arith, c.requires.budget, c.push.ensures.len)) (omega (arith, c.requires.total))).held in (
       search rules,
       (
@@ -21,7 +21,7 @@ push_item-part-requires g c =
           omega (
             arith,
             item_room _ _ _ _
-                (first_at c.args.extent c.args.set c.args.items.now c.args.at (Byte 0) (length c.push.new.self.items)
+                (first_at c.args.extent c.args.set c.args.items.now c.args.at Fnc1 (length c.push.new.self.items)
                 c.args.total c.requires.at (omega (arith, c.requires.budget, c.push.ensures.len))
                 (omega (arith, c.requires.total))).budget,
             c.requires.total,
@@ -32,7 +32,7 @@ push_item-part-requires g c =
 
 pub loop-set-init : goal.loop-set-init
 loop-set-init g c =
-    let f = (first_at c.args.extent c.args.set c.args.items.now c.args.at (Byte 0) (length c.push.new.self.items)
+    let f = (first_at c.args.extent c.args.set c.args.items.now c.args.at Fnc1 (length c.push.new.self.items)
     c.args.total c.requires.at (omega (arith, c.requires.budget, c.push.ensures.len))
     (omega (arith, c.requires.total))) in
     let begun =
@@ -46,7 +46,7 @@ loop-set-init g c =
       so_far = subst
           (λ (l : List Item). IsRunSoFar c.args.set c.args.words.now.items c.push_item-part.new.words.items
           c.push_item-part.result l)
-          (one_more c.args.items.now c.args.at c.args.at (Byte 0) (omega arith) c.requires.at)
+          (one_more c.args.items.now c.args.at c.args.at Fnc1 (omega arith) c.requires.at)
           (run_more c.args.set c.args.words.now.items c.push.new.self.items c.push_item-part.new.words.items
           part.Empty c.push_item-part.result (take (c.args.at - c.args.at) (drop c.args.at c.args.items.now)) _
           (subst (λ (l : List Item). IsRunSoFar c.args.set c.args.words.now.items c.push.new.self.items part.Empty l)
@@ -57,7 +57,7 @@ loop-set-init g c =
 
 pub bounds-items-next : goal.bounds-items-next
 bounds-items-next g c =
-    (run_at c.args.extent c.args.set c.args.items.now c.loop-set.next (Byte 0) _ c.loop-set.part
+    (run_at c.args.extent c.args.set c.args.items.now c.loop-set.next Fnc1 _ c.loop-set.part
     (length c.loop-set.words.items) c.args.total c.goes_on.result
     (c.requires.plan c.loop-set.next _ c.loop-set.invariant.within) c.loop-set.invariant.budget
     (omega (arith, c.requires.total)) c.goes_on.ensures c.loop-set-test.true).there
@@ -65,7 +65,7 @@ bounds-items-next g c =
 pub push_item-part-requires-in-loop-set : goal.push_item-part-requires-in-loop-set
 push_item-part-requires-in-loop-set g c =
     let held =
-    (run_at c.args.extent c.args.set c.args.items.now c.loop-set.next (Byte 0) _ c.loop-set.part
+    (run_at c.args.extent c.args.set c.args.items.now c.loop-set.next Fnc1 _ c.loop-set.part
     (length c.loop-set.words.items) c.args.total c.goes_on.result
     (c.requires.plan c.loop-set.next _ c.loop-set.invariant.within) c.loop-set.invariant.budget
     (omega (arith, c.requires.total)) c.goes_on.ensures c.loop-set-test.true).held in (
@@ -77,7 +77,7 @@ push_item-part-requires-in-loop-set g c =
           omega (
             arith,
             item_room _ _ _ _
-                (run_at c.args.extent c.args.set c.args.items.now c.loop-set.next (Byte 0) _ c.loop-set.part
+                (run_at c.args.extent c.args.set c.args.items.now c.loop-set.next Fnc1 _ c.loop-set.part
                 (length c.loop-set.words.items) c.args.total c.goes_on.result
                 (c.requires.plan c.loop-set.next _ c.loop-set.invariant.within) c.loop-set.invariant.budget
                 (omega (arith, c.requires.total)) c.goes_on.ensures c.loop-set-test.true).budget,
@@ -91,7 +91,7 @@ pub loop-set-smaller : goal.loop-set-smaller
 loop-set-smaller g c =
     omega (
       arith,
-      (run_at c.args.extent c.args.set c.args.items.now c.loop-set.next (Byte 0) _ c.loop-set.part
+      (run_at c.args.extent c.args.set c.args.items.now c.loop-set.next Fnc1 _ c.loop-set.part
           (length c.loop-set.words.items) c.args.total c.goes_on.result
           (c.requires.plan c.loop-set.next _ c.loop-set.invariant.within) c.loop-set.invariant.budget
           (omega (arith, c.requires.total)) c.goes_on.ensures c.loop-set-test.true).there,
@@ -100,7 +100,7 @@ loop-set-smaller g c =
 pub loop-set-preserved : goal.loop-set-preserved
 loop-set-preserved g c =
     let v = c.loop-set.invariant in
-    let r = (run_at c.args.extent c.args.set c.args.items.now c.loop-set.next (Byte 0) _ c.loop-set.part
+    let r = (run_at c.args.extent c.args.set c.args.items.now c.loop-set.next Fnc1 _ c.loop-set.part
     (length c.loop-set.words.items) c.args.total c.goes_on.result
     (c.requires.plan c.loop-set.next _ c.loop-set.invariant.within) c.loop-set.invariant.budget
     (omega (arith, c.requires.total)) c.goes_on.ensures c.loop-set-test.true) in
@@ -112,7 +112,7 @@ loop-set-preserved g c =
       so_far = subst
           (λ (l : List Item). IsRunSoFar c.args.set c.args.words.now.items
           c.push_item-part-in-loop-set.new.words.items c.push_item-part-in-loop-set.result l)
-          (one_more c.args.items.now c.args.at c.loop-set.next (Byte 0) (omega (arith, v.from)) r.there)
+          (one_more c.args.items.now c.args.at c.loop-set.next Fnc1 (omega (arith, v.from)) r.there)
           (run_more c.args.set c.args.words.now.items c.loop-set.words.items
           c.push_item-part-in-loop-set.new.words.items c.loop-set.part c.push_item-part-in-loop-set.result
           (take (c.loop-set.next - c.args.at) (drop c.args.at c.args.items.now)) _

@@ -1,17 +1,17 @@
 use Rattle.std.proofs.Common.{◌∙◌, sym, arith}
-use Rattle.dm_words.specs.declared.item.Item.TheVariants.{Byte}
+use Rattle.dm_words.specs.declared.item.Item.TheVariants.{Byte, Fnc1}
 use Rattle.dm_words.proofs.SegmentBudget.{begun_at, byte_at, ended_at}
 use Rattle.dm_words.proofs.smallest.segment.segment_end.Goals as goal
 
 pub loop-next-init : goal.loop-next-init
 loop-next-init c =
-    let b = begun_at c.args.extent c.args.items.now c.args.at (Byte 0) c.requires.at c.requires.byte in
+    let b = begun_at c.args.extent c.args.items.now c.args.at Fnc1 c.requires.at c.requires.byte in
     record { from = omega arith; within = omega (arith, c.requires.at); so_far = b.0; bytes = b.1 }
 
 pub loop-next-preserved : goal.loop-next-preserved
 loop-next-preserved c =
     let v = c.loop-next.invariant in
-    let g = byte_at c.args.extent c.args.items.now c.args.at c.loop-next.next (Byte 0) _ (omega (arith, c.requires.few))
+    let g = byte_at c.args.extent c.args.items.now c.args.at c.loop-next.next Fnc1 _ (omega (arith, c.requires.few))
     (omega (arith, v.from)) v.within (c.requires.plan c.loop-next.next _ v.within)
     (sym c.segment_ends.ensures ∙ c.loop-next-test.true)
     v.so_far
@@ -23,7 +23,7 @@ loop-next-smaller c =
     let v = c.loop-next.invariant in
     omega (
       arith,
-      (byte_at c.args.extent c.args.items.now c.args.at c.loop-next.next (Byte 0) _ (omega (arith, c.requires.few))
+      (byte_at c.args.extent c.args.items.now c.args.at c.loop-next.next Fnc1 _ (omega (arith, c.requires.few))
           (omega (arith, v.from)) v.within (c.requires.plan c.loop-next.next _ v.within)
           (sym c.segment_ends.ensures ∙ c.loop-next-test.true)
           v.so_far
