@@ -138,7 +138,7 @@ enum {
     ECC200_FNC1 = 256,            /* an item */
     ECC200_ANY_LIMIT = 65535,     /* a border limit that refuses nothing */
     ECC200_BEYOND = 255,          /* in ecc200_inspection.corrected: this block is beyond correction */
-    ECC200_STACK = 57344          /* bytes */
+    ECC200_STACK = 45056          /* bytes */
 };
 
 /* What is read. USUAL: ASCII, C40, Text, X12 and Base 256, as the program reads. WIDE: these, and EDIFACT (240); a

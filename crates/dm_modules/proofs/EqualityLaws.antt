@@ -1,11 +1,11 @@
 -- That `==` on modules tells equal values.
-use Rattle.std.proofs.Common.{◌≡◌, ◌*◌, Bool, true, List, length, nat_eq, sym, ◌∙◌, ap}
+use Rattle.std.proofs.Common.{◌≡◌, Bool, true, nat_eq, sym, ◌∙◌, ap}
 use Rattle.std.specs.Bool.{beq}
 use Rattle.std.specs.Cmp.{IsEquivalence, booleans_Decides}
 use Rattle.std.specs.Cmp.Lexicographic.{pointwise}
 use Rattle.std.proofs.lemmas.Bool.{and_parts, eqb-true}
 use Rattle.dm_modules.specs.Sizes.{SizeEntry, IsSize}
-use Rattle.dm_modules.specs.Modules.{ModulesView, IsModules, rows_of}
+use Rattle.dm_modules.specs.Modules.{ModulesView, IsModules}
 use Rattle.dm_modules.specs.Equality.{equal_sizes, equal_modules}
 use Rattle.dm_modules.proofs.TableEntries.{same_size}
 use Rattle.dm_place.proofs.Exported.{same_by_pointwise}

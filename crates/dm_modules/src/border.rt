@@ -67,7 +67,7 @@ pub fn border_faults<const ROWS: usize>(
     ensures { result ≡ sure_fault_count symbol.now (option_map (λ d. d.now) doubtful.entry) }
 {
     match doubtful {
-        Some(doubtful) => faults_but(symbol, doubtful),
-        None => faults_but(symbol, &NoDoubt),
+        Some(doubtful) => faults_but(&symbol.borrowed(), &doubtful.borrowed()),
+        None => faults_but(&symbol.borrowed(), &NoDoubt),
     }
 }

@@ -1,9 +1,10 @@
 //! A symbol drawn from the rows of its mapping matrix, borders and all: ISO/IEC 16022, symbol structure.
 
-ghost use Rattle.std.specs.Prelude.{◌≡◌, ◌⊎◌, ℕ, ◌+◌, ◌-◌, ◌*◌, ◌%◌, ◌^◌, ◌<◌, ◌≤◌, true, false, length};
+ghost use Rattle.std.specs.Prelude.{◌≡◌, ◌≢◌, ◌⊎◌, ℕ, ◌+◌, ◌-◌, ◌*◌, ◌%◌, ◌^◌, ◌<◌, ◌≤◌, true, false, length};
 ghost use Rattle.dm_place.specs.Border.{is_fixed, fixed_is_dark, symbol_line};
 ghost use Rattle.dm_modules.specs.Modules.{IsModules, module_at};
 ghost use Rattle.dm_modules.specs.Sizes.{IsSize, mapping_rows, mapping_columns};
+ghost use Rattle.dm_modules.specs.inner.Keeping.{kept_symbol};
 ghost use Rattle.dm_modules.specs.inner.Widths.{wide_matrix, most_wide};
 ghost use Rattle.dm_modules.specs.inner.RowDrawing.{drawn_colour, ArePrefixes, IsDrawn};
 ghost use Rattle.dm_modules.specs.inner.Reading.{look_in, whole_row};
@@ -12,7 +13,7 @@ ghost use Rattle.dm_modules.specs.Modules.{is_dark_bit};
 use crate::bit_rows::BitRows;
 use crate::borders::Borders;
 use crate::size::SymbolSize;
-use crate::symbol::{FIRST_COLUMNS, SymbolIn};
+use crate::symbol::FIRST_COLUMNS;
 use crate::widened::{part_across, with_part};
 
 /// The most regions that stand side by side, without the last one.
@@ -150,57 +151,84 @@ fn drawn_row<R: BitRows>(
     (dark.0 | outer, dark.1 | end)
 }
 
+/// Puts a row among the numbers of a symbol of this size: its first 128 modules, and those behind them.
+#[inline(always)]
+fn put_line(size: SymbolSize, lines: &mut [u128], ends: &mut [u16], row: u16, cells: u128, end: u16)
+    requires entry { IsSize size }
+    requires row { row < size.rows }
+    requires lines { size.rows ≤ length lines.old }
+    requires ends { size.rows ≤ length ends.old }
+    ensures lines { length lines.new ≡ length lines.old }
+    ensures ends { length ends.new ≡ length ends.old }
+    ensures modules { IsModules (kept_symbol size lines.new ends.new) }
+    ensures first { (column : ℕ) → column < 128 → column < size.columns
+        → module_at (kept_symbol size lines.new ends.new) row column ≡ is_dark_bit cells column }
+    ensures behind { (column : ℕ) → 128 + column < size.columns
+        → module_at (kept_symbol size lines.new ends.new) row (128 + column)
+        ≡ is_dark_bit end column }
+    ensures others { (r column : ℕ) → r < size.rows → column < size.columns → r ≢ row
+        → module_at (kept_symbol size lines.new ends.new) r column
+        ≡ module_at (kept_symbol size lines.old ends.old) r column }
+{
+    lines[row as usize] = cells;
+    ends[row as usize] = end;
+}
+
 /// Gives a symbol one row of regions more, the first of which begins at its left. The top and the bottom row stand
 /// apart, so that in the loop between them the borders of a row depend on nothing but whether it is odd.
 #[inline(always)]
-fn draw_regions<R: BitRows, const ROWS: usize>(
+fn draw_regions<R: BitRows>(
+    size: SymbolSize,
     borders: &Borders,
     prefixes: &[u128; MOST_BEFORE_LAST],
     rows: &R,
     region: u16,
-    symbol: &mut SymbolIn<ROWS>,
-)
-    requires room { length (R.numbers rows.now) ≡ R.most + 6 }
-    requires high { mapping_rows borders.now ≤ R.most }
-    requires prefixes { ArePrefixes borders.now.region_columns borders.now.regions_across prefixes.now }
-    requires region { region < borders.now.regions_down }
-    requires above { IsDrawn borders.now (λ r c. look_in (R.numbers rows.now) (r + 2) (c + 4))
-        (region * (borders.now.region_rows + 2)) symbol.old }
-    ensures { IsDrawn borders.now (λ r c. look_in (R.numbers rows.now) (r + 2) (c + 4))
-        ((region + 1) * (borders.now.region_rows + 2)) symbol.new }
-{
-    let size = symbol.size();
-    let last = borders.last();
-    let first = region * (last + 1);
-    let (cells, end) = borders.dark(0);
-    symbol.put_row(first, cells, end);
-    for inner in 1..last {
-        let (cells, end) = drawn_row(size, borders, prefixes, rows, region, inner);
-        symbol.put_row(first + inner, cells, end);
-    }
-    let (cells, end) = borders.dark(last);
-    symbol.put_row(first + last, cells, end);
-}
-
-/// Turns a symbol into that of a size with these rows of the mapping matrix and with correct borders.
-pub(crate) fn draw<R: BitRows, const ROWS: usize>(
-    size: SymbolSize,
-    rows: &R,
-    symbol: &mut SymbolIn<ROWS>,
+    lines: &mut [u128],
+    ends: &mut [u16],
 )
     requires room { length (R.numbers rows.now) ≡ R.most + 6 }
     requires high { mapping_rows size ≤ R.most }
-    requires rows { size.rows ≤ ROWS }
-    ensures size { symbol.new.size ≡ size }
-    ensures modules { IsModules symbol.new }
-    ensures colours { (r c : ℕ) → r < size.rows → c < size.columns → module_at symbol.new r c
-        ≡ drawn_colour size (λ r c. look_in (R.numbers rows.now) (r + 2) (c + 4)) r c }
+    requires borders { borders.now ≡ size }
+    requires prefixes { ArePrefixes size.region_columns size.regions_across prefixes.now }
+    requires region { region < size.regions_down }
+    requires lines { size.rows ≤ length lines.old }
+    requires ends { size.rows ≤ length ends.old }
+    requires above { IsDrawn size (λ r c. look_in (R.numbers rows.now) (r + 2) (c + 4))
+        (region * (size.region_rows + 2)) (kept_symbol size lines.old ends.old) }
+    ensures lines { length lines.new ≡ length lines.old }
+    ensures ends { length ends.new ≡ length ends.old }
+    ensures drawn { IsDrawn size (λ r c. look_in (R.numbers rows.now) (r + 2) (c + 4))
+        ((region + 1) * (size.region_rows + 2)) (kept_symbol size lines.new ends.new) }
+{
+    let last = borders.last();
+    let first = region * (last + 1);
+    let (cells, end) = borders.dark(0);
+    put_line(size, lines, ends, first, cells, end);
+    for inner in 1..last {
+        let (cells, end) = drawn_row(size, borders, prefixes, rows, region, inner);
+        put_line(size, lines, ends, first + inner, cells, end);
+    }
+    let (cells, end) = borders.dark(last);
+    put_line(size, lines, ends, first + last, cells, end);
+}
+
+/// Draws a symbol of a size with these rows of the mapping matrix and with correct borders into the numbers of its
+/// rows.
+pub(crate) fn draw<R: BitRows>(size: SymbolSize, rows: &R, lines: &mut [u128], ends: &mut [u16])
+    requires entry { IsSize size }
+    requires room { length (R.numbers rows.now) ≡ R.most + 6 }
+    requires high { mapping_rows size ≤ R.most }
+    requires lines { size.rows ≤ length lines.old }
+    requires ends { size.rows ≤ length ends.old }
+    ensures lines { length lines.new ≡ length lines.old }
+    ensures ends { length ends.new ≡ length ends.old }
+    ensures drawn { IsDrawn size (λ r c. look_in (R.numbers rows.now) (r + 2) (c + 4)) size.rows
+        (kept_symbol size lines.new ends.new) }
 {
     let borders = Borders::new(size);
-    symbol.resize(size);
     let prefixes = prefixes(size.region_columns(), size.regions_across());
     for region in 0..size.regions_down() {
-        draw_regions(&borders, &prefixes, rows, region, symbol);
+        draw_regions(size, &borders, &prefixes, rows, region, lines, ends);
     }
 }
 

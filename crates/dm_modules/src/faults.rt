@@ -9,7 +9,8 @@ ghost use Rattle.dm_modules.specs.SureFaults.{is_doubtful, is_sure_fault, sure_f
 ghost use Rattle.dm_modules.specs.inner.BorderMasks.{sure_faults_in, sure_part};
 
 use crate::borders::Borders;
-use crate::symbol::{FIRST_COLUMNS, SymbolIn};
+use crate::borrowed::BorrowedSymbol;
+use crate::symbol::FIRST_COLUMNS;
 
 /// The most columns whose modules are counted as the bits of a number of 64 bits.
 const NARROW_COLUMNS: u16 = 64;
@@ -51,17 +52,17 @@ impl Doubt for NoDoubt {
     }
 }
 
-impl<const ROWS: usize> Doubt for SymbolIn<ROWS> {
+impl<'a> Doubt for BorrowedSymbol<'a> {
     ghost doubtful = { λ d. Some d };
 
     #[inline(always)]
     fn row(&self, row: u16) -> u128 {
-        SymbolIn::row(self, row)
+        BorrowedSymbol::row(self, row)
     }
 
     #[inline(always)]
     fn end(&self, row: u16) -> u16 {
-        SymbolIn::end(self, row)
+        BorrowedSymbol::end(self, row)
     }
 }
 
@@ -90,8 +91,8 @@ fn ones(row: u128, columns: u16) -> u16
 /// Gives how many modules of a row have the wrong colour in a border and aren't doubtful. Which row it is inside a
 /// region with its border, counted from 0 at the top, is told with it.
 #[inline(always)]
-fn row_faults<D: Doubt, const ROWS: usize>(
-    symbol: &SymbolIn<ROWS>,
+fn row_faults<D: Doubt>(
+    symbol: &BorrowedSymbol,
     doubt: &D,
     borders: &Borders,
     row: u16,
@@ -123,12 +124,7 @@ fn row_faults<D: Doubt, const ROWS: usize>(
 /// the wrong colour and aren't doubtful. The first and the last row stand apart, so that in the loop between them the
 /// borders of a row depend on nothing but whether it is odd.
 #[inline(always)]
-fn region_faults<D: Doubt, const ROWS: usize>(
-    symbol: &SymbolIn<ROWS>,
-    doubt: &D,
-    borders: &Borders,
-    first: u16,
-) -> u16
+fn region_faults<D: Doubt>(symbol: &BorrowedSymbol, doubt: &D, borders: &Borders, first: u16) -> u16
     requires size { borders.now ≡ symbol.now.size }
     requires doubt { IfSome (D.doubtful doubt.now) (λ m. m.size ≡ symbol.now.size) }
     requires first { first % (symbol.now.size.region_rows + 2) ≡ 0 }
@@ -146,7 +142,7 @@ fn region_faults<D: Doubt, const ROWS: usize>(
 }
 
 /// Gives how many border modules have the wrong colour and aren't doubtful.
-pub(crate) fn faults_but<D: Doubt, const ROWS: usize>(symbol: &SymbolIn<ROWS>, doubt: &D) -> u16
+pub(crate) fn faults_but<D: Doubt>(symbol: &BorrowedSymbol, doubt: &D) -> u16
     requires { IfSome (D.doubtful doubt.now) (λ m. m.size ≡ symbol.now.size) }
     ensures { result ≡ sure_fault_count symbol.now (D.doubtful doubt.now) }
 {

@@ -32,6 +32,7 @@ mod bit_rows;
 mod blocks;
 mod border;
 mod borders;
+mod borrowed;
 mod drawing;
 mod faults;
 pub mod laws;

@@ -9,15 +9,15 @@ ghost use Rattle.dm_modules.specs.Sizes.{codeword_count, mapping_rows, mapping_c
 ghost use Rattle.dm_modules.specs.inner.Slots.{most_of, bytes_of};
 
 use crate::bit_rows::BitRows;
+use crate::borrowed::BorrowedSymbol;
 use crate::narrow_rows::{NARROW_MATRIX, NarrowRows};
 use crate::pair_rows::PairRows;
 use crate::slots::{codeword, join_rows, order};
-use crate::symbol::SymbolIn;
 use crate::wide_rows::{WIDE_MATRIX, WideRows};
 use crate::widened::widen;
 
 /// Turns `words`, as many as the symbol has, into the codewords that it holds.
-pub(crate) fn lift_list<const ROWS: usize>(symbol: &SymbolIn<ROWS>, words: &mut [u8])
+pub(crate) fn lift_list(symbol: &BorrowedSymbol, words: &mut [u8])
     requires { length words.old ≡ codeword_count symbol.now.size }
     ensures count { length words.new ≡ length words.old }
     ensures bytes { All (λ word. word < 256) words.new }
@@ -26,16 +26,16 @@ pub(crate) fn lift_list<const ROWS: usize>(symbol: &SymbolIn<ROWS>, words: &mut 
 {
     let columns = symbol.size().mapping_columns();
     if columns <= NARROW_MATRIX {
-        lift_rows::<NarrowRows, ROWS>(symbol, words);
+        lift_rows::<NarrowRows>(symbol, words);
     } else if columns <= WIDE_MATRIX {
-        lift_rows::<WideRows, ROWS>(symbol, words);
+        lift_rows::<WideRows>(symbol, words);
     } else {
-        lift_rows::<PairRows, ROWS>(symbol, words);
+        lift_rows::<PairRows>(symbol, words);
     }
 }
 
 /// Lifts the codewords by rows of one width, which have room for the symbol's mapping matrix.
-fn lift_rows<R: BitRows, const ROWS: usize>(symbol: &SymbolIn<ROWS>, words: &mut [u8])
+fn lift_rows<R: BitRows>(symbol: &BorrowedSymbol, words: &mut [u8])
     requires room { R.most ≡ most_of (mapping_columns symbol.now.size) }
     requires slots { R.bytes ≡ bytes_of (mapping_columns symbol.now.size) }
     requires count { length words.old ≡ codeword_count symbol.now.size }

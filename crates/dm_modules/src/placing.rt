@@ -1,11 +1,12 @@
 //! Codewords into a symbol and out of it: ISO/IEC 16022, module placement and symbol structure.
 
-ghost use Rattle.std.specs.Prelude.{◌≡◌, ◌≤◌};
+ghost use Rattle.std.specs.Prelude.{◌≡◌, ◌≤◌, length};
 ghost use Rattle.dm_modules.specs.Sizes.{codeword_count, mapping_columns};
+ghost use Rattle.dm_modules.specs.inner.Keeping.{kept_symbol};
 ghost use Rattle.dm_modules.specs.inner.Slots.{most_of, bytes_of};
 ghost use Rattle.dm_modules.specs.Border.{HasFixedSquare, border_fault_count};
 ghost use Rattle.dm_modules.specs.Modules.{ModulesView};
-ghost use Rattle.dm_modules.specs.Words.{WordsView};
+ghost use Rattle.dm_modules.specs.Words.{WordsView, IsWords};
 ghost use Rattle.dm_modules.specs.Holding.{Holds, IsLaid};
 
 use crate::bit_rows::BitRows;
@@ -13,6 +14,7 @@ use crate::drawing::{draw, put_fixed_square};
 use crate::mapping::paint;
 use crate::narrow_rows::{NARROW_MATRIX, NarrowRows};
 use crate::pair_rows::PairRows;
+use crate::size::SymbolSize;
 use crate::symbol::SymbolIn;
 use crate::wide_rows::{WIDE_MATRIX, WideRows};
 use crate::words::SymbolWordsIn;
@@ -46,42 +48,46 @@ pub fn lay_to<const ROOM: usize, const ROWS: usize>(
         → other ≡ symbol.new }
     ensures no_other_words { (other : WordsView) → Holds symbol.new other → other ≡ words.now }
 {
-    lay_by_width(words, symbol);
+    symbol.lay_from(words);
 }
 
-/// Lays the codewords by rows of a width that has room for their mapping matrix.
-fn lay_by_width<const ROOM: usize, const ROWS: usize>(
-    words: &SymbolWordsIn<ROOM>,
-    symbol: &mut SymbolIn<ROWS>,
-)
-    requires { words.now.size.rows ≤ ROWS }
-    ensures { IsLaid words.now symbol.new }
+/// Lays the codewords of a symbol of this size in the numbers of its rows, by rows of a width that has room for their
+/// mapping matrix.
+pub(crate) fn lay_list(size: SymbolSize, words: &[u8], lines: &mut [u128], ends: &mut [u16])
+    requires words { IsWords (record { size = size; list = words.now }) }
+    requires lines { size.rows ≤ length lines.old }
+    requires ends { size.rows ≤ length ends.old }
+    ensures lines { length lines.new ≡ length lines.old }
+    ensures ends { length ends.new ≡ length ends.old }
+    ensures laid { IsLaid (record { size = size; list = words.now })
+        (kept_symbol size lines.new ends.new) }
 {
-    let columns = words.size().mapping_columns();
+    let columns = size.mapping_columns();
     if columns <= NARROW_MATRIX {
-        lay_rows::<NarrowRows, ROOM, ROWS>(words, symbol);
+        lay_rows::<NarrowRows>(size, words, lines, ends);
     } else if columns <= WIDE_MATRIX {
-        lay_rows::<WideRows, ROOM, ROWS>(words, symbol);
+        lay_rows::<WideRows>(size, words, lines, ends);
     } else {
-        lay_rows::<PairRows, ROOM, ROWS>(words, symbol);
+        lay_rows::<PairRows>(size, words, lines, ends);
     }
 }
 
 /// Lays the codewords by rows of one width, which have room for their mapping matrix.
-fn lay_rows<R: BitRows, const ROOM: usize, const ROWS: usize>(
-    words: &SymbolWordsIn<ROOM>,
-    symbol: &mut SymbolIn<ROWS>,
-)
-    requires rows { words.now.size.rows ≤ ROWS }
-    requires most { R.most ≡ most_of (mapping_columns words.now.size) }
-    requires slots { R.bytes ≡ bytes_of (mapping_columns words.now.size) }
-    ensures { IsLaid words.now symbol.new }
+fn lay_rows<R: BitRows>(size: SymbolSize, words: &[u8], lines: &mut [u128], ends: &mut [u16])
+    requires words { IsWords (record { size = size; list = words.now }) }
+    requires lines { size.rows ≤ length lines.old }
+    requires ends { size.rows ≤ length ends.old }
+    requires most { R.most ≡ most_of (mapping_columns size) }
+    requires slots { R.bytes ≡ bytes_of (mapping_columns size) }
+    ensures lines { length lines.new ≡ length lines.old }
+    ensures ends { length ends.new ≡ length ends.old }
+    ensures laid { IsLaid (record { size = size; list = words.now })
+        (kept_symbol size lines.new ends.new) }
 {
-    let size = words.size();
     let mut rows = R::light();
-    paint(size, words.list(), &mut rows);
+    paint(size, words, &mut rows);
     put_fixed_square(&mut rows, size.mapping_rows(), size.mapping_columns());
-    draw(size, &rows, symbol);
+    draw(size, &rows, lines, ends);
 }
 
 /// Gives the codewords that the symbol holds: exactly one list, whatever stands in its borders and in its fixed square

@@ -3,9 +3,13 @@
 ghost use Rattle.std.specs.Prelude.{◌≡◌, ◌≢◌, ◌↔◌, ℕ, IsTrue, false, nat_eq, ◌&&◌, ◌+◌, ◌^◌, ◌<◌, ◌≤◌};
 ghost use Rattle.std.specs.Prelude.{if◌then◌else◌};
 ghost use Rattle.dm_modules.specs.Modules.{IsModules, is_dark_bit, module_at};
+ghost use Rattle.dm_modules.specs.Holding.{IsLaid};
 ghost use Rattle.dm_modules.specs.Sizes.{most_rows};
 
+use crate::borrowed::BorrowedSymbol;
+use crate::placing::lay_list;
 use crate::size::{MOST_ROWS, SymbolSize};
+use crate::words::SymbolWordsIn;
 use std::marker::Model;
 
 /// How many modules of a row are kept in its first number.
@@ -92,6 +96,18 @@ impl<const ROWS: usize> SymbolIn<ROWS> {
         self.size = size;
     }
 
+    /// Gives the symbol for work that is the same for all rooms.
+    #[inline(always)]
+    pub(crate) fn borrowed(&self) -> BorrowedSymbol<'_>
+        ensures { result ≡ self.now }
+    {
+        BorrowedSymbol {
+            size: self.size,
+            rows: &self.rows[..],
+            ends: &self.ends[..],
+        }
+    }
+
     /// Gives the size of the symbol.
     pub fn size(&self) -> SymbolSize
         ensures value { result ≡ self.now.size }
@@ -136,6 +152,20 @@ impl<const ROWS: usize> SymbolIn<ROWS> {
     {
         self.rows[row as usize] = cells;
         self.ends[row as usize] = end;
+    }
+
+    /// Becomes the symbol in which these codewords are laid.
+    pub(crate) fn lay_from<const ROOM: usize>(&mut self, words: &SymbolWordsIn<ROOM>)
+        requires { words.now.size.rows ≤ ROWS }
+        ensures { IsLaid words.now self.new }
+    {
+        self.size = words.size();
+        lay_list(
+            self.size,
+            words.list(),
+            &mut self.rows[..],
+            &mut self.ends[..],
+        );
     }
 
     /// Whether the module is dark. Row and column count from 0, from the top and from the left, and are below those of

@@ -14,7 +14,8 @@ ghost use Rattle.dm_modules.specs.inner.Reading.{look_in, whole_row};
 ghost use Rattle.dm_modules.specs.inner.Widened.{source as source_by, IsMoved, IsWidened};
 
 use crate::bit_rows::BitRows;
-use crate::symbol::{FIRST_COLUMNS, SymbolIn};
+use crate::borrowed::BorrowedSymbol;
+use crate::symbol::FIRST_COLUMNS;
 
 /// Gives the row of the mapping matrix that lies in a row of the symbol between the borders of `across` regions.
 #[inline(always)]
@@ -78,7 +79,7 @@ fn long_inner_row(row: u128, end: u16, region_columns: u16) -> (u128, u8)
 /// Gives the row of the mapping matrix that lies in a row of the symbol between borders, counted from 0 at the top: its
 /// first 128 cells and those behind them.
 #[inline(always)]
-fn matrix_row<const ROWS: usize>(symbol: &SymbolIn<ROWS>, row: u16) -> (u128, u8)
+fn matrix_row(symbol: &BorrowedSymbol, row: u16) -> (u128, u8)
     requires { row < symbol.now.size.rows }
     ensures cells { (column : ℕ) → column < mapping_columns symbol.now.size
         → is_dark_bit (whole_row result.0 result.1) column
@@ -100,7 +101,7 @@ fn matrix_row<const ROWS: usize>(symbol: &SymbolIn<ROWS>, row: u16) -> (u128, u8
 
 /// Puts the rows of the mapping matrix that lie in one row of regions, counted from 0 at the top.
 #[inline(always)]
-fn move_regions<R: BitRows, const ROWS: usize>(symbol: &SymbolIn<ROWS>, rows: &mut R, region: u16)
+fn move_regions<R: BitRows>(symbol: &BorrowedSymbol, rows: &mut R, region: u16)
     requires room { length (R.numbers rows.old) ≡ R.most + 6 }
     requires high { mapping_rows symbol.now.size ≤ R.most }
     requires wide { mapping_columns symbol.now.size ≤ R.most }
@@ -121,7 +122,7 @@ fn move_regions<R: BitRows, const ROWS: usize>(symbol: &SymbolIn<ROWS>, rows: &m
 }
 
 /// Makes rows without a dark cell those of the mapping matrix of a symbol, with nothing around it.
-fn move_rows<R: BitRows, const ROWS: usize>(symbol: &SymbolIn<ROWS>, rows: &mut R)
+fn move_rows<R: BitRows>(symbol: &BorrowedSymbol, rows: &mut R)
     requires light { R.numbers rows.old ≡ replicate (R.most + 6) 0 }
     requires high { mapping_rows symbol.now.size ≤ R.most }
     requires wide { mapping_columns symbol.now.size ≤ R.most }
@@ -200,7 +201,7 @@ pub(crate) fn wrap_shift(lines: u16) -> u16
 }
 
 /// Makes rows without a dark cell the widened rows of a symbol.
-pub(crate) fn widen<R: BitRows, const ROWS: usize>(symbol: &SymbolIn<ROWS>, rows: &mut R)
+pub(crate) fn widen<R: BitRows>(symbol: &BorrowedSymbol, rows: &mut R)
     requires light { R.numbers rows.old ≡ replicate (R.most + 6) 0 }
     requires high { mapping_rows symbol.now.size ≤ R.most }
     requires wide { mapping_columns symbol.now.size ≤ R.most }

@@ -114,7 +114,7 @@ impl<const ROOM: usize> SymbolWordsIn<ROOM> {
         let size = symbol.size();
         let count = (size.data_count() + size.check_count()) as usize;
         let kept = &mut self.kept[..];
-        lift_list(symbol, &mut kept[0..count]);
+        lift_list(&symbol.borrowed(), &mut kept[0..count]);
         self.size = size;
     }
 

@@ -1,4 +1,4 @@
-use Rattle.std.proofs.Common.{rules, ◌^◌, ◌≡◌, ℕ, ◌+◌, ◌*◌, ◌%◌, ◌<◌, ◌≤◌, Option, ap, ◌∙◌, sym, arith}
+use Rattle.std.proofs.Common.{◌^◌, ◌≡◌, ℕ, ◌+◌, ◌*◌, ◌%◌, ◌<◌, ◌≤◌, Option, ap, ◌∙◌, sym, arith}
 use Rattle.std.proofs.Math.Nat.{mul-le-mul_right}
 use Rattle.std.proofs.lemmas.Nat.{mod-mul-add}
 use Rattle.dm_modules.specs.Modules.{ModulesView}
@@ -28,19 +28,14 @@ region_faults-faults-requires g c =
     )) in
     let first : region * p ≡ region * (s.region_rows + 2) = ap (λ (i : ℕ). region * i) same in
     let r : ℕ = s.region_rows in
-    let next : (region + 1) * (r + 2) ≡ region * (r + 2) + (r + 2) = omega arith in (
-      search rules,
-      (
-        c.new-borders.ensures ∙ es,
-        (
-          c.requires,
-          (
-            ap (λ (i : ℕ). region * p % i) (sym same) ∙ ap (λ (i : ℕ). i % p) z ∙ mod-mul-add region p 0 (omega arith),
-            omega (arith, within, first, next),
-          ),
-        ),
-      ),
-    )
+    let next : (region + 1) * (r + 2) ≡ region * (r + 2) + (r + 2) = omega arith in
+    record {
+      size = c.new-borders.ensures ∙ es;
+      doubt = c.requires;
+      first = ap (λ (i : ℕ). region * p % i) (sym same) ∙ ap (λ (i : ℕ). i % p) z
+          ∙ mod-mul-add region p 0 (omega arith);
+      fits = omega (arith, within, first, next);
+    }
 
 -- As many faults as rows of regions have modules fit in sixteen bits.
 faults_fit : (p n region faults more : ℕ) → region < n → n * p ≤ 144 → faults ≤ region * p * 144 → more ≤ p * 144 →

@@ -1,4 +1,4 @@
-use Rattle.std.proofs.Common.{rules, ◌≡◌, ℕ, ◌+◌, ◌*◌, ◌^◌, ◌<◌, ◌≤◌, Option, ap, ◌∙◌, sym, subst, arith}
+use Rattle.std.proofs.Common.{◌≡◌, ℕ, ◌+◌, ◌*◌, ◌^◌, ◌<◌, ◌≤◌, Option, ap, ◌∙◌, sym, subst, arith}
 use Rattle.dm_modules.specs.Modules.{ModulesView}
 use Rattle.dm_modules.specs.Sizes.{SizeEntry, IsSize, most_columns}
 use Rattle.dm_modules.specs.inner.BorderMasks.{sure_faults_in}
@@ -8,20 +8,14 @@ use Rattle.dm_modules.proofs.faults.region_faults.Goals as goal
 
 pub row_faults-faults-requires-in-loop-inner : goal.row_faults-faults-requires-in-loop-inner
 row_faults-faults-requires-in-loop-inner g c =
-    let e = ap (λ (s : SizeEntry). s.region_rows) c.requires.size in (
-      search rules,
-      (
-        c.requires.size,
-        (
-          c.requires.doubt,
-          (
-            omega (arith, c.requires.fits, e, c.last-last.ensures.value, c.loop-inner-test.true),
-            row_inside (c.args.symbol.now.size.region_rows + 2) c.args.first c.loop-inner.inner c.requires.first
-                (omega (arith, e, c.last-last.ensures.value, c.loop-inner-test.true)),
-          ),
-        ),
-      ),
-    )
+    let e = ap (λ (s : SizeEntry). s.region_rows) c.requires.size in
+    record {
+      size = c.requires.size;
+      doubt = c.requires.doubt;
+      row = omega (arith, c.requires.fits, e, c.last-last.ensures.value, c.loop-inner-test.true);
+      inner = row_inside (c.args.symbol.now.size.region_rows + 2) c.args.first c.loop-inner.inner c.requires.first
+          (omega (arith, e, c.last-last.ensures.value, c.loop-inner-test.true));
+    }
 
 -- A row of a row of regions is counted by a number of sixteen bits, and so are the faults in its rows.
 fits_in : (s : SizeEntry) (first inner faults more : ℕ) → IsSize s → first + (s.region_rows + 2) ≤ s.rows →
@@ -86,20 +80,14 @@ loop-inner-preserved g c =
 
 pub row_faults-requires : goal.row_faults-requires
 row_faults-requires g c =
-    let e = ap (λ (s : SizeEntry). s.region_rows) c.requires.size in (
-      search rules,
-      (
-        c.requires.size,
-        (
-          c.requires.doubt,
-          (
-            omega (arith, c.requires.fits, e, c.last-last.ensures.value),
-            row_inside (c.args.symbol.now.size.region_rows + 2) c.args.first (c.last-last.result)
-                c.requires.first (omega (arith, e, c.last-last.ensures.value)),
-          ),
-        ),
-      ),
-    )
+    let e = ap (λ (s : SizeEntry). s.region_rows) c.requires.size in
+    record {
+      size = c.requires.size;
+      doubt = c.requires.doubt;
+      row = omega (arith, c.requires.fits, e, c.last-last.ensures.value);
+      inner = row_inside (c.args.symbol.now.size.region_rows + 2) c.args.first c.last-last.result c.requires.first
+          (omega (arith, e, c.last-last.ensures.value));
+    }
 
 pub returns-clause-count : goal.returns-clause-count
 returns-clause-count g c =

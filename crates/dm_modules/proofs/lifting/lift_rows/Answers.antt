@@ -1,4 +1,4 @@
-use Rattle.std.proofs.Common.{rules, ◌≡◌, ℕ, List, map, length, get_or, ap, sym, subst, arith, ◌∙◌}
+use Rattle.std.proofs.Common.{◌≡◌, ℕ, List, map, length, get_or, ap, sym, subst, arith, ◌∙◌}
 use Rattle.std.proofs.lemmas.List.{length-map, length-set, take_all}
 use Rattle.dm_place.specs.Holding.{HoldsBits}
 use Rattle.dm_place.specs.Placement.{shapes}
@@ -20,7 +20,7 @@ widen-requires g c =
     let room =
     room_at_size c.args.symbol.now.size g.R.BitRows.bytes g.R.BitRows.most c.size-size.ensures.modules.size
     c.requires.slots c.requires.room in
-    (search rules, (c.light-rows.ensures, (room.rows, room.columns)))
+    record { light = c.light-rows.ensures; high = room.rows; wide = room.columns }
 
 pub join_rows-requires-clause-some : goal.join_rows-requires-clause-some
 join_rows-requires-clause-some g c =

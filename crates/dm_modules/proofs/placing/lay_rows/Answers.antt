@@ -1,8 +1,9 @@
-use Rattle.std.proofs.Common.{rules, ◌≡◌, ℕ, ◌+◌, ◌%◌, ◌<◌, Bool, true, false, ap, sym, subst, ◌∙◌, arith}
+use Rattle.std.proofs.Common.{◌≡◌, ℕ, ◌+◌, ◌%◌, ◌<◌, Bool, true, false, ap, refl, sym, subst, ◌∙◌, arith}
 use Rattle.dm_place.specs.Border.{is_fixed, fixed_is_dark}
 use Rattle.dm_place.proofs.Exported.{once_at_sides}
 use Rattle.dm_modules.specs.Sizes.{SizeEntry, IsSize, mapping_rows, mapping_columns, codeword_count}
 use Rattle.dm_modules.proofs.Exported.{placed_size}
+use Rattle.dm_modules.specs.inner.Keeping.{kept_symbol}
 use Rattle.dm_modules.specs.inner.Reading.{look_in}
 use Rattle.dm_modules.proofs.DrawnRows.{bits_kept, laid_as}
 use Rattle.dm_modules.proofs.LongSizes.{has_matrix}
@@ -12,59 +13,54 @@ use Rattle.dm_modules.proofs.placing.lay_rows.Goals as goal
 
 pub put_fixed_square-requires-clause-some : goal.put_fixed_square-requires-clause-some
 put_fixed_square-requires-clause-some g c =
-    let s : SizeEntry = c.args.words.now.size in
-    let b = has_matrix s c.size-size.ensures.words.size in
-    let e = ap mapping_rows c.size-size.ensures.value in
-    omega (arith, b.least_rows, c.mapping_rows.ensures.value, e)
+    let s : SizeEntry = c.args.size in
+    let b = has_matrix s c.requires.words.size in
+    omega (arith, b.least_rows, c.mapping_rows.ensures.value)
 
 pub put_fixed_square-requires-clause-least : goal.put_fixed_square-requires-clause-least
 put_fixed_square-requires-clause-least g c =
-    let s : SizeEntry = c.args.words.now.size in
-    let b = has_matrix s c.size-size.ensures.words.size in
-    let e = ap mapping_columns c.size-size.ensures.value in
-    omega (arith, b.least_columns, c.mapping_columns.ensures.value, e)
+    let s : SizeEntry = c.args.size in
+    let b = has_matrix s c.requires.words.size in
+    omega (arith, b.least_columns, c.mapping_columns.ensures.value)
 
 pub put_fixed_square-requires-clause-high : goal.put_fixed_square-requires-clause-high
 put_fixed_square-requires-clause-high g c =
-    let s : SizeEntry = c.args.words.now.size in
+    let s : SizeEntry = c.args.size in
     let room =
-    room_at_size s g.R.BitRows.bytes g.R.BitRows.most c.size-size.ensures.words.size c.requires.slots c.requires.most in
-    let e = ap mapping_rows c.size-size.ensures.value in
-    omega (arith, room.rows, c.mapping_rows.ensures.value, e)
+    room_at_size s g.R.BitRows.bytes g.R.BitRows.most c.requires.words.size c.requires.slots c.requires.most in
+    omega (arith, room.rows, c.mapping_rows.ensures.value)
 
 pub put_fixed_square-requires-clause-wide : goal.put_fixed_square-requires-clause-wide
 put_fixed_square-requires-clause-wide g c =
-    let s : SizeEntry = c.args.words.now.size in
+    let s : SizeEntry = c.args.size in
     let room =
-    room_at_size s g.R.BitRows.bytes g.R.BitRows.most c.size-size.ensures.words.size c.requires.slots c.requires.most in
-    let e = ap mapping_columns c.size-size.ensures.value in
-    omega (arith, room.columns, c.mapping_columns.ensures.value, e)
+    room_at_size s g.R.BitRows.bytes g.R.BitRows.most c.requires.words.size c.requires.slots c.requires.most in
+    omega (arith, room.columns, c.mapping_columns.ensures.value)
 
 pub draw-requires : goal.draw-requires
 draw-requires g c =
-    let s : SizeEntry = c.args.words.now.size in
+    let s : SizeEntry = c.args.size in
     let room =
-    room_at_size s g.R.BitRows.bytes g.R.BitRows.most c.size-size.ensures.words.size c.requires.slots c.requires.most in
-    let high = ap mapping_rows c.size-size.ensures.value in
-    let few = ap (λ (s : SizeEntry). s.rows) c.size-size.ensures.value in (
-      search rules,
-      (
-        c.put_fixed_square.ensures.room,
-        (omega (arith, room.rows, high), omega (arith, c.requires.rows, few)),
-      ),
-    )
+    room_at_size s g.R.BitRows.bytes g.R.BitRows.most c.requires.words.size c.requires.slots c.requires.most in
+    record {
+      entry = c.requires.words.size;
+      room = c.put_fixed_square.ensures.room;
+      high = room.rows;
+      lines = c.requires.lines;
+      ends = c.requires.ends;
+    }
 
 pub put_fixed_square-requires-clause-square : goal.put_fixed_square-requires-clause-square
 put_fixed_square-requires-clause-square g c = λ h k.
-    let s : SizeEntry = c.args.words.now.size in
-    let er = c.mapping_rows.ensures.value ∙ ap mapping_rows c.size-size.ensures.value in
-    let ec = c.mapping_columns.ensures.value ∙ ap mapping_columns c.size-size.ensures.value in
-    er ∙ fixed_is_square s c.size-size.ensures.words.size
+    let s : SizeEntry = c.args.size in
+    let er = c.mapping_rows.ensures.value in
+    let ec = c.mapping_columns.ensures.value in
+    er ∙ fixed_is_square s c.requires.words.size
     (sym (ap (λ (i : ℕ). i % 4) er) ∙ h) (sym (ap (λ (i : ℕ). i % 4) ec) ∙ k) ∙ sym ec
 
-pub returns : goal.returns
-returns g c =
-    let s : SizeEntry = c.size-size.result in
+pub returns-clause-laid : goal.returns-clause-laid
+returns-clause-laid g c =
+    let s : SizeEntry = c.args.size in
     let rows = g.R.BitRows.numbers in
     let olds : ℕ → ℕ → Bool = λ r q. look_in (rows c.paint.new.rows) (r + 2) (q + 4) in
     let news : ℕ → ℕ → Bool = λ r q. look_in (rows c.put_fixed_square.new.rows) (r + 2) (q + 4) in
@@ -82,9 +78,9 @@ returns g c =
     (subst (λ (h : ℕ). (r q : ℕ) → r < h → q < c.mapping_columns.result →
     is_fixed h c.mapping_columns.result r q ≡ true → olds r q ≡ false → news r q ≡ fixed_is_dark r q) er
     c.put_fixed_square.ensures.fixed) in
-    laid_as c.args.words.now c.draw.new.symbol s c.list.result.now news c.size-size.ensures.words
-    c.size-size.ensures.value c.list.ensures.value c.draw.ensures.size c.draw.ensures.modules c.draw.ensures.colours
-    (bits_kept (mapping_rows s) (mapping_columns s) olds news c.list.result.now
+    laid_as (record { size = s; list = c.args.words.now }) (kept_symbol s c.draw.new.lines c.draw.new.ends) s
+    c.args.words.now news c.requires.words refl refl refl c.draw.ensures.drawn.symbol c.draw.ensures.drawn.colours
+    (bits_kept (mapping_rows s) (mapping_columns s) olds news c.args.words.now
     (once_at_sides (mapping_rows s) (mapping_columns s) (codeword_count s) (placed_size s entry)) free
     c.paint.ensures.bits)
     (λ r q lr lq h. fixed r q lr lq h (c.paint.ensures.fixed r q lr lq h))

@@ -9,12 +9,12 @@ use Rattle.dm_modules.proofs.TableEntries.{size_facts}
 use Rattle.dm_modules.proofs.widened.matrix_row.Goals as goal
 
 pub inner_row-inner-requires-clause-least : goal.inner_row-inner-requires-clause-least
-inner_row-inner-requires-clause-least g c =
+inner_row-inner-requires-clause-least c =
     let facts = size_facts c.size-size.result c.columns.ensures.size in
     omega (arith, facts.least_columns, c.region_columns.ensures.value)
 
 pub inner_row-inner-requires-clause-fits : goal.inner_row-inner-requires-clause-fits
-inner_row-inner-requires-clause-fits g c =
+inner_row-inner-requires-clause-fits c =
     let s : SizeEntry = c.size-size.result in
     let facts = size_facts s c.columns.ensures.size in
     let few = short_size s c.columns.ensures.size (omega (
@@ -28,7 +28,7 @@ inner_row-inner-requires-clause-fits g c =
     omega (arith, e, facts.columns_below, few)
 
 pub long_inner_row-requires-clause-least : goal.long_inner_row-requires-clause-least
-long_inner_row-requires-clause-least g c =
+long_inner_row-requires-clause-least c =
     let long = long_size c.size-size.result c.columns.ensures.size (omega (
       arith,
       c.columns.ensures.value,
@@ -37,7 +37,7 @@ long_inner_row-requires-clause-least g c =
     omega (arith, long.least, c.region_columns-else-columns-le-FIRST_COLUMNS.ensures.value)
 
 pub long_inner_row-requires-clause-most : goal.long_inner_row-requires-clause-most
-long_inner_row-requires-clause-most g c =
+long_inner_row-requires-clause-most c =
     let long = long_size c.size-size.result c.columns.ensures.size (omega (
       arith,
       c.columns.ensures.value,
@@ -46,7 +46,7 @@ long_inner_row-requires-clause-most g c =
     omega (arith, long.most, c.region_columns-else-columns-le-FIRST_COLUMNS.ensures.value)
 
 pub returns-then-columns-le-FIRST_COLUMNS-clause-cells : goal.returns-then-columns-le-FIRST_COLUMNS-clause-cells
-returns-then-columns-le-FIRST_COLUMNS-clause-cells g c = λ q l.
+returns-then-columns-le-FIRST_COLUMNS-clause-cells c = λ q l.
     let es = c.size-size.ensures.value in
     ap (λ (i : ℕ). is_dark_bit i q) (whole_alone c.inner_row-inner.result)
     ∙ matrix_cells c.args.symbol.now c.args.row c.region_columns.result c.regions_across.result
@@ -59,7 +59,7 @@ returns-then-columns-le-FIRST_COLUMNS-clause-cells g c = λ q l.
     c.row.ensures k (omega (arith, lk, e, c.columns.ensures.value, c.if-columns-le-FIRST_COLUMNS.true)) lk) q l
 
 pub returns-else-columns-le-FIRST_COLUMNS-clause-cells : goal.returns-else-columns-le-FIRST_COLUMNS-clause-cells
-returns-else-columns-le-FIRST_COLUMNS-clause-cells g c =
+returns-else-columns-le-FIRST_COLUMNS-clause-cells c =
     let es = c.size-size.ensures.value in
     let m = c.args.symbol.now in
     let w : ℕ = c.region_columns-else-columns-le-FIRST_COLUMNS.result in
@@ -78,7 +78,7 @@ returns-else-columns-le-FIRST_COLUMNS-clause-cells g c =
     c.row-else-columns-le-FIRST_COLUMNS.type_inv c.row-else-columns-le-FIRST_COLUMNS.ensures c.end.ensures)
 
 pub returns-else-columns-le-FIRST_COLUMNS-clause-width : goal.returns-else-columns-le-FIRST_COLUMNS-clause-width
-returns-else-columns-le-FIRST_COLUMNS-clause-width g c =
+returns-else-columns-le-FIRST_COLUMNS-clause-width c =
     let es = c.size-size.ensures.value in
     let m = c.args.symbol.now in
     let e = ap (λ (s : SizeEntry). s.columns) es in

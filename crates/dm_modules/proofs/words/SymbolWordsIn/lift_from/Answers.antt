@@ -3,6 +3,7 @@ use Rattle.std.proofs.Common.{length-take}
 use Rattle.std.proofs.Math.Seq.{take-append_seam}
 use Rattle.dm_place.specs.Holding.{HoldsBits}
 use Rattle.dm_modules.specs.Border.{mapped_cell}
+use Rattle.dm_modules.specs.Modules.{ModulesView}
 use Rattle.dm_modules.specs.Sizes.{SizeEntry, codeword_count, mapping_rows, mapping_columns}
 use Rattle.dm_modules.specs.inner.Keeping.{AreKeptIn}
 use Rattle.dm_modules.proofs.KeptWords.{kept_for, part_kept, words_of_kept}
@@ -52,4 +53,7 @@ returns-clause-holds g c =
     let rest : List ℕ = drop (n - 0) (drop 0 c.self.inside.kept) in
     let e : take (codeword_count s) (words ++ rest) ≡ words =
     ap (λ (i : ℕ). take i (words ++ rest)) count ∙ take-append_seam words rest in
-    subst (HoldsBits (mapping_rows m.size) (mapping_columns m.size) (mapped_cell m)) (sym e) c.lift_list.ensures.holds
+    let held =
+    subst (λ (s : ModulesView). HoldsBits (mapping_rows s.size) (mapping_columns s.size) (mapped_cell s) words)
+    c.borrowed.ensures c.lift_list.ensures.holds in
+    subst (HoldsBits (mapping_rows m.size) (mapping_columns m.size) (mapped_cell m)) (sym e) held
