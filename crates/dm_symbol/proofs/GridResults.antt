@@ -27,7 +27,7 @@ use Rattle.dm_symbol.proofs.SymbolBelow.{near_plain, plain_near, distance_plain}
 use Rattle.dm_symbol.proofs.SymbolReadings.{one_symbol_result}
 use Rattle.dm_symbol.proofs.SymbolDoubt.{erased_by_none}
 use Rattle.dm_symbol.proofs.SymbolGrids.{held, of_grid, same_faults}
-use Rattle.dm_symbol.proofs.SymbolReadSteps.{held_by_modules}
+use Rattle.dm_symbol.proofs.Restoring.{held_by_modules}
 use Rattle.dm_symbol.proofs.SymbolResults.{are, result_of_symbol}
 
 -- The numbers of corrected codewords, told of blocks in which none is erased, are these numbers.

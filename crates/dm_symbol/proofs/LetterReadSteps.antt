@@ -1,23 +1,24 @@
--- The results of reading a symbol of any size as a letter, from what was lifted and restored; and what a result says.
-use Rattle.std.proofs.Common.{◌≡◌, ◌↔◌, ℕ, ◌<◌, ◌≤◌, List, Option, Result, Ok, Err, refl, sym, ap, subst, ◌∙◌}
+-- The results of reading a symbol of any size as a letter, from the restored codewords; and what a
+-- result says.
+use Rattle.std.proofs.Common.{◌≡◌, ◌↔◌, ℕ, ◌<◌, List, Option, Result, Ok, Err, refl, sym, ap, subst, ◌∙◌}
 use Rattle.dm_words.specs.declared.extent.Extent.{Extent}
 use Rattle.dm_words.specs.declared.letters.fault.LetterFault.{LetterFault}
 use Rattle.dm_words.specs.Letters.{LetterView}
 use Rattle.dm_words.specs.LetterExtents.{SaysIn, RefusedIn}
 use Rattle.dm_modules.specs.Modules.{ModulesView}
 use Rattle.dm_modules.specs.Words.{WordsView, data_of}
-use Rattle.dm_modules.specs.Holding.{Holds}
 use Rattle.dm_symbol.specs.declared.letters.LetterReadFault.{LetterReadFault}
 use Rattle.dm_symbol.specs.declared.letters.LetterReadFault.TheVariants as fault
 use Rattle.dm_symbol.specs.declared.symbol.reading.BlockReading.{BlockReading}
 use Rattle.dm_symbol.specs.Doubt.{sure_fault_count, erased_in}
-use Rattle.dm_symbol.specs.SymbolBlocks.{AreOfSize, AreBlocksNear, first_data}
-use Rattle.dm_symbol.specs.SymbolReading.{AreRestored, IsFirstLost, block_readings}
+use Rattle.dm_symbol.specs.SymbolReading.{block_readings}
 use Rattle.dm_symbol.specs.LetterReading.{LetterReadingView, LetterReadResult, IsLetterRead}
 use Rattle.dm_words.specs.Symbology.{IsIdentifier}
 use Rattle.dm_symbol.specs.LetterReading.{letter_reading_of}
 use Rattle.dm_symbol.proofs.LetterReadings.{one_letter_result, letter_by_result, reads_letter_by_result}
-use Rattle.dm_symbol.proofs.SymbolReadSteps.{held_by_modules}
+use Rattle.dm_symbol.specs.declared.symbol.reading.Lost.TheVariants.{Border, Block}
+use Rattle.dm_symbol.specs.inner.Restoring.{IsRestored, IsLost}
+use Rattle.dm_symbol.proofs.Restoring.{restored_data}
 
 -- Equal faults of the border have equal numbers of modules.
 same_border : (a b : ℕ)
@@ -44,49 +45,38 @@ module _ (extent : Extent) (modules : ModulesView) (doubtful : Option ModulesVie
   abbrev faults : ℕ
   faults = sure_fault_count modules doubtful
 
+  -- More sure faults than the limit are a right result.
+  pub letter_border_result : (count : ℕ) → IsLost modules doubtful limit (Border count)
+      → LetterReadResult extent modules doubtful limit (Err (fault.Border count))
+  letter_border_result count lost = LetterReadResult.border lost.0 (ap (λ n. Err (fault.Border n)) lost.1)
+
   -- Where a block can't be restored, the first such block is a right result.
-  pub lost_letter_result : (w : WordsView) (b : ℕ) → faults ≤ limit → Holds modules w
-      → IsFirstLost w.size (erased_in w.size doubtful) w.list b
+  pub letter_lost_result : (b : ℕ) → IsLost modules doubtful limit (Block b)
       → LetterReadResult extent modules doubtful limit (Err (fault.Block b))
-  lost_letter_result w b few h first =
-      LetterReadResult.block w.list b few (held_by_modules modules w h)
-      (subst (λ s. IsFirstLost s (erased_in s doubtful) w.list b) h.same_size first) refl
+  letter_lost_result b (few, held, are_held, first) = LetterReadResult.block held b few are_held first refl
 
-  module _ (w v : WordsView) (few : faults ≤ limit) (h : Holds modules w) (same : v.size ≡ w.size)
-      (of_size : AreOfSize w.size v.list) (near : AreBlocksNear w.size (erased_in w.size doubtful) w.list v.list) where
-    -- The words are restored.
-    are_restored : AreRestored modules doubtful w.list v.list
-    are_restored = record {
-      words_held = held_by_modules modules w h;
-      of_size = subst (λ s. AreOfSize s v.list) h.same_size of_size;
-      near = subst (λ s. AreBlocksNear s (erased_in s doubtful) w.list v.list) h.same_size near;
-    }
-
-    -- The data codewords are those of the restored words.
-    data_of_symbol : data_of v ≡ first_data modules.size v.list
-    data_of_symbol = ap (λ s. first_data s v.list) (same ∙ h.same_size)
-
+  module _ (w : WordsView) (blocks : List BlockReading) (count : ℕ)
+      (r : IsRestored modules doubtful limit w blocks count) where
     -- Where the data codewords are refused, their fault is a right result.
-    pub refused_letter_result : (why : LetterFault) → RefusedIn extent (data_of v) why
+    pub refused_letter_result : (why : LetterFault) → RefusedIn extent (data_of w) why
         → LetterReadResult extent modules doubtful limit (Err (fault.Words why))
     refused_letter_result why refused =
-        LetterReadResult.words w.list v.list why few are_restored
-        (subst (λ words. RefusedIn extent words why) data_of_symbol refused) refl
+        LetterReadResult.words r.held w.list why r.few r.restored
+        (subst (λ words. RefusedIn extent words why) (restored_data modules doubtful limit w blocks count r) refused)
+        refl
 
     -- Where the data codewords say a letter, the reading is a right result.
-    pub said_letter_result : (letter : LetterView) (identifier : ℕ) (blocks : List BlockReading) (count : ℕ)
-        → SaysIn extent (data_of v) letter → IsIdentifier (data_of v) letter identifier
-        → blocks ≡ block_readings w.size (erased_in w.size doubtful) w.list v.list → count ≡ faults
+    pub said_letter_result : (letter : LetterView) (identifier : ℕ) → SaysIn extent (data_of w) letter
+        → IsIdentifier (data_of w) letter identifier
         → LetterReadResult extent modules doubtful limit (Ok (letter_reading_of letter identifier blocks count))
-    said_letter_result letter identifier blocks count says number readings border =
-        let all : blocks ≡ block_readings modules.size (erased_in modules.size doubtful) w.list v.list =
-        subst (λ s. blocks ≡ block_readings s (erased_in s doubtful) w.list v.list) h.same_size readings in
-        LetterReadResult.letter w.list v.list letter identifier few are_restored
-        (subst (λ words. SaysIn extent words letter) data_of_symbol says)
-        (subst (λ words. IsIdentifier words letter identifier) data_of_symbol number)
-        (ap (λ xs. Ok (letter_reading_of letter identifier xs count)) all
+    said_letter_result letter identifier says number =
+        let same = restored_data modules doubtful limit w blocks count r in
+        LetterReadResult.letter r.held w.list letter identifier r.few r.restored
+        (subst (λ words. SaysIn extent words letter) same says)
+        (subst (λ words. IsIdentifier words letter identifier) same number)
+        (ap (λ xs. Ok (letter_reading_of letter identifier xs count)) r.readings
         ∙ ap (λ n. Ok (letter_reading_of letter identifier
-        (block_readings modules.size (erased_in modules.size doubtful) w.list v.list) n)) border)
+        (block_readings modules.size (erased_in modules.size doubtful) r.held w.list) n)) r.faults_are)
 
   -- A result is a fault of the border exactly where there are more sure faults than the limit, and tells their number.
   says_border : (result : Result LetterReadingView LetterReadFault)
@@ -95,7 +85,7 @@ module _ (extent : Extent) (modules : ModulesView) (doubtful : Option ModulesVie
   says_border result a count = (
     λ e. told result a e,
     λ p. one_letter_result modules doubtful extent limit result (Err (fault.Border count)) a
-        (LetterReadResult.border p.0 (ap (λ n. Err (fault.Border n)) p.1)),
+        (letter_border_result count p),
   )
     where
       told : (result : Result LetterReadingView LetterReadFault) → LetterReadResult extent modules doubtful limit result

@@ -19,6 +19,7 @@ mod SymbolDoubt
 mod SymbolSteps
 mod LightDoubt
 mod SymbolReadings
+mod Restoring
 mod SymbolReadSteps
 mod SymbolWriteSteps
 mod SymbolNormals

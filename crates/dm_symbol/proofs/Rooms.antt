@@ -1,15 +1,12 @@
--- Rooms for the symbol in which a message is written.
+-- Rooms for the symbol in which data codewords are written.
 use Rattle.std.proofs.Common.{◌≡◌, ◌≤◌, ℕ, List, length, Option, Some, None, refl, subst, arith}
 use Rattle.std.specs.Prelude.{IfSome, nat_le, ◌&&◌}
 use Rattle.std.proofs.lemmas.Bool.{and_parts}
-use Rattle.dm_words.specs.declared.item.Item.{Item}
-use Rattle.dm_words.specs.declared.profile.Profile.{Profile}
-use Rattle.dm_words.specs.NormalForm.{normal_form}
 use Rattle.dm_words.specs.Smallest.{IsTaken}
 use Rattle.dm_modules.specs.declared.size.SizeChoice.{SizeChoice}
 use Rattle.dm_modules.specs.Sizes.{SizeEntry, size_table, entry_for, takes, codeword_count, most_rows, most_codewords}
 use Rattle.dm_modules.proofs.Exported.{found_passes, size_facts}
-use Rattle.dm_symbol.specs.NormalSymbol.{HasRoomFor}
+use Rattle.dm_symbol.specs.WrittenWords.{HaveRoom}
 use Rattle.dm_symbol.proofs.SymbolCompletions.{chosen_stands}
 
 -- The size that a choice gives for so many codewords stands in the table, and the choice takes it.
@@ -22,29 +19,29 @@ chosen_taken choice count size e = (
 )
 
 -- Where there is room for each size of the choice, there is room for the one that is chosen.
-pub room_for_each : (choice : SizeChoice) (profile : Profile) (message : List Item) (rows words : ℕ)
+pub room_for_each : (choice : SizeChoice) (form : List ℕ) (rows words : ℕ)
     → ((size : SizeEntry) → IsTaken choice size → (size.rows ≤ rows) × (codeword_count size ≤ words))
-    → HasRoomFor choice profile message rows words
-room_for_each choice profile message rows words each =
-    room (entry_for choice (length (normal_form profile message))) refl
+    → HaveRoom choice form rows words
+room_for_each choice form rows words each =
+    room (entry_for choice (length form)) refl
   where
-    room : (o : Option SizeEntry) → entry_for choice (length (normal_form profile message)) ≡ o
+    room : (o : Option SizeEntry) → entry_for choice (length form) ≡ o
         → IfSome o (λ size. (size.rows ≤ rows) × (codeword_count size ≤ words))
     room None e = tt
-    room (Some size) e = each size (chosen_taken choice (length (normal_form profile message)) size e)
+    room (Some size) e = each size (chosen_taken choice (length form) size e)
 
 -- There is room where there is room for the most rows and the most codewords of any symbol.
-pub room_for_most : (choice : SizeChoice) (profile : Profile) (message : List Item) (rows words : ℕ) → most_rows ≤ rows
-    → most_codewords ≤ words → HasRoomFor choice profile message rows words
-room_for_most choice profile message rows words high long =
-    room_for_each choice profile message rows words (λ size taken.
+pub room_for_most : (choice : SizeChoice) (form : List ℕ) (rows words : ℕ) → most_rows ≤ rows
+    → most_codewords ≤ words → HaveRoom choice form rows words
+room_for_most choice form rows words high long =
+    room_for_each choice form rows words (λ size taken.
     let f = size_facts size taken.0 in (omega (arith, f.rows_fit, high), omega (arith, f.codewords, long)))
 
--- Where there is room for the symbol in which a message is written, there is room for a symbol of the size that is
+-- Where there is room for the symbol in which data codewords are written, there is room for a symbol of the size that is
 -- chosen.
-pub room_for_chosen : (choice : SizeChoice) (profile : Profile) (message : List Item) (rows words : ℕ)
-    (size : SizeEntry) → HasRoomFor choice profile message rows words
-    → entry_for choice (length (normal_form profile message)) ≡ Some size
+pub room_for_chosen : (choice : SizeChoice) (form : List ℕ) (rows words : ℕ)
+    (size : SizeEntry) → HaveRoom choice form rows words
+    → entry_for choice (length form) ≡ Some size
     → (size.rows ≤ rows) × (codeword_count size ≤ words)
-room_for_chosen choice profile message rows words size room chosen =
+room_for_chosen choice form rows words size room chosen =
     subst (λ o. IfSome o (λ s. (s.rows ≤ rows) × (codeword_count s ≤ words))) chosen room

@@ -1,32 +1,24 @@
--- A message that fits a size of a choice is written in some symbol.
-use Rattle.std.proofs.Common.{◌≡◌, ℕ, ◌<◌, List, ◌++◌, length, take, replicate, Option, Some, None}
-use Rattle.std.proofs.Common.{IsSome, refl, sym, ap, subst, ◌∙◌, arith}
+-- Data codewords are completed by check codewords, and a size that is chosen stands in the table.
+use Rattle.std.proofs.Common.{◌≡◌, ℕ, ◌<◌, List, ◌++◌, length, take, replicate, Some}
+use Rattle.std.proofs.Common.{refl, sym, ap, subst, ◌∙◌, arith}
 use Rattle.std.specs.Prelude.{nat_le, ◌&&◌, find}
 use Rattle.std.proofs.Common.{Bool, true, false, not, cond, nat_eq, [], ◌∷◌}
 use Rattle.std.specs.List.{All, AllByRecursion, list_all}
-use Rattle.std.proofs.lemmas.Bool.{and_parts, and_from, eq-eqb, false≢true}
+use Rattle.std.proofs.lemmas.Bool.{and_parts, and_from, eq-eqb}
 use Rattle.std.proofs.lemmas.List.{get_or-replicate, length-append, length-replicate, length-take-le}
 use Rattle.std.proofs.lemmas.List.Elements.{All-append, All-from_get_or, All-take}
 use Rattle.std.proofs.Math.Seq.{take-append_seam}
-use Rattle.dm_words.specs.declared.item.Item.{Item}
-use Rattle.dm_words.specs.declared.profile.Profile.{Profile}
-use Rattle.dm_words.specs.NormalForm.{normal_form}
-use Rattle.dm_words.specs.Pads.{padded}
-use Rattle.dm_words.specs.Messages.{IsMessage}
 use Rattle.dm_code.specs.Codeword.{IsCodeword}
 use Rattle.dm_modules.specs.declared.size.SizeChoice.{SizeChoice}
 use Rattle.dm_modules.specs.Sizes.{SizeEntry, IsSize, entry_for, takes}
 use Rattle.dm_modules.specs.Sizes.{size_table, block_data, block_check, block_length}
 use Rattle.dm_modules.specs.Blocks.{AreBlocks}
-use Rattle.dm_modules.specs.Modules.{ModulesView}
-use Rattle.dm_modules.proofs.Exported.{at_found, blocks_make_words, same_data_by_blocks, some_laid}
+use Rattle.dm_modules.proofs.Exported.{at_found, blocks_make_words, same_data_by_blocks}
 use Rattle.dm_symbol.specs.SymbolBlocks.{words_with, AreOfSize, AreCodewordsOf, block_in, first_data}
-use Rattle.dm_symbol.specs.NormalSymbol.{IsWrittenIn, FitsChoice}
-use Rattle.dm_symbol.proofs.Below.{codewords_are_bytes, checks_are_there, normal_form_words_are}
+use Rattle.dm_symbol.proofs.Below.{codewords_are_bytes, checks_are_there}
 use Rattle.dm_symbol.proofs.Choosing.{chosen}
 use Rattle.dm_symbol.proofs.SymbolBelow.{block_lengths, block_facts}
 use Rattle.dm_symbol.proofs.SymbolReadings.{bytes_in_block}
-use Rattle.dm_symbol.proofs.SymbolWriteSteps.{chosen_holds, laid_is_written}
 
 -- ---- sizes
 
@@ -176,21 +168,3 @@ checks_for size data_words entry long bytes =
       front = stay ∙ ap (λ n. take n u) (sym long) ∙ take-append_seam data_words (replicate size.check_count 0);
       checked = λ b hb. subst (IsCodeword (block_check size)) (sym (made.are b hb)) (blocks.1 b hb).codeword;
     }
-
--- ---- the symbol
-
--- A message that fits a size of a choice is written in some symbol.
-pub written_is_there : (choice : SizeChoice) (p : Profile) (m : List Item) → IsMessage m → FitsChoice choice p m
-    → (modules : ModulesView) × IsWrittenIn choice p m modules
-written_is_there choice p m h fits = of_size (entry_for choice (length (normal_form p m))) refl fits
-  where
-    of_size : (o : Option SizeEntry) → entry_for choice (length (normal_form p m)) ≡ o → IsSome o
-        → (modules : ModulesView) × IsWrittenIn choice p m modules
-    of_size None e is = absurd (false≢true is)
-    of_size (Some size) e is =
-        let holds = chosen_holds choice (length (normal_form p m)) size e in
-        let are = normal_form_words_are p m size.data_count h holds in
-        let w = checks_for size (padded (normal_form p m) size.data_count)
-        (chosen_stands choice (length (normal_form p m)) size e) are.0 are.1 in
-        let laid = some_laid (words_with size w.list) w.of_size in
-        (laid.0, laid_is_written choice p m laid.0 (words_with size w.list) size e refl w.front w.checked laid.1)

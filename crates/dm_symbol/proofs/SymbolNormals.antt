@@ -33,7 +33,15 @@ use Rattle.dm_symbol.proofs.SymbolDoubt.{erased_by_none, faults_by_none}
 use Rattle.dm_symbol.proofs.SymbolSteps.{reading_is}
 use Rattle.dm_symbol.proofs.SymbolReadings.{one_symbol_message, one_symbol_result, result_of_symbol, symbol_message}
 use Rattle.dm_symbol.proofs.SymbolReadings.{symbol_read_by_result}
-use Rattle.dm_symbol.proofs.SymbolWriteSteps.{written_spells, written_is_one, written_tells, written_fits}
+use Rattle.dm_symbol.proofs.SymbolWriteSteps.{chosen_holds}
+use Rattle.dm_symbol.proofs.WrittenWords.{words_written_once, written_fit, written_words_are_there}
+use Rattle.dm_words.specs.NormalForm.{normal_form}
+use Rattle.dm_words.proofs.Exported.{normal_form_codewords, normal_form_count, normal_form_spells}
+use Rattle.dm_modules.proofs.Exported.{size_facts}
+use Rattle.dm_symbol.proofs.NormalGrids.{one_spelled}
+use Rattle.dm_symbol.proofs.SymbolBelow.{held_is_one}
+use Rattle.dm_symbol.proofs.SymbolReadings.{data_are_bytes}
+use Rattle.std.proofs.Common.{length}
 
 -- ---- what is written is read
 
@@ -97,6 +105,33 @@ module _ (g : ModulesView) (words : List ℕ) (laid : IsLaid (words_with g.size 
       (subst (λ said. SymbolReadResult extent g None limit (Ok (symbol_reading_of m said (sure_fault_count g None))))
       all by)
 
+-- The data codewords of a symbol in which a message is written spell it.
+pub written_spells : (extent : Extent) (choice : SizeChoice) (p : Profile) (m : List Item) (modules : ModulesView)
+    → IsMessage m
+    → (n : IsWrittenIn choice p m modules) → Spells extent (first_data modules.size n.words) m
+written_spells extent choice p m modules h n =
+    let holds = chosen_holds choice (length (normal_form p m)) modules.size n.smallest in
+    let few = (size_facts modules.size n.laid.holds.codewords.size).data_fits in
+    subst (λ words. Spells extent words m) (sym n.data_words)
+    (normal_form_spells extent p m modules.size.data_count h holds (omega (arith, few)))
+
+-- Messages that are written in the same symbol, in whatever choices, are equal.
+pub written_tells : (choice other : SizeChoice) (p q : Profile) (m n : List Item) (g : ModulesView) → IsMessage m
+    → IsMessage n
+    → IsWrittenIn choice p m g → IsWrittenIn other q n g → m ≡ n
+written_tells choice other p q m n g hm hn nm nn =
+    let same : nm.words ≡ nn.words = held_is_one g nm.words nn.words nm.laid.holds nn.laid.holds in
+    one_spelled Usual (first_data g.size nn.words) m n (data_are_bytes g.size nn.words nn.laid.holds.codewords)
+    (subst (λ words. Spells Usual (first_data g.size words) m) same (written_spells Usual choice p m g hm nm))
+    (written_spells Usual other q n g hn nn)
+
+-- A message that fits a size of a choice is written in some symbol.
+pub written_is_there : (choice : SizeChoice) (p : Profile) (m : List Item) → IsMessage m → FitsChoice choice p m
+    → (modules : ModulesView) × IsWrittenIn choice p m modules
+written_is_there choice p m h fits =
+    written_words_are_there choice (normal_form p m) (normal_form_count p m)
+    (λ count. normal_form_codewords p m count h) fits
+
 -- A symbol in which a message is written is read as it.
 pub written_reads : (extent : Extent) (choice : SizeChoice) (p : Profile) (m : List Item) (g : ModulesView) (limit : ℕ)
     → IsMessage m
@@ -131,7 +166,7 @@ pub written_symbols_tell : (choice : SizeChoice) (p : Profile) (m n : List Item)
     → IsWrittenIn choice p m g → IsWrittenIn choice p n h → (g ≡ h) ↔ (m ≡ n)
 written_symbols_tell choice p m n g h hm hn ng nh = (
   λ e. written_tells choice choice p p m n h hm hn (subst (λ x. IsWrittenIn choice p m x) e ng) nh,
-  λ e. written_is_one choice p n g h (subst (λ x. IsWrittenIn choice p x g) e ng) nh,
+  λ e. words_written_once choice (normal_form p n) g h (subst (λ x. IsWrittenIn choice p x g) e ng) nh,
 )
 
 -- ---- one result of normalising
@@ -146,14 +181,14 @@ module _ (extent : Extent) (p : Profile) (modules : ModulesView) (doubtful : Opt
       → HasNormalSymbol extent p modules doubtful l o → n ≡ o
   one_normal_symbol n o k l hn ho =
       let same = one_symbol_message modules doubtful extent extent k l hn.message ho.message hn.read ho.read in
-      written_is_one Square p ho.message n o (subst (λ m. IsNormalSymbol p m n) same hn.normal_symbol) ho.normal_symbol
+      words_written_once Square (normal_form p ho.message) n o (subst (λ m. IsNormalSymbol p m n) same hn.normal_symbol) ho.normal_symbol
 
   -- A symbol that is read as a message with a normal symbol isn't read as one that has none.
   not_too_long : (n : ModulesView) (k l : ℕ) → HasNormalSymbol extent p modules doubtful k n
       → HasNoNormalSymbol extent p modules doubtful l → ⊥
   not_too_long n k l h none =
       let same = one_symbol_message modules doubtful extent extent k l h.message none.message h.read none.read in
-      none.too_long (subst (FitsChoice Square p) same (written_fits Square p h.message n h.normal_symbol))
+      none.too_long (subst (FitsChoice Square p) same (written_fit Square (normal_form p h.message) n h.normal_symbol))
 
   -- A symbol that is read has no fault of reading.
   no_fault : (limit : ℕ) (m : List Item) (why : ReadFault) → ReadsSymbol extent modules doubtful limit m

@@ -15,7 +15,7 @@ use Rattle.dm_symbol.specs.SymbolReading.{AreRestored, IsFirstLost}
 use Rattle.dm_symbol.proofs.Below.{codewords_are_bytes}
 use Rattle.dm_symbol.proofs.Choosing.{chosen}
 use Rattle.dm_symbol.proofs.SymbolBelow.{block_lengths, block_facts, held_is_one}
-use Rattle.dm_symbol.proofs.SymbolReadSteps.{held_by_modules}
+use Rattle.dm_symbol.proofs.Restoring.{held_by_modules}
 use Rattle.dm_symbol.proofs.SymbolReadings.{data_are_bytes, restored_is_one, none_lost, first_is_one}
 
 -- ---- words and codewords

@@ -1,38 +1,23 @@
--- The results of reading a symbol of any size, from what was lifted and restored.
-use Rattle.std.proofs.Common.{◌≡◌, ◌↔◌, ℕ, ◌<◌, ◌≤◌, List, length, Option, Result, Ok, Err, refl, sym, ap, subst}
+-- The results of reading a symbol of any size, from the restored codewords.
+use Rattle.std.proofs.Common.{◌≡◌, ◌↔◌, ℕ, ◌<◌, List, Option, Result, Ok, Err, refl, sym, ap, subst}
 use Rattle.std.proofs.Common.{◌∙◌}
-use Rattle.std.specs.List.{range_with_len}
-use Rattle.std.proofs.lemmas.List.{length-map}
-use Rattle.std.proofs.lemmas.List.FromFn.{length-range_with_len}
 use Rattle.dm_words.specs.declared.extent.Extent.{Extent}
 use Rattle.dm_words.specs.declared.item.Item.{Item}
 use Rattle.dm_words.specs.declared.fault.WordFault.{WordFault}
 use Rattle.dm_words.specs.Spells.{Spells}
 use Rattle.dm_words.specs.Refused.{Refused}
-use Rattle.dm_modules.specs.Sizes.{SizeEntry, block_check}
 use Rattle.dm_modules.specs.Modules.{ModulesView}
 use Rattle.dm_modules.specs.Words.{WordsView, data_of}
-use Rattle.dm_modules.specs.Holding.{Holds}
 use Rattle.dm_symbol.specs.declared.symbol.reading.BlockReading.{BlockReading}
 use Rattle.dm_symbol.specs.declared.reading.ReadFault.{ReadFault}
 use Rattle.dm_symbol.specs.declared.reading.ReadFault.TheVariants as fault
 use Rattle.dm_symbol.specs.Doubt.{sure_fault_count, erased_in}
-use Rattle.dm_symbol.specs.SymbolBlocks.{words_with, AreOfSize, AreHeldBy, AreBlocksNear, block_in, first_data}
-use Rattle.dm_symbol.specs.SymbolReading.{ReadingView, AreRestored, IsFirstLost, SymbolReadResult}
-use Rattle.dm_symbol.specs.SymbolReading.{block_reading, block_readings, symbol_reading_of, IsSymbolRead}
+use Rattle.dm_symbol.specs.SymbolReading.{ReadingView, SymbolReadResult}
+use Rattle.dm_symbol.specs.SymbolReading.{block_readings, symbol_reading_of, IsSymbolRead}
+use Rattle.dm_symbol.specs.declared.symbol.reading.Lost.TheVariants.{Border, Block}
+use Rattle.dm_symbol.specs.inner.Restoring.{IsRestored, IsLost}
+use Rattle.dm_symbol.proofs.Restoring.{restored_data}
 use Rattle.dm_symbol.proofs.SymbolReadings.{one_symbol_result, symbol_read_by_result, reads_symbol_by_result}
-
--- Words that modules hold are codewords of a symbol of their size.
-pub held_by_modules : (modules : ModulesView) (w : WordsView) → Holds modules w → AreHeldBy modules w.list
-held_by_modules modules w h = subst (λ x. Holds modules x) (ap (λ s. words_with s w.list) h.same_size) h
-
--- As much is said of a symbol's blocks as it has.
-pub readings_count : (size : SizeEntry) (erased : ℕ → List ℕ) (u v : List ℕ)
-    → length (block_readings size erased u v) ≡ size.blocks
-readings_count size erased u v =
-    length-map (range_with_len 0 size.blocks)
-    (λ b. block_reading (block_check size) (erased b) (block_in size u b) (block_in size v b))
-    ∙ length-range_with_len 0 size.blocks
 
 -- Equal faults of the border have equal numbers of modules.
 same_border : (a b : ℕ) → ◌≡◌ {A = Result ReadingView ReadFault} (Err (fault.Border a)) (Err (fault.Border b)) → a ≡ b
@@ -57,50 +42,35 @@ module _ (extent : Extent) (modules : ModulesView) (doubtful : Option ModulesVie
   abbrev faults : ℕ
   faults = sure_fault_count modules doubtful
 
+  -- More sure faults than the limit are a right result.
+  pub border_result : (count : ℕ) → IsLost modules doubtful limit (Border count)
+      → SymbolReadResult extent modules doubtful limit (Err (fault.Border count))
+  border_result count lost = SymbolReadResult.border lost.0 (ap (λ n. Err (fault.Border n)) lost.1)
+
   -- Where a block can't be restored, the first such block is a right result.
-  pub lost_result : (w : WordsView) (b : ℕ) → faults ≤ limit → Holds modules w
-      → IsFirstLost w.size (erased_in w.size doubtful) w.list b
+  pub lost_result : (b : ℕ) → IsLost modules doubtful limit (Block b)
       → SymbolReadResult extent modules doubtful limit (Err (fault.Block b))
-  lost_result w b few h first =
-      SymbolReadResult.block w.list b few (held_by_modules modules w h)
-      (subst (λ s. IsFirstLost s (erased_in s doubtful) w.list b) h.same_size first) refl
+  lost_result b (few, held, are_held, first) = SymbolReadResult.block held b few are_held first refl
 
-  -- Words that modules hold are restored to those whose blocks are near to theirs.
-  pub are_restored : (w v : WordsView) → Holds modules w → AreOfSize w.size v.list
-      → AreBlocksNear w.size (erased_in w.size doubtful) w.list v.list → AreRestored modules doubtful w.list v.list
-  are_restored w v h of_size near = record {
-    words_held = held_by_modules modules w h;
-    of_size = subst (λ s. AreOfSize s v.list) h.same_size of_size;
-    near = subst (λ s. AreBlocksNear s (erased_in s doubtful) w.list v.list) h.same_size near;
-  }
-
-  module _ (w v : WordsView) (few : faults ≤ limit) (h : Holds modules w) (same : v.size ≡ w.size)
-      (of_size : AreOfSize w.size v.list) (near : AreBlocksNear w.size (erased_in w.size doubtful) w.list v.list) where
-    -- The data codewords are those of the restored words.
-    data_of_symbol : data_of v ≡ first_data modules.size v.list
-    data_of_symbol = ap (λ s. first_data s v.list) (same ∙ h.same_size)
-
+  module _ (w : WordsView) (blocks : List BlockReading) (count : ℕ)
+      (r : IsRestored modules doubtful limit w blocks count) where
     -- Where the data codewords are refused, their fault is a right result.
-    pub refused_result : (why : WordFault) → Refused extent (data_of v) why
+    pub refused_result : (why : WordFault) → Refused extent (data_of w) why
         → SymbolReadResult extent modules doubtful limit (Err (fault.Words why))
     refused_result why refused =
-        SymbolReadResult.words w.list v.list why few (are_restored w v h of_size near)
-        (subst (λ words. Refused extent words why) data_of_symbol refused) refl
+        SymbolReadResult.words r.held w.list why r.few r.restored
+        (subst (λ words. Refused extent words why) (restored_data modules doubtful limit w blocks count r) refused)
+        refl
 
     -- Where the data codewords spell a message, the reading is a right result.
-    pub spelled_result : (m : List Item) (blocks : List BlockReading) (count : ℕ)
-        → blocks ≡ block_readings w.size (erased_in w.size doubtful) w.list v.list → count ≡ faults
-        → Spells extent (data_of v) m
-        → SymbolReadResult extent modules doubtful limit
-        (Ok (record { message = m; blocks = blocks; border_faults = count }))
-    spelled_result m blocks count said border spelled =
-        let all : blocks ≡ block_readings modules.size (erased_in modules.size doubtful) w.list v.list =
-        subst (λ s. blocks ≡ block_readings s (erased_in s doubtful) w.list v.list) h.same_size said in
-        SymbolReadResult.message w.list v.list m few (are_restored w v h of_size near)
-        (subst (λ words. Spells extent words m) data_of_symbol spelled)
-        (ap (λ xs. Ok (symbol_reading_of m xs count)) all
+    pub spelled_result : (m : List Item) → Spells extent (data_of w) m
+        → SymbolReadResult extent modules doubtful limit (Ok (symbol_reading_of m blocks count))
+    spelled_result m spelled =
+        SymbolReadResult.message r.held w.list m r.few r.restored
+        (subst (λ words. Spells extent words m) (restored_data modules doubtful limit w blocks count r) spelled)
+        (ap (λ xs. Ok (symbol_reading_of m xs count)) r.readings
         ∙ ap (λ n. Ok (symbol_reading_of m
-        (block_readings modules.size (erased_in modules.size doubtful) w.list v.list) n)) border)
+        (block_readings modules.size (erased_in modules.size doubtful) r.held w.list) n)) r.faults_are)
 
   -- A result is a fault of the border exactly where there are more sure faults than the limit, and tells their number.
   says_border : (result : Result ReadingView ReadFault) → SymbolReadResult extent modules doubtful limit result
@@ -109,13 +79,9 @@ module _ (extent : Extent) (modules : ModulesView) (doubtful : Option ModulesVie
   says_border result a count = (
     λ e. told result a e,
     λ p. one_symbol_result modules doubtful extent limit result (Err (fault.Border count)) a
-        (border_result p.0 p.1),
+        (border_result count p),
   )
     where
-      border_result : limit < faults → count ≡ faults
-          → SymbolReadResult extent modules doubtful limit (Err (fault.Border count))
-      border_result more e = SymbolReadResult.border more (ap (λ n. Err (fault.Border n)) e)
-
       told : (result : Result ReadingView ReadFault) → SymbolReadResult extent modules doubtful limit result
           → result ≡ Err (fault.Border count) → (limit < faults) × (count ≡ faults)
       told result (SymbolReadResult.border more e) f = (more, same_border count faults (sym f ∙ e))

@@ -37,22 +37,7 @@ use Rattle.dm_symbol.proofs.WrittenWords.{words_written_once, written_hold, writ
 -- A letter without a head and marks is written as the message is that has its items.
 pub message_as_letter : (choice : SizeChoice) (p : Profile) (m : List Item) (g : ModulesView)
     → IsLetterWrittenIn choice p (as_letter m) g ↔ IsWrittenIn choice p m g
-message_as_letter choice p m g = (
-  λ n. record {
-    smallest = n.smallest;
-    words = n.words;
-    laid = n.laid;
-    data_words = n.data_words;
-    checked = n.checked;
-  },
-  λ n. record {
-    smallest = n.smallest;
-    words = n.words;
-    laid = n.laid;
-    data_words = n.data_words;
-    checked = n.checked;
-  },
-)
+message_as_letter choice p m g = (λ n. n, λ n. n)
 
 -- ---- what is written is read
 

@@ -1,5 +1,5 @@
 -- What holds of all letters and of the symbols of all sizes.
-use Rattle.std.specs.Prelude.{◌≡◌, ℕ, List, Option, Some, None, Result, Ok, Err, IsOk, replicate, ◌↔◌, ◌⊎◌}
+use Rattle.std.specs.Prelude.{◌≡◌, ◌≤◌, ℕ, List, Option, Some, None, Result, Ok, Err, IsOk, replicate, ◌↔◌, ◌⊎◌}
 use Rattle.dm_words.specs.declared.extent.Extent.{Extent}
 use Rattle.dm_words.specs.declared.extent.Extent.TheVariants.{Usual, Wide}
 use Rattle.dm_words.specs.declared.item.Item.{Item}
@@ -9,8 +9,9 @@ use Rattle.dm_words.specs.Letters.{LetterView, IsLetter}
 use Rattle.dm_words.specs.LetterExtents.{as_letter, IsSaidIn}
 use Rattle.dm_words.specs.LetterForm.{letter_form}
 use Rattle.dm_words.specs.Pads.{padded}
+use Rattle.dm_words.specs.Smallest.{IsTaken}
 use Rattle.dm_modules.specs.declared.size.SizeChoice.{SizeChoice}
-use Rattle.dm_modules.specs.Sizes.{block_check}
+use Rattle.dm_modules.specs.Sizes.{SizeEntry, block_check, codeword_count, most_rows, most_codewords}
 use Rattle.dm_modules.specs.Modules.{ModulesView, IsModules}
 use Rattle.dm_symbol.specs.declared.letters.LetterReadFault.{LetterReadFault}
 use Rattle.dm_symbol.specs.declared.letters.LetterReadFault.TheVariants as fault
@@ -24,7 +25,7 @@ use Rattle.dm_symbol.specs.NormalSymbol.{IsWrittenIn}
 use Rattle.dm_symbol.specs.LetterReading.{LetterReadingView, ReadsLetter, LetterReadResult}
 use Rattle.dm_words.specs.Symbology.{IsIdentifier}
 use Rattle.dm_symbol.specs.LetterReading.{letter_reading_of}
-use Rattle.dm_symbol.specs.NormalLetter.{LetterFits, IsLetterWrittenIn, IsNormalOfLetter}
+use Rattle.dm_symbol.specs.NormalLetter.{LetterFits, HasRoomForLetter, IsLetterWrittenIn, IsNormalOfLetter}
 use Rattle.dm_symbol.specs.LetterNormal.{HasNormalLetter, NormalLetterResult}
 
 -- With the same doubtful modules, a symbol is read as at most one letter, whatever the extents and the limits.
@@ -136,6 +137,19 @@ abbrev pub MessagesAreWrittenAsLetters : Type 0
 MessagesAreWrittenAsLetters =
     (choice : SizeChoice) (profile : Profile) (message : List Item) (modules : ModulesView)
     → IsLetterWrittenIn choice profile (as_letter message) modules ↔ IsWrittenIn choice profile message modules
+
+-- Where there is room for each size of the choice, there is room for the symbol in which a letter is written.
+abbrev pub RoomForEachServesLetters : Type 0
+RoomForEachServesLetters =
+    (choice : SizeChoice) (profile : Profile) (letter : LetterView) (rows words : ℕ)
+    → ((size : SizeEntry) → IsTaken choice size → (size.rows ≤ rows) × (codeword_count size ≤ words))
+    → HasRoomForLetter choice profile letter rows words
+
+-- So there is in room for the most rows and the most codewords that a symbol has, whatever the choice.
+abbrev pub MostRoomServesLetters : Type 0
+MostRoomServesLetters =
+    (choice : SizeChoice) (profile : Profile) (letter : LetterView) (rows words : ℕ) → most_rows ≤ rows
+    → most_codewords ≤ words → HasRoomForLetter choice profile letter rows words
 
 -- A right letter that fits a size of the choice is written in some symbol; so one that fits a square has a normal
 -- symbol.

@@ -48,3 +48,15 @@ pub record IsLetterNormalised (extent : Extent) (profile : Profile) (modules : M
   pub too_long : (result ≡ Err TooLong) ↔ HasNoNormalLetter extent profile modules doubtful limit
   pub fault : (why : LetterReadFault) → (result ≡ Err (Read why))
       ↔ LetterReadResult extent modules doubtful limit (Err why)
+
+-- What normalising a symbol leaves in its two targets: `reading` is held by that of the reading, and the target of the
+-- normal symbol held `before` and holds `after`. The outcome is what normalising the symbol gives. `reading` is what
+-- the symbol says, where there is a normal symbol and where the letter fits no square. After a fault the target of the
+-- normal symbol is as it was.
+pub record IsLetterNormalisedTo {U : Type 0} (extent : Extent) (profile : Profile) (modules : ModulesView)
+    (doubtful : Option ModulesView) (limit : ℕ) (done : Result U LetterNormalFault) (reading : LetterReadingView)
+    (before after : ModulesView) : Type 0 where
+  pub normal : IsLetterNormalised extent profile modules doubtful limit (outcome done after)
+  pub reading_is : OnOk done (LetterReadResult extent modules doubtful limit (Ok reading))
+  pub reading_of_long : done ≡ Err TooLong → LetterReadResult extent modules doubtful limit (Ok reading)
+  pub same : OnErr done (after ≡ before)

@@ -1,8 +1,12 @@
-//! What reading and normalising give where what a symbol says is taken as a letter: a head or none, items and marks.
+//! Reading, writing and normalising symbols where what they say is taken as a letter: a head or none, items and marks.
 
 ghost use Rattle.std.specs.Prelude.{◌≡◌, []};
 ghost use Rattle.dm_words.specs.LetterExtents.{as_letter};
 ghost use Rattle.dm_symbol.specs.LetterReading.{letter_reading_in, letter_reading_of};
+
+pub mod normalising;
+pub mod reading;
+pub mod writing;
 
 use crate::symbol::reading::BlockReading;
 use arrayvec::ArrayVec;

@@ -12,6 +12,11 @@
 //! stand in targets, memory that the caller hands in and that serves any number of symbols. Each has a room; those that
 //! serve every symbol are [`Symbol`], [`SymbolWords`], [`SymbolReading`] and [`SymbolInspection`].
 //!
+//! What a symbol says may be taken as a letter, a [`LetterIn`]: a [`Head`] or none, items, and [`Mark`]s at places of
+//! these. [`read_letter_to()`], [`write_letter_to()`] and [`normal_letter_to()`] do for letters what the calls of these
+//! names do for messages, which are the letters without a head and marks; a [`LetterReadingIn`] tells the symbology
+//! identifier too.
+//!
 //! Squares of 10 to 104 rows may be given as a [`Grid`]. [`read()`] gives what a grid says, a [`Reading`]; [`write()`]
 //! the normal grid of a [`Message`]; [`normal()`] the normal grid of what a grid says; and [`inspect()`] an
 //! [`Inspection`]. These know no profile but [`Profile::Ascii`] and no extent but [`Extent::Usual`]; [`write_as()`] and
@@ -21,12 +26,14 @@
 //!
 //! The types of the layers below are given on, among them [`GridFault`], [`Size`] with its [`table()`] of
 //! [`SIZE_COUNT`], [`Words`], [`Item`], [`WordFault`], and the limits [`LARGEST_SIDE`], [`MOST_BLOCKS`],
-//! [`MOST_ITEMS`], [`MESSAGE_ROOM`] and [`LARGEST_ROOM`], the last for a [`MessageIn`] of any symbol.
+//! [`MOST_ITEMS`], [`MESSAGE_ROOM`] and [`LARGEST_ROOM`], the last for a [`MessageIn`] of any symbol, and
+//! [`LARGEST_MARKS`] for the marks of a [`LetterIn`].
 //!
 //! What the contracts say is defined in `specs/`. For symbols of every size it is in `Doubt`, `SymbolBlocks`,
-//! `SymbolReading`, `NormalSymbol`, `SmallestSymbol`, `SymbolNormal` and `SymbolInspection`; their laws are in
-//! `SymbolLaws`. For grids it is in `Blocks`, `NormalGrid`, `Reading`, `Normal` and `Inspection`, with `Laws`. The
-//! functions of [`laws`] prove these. No call allocates memory.
+//! `SymbolReading`, `WrittenWords`, `NormalSymbol`, `SmallestSymbol`, `SymbolNormal` and `SymbolInspection`; their laws
+//! are in `SymbolLaws`. For letters it is in `LetterReading`, `NormalLetter` and `LetterNormal`, with `LetterLaws`. For
+//! grids it is in `Blocks`, `NormalGrid`, `Reading`, `Normal` and `Inspection`, with `Laws`. The functions of [`laws`]
+//! prove these. No call allocates memory.
 #![tactic(auto)]
 
 mod inspection;
@@ -41,10 +48,13 @@ mod writing;
 pub use dm_layout::{Grid, GridFault, LARGEST_SIDE, MOST_BLOCKS, SIZE_COUNT, Size, Words, table};
 pub use dm_modules::{SizeChoice, Symbol, SymbolIn, SymbolSize, SymbolWords, SymbolWordsIn};
 pub use dm_words::{
-    Extent, Item, LARGEST_ROOM, MESSAGE_ROOM, MOST_ITEMS, Message, MessageIn, Profile, TooLong,
-    WordFault,
+    Appended, Extent, Head, Item, LARGEST_MARKS, LARGEST_ROOM, LetterFault, LetterIn, MESSAGE_ROOM,
+    MOST_ITEMS, Mark, Message, MessageIn, Profile, TooLong, WordFault,
 };
 pub use inspection::{Inspection, inspect};
+pub use letters::normalising::normal_letter_to;
+pub use letters::reading::read_letter_to;
+pub use letters::writing::write_letter_to;
 pub use letters::{LetterNormalFault, LetterReadFault, LetterReading, LetterReadingIn};
 pub use limit::usual_limit;
 pub use normalising::{NormalFault, normal, normal_as, normal_to};

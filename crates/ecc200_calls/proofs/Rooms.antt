@@ -196,7 +196,7 @@ module _ (most rows words : ℕ) (each : list_all (fits most rows words) size_ta
           size other f found small)
   to_write choice message count other (AreWordsFor.asked r c e) found entry small = record {
     room = is;
-    written = λ profile. room_for_each choice profile message rows words (λ size taken.
+    written = λ profile. room_for_each choice (normal_form profile message) rows words (λ size taken.
         let mine = exact_sides size (subst (λ ch. takes ch size ≡ true) e taken.1) in
         let its =
         exact_sides other (subst (λ ch. takes ch other ≡ true) e
@@ -258,7 +258,7 @@ square_in_middle message few =
 pub largest_to_write : (choice : SizeChoice) (message : List Item) → HasRoomToWrite 144 2178 choice message
 largest_to_write choice message = record {
   room = is_largest;
-  written = λ profile. room_for_most choice profile message 144 2178 (omega arith) (omega arith);
+  written = λ profile. room_for_most choice (normal_form profile message) 144 2178 (omega arith) (omega arith);
 }
 
 -- The codewords of a symbol fit an array that holds those of the largest.

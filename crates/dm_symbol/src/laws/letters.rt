@@ -8,6 +8,7 @@ ghost use Rattle.dm_symbol.specs.LetterLaws.{MessagesAreReadAsLetters, UsualLett
 ghost use Rattle.dm_symbol.specs.LetterLaws.{MessageResultsAreLetterResults, MessagesAreWrittenAsLetters};
 ghost use Rattle.dm_symbol.specs.LetterLaws.{WideReadsTheUsualLetter};
 ghost use Rattle.dm_symbol.specs.LetterLaws.{AWrittenLetterIsThere, WrittenLetterIsRead, WrittenSymbolsTellLetters};
+ghost use Rattle.dm_symbol.specs.LetterLaws.{RoomForEachServesLetters, MostRoomServesLetters};
 ghost use Rattle.dm_symbol.specs.LetterLaws.{NormalLetterTwiceIsOnce, EqualNormalSymbolsMeanEqualLetters};
 
 /// With the same doubtful modules, a symbol is read as at most one letter, whatever the extents and the limits; and
@@ -30,6 +31,13 @@ pub fn each_symbol_has_a_letter_result()
 /// symbol.
 pub fn a_written_letter_is_there()
     ensures { AWrittenLetterIsThere }
+{}
+
+/// Where there is room for each size of a choice, there is room for the symbol in which a letter is written; so there
+/// is in the most room that a symbol has.
+pub fn room_for_each_size_serves_letters()
+    ensures each { RoomForEachServesLetters }
+    ensures most { MostRoomServesLetters }
 {}
 
 /// The symbol in which a right letter is written, in any choice of sizes, is read as that letter in each extent in

@@ -7,6 +7,7 @@ ghost use Rattle.dm_words.specs.Messages.{most_spelled};
 ghost use Rattle.dm_words.specs.Outcomes.{outcome};
 ghost use Rattle.dm_symbol.specs.Doubt.{erased_in};
 ghost use Rattle.dm_symbol.specs.inner.Marks.{marked_in};
+ghost use Rattle.dm_symbol.specs.inner.Restoring.{IsRestored, IsLost};
 ghost use Rattle.dm_symbol.specs.SymbolBlocks.{AreOfSize, AreBlocksNear};
 ghost use Rattle.dm_symbol.specs.SymbolReading.{IsSymbolRead, AreRestored, IsFirstLost, block_readings};
 ghost use Rattle.dm_symbol.specs.SymbolReading.{reading_in, symbol_reading_of};
@@ -39,6 +40,15 @@ pub struct BlockReading {
     /// The number of its check codewords that neither have used, of which an error uses two and an erasure one. Where
     /// it is 0, and codewords are erased, many blocks are read as some codeword, whatever they held.
     pub left: u8,
+}
+
+/// Why the codewords of a symbol can't be restored.
+#[derive(Clone, Copy)]
+pub(crate) enum Lost {
+    /// More modules of the borders have the wrong colour than the limit allows; this is their number.
+    Border(u16),
+    /// This block has more errors than can be corrected. It is the first such block; blocks count from 0.
+    Block(u8),
 }
 
 /// What a symbol says, and how much of it was wrong, with room for a message of at most `ITEMS` items.
@@ -139,19 +149,46 @@ pub(crate) fn read_parts<const ROWS: usize, const WORDS: usize, const ITEMS: usi
     ensures size { OnOk result (words.new.size ≡ symbol.now.size) }
     ensures count { OnOk result (length blocks.new.items ≡ symbol.now.size.blocks) }
 {
-    let border_faults = border_faults(symbol, how.doubtful);
-    if border_faults > how.border_limit {
-        return Err(ReadFault::Border(border_faults));
-    }
-    *faults = border_faults;
-    lift_to(symbol, words);
-    match restore_blocks(words, how.doubtful, blocks) {
+    match restore_to(symbol, how, words, blocks, faults) {
         Ok(()) => {}
-        Err(b) => return Err(ReadFault::Block(b)),
+        Err(Lost::Border(count)) => return Err(ReadFault::Border(count)),
+        Err(Lost::Block(index)) => return Err(ReadFault::Block(index)),
     }
     match message_to_as(how.extent, words.data_part(), message) {
         Ok(()) => Ok(()),
         Err(fault) => Err(ReadFault::Words(fault)),
+    }
+}
+
+/// Restores the codewords of a symbol, whatever they say: refuses it if more modules of its borders than the limit have
+/// the wrong colour and aren't doubtful; and restores the blocks in order. After `Ok`, `words` are the restored
+/// codewords, `blocks` says what became of each block, and `faults` is the number of such modules. After `Border`
+/// `blocks` and `faults` are as they were.
+pub(crate) fn restore_to<const ROWS: usize, const WORDS: usize>(
+    symbol: &SymbolIn<ROWS>,
+    how: ReadOptions<ROWS>,
+    words: &mut SymbolWordsIn<WORDS>,
+    blocks: &mut ArrayVec<BlockReading, MOST_BLOCKS>,
+    faults: &mut u16,
+) -> Result<(), Lost>
+    requires doubtful { IfSome how.doubtful (λ doubtful. doubtful.now.size ≡ symbol.now.size) }
+    requires codewords { codeword_count symbol.now.size ≤ WORDS }
+    ensures restored { OnOk result (IsRestored symbol.now (option_map (λ d. d.now) how.entry.doubtful)
+        how.entry.border_limit words.new blocks.new.items faults.new) }
+    ensures lost { IfErr result
+        (IsLost symbol.now (option_map (λ d. d.now) how.entry.doubtful) how.entry.border_limit) }
+    ensures same { (count : ℕ) → result ≡ Err (Lost.Border count)
+        → (blocks.new ≡ blocks.old) × (faults.new ≡ faults.old) }
+{
+    let border_faults = border_faults(symbol, how.doubtful);
+    if border_faults > how.border_limit {
+        return Err(Lost::Border(border_faults));
+    }
+    *faults = border_faults;
+    lift_to(symbol, words);
+    match restore_blocks(words, how.doubtful, blocks) {
+        Ok(()) => Ok(()),
+        Err(index) => Err(Lost::Block(index)),
     }
 }
 

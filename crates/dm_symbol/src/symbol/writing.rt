@@ -7,6 +7,7 @@ ghost use Rattle.dm_words.specs.Outcomes.{outcome};
 ghost use Rattle.dm_symbol.specs.SymbolBlocks.{AreOfSize, AreCodewordsOf, block_in, first_data};
 ghost use Rattle.dm_symbol.specs.NormalSymbol.{IsSymbolWritten, HasRoomFor};
 ghost use Rattle.dm_symbol.specs.SmallestSymbol.{IsSmallestWritten};
+ghost use Rattle.dm_symbol.specs.WrittenWords.{HaveRoom, AreWritten};
 
 use arrayvec::ArrayVec;
 use dm_code::encode;
@@ -18,12 +19,12 @@ use dm_words::{
     Extent, LARGEST_ROOM, MessageIn, Profile, TooLong, normal_words_in, pad_to, smallest_words_to,
 };
 
-/// How a message is written.
+/// How a message or a letter is written.
 #[derive(Clone, Copy, Debug, PartialEq, Eq)]
 pub struct WriteOptions {
-    /// Which data codewords are chosen for the message.
+    /// Which data codewords are chosen for it.
     pub profile: Profile,
-    /// Which sizes may be taken. The smallest of them that holds the message is.
+    /// Which sizes may be taken. The smallest of them that holds it is.
     pub size: SizeChoice,
 }
 
@@ -49,14 +50,29 @@ pub fn write_symbol_to<const ITEMS: usize, const WORDS: usize, const ROWS: usize
 {
     let mut list = ArrayVec::<u8, MOST_DATA>::new();
     match normal_words_in(how.profile, message, &mut list) {
-        Ok(()) => {}
-        Err(TooLong) => return Err(TooLong),
+        Ok(()) => write_words_to(&mut list, how.size, words, symbol),
+        Err(TooLong) => Err(TooLong),
     }
-    let Some(size) = SymbolSize::for_words(how.size, list.len() as u16) else {
+}
+
+/// Writes data codewords without pads: after `Ok`, `symbol` is that of these codewords with pads and check codewords,
+/// in the smallest size of the choice that holds them. `TooLong` exactly where no size of the choice does; then
+/// `symbol` is as it was.
+pub(crate) fn write_words_to<const WORDS: usize, const ROWS: usize>(
+    list: &mut ArrayVec<u8, MOST_DATA>,
+    choice: SizeChoice,
+    words: &mut SymbolWordsIn<WORDS>,
+    symbol: &mut SymbolIn<ROWS>,
+) -> Result<(), TooLong>
+    requires { HaveRoom choice list.old.items ROWS WORDS }
+    ensures written { AreWritten choice list.old.items (outcome result symbol.new) }
+    ensures same { OnErr result (symbol.new ≡ symbol.old) }
+{
+    let Some(size) = SymbolSize::for_words(choice, list.len() as u16) else {
         return Err(TooLong);
     };
-    pad_to(&mut list, size.data_count() as usize);
-    complete_with(words, size, &list);
+    pad_to(list, size.data_count() as usize);
+    complete_with(words, size, list);
     lay_to(words, symbol);
     Ok(())
 }

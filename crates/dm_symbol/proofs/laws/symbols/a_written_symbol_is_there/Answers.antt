@@ -1,4 +1,4 @@
-use Rattle.dm_symbol.proofs.SymbolCompletions.{written_is_there}
+use Rattle.dm_symbol.proofs.SymbolNormals.{written_is_there}
 use Rattle.dm_symbol.proofs.laws.symbols.a_written_symbol_is_there.Goals as goal
 
 pub returns : goal.returns

@@ -1,0 +1,72 @@
+-- The codewords of a symbol of any size, from what was lifted and restored.
+use Rattle.std.proofs.Common.{◌≡◌, ℕ, ◌≤◌, List, length, Option, ap, subst, ◌∙◌}
+use Rattle.std.specs.List.{range_with_len}
+use Rattle.std.proofs.lemmas.List.{length-map}
+use Rattle.std.proofs.lemmas.List.FromFn.{length-range_with_len}
+use Rattle.dm_modules.specs.Sizes.{SizeEntry, block_check}
+use Rattle.dm_modules.specs.Modules.{ModulesView}
+use Rattle.dm_modules.specs.Words.{WordsView, data_of}
+use Rattle.dm_modules.specs.Holding.{Holds}
+use Rattle.dm_symbol.specs.declared.symbol.reading.BlockReading.{BlockReading}
+use Rattle.dm_symbol.specs.declared.symbol.reading.Lost.TheVariants.{Block}
+use Rattle.dm_symbol.specs.Doubt.{sure_fault_count, erased_in}
+use Rattle.dm_symbol.specs.SymbolBlocks.{words_with, AreOfSize, AreHeldBy, AreBlocksNear, block_in, first_data}
+use Rattle.dm_symbol.specs.SymbolReading.{IsFirstLost, block_reading, block_readings}
+use Rattle.dm_symbol.specs.inner.Restoring.{IsRestored, IsLost}
+
+-- Words that modules hold are codewords of a symbol of their size.
+pub held_by_modules : (modules : ModulesView) (w : WordsView) → Holds modules w → AreHeldBy modules w.list
+held_by_modules modules w h = subst (λ x. Holds modules x) (ap (λ s. words_with s w.list) h.same_size) h
+
+-- As much is said of a symbol's blocks as it has.
+pub readings_count : (size : SizeEntry) (erased : ℕ → List ℕ) (u v : List ℕ)
+    → length (block_readings size erased u v) ≡ size.blocks
+readings_count size erased u v =
+    length-map (range_with_len 0 size.blocks)
+    (λ b. block_reading (block_check size) (erased b) (block_in size u b) (block_in size v b))
+    ∙ length-range_with_len 0 size.blocks
+
+module _ (modules : ModulesView) (doubtful : Option ModulesView) (limit : ℕ) where
+  -- The surely wrong modules of the borders.
+  abbrev faults : ℕ
+  faults = sure_fault_count modules doubtful
+
+  -- Where a block can't be restored, the symbol is lost by the first such block.
+  pub is_lost : (w : WordsView) (b : ℕ) → faults ≤ limit → Holds modules w
+      → IsFirstLost w.size (erased_in w.size doubtful) w.list b → IsLost modules doubtful limit (Block b)
+  is_lost w b few h first = (
+    few,
+    w.list,
+    held_by_modules modules w h,
+    subst (λ s. IsFirstLost s (erased_in s doubtful) w.list b) h.same_size first,
+  )
+
+  -- Words that modules hold are restored to those whose blocks are near to theirs.
+  pub is_restored : (w v : WordsView) (blocks : List BlockReading) (count : ℕ) → faults ≤ limit → count ≡ faults
+      → Holds modules w → v.size ≡ w.size → AreOfSize w.size v.list
+      → AreBlocksNear w.size (erased_in w.size doubtful) w.list v.list
+      → blocks ≡ block_readings w.size (erased_in w.size doubtful) w.list v.list
+      → IsRestored modules doubtful limit v blocks count
+  is_restored w v blocks count few border h same of_size near said = record {
+    few = few;
+    faults_are = border;
+    size = same ∙ h.same_size;
+    held = w.list;
+    restored = record {
+      words_held = held_by_modules modules w h;
+      of_size = subst (λ s. AreOfSize s v.list) h.same_size of_size;
+      near = subst (λ s. AreBlocksNear s (erased_in s doubtful) w.list v.list) h.same_size near;
+    };
+    readings = subst (λ s. blocks ≡ block_readings s (erased_in s doubtful) w.list v.list) h.same_size said;
+  }
+
+  module _ (w : WordsView) (blocks : List BlockReading) (count : ℕ)
+      (r : IsRestored modules doubtful limit w blocks count) where
+    -- The data codewords are those of the restored codewords.
+    pub restored_data : data_of w ≡ first_data modules.size w.list
+    restored_data = ap (λ s. first_data s w.list) r.size
+
+    -- As much is said of blocks as the symbol has.
+    pub restored_count : length blocks ≡ modules.size.blocks
+    restored_count =
+        ap length r.readings ∙ readings_count modules.size (erased_in modules.size doubtful) r.held w.list

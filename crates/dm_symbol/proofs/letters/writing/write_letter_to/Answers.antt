@@ -1,0 +1,11 @@
+use Rattle.std.proofs.Common.{refl}
+use Rattle.dm_words.specs.LetterForm.{letter_form}
+use Rattle.dm_symbol.proofs.SymbolWriteSteps.{too_long_for_all}
+use Rattle.dm_symbol.proofs.WrittenWords.{no_words_written}
+use Rattle.dm_symbol.proofs.letters.writing.write_letter_to.Goals as goal
+
+pub returns-in-Err-clause-written : goal.returns-in-Err-clause-written
+returns-in-Err-clause-written g c =
+    let form = letter_form c.args.how.profile c.args.letter.now in
+    no_words_written c.args.how.size form _ refl
+    (too_long_for_all c.args.how.size form (c.in-Err.ensures.too_long.0 refl))

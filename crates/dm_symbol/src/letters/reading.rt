@@ -1,0 +1,73 @@
+//! Reading a symbol of any size as a letter.
+
+ghost use Rattle.std.specs.Prelude.{◌≡◌, ◌≤◌, ◌*◌, ℕ, List, OnOk, IfSome, option_map};
+ghost use Rattle.dm_modules.specs.Sizes.{codeword_count};
+ghost use Rattle.dm_words.specs.Messages.{most_spelled};
+ghost use Rattle.dm_words.specs.Outcomes.{outcome};
+ghost use Rattle.dm_symbol.specs.SymbolReading.{AreRestored};
+ghost use Rattle.dm_symbol.specs.LetterReading.{IsLetterRead, letter_reading_in};
+
+use crate::letters::{LetterReadFault, LetterReadingIn};
+use crate::symbol::reading::{Lost, ReadOptions, restore_to};
+use dm_modules::{SymbolIn, SymbolWordsIn};
+use dm_words::{LARGEST_ROOM, letter_to_as, symbology_number};
+
+/// Reads a symbol of any size as a letter, which is a head or none, items and marks (ISO/IEC 16022, decode algorithm,
+/// ECI encodation, structured append, reader programming). It does what [`read_symbol_to`](crate::read_symbol_to())
+/// does, with the same limits, and reads the restored data codewords as the letter that they say in the extent. At
+/// [`Extent::Usual`](crate::Extent::Usual) that is a message, as a letter without a head and marks. At
+/// [`Extent::Wide`](crate::Extent::Wide) it is each message that `read_symbol_to` reads, as such a letter; and beside
+/// these, letters with marks or a head, and texts whose macro stands behind empty runs. The fault is that of the first
+/// step that fails: `Border`, `Block` or `Words`.
+///
+/// After `Ok`, `reading` holds what the symbol says, whatever it held before, and the number of the symbology identifier
+/// of its codewords. After `Border` it is as it was, and after another fault it holds some reading. `words` is room for
+/// the codewords, whatever they were before; after `Ok` it holds them as they were restored.
+///
+/// Doubtful modules, where there are any, are a symbol of the same size. The rooms are for what a symbol of this size
+/// has: all its codewords, the items that its data codewords can spell in the extent, and a mark for each two of these.
+pub fn read_letter_to<
+    const ROWS: usize,
+    const WORDS: usize,
+    const ITEMS: usize,
+    const MARKS: usize,
+>(
+    symbol: &SymbolIn<ROWS>,
+    how: ReadOptions<ROWS>,
+    words: &mut SymbolWordsIn<WORDS>,
+    reading: &mut LetterReadingIn<ITEMS, MARKS>,
+) -> Result<(), LetterReadFault>
+    requires doubtful { IfSome how.doubtful (λ doubtful. doubtful.now.size ≡ symbol.now.size) }
+    requires codewords { codeword_count symbol.now.size ≤ WORDS }
+    requires items { most_spelled how.extent symbol.now.size.data_count ≤ ITEMS }
+    requires most { ITEMS ≤ LARGEST_ROOM }
+    requires marks { symbol.now.size.data_count ≤ 2 * MARKS }
+    ensures read { IsLetterRead how.entry.extent symbol.now
+        (option_map (λ d. d.now) how.entry.doubtful) how.entry.border_limit
+        (outcome result (letter_reading_in reading.new)) }
+    ensures same { (count : ℕ) → result ≡ Err (LetterReadFault.Border count)
+        → reading.new ≡ reading.old }
+    ensures restored { OnOk result ((held : List ℕ) × AreRestored symbol.now
+        (option_map (λ d. d.now) how.entry.doubtful) held words.new.list) }
+    ensures size { OnOk result (words.new.size ≡ symbol.now.size) }
+{
+    match restore_to(
+        symbol,
+        how,
+        words,
+        &mut reading.blocks,
+        &mut reading.border_faults,
+    ) {
+        Ok(()) => {}
+        Err(Lost::Border(count)) => return Err(LetterReadFault::Border(count)),
+        Err(Lost::Block(index)) => return Err(LetterReadFault::Block(index)),
+    }
+    let list = words.data_part();
+    match letter_to_as(how.extent, list, &mut reading.letter) {
+        Ok(()) => {
+            reading.identifier = symbology_number(list, &reading.letter);
+            Ok(())
+        }
+        Err(fault) => Err(LetterReadFault::Words(fault)),
+    }
+}
