@@ -34,19 +34,37 @@ def name_of(path):
     return os.path.splitext(os.path.basename(path))[0]
 
 
-def in_order(top, crate, found):
+def in_order(top, listing, found):
     """The modules of a folder in the order in which its list names them, which goes from what is cited to what cites
     it."""
-    listed = re.findall(r"^pub mod (\w+)", text(top, os.path.join("crates", crate, "specs", "Lib.antt")), re.M)
+    listed = re.findall(r"^pub mod (\w+)", text(top, listing), re.M)
     places = {name: at for at, name in enumerate(listed)}
     return sorted(found, key=lambda path: (places.get(name_of(path), len(listed)), path))
 
 
 @functools.cache
+def lists(top, crate):
+    """The folders of specs/ but for inner ones, specs/ itself first, by name, each with the file that lists its
+    modules."""
+    within = paths(top, "crates", crate, "specs", "*", "")
+    return {"": os.path.join("crates", crate, "specs", "Lib.antt"),
+            **{os.path.basename(path): path + ".antt" for path in within if os.path.basename(path) != "inner"}}
+
+
+@functools.cache
 def modules(top, crate):
-    """The files of specs/ that define something: not the list of the crate's modules, and none of specs/inner."""
-    found = [path for path in paths(top, "crates", crate, "specs", "*.antt") if name_of(path) not in ("Lib", "inner")]
-    return in_order(top, crate, found) if found else []
+    """The files of specs/ that define something, folder by folder: no list of modules, and none of an inner folder."""
+    found = []
+    for folder, listing in lists(top, crate).items():
+        own = [path for path in paths(top, "crates", crate, "specs", folder, "*.antt")
+               if path not in lists(top, crate).values() and name_of(path) != "inner"]
+        found += in_order(top, listing, own) if own else []
+    return found
+
+
+def module_of(path):
+    """The name of a module of specs/ by its file, with that of its folder before it if it is in one."""
+    return ".".join(path.removesuffix(".antt").split(os.sep)[3:])
 
 
 def comment_above(lines, at, mark):
@@ -69,7 +87,7 @@ def definitions(top, crate):
         for at, line in enumerate(lines):
             declared = re.match(rf"\s*((?:(?:{'|'.join(KINDS)}) )+)(\S+)", line)
             if declared and "pub" in declared[1].split() and len(declared[1].split()) > 1:
-                found.append(Definition(crate, name_of(path), declared[2], path, at + 1,
+                found.append(Definition(crate, module_of(path), declared[2], path, at + 1,
                                         comment_above(lines, at, "--")))
     return found
 
@@ -82,17 +100,38 @@ def sources(top, crate):
             and name_of(path) != "tests"]
 
 
+def within(path):
+    """The modules that lead to a file of a crate's code; none leads to its first file."""
+    parts = path.removesuffix(".rt").split(os.sep)[3:]
+    return () if parts in (["lib"], ["main"]) else tuple(parts)
+
+
+@functools.cache
 def passed_on(top, crate):
-    """The names that the crate's first file gives to others, those of its own functions among them, and the modules
-    that it opens."""
-    first = next(path for path in sources(top, crate) if name_of(path) in ("lib", "main") and path.count(os.sep) == 3)
-    own = {os.path.relpath(path, os.path.join("crates", crate, "src")).split(os.sep)[0].removesuffix(".rt")
-           for path in sources(top, crate)}
-    names = set(re.findall(r"^pub (?:const )?(?:extern \"C\" )?fn (\w+)", text(top, first), re.M))
-    for module, many, one in re.findall(r"^pub use (\w+)(?:::\w+)*::(?:\{([^}]*)\}|(\w+));", text(top, first), re.M):
-        if module in own:
-            names |= set(re.findall(r"\w+", many or one))
-    return names, set(re.findall(r"^pub mod (\w+);", text(top, first), re.M))
+    """What others find in the crate itself and in each module that it opens, by the names of the modules that lead
+    there: pairs of a module whose files declare it, this one or one below, and the names."""
+    files = {within(path): path for path in sources(top, crate)}
+    found, left = {}, [()]
+    while left:
+        module = left.pop()
+        source = text(top, files[module])
+        found[module] = [(module, set(re.findall(r"^pub (?:const )?(?:extern \"C\" )?fn (\w+)", source, re.M)))]
+        for below, many, one in re.findall(r"^pub use (\w+)(?:::\w+)*::(?:\{([^}]*)\}|(\w+));", source, re.M):
+            if (*module, below) in files:
+                found[module].append(((*module, below), set(re.findall(r"\w+", many or one))))
+        left += [(*module, name) for name in re.findall(r"^pub mod (\w+);", source, re.M)]
+    return found
+
+
+def opened_to(top, crate, path, name):
+    """The module in which others find what a file declares by this name, as the names that lead there; None if they
+    don't find it."""
+    here = within(path)
+    for module, given in passed_on(top, crate).items():
+        for below, names in given:
+            if name in names and (here == below or below != module and here[:len(below)] == below):
+                return module
+    return None
 
 
 def braces(source, start):
@@ -114,8 +153,8 @@ def clauses_of(source):
 def names_cited(source):
     """By the names that a file uses in its clauses or its definitions: the crate and the module of each definition."""
     found = {}
-    for crate, module, names in re.findall(r"^\s*(?:ghost )?use Rattle\.(\w+)\.specs\.(\w+)\.\{([^}]*)\};?", source,
-                                           re.M):
+    one = r"Rattle\.(\w+)\.specs\.(?!declared\.|inner\.)((?:[a-z]\w*\.)?\w+)\.\{([^}]*)\}"
+    for crate, module, names in re.findall(rf"^\s*(?:ghost )?use {one};?", source, re.M):
         for name in names.split(","):
             of, _, here = name.strip().partition(" as ")
             found[here or of] = (crate, module, of)
@@ -175,11 +214,10 @@ def kept_by(lines, body, trait, given):
 def functions_in(top, crate, path):
     """The functions of a file, and the traits that its types implement, with the names by which others call them."""
     lines, cites = text(top, path).splitlines(), names_cited(text(top, path))
-    given, opened = passed_on(top, crate)
-    within = [part.removesuffix(".rt") for part in path.split(os.sep)[3:]]
+    given = {name for found in passed_on(top, crate).values() for _, names in found for name in names}
     for opening, body in blocks(lines):
         owner, trait = owner_of(opening)
-        if owner and owner not in given:
+        if owner and opened_to(top, crate, path, owner) is None:
             continue
         if trait:
             if kept := kept_by(lines, body, trait, given):
@@ -190,9 +228,9 @@ def functions_in(top, crate, path):
             declared = re.match(r"\s*(pub )?(?:const )?(?:extern \"C\" )?fn (\w+)", lines[at])
             if not declared or not (declared[1] or opening.startswith("pub trait")):
                 continue
-            if not (owner or within[0] in opened or declared[2] in given):
+            outside = [owner] if owner else opened_to(top, crate, path, declared[2])
+            if outside is None:
                 continue
-            outside = [owner] if owner else within if within[0] in opened else []
             clauses = clauses_of(contract(lines, at))
             yield Function(crate, "::".join([*outside, declared[2]]), path, at + 1, comment_above(lines, at, "///"),
                            clauses, cites)
@@ -231,7 +269,7 @@ def exported(top, path):
 def lemmas(top, crate):
     """The lemmas that the crate passes on to those above it, and what these speak of, by the file that has them."""
     found = collections.defaultdict(list)
-    for path in paths(top, "crates", crate, "proofs", "Exported.antt"):
+    for path in paths(top, "crates", crate, "proofs", "**", "Exported.antt"):
         for name, module in exported(top, path):
             found[f"crates/{module.replace('.', '/')}.antt"].append(name)
     return found

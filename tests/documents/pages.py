@@ -99,7 +99,7 @@ def is_part(name):
     if not part:
         return True
     own = re.compile(rf"^pub record {record}\b.*?(?=^\S(?!-)|\Z)", re.M | re.S)
-    found = [own.search(source) for crate in crates() for source in modules(crate, "specs").values()]
+    found = [own.search(source) for crate in crates() for source in modules(crate).values()]
     return any(is_declared(part, lines[0]) for lines in found if lines)
 
 

@@ -61,23 +61,25 @@ def checks_of_definitions():
     for item in items(DEFINITIONS):
         found = ITEM.match(item)
         if item.startswith("Inner: "):
-            for name, crate in re.findall(r"\[`(\w+)`\]\(\.\./crates/(\w+)/specs/inner/\1\.antt\)", item):
-                defined.add((crate, "inner", name))
-                yield f"{crate}, specs/inner, {name}", name in modules(crate, "specs/inner")
+            for name, crate, path in re.findall(r"\[`(\w+)`\]\(\.\./crates/(\w+)/specs/((?:\w+/)?inner/\1)\.antt\)",
+                                                item):
+                defined.add((crate, path, name))
+                yield f"{crate}, specs, {path}", path in modules(crate, are_inner=True)
         elif found and found[4] == "specs":
-            crate, inside = found[3], QUOTED.findall(found[1])[0]
-            source = modules(crate, "specs").get(inside)
-            is_there = found[2] == f"crates/{crate}/specs/{inside}.antt" and source is not None
+            crate, inside = found[3], found[2].split("/", 3)[-1].removesuffix(".antt")
+            source = modules(crate).get(inside)
+            is_there = os.path.basename(inside) == QUOTED.findall(found[1])[0] and source is not None
             yield f"{crate}, specs, {inside}: {found[2]}", is_there
             for name in QUOTED.findall(found[5]):
                 defined.add((crate, inside, name))
                 yield f"{crate}, specs, {inside}.{name}", source is not None and is_declared(name, source)
     for crate in crates():
-        for inside, source in modules(crate, "specs").items():
+        for inside, source in modules(crate).items():
             for name in definitions(source):
                 yield f"docs/DEFINITIONS.md, {crate}, {inside}.{name}", (crate, inside, name) in defined
-        for name in modules(crate, "specs/inner"):
-            yield f"docs/DEFINITIONS.md, {crate}, {name} behind Inner", (crate, "inner", name) in defined
+        for path in modules(crate, are_inner=True):
+            is_listed = (crate, path, os.path.basename(path)) in defined
+            yield f"docs/DEFINITIONS.md, {crate}, {path} behind Inner", is_listed
 
 
 def checks_of_functions():
@@ -120,10 +122,10 @@ def checks_of_uses():
         plain = re.sub(r"^(?:pub |ghost )*use [^;]*;|//[^\n]*", "", code, flags=re.M)
         named = collections.defaultdict(set)
         for lower, names in imports:
-            for name in re.findall(r"\w+", names):
+            for name in re.findall(r"\w+\b(?!::)", names):
                 if name != name.upper() and re.search(rf"\b{name}\b", plain):
                     named[name].add(home(lower, name))
-        for lower, name in re.findall(rf"\b({'|'.join(crates())})::(\w+)\(", plain):
+        for lower, name in re.findall(rf"\b({'|'.join(crates())})::(?:[a-z]\w*::)*(\w+)\(", plain):
             named[name].add(home(lower, name))
         for name in named if any(True for _ in public_functions(upper)) else ():
             yield f"docs/DEFINITIONS.md, {upper} uses {name}", any(name == there for there, _ in listed[upper])
@@ -142,7 +144,7 @@ def checks_of_lemmas():
         is_there = os.path.exists(places.path(path)) and name in text(places.path(path)).split()
         yield f"tools/clauses, {path}, {name}", is_there
     for crate in crates():
-        for exported in glob.glob(places.path("crates", crate, "proofs", "Exported.antt")):
+        for exported in glob.glob(places.path("crates", crate, "proofs", "**", "Exported.antt"), recursive=True):
             for module, names in re.findall(r"use Rattle\.(\S+)\.\{(.*?)\}", text(exported), re.S):
                 for name in re.split(r",\s*", names):
                     path = f"crates/{module.replace('.', '/')}.antt"

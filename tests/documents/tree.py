@@ -24,12 +24,17 @@ def crates():
 
 
 @functools.cache
-def modules(crate, folder):
-    """The modules in a folder of a crate, by name. That of the folder itself, and the list of a crate's modules, define
-    nothing."""
-    paths = glob.glob(places.path("crates", crate, folder, "*.antt"))
-    return {name: text(path)
-            for path in paths if (name := os.path.basename(path).removesuffix(".antt")) not in ("Lib", "inner")}
+def modules(crate, are_inner=False):
+    """The modules in the folders of a crate's specs/, by their paths there: those of inner folders, or the others. The
+    list of a folder's modules defines nothing."""
+    top, found = places.path("crates", crate, "specs"), {}
+    for folder in ("", "*"):
+        for path in glob.glob(os.path.join(top, folder, *["inner"] * are_inner, "*.antt")):
+            name = os.path.relpath(path, top).removesuffix(".antt")
+            is_list = name == "Lib" or os.path.isdir(os.path.join(top, name))
+            if are_inner or not is_list and "inner" not in name.split(os.sep):
+                found[name] = text(path)
+    return found
 
 
 def is_declared(name, source):
@@ -71,23 +76,33 @@ def functions_in(source):
                 yield owner, declared[2]
 
 
-def public_functions(crate):
-    """The functions that other crates can call, each with its file: what the crate's first file has or passes on, the
-    functions of types among this, and public modules."""
+def public_modules(crate):
+    """The files of a crate's code whose names others can say, the first one and those of public modules, each with what
+    it passes on of the modules below it, by the file of these."""
     known = sources(crate)
-    first = known.get("lib", known.get("main", ""))
-    passed_on = set()
-    for path, many, one in re.findall(r"^pub use (\w+)(?:::\w+)*::(?:\{([^}]*)\}|(\w+));", first, re.M):
-        if path in known:
-            passed_on |= set(re.findall(r"\w+", many or one))
-    is_open = re.findall(r"^pub mod (\w+);", first, re.M)
-    for name, source in known.items():
-        file = places.path("crates", crate, "src", name + ".rt")
-        for owner, function in functions_in(source):
-            if owner in passed_on:
-                yield f"{owner}::{function}", file
-            elif owner is None and (function in passed_on or name == "lib" or name.split(os.sep)[0] in is_open):
-                yield function, file
+    found, left = {}, [("lib" if "lib" in known else "main", "")]
+    while left:
+        name, folder = left.pop()
+        found[name] = collections.defaultdict(set)
+        for path, many, one in re.findall(r"^pub use (\w+)(?:::\w+)*::(?:\{([^}]*)\}|(\w+));", known[name], re.M):
+            if folder + path in known:
+                found[name][folder + path] |= set(re.findall(r"\w+", many or one))
+        left += [(folder + it, f"{folder}{it}/") for it in re.findall(r"^pub mod (\w+);", known[name], re.M)]
+    return found
+
+
+def public_functions(crate):
+    """The functions that other crates can call, each with its file: what the crate's first file and its public modules
+    have or pass on, the functions of types among this."""
+    for public, passed_on in public_modules(crate).items():
+        for name, source in sources(crate).items():
+            file = places.path("crates", crate, "src", name + ".rt")
+            given = set().union(*(names for it, names in passed_on.items() if f"{name}/".startswith(f"{it}/")))
+            for owner, function in functions_in(source):
+                if owner in given:
+                    yield f"{owner}::{function}", file
+                elif owner is None and (function in given or name == public):
+                    yield function, file
 
 
 @functools.cache

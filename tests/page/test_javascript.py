@@ -77,7 +77,7 @@ class JavaScript(Case):
     def test_a_header_that_changes_is_told(self):
         """Where a struct of the sampler's header changes, tools/callers names the page's module."""
         top = pathlib.Path(self.folder())
-        for part in ("library", "web", "sampler", "crates/dm_modules/src", "crates/dm_words/src",
+        for part in ("library", "web", "sampler", "crates/dm_layout/src", "crates/dm_words/src",
                      "crates/ecc200_calls/src"):
             shutil.copytree(places.path(*part.split("/")), top / part, ignore=shutil.ignore_patterns("out"))
         check = [sys.executable, places.path("tools", "callers"), "--check", "--top", str(top)]

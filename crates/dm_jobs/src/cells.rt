@@ -2,7 +2,7 @@
 
 ghost use Rattle.std.specs.Prelude.{◌<◌, ◌≤◌};
 
-use dm_modules::Symbol;
+use dm_layout::symbols::Symbol;
 
 /// Gives sixteen modules of a row from a column on, one of 0, 16, .. up to 128: the first as the lowest bit, 1 for
 /// dark. Those from the columns of the symbol on mean nothing.

@@ -1,7 +1,7 @@
 //! A digest of results.
 
 use crate::cells::{bytes_of, sixteen};
-use dm_modules::Symbol;
+use dm_layout::symbols::Symbol;
 
 /// A number that depends on all that was added, and on its order; and how many results were told to be answers, and how
 /// many refusals.

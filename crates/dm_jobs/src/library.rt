@@ -1,11 +1,11 @@
 //! The library's calls on one symbol after another, as a camera line or a printer's driver makes them.
 
 ghost use Rattle.std.specs.Prelude.{◌≤◌};
-ghost use Rattle.dm_modules.specs.Sizes.{most_modules};
+ghost use Rattle.dm_layout.specs.symbols.Sizes.{most_modules};
 
 use crate::chance::Chance;
 use crate::digest::Digest;
-use dm_modules::{MOST_BLOCKS, MOST_MODULES};
+use dm_layout::symbols::{MOST_BLOCKS, MOST_MODULES};
 use dm_words::LARGEST_ROOM;
 use ecc200_calls::{
     Fault, How, ReadingOut, SymbolOut, normal as normalise, read, usual_limit, write,

@@ -8,7 +8,7 @@ use crate::devices::{PageSink, TextSource};
 use crate::digest::Digest;
 use crate::failure::Failure;
 use crate::texts::{Text, byte_of};
-use dm_modules::{MOST_COLUMNS, Symbol};
+use dm_layout::symbols::{MOST_COLUMNS, Symbol};
 use dm_text::{Task, run};
 
 /// The most bytes that a run here reads.

@@ -1,8 +1,8 @@
 -- The blocks of a square's codewords, which are all of one length.
 use Rattle.std.proofs.Common.{◌≡◌, ℕ, ◌+◌, ◌*◌, ◌<◌, length, get_or, take, refl, sym, ◌∙◌, ap}
 use Rattle.std.proofs.Common.{subst}
-use Rattle.dm_modules.proofs.Exported as symbols
-use Rattle.dm_modules.specs.Sizes as sizes
+use Rattle.dm_layout.proofs.symbols.Exported as symbols
+use Rattle.dm_layout.specs.symbols.Sizes as sizes
 use Rattle.dm_layout.specs.Sizes.{SizeRow, IsRow, symbol_size, block_length}
 use Rattle.dm_layout.specs.Sizes.{codeword_count}
 use Rattle.dm_layout.specs.Words.{WordsView, IsWords, symbol_words, data_of}

@@ -1,5 +1,5 @@
 -- What the crates above cite of the proofs of this one: facts of its definitions.
-pub use Rattle.dm_modules.proofs.Exported.{cut_cell, sixteen_shown, summands_zero}
+pub use Rattle.dm_layout.proofs.symbols.Exported.{cut_cell, sixteen_shown, summands_zero}
 pub use Rattle.dm_layout.proofs.BlockLemmas.{blocks_make_words, length_of_block, word_of_block}
 pub use Rattle.dm_layout.proofs.GridLemmas.{same_squares, square_of_prefix}
 pub use Rattle.dm_layout.proofs.PlacementRows.{count_at_row, once_at_row}

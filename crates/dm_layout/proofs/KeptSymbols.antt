@@ -4,16 +4,16 @@ use Rattle.std.proofs.Common.{subst, arith}
 use Rattle.std.specs.Prelude.{sum_by, count_by}
 use Rattle.std.specs.List.{range_with_len}
 use Rattle.std.proofs.Math.Path.{fun_ext}
-use Rattle.dm_modules.specs.Sizes as sizes
-use Rattle.dm_modules.specs.Sizes.{SizeEntry}
-use Rattle.dm_modules.specs.Modules.{ModulesView, IsModules, module_at, is_dark_bit}
-use Rattle.dm_modules.specs.Words as codewords
-use Rattle.dm_modules.specs.Holding as holding
-use Rattle.dm_modules.specs.Border as borders
-use Rattle.dm_modules.specs.SureFaults.{sure_fault_count}
-use Rattle.dm_modules.proofs.Exported.{modules_by, module_by, same_modules}
+use Rattle.dm_layout.specs.symbols.Sizes as sizes
+use Rattle.dm_layout.specs.symbols.Sizes.{SizeEntry}
+use Rattle.dm_layout.specs.symbols.Symbols.{SymbolView, IsSymbol, module_at, is_dark_bit}
+use Rattle.dm_layout.specs.symbols.Words as codewords
+use Rattle.dm_layout.specs.symbols.Holding as holding
+use Rattle.dm_layout.specs.symbols.Border as borders
+use Rattle.dm_layout.specs.symbols.SureFaults.{sure_fault_count}
+use Rattle.dm_layout.proofs.symbols.Exported.{modules_by, module_by, same_modules}
 use Rattle.dm_layout.specs.Sizes.{SizeRow, IsRow, row_of_entry, symbol_size, block_data, block_length, largest_side}
-use Rattle.dm_layout.specs.Sizes.{most_codewords}
+use Rattle.dm_layout.specs.Sizes.{most_grid_codewords}
 use Rattle.dm_layout.specs.Grid.{IsGrid, symbol_modules, square_by}
 use Rattle.dm_layout.specs.Words.{symbol_words}
 use Rattle.dm_layout.specs.Holds.{Holds, IsLaid}
@@ -28,7 +28,7 @@ pub kept_fits : (e : SizeEntry) → IsKept e → e.rows ≤ largest_side
 kept_fits e k = (row_facts (row_of_entry e) k.row).fits
 
 -- It has at most as many codewords.
-pub kept_room : (e : SizeEntry) → IsKept e → sizes.codeword_count e ≤ most_codewords
+pub kept_room : (e : SizeEntry) → IsKept e → sizes.codeword_count e ≤ most_grid_codewords
 kept_room e k = (row_facts (row_of_entry e) k.row).codewords
 
 -- It has as many columns as rows.
@@ -48,7 +48,7 @@ kept_data e b k l = ap (λ s. sizes.block_data s b) (sym k.same) ∙ (is_square 
 -- ---- what is kept is the same symbol
 
 -- The cells of a kept grid are the modules that it is kept as.
-pub same_symbol : (m : ModulesView) → IsKept m.size → symbol_modules (kept_grid m) ≡ m
+pub same_symbol : (m : SymbolView) → IsKept m.size → symbol_modules (kept_grid m) ≡ m
 same_symbol m k = ap (λ (s : SizeEntry). record { size = s; rows = m.rows }) k.same
 
 -- The codewords of a square are those that they are kept as.
@@ -56,12 +56,12 @@ pub same_codewords : (w : codewords.WordsView) → IsKept w.size → symbol_word
 same_codewords w k = ap (λ (s : SizeEntry). record { size = s; list = w.list }) k.same
 
 -- What is kept as well-formed modules is a well-formed grid.
-pub kept_is_grid : (m : ModulesView) → IsKept m.size → IsModules m → IsGrid (kept_grid m)
-kept_is_grid m k h = is_grid (kept_grid m) k.row (subst IsModules (sym (same_symbol m k)) h)
+pub kept_is_grid : (m : SymbolView) → IsKept m.size → IsSymbol m → IsGrid (kept_grid m)
+kept_is_grid m k h = is_grid (kept_grid m) k.row (subst IsSymbol (sym (same_symbol m k)) h)
 
 -- ---- holding
 
-module _ (m : ModulesView) (w : codewords.WordsView) (k : IsKept m.size) where
+module _ (m : SymbolView) (w : codewords.WordsView) (k : IsKept m.size) where
   -- Codewords of the symbol's size are kept.
   kept_too : w.size ≡ m.size → IsKept w.size
   kept_too e = subst IsKept (sym e) k
@@ -84,7 +84,7 @@ module _ (m : ModulesView) (w : codewords.WordsView) (k : IsKept m.size) where
 -- ---- border faults
 
 -- Where nothing is doubtful, all border faults are sure.
-pub all_sure : (m : ModulesView) → sure_fault_count m None ≡ borders.border_fault_count m
+pub all_sure : (m : SymbolView) → sure_fault_count m None ≡ borders.border_fault_count m
 all_sure m =
     ap (λ (fault : ℕ → ℕ → Bool). sum_by (λ row. count_by (fault row) (range_with_len 0 m.size.columns))
     (range_with_len 0 m.size.rows))
@@ -97,14 +97,14 @@ all_sure m =
 -- ---- rows that are put one after the other
 
 -- The rows above `row` have these colours.
-pub record IsPut (size : SizeEntry) (row : ℕ) (colour : ℕ → ℕ → Bool) (m : ModulesView) : Type 0 where
+pub record IsPut (size : SizeEntry) (row : ℕ) (colour : ℕ → ℕ → Bool) (m : SymbolView) : Type 0 where
   pub same_size : m.size ≡ size
-  pub symbol : IsModules m
+  pub symbol : IsSymbol m
   pub above : (r c : ℕ) → r < row → c < size.columns → module_at m r c ≡ colour r c
 
 -- With one more row put, the rows above the next have their colours.
-pub row_more : (e : SizeEntry) (row x : ℕ) (colour : ℕ → ℕ → Bool) (m n : ModulesView) → IsPut e row colour m →
-    row < e.rows → e.columns ≤ 128 → n.size ≡ m.size → IsModules n →
+pub row_more : (e : SizeEntry) (row x : ℕ) (colour : ℕ → ℕ → Bool) (m n : SymbolView) → IsPut e row colour m →
+    row < e.rows → e.columns ≤ 128 → n.size ≡ m.size → IsSymbol n →
     ((c : ℕ) → c < 128 → c < m.size.columns → module_at n row c ≡ is_dark_bit x c) →
     ((r c : ℕ) → r < m.size.rows → c < m.size.columns → r ≢ row → module_at n r c ≡ module_at m r c) →
     ((c : ℕ) → c < e.columns → is_dark_bit x c ≡ colour row c) → IsPut e (row + 1) colour n
@@ -127,7 +127,7 @@ row_more e row x colour m n put l narrow same symbol here others cells = record 
     last c lc = here c (omega (arith, lc, narrow)) (wide c lc) ∙ cells c lc
 
 -- After the last row the modules are those of a square of these colours.
-pub square_put : (s : SizeRow) (row : ℕ) (colour : ℕ → ℕ → Bool) (m : ModulesView) → IsRow s → s.side ≤ row →
+pub square_put : (s : SizeRow) (row : ℕ) (colour : ℕ → ℕ → Bool) (m : SymbolView) → IsRow s → s.side ≤ row →
     IsPut (symbol_size s) row colour m → m.rows ≡ square_by s.side colour
 square_put s row colour m is_row far put =
     let e = put.same_size in
@@ -138,10 +138,10 @@ square_put s row colour m is_row far put =
     let below : r < s.side = subst (λ (t : SizeEntry). r < t.rows) e lr in
     let inside : c < s.side = subst (λ (t : SizeEntry). c < t.columns) e lc in
     put.above r c (omega (arith, below, far)) inside ∙ sym (module_by s.side s.side colour r c below inside)) in
-    ap (λ (n : ModulesView). n.rows) all
+    ap (λ (n : SymbolView). n.rows) all
 
 -- After the last row of a symbol's own colours the modules are those of the symbol.
-pub symbol_put : (symbol m : ModulesView) (row : ℕ) → IsModules symbol → symbol.size.rows ≤ row →
+pub symbol_put : (symbol m : SymbolView) (row : ℕ) → IsSymbol symbol → symbol.size.rows ≤ row →
     IsPut symbol.size row (module_at symbol) m → m ≡ symbol
 symbol_put symbol m row well far put =
     same_modules m symbol put.symbol well put.same_size (λ r c lr lc.

@@ -7,7 +7,7 @@ use Rattle.dm_layout.specs.Modules.{Kind, LiesAt, IsOfKind, EachModuleHasOneKind
 use Rattle.dm_layout.specs.Modules.Kind.{OfBorder, OfFixedSquare, Bit}
 use Rattle.dm_layout.specs.Placement.{At, IsPlace}
 use Rattle.dm_place.specs.declared.shape.Cell.{Cell}
-use Rattle.dm_modules.specs.inner.Drawing.{mapping_line}
+use Rattle.dm_layout.specs.symbols.inner.Drawing.{mapping_line}
 use Rattle.dm_place.proofs.Exported.{none_fixed, one_bit, some_bit}
 use Rattle.dm_layout.proofs.PlacementRows.{once_at_row}
 use Rattle.dm_layout.proofs.SymbolLines.{no_border, off_border, symbol_line-one}

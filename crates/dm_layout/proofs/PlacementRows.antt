@@ -4,7 +4,7 @@ use Rattle.std.specs.Prelude.{All}
 use Rattle.std.proofs.lemmas.List.Elements.{All-from_recursion, All-weaker}
 use Rattle.dm_place.specs.Sides.{sides_of, row_with_sides}
 use Rattle.dm_place.proofs.Exported.{once_at_sides, count_at_sides, swept_at_sides, matrix_facts, MatrixFacts}
-use Rattle.dm_modules.proofs.Exported.{placed_size}
+use Rattle.dm_layout.proofs.symbols.Exported.{placed_size}
 use Rattle.dm_layout.specs.Sizes.{SizeRow, size_table, IsRow, symbol_size, codeword_count}
 use Rattle.dm_layout.specs.Placement.{shapes, EachCellOnce, Sweeps}
 use Rattle.dm_layout.proofs.Squares.{is_size, to_square}

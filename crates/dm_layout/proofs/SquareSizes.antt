@@ -8,13 +8,13 @@ use Rattle.std.proofs.lemmas.Bool.{and_parts, eqb-true, leb-true, leb-false, le-
 use Rattle.std.proofs.lemmas.List.{get_or-map}
 use Rattle.std.proofs.lemmas.List.Elements.{All-from_recursion, All-get_or, recursion_from_All}
 use Rattle.std.proofs.Math.Nat.{mul-le-mul_left, mul-lt-mul_of_pos_right}
-use Rattle.dm_modules.specs.Sizes as sizes
-use Rattle.dm_modules.specs.Sizes.{SizeEntry, IsSize, entry_with, entry_for, is_square, area}
-use Rattle.dm_modules.proofs.Exported.{at_found, found_passes}
+use Rattle.dm_layout.specs.symbols.Sizes as sizes
+use Rattle.dm_layout.specs.symbols.Sizes.{SizeEntry, IsSize, entry_with, entry_for, is_square, area}
+use Rattle.dm_layout.proofs.symbols.Exported.{at_found, found_passes}
 use Rattle.dm_layout.specs.Sizes.{SizeRow, size_table, IsRow, row_with_side, row_for_words, row_of_entry, row_of_symbol}
 use Rattle.dm_layout.specs.Sizes.{symbol_size, largest_side}
 use Rattle.dm_layout.specs.inner.Keeping.{IsKept}
-use Rattle.dm_layout.specs.declared.size.TheConstants.{PLACES}
+use Rattle.dm_layout.specs.declared.grids.size.TheConstants.{PLACES}
 use Rattle.dm_layout.proofs.TableRows.{enough_for_words, found_none, found_row, row_for_words_row, row_facts}
 use Rattle.dm_layout.proofs.TableRows.{rows_found, same_in_each, smallest_for_words}
 use Rattle.dm_layout.proofs.Squares.{is_size, same_row}

@@ -5,11 +5,11 @@ use Rattle.std.proofs.lemmas.Bool.{eqb-true}
 use Rattle.dm_place.specs.Border as matrix
 use Rattle.dm_place.specs.Holding.{HoldsBits}
 use Rattle.dm_place.proofs.Exported.{all_below}
-use Rattle.dm_modules.specs.Sizes as sizes
-use Rattle.dm_modules.specs.Modules.{ModulesView, IsModules}
-use Rattle.dm_modules.specs.Words as codewords
-use Rattle.dm_modules.specs.Holding as holding
-use Rattle.dm_modules.proofs.Exported.{at_found, one_held, one_laid as one_laid_of, some_held, some_laid}
+use Rattle.dm_layout.specs.symbols.Sizes as sizes
+use Rattle.dm_layout.specs.symbols.Symbols.{SymbolView, IsSymbol}
+use Rattle.dm_layout.specs.symbols.Words as codewords
+use Rattle.dm_layout.specs.symbols.Holding as holding
+use Rattle.dm_layout.proofs.symbols.Exported.{at_found, one_held, one_laid as one_laid_of, some_held, some_laid}
 use Rattle.dm_layout.specs.Sizes.{SizeRow, size_table, IsRow, row_with_side, symbol_size, regions_across, block_data}
 use Rattle.dm_layout.specs.Sizes.{block_length, TableIsOfSquares}
 use Rattle.dm_layout.specs.Grid.{GridView, IsGrid, symbol_modules}
@@ -65,11 +65,11 @@ same_row s t h k e =
 -- ---- grids and codewords
 
 -- A grid is the modules of a symbol.
-pub is_modules : (grid : GridView) → IsGrid grid → IsModules (symbol_modules grid)
+pub is_modules : (grid : GridView) → IsGrid grid → IsSymbol (symbol_modules grid)
 is_modules grid g = record { size = is_size grid.size g.row; height = g.height; width = g.width }
 
 -- The modules of a symbol of a square's size are a grid.
-pub is_grid : (grid : GridView) → IsRow grid.size → IsModules (symbol_modules grid) → IsGrid grid
+pub is_grid : (grid : GridView) → IsRow grid.size → IsSymbol (symbol_modules grid) → IsGrid grid
 is_grid grid row m = record { row = row; height = m.height; width = m.width }
 
 -- The codewords of a square are those of a symbol.
@@ -195,7 +195,7 @@ one_laid words g k a b =
     one_laid_of (symbol_words words) (symbol_modules g) (symbol_modules k) (laid_in_modules g words a)
     (laid_in_modules k words b) in
     same_parts g.size k.size g.rows k.rows (sym a.holds.same_size ∙ b.holds.same_size)
-    (ap (λ (m : ModulesView). m.rows) one)
+    (ap (λ (m : SymbolView). m.rows) one)
 
 -- Codewords are laid in some grid.
 pub laid_somewhere : (words : WordsView) → IsWords words → (grid : GridView) × IsLaid words grid
@@ -207,12 +207,12 @@ laid_somewhere words w =
           (same_view some.0 (sym some.1.holds.same_size)) some.1),
     )
   where
-    view : sizes.SizeEntry → List (List Bool) → ModulesView
+    view : sizes.SizeEntry → List (List Bool) → SymbolView
     view size rows = record { size = size; rows = rows }
 
     same_rows : (s t : sizes.SizeEntry) (xs : List (List Bool)) → s ≡ t → view s xs ≡ view t xs
     same_rows s t xs e = cc
 
-    same_view : (m : ModulesView) → m.size ≡ symbol_size words.size →
+    same_view : (m : SymbolView) → m.size ≡ symbol_size words.size →
         m ≡ symbol_modules (record { size = words.size; rows = m.rows })
     same_view m e = same_rows m.size (symbol_size words.size) m.rows e

@@ -6,10 +6,11 @@ use Rattle.std.specs.List.{AllByRecursion, list_all, list_any}
 use Rattle.std.proofs.lemmas.Bool.{and_parts, eqb-true, leb-true, leb-false}
 use Rattle.std.proofs.lemmas.List.Elements.{recursion_from_All, All-from_recursion}
 use Rattle.std.proofs.lemmas.List.Sums.{AllPass-from_list_all}
-use Rattle.dm_modules.proofs.Exported.{at_found, found_passes, greatest_of}
+use Rattle.dm_layout.proofs.symbols.Exported.{at_found, found_passes, greatest_of}
 use Rattle.dm_layout.specs.Sizes.{SizeRow, size_table, IsRow, row_with_side, row_for_words, regions_across, block_data}
 use Rattle.dm_layout.specs.Sizes.{block_check, block_length, codeword_count, largest_side, largest_mapping, most_across}
-use Rattle.dm_layout.specs.Sizes.{row_of, most_codewords, most_data, most_blocks, longest_block, IsGreatest}
+use Rattle.dm_layout.specs.Sizes.{row_of, most_grid_codewords, most_grid_data, most_grid_blocks, longest_block}
+use Rattle.dm_layout.specs.Sizes.{IsGreatest}
 
 -- The size that is found for a side has that side and stands in the table.
 pub found_row : (side : ℕ) (s : SizeRow) → row_with_side side ≡ Some s → (s.side ≡ side) × IsRow s
@@ -57,10 +58,10 @@ pub record RowFacts (s : SizeRow) : Type 0 where
   pub mapping_most : s.mapping ≤ largest_mapping
   pub fits : s.side ≤ largest_side
   pub blocks : 1 ≤ s.blocks
-  pub few_blocks : s.blocks ≤ most_blocks
-  pub data_fits : s.data_count ≤ most_data
+  pub few_blocks : s.blocks ≤ most_grid_blocks
+  pub data_fits : s.data_count ≤ most_grid_data
   pub some_data : 1 ≤ block_data s
-  pub codewords : codeword_count s ≤ most_codewords
+  pub codewords : codeword_count s ≤ most_grid_codewords
   pub dealt : s.blocks * block_length s ≡ codeword_count s
   pub data_dealt : s.blocks * block_data s ≡ s.data_count
   pub short : block_length s ≤ longest_block
@@ -81,10 +82,10 @@ row_facts s h = record {
   mapping_most = most_at_row (λ r. r.mapping) (λ r. largest_mapping) s h refl;
   fits = most_at_row (λ r. r.side) (λ r. largest_side) s h refl;
   blocks = most_at_row (λ r. 1) (λ r. r.blocks) s h refl;
-  few_blocks = most_at_row (λ r. r.blocks) (λ r. most_blocks) s h refl;
-  data_fits = most_at_row (λ r. r.data_count) (λ r. most_data) s h refl;
+  few_blocks = most_at_row (λ r. r.blocks) (λ r. most_grid_blocks) s h refl;
+  data_fits = most_at_row (λ r. r.data_count) (λ r. most_grid_data) s h refl;
   some_data = most_at_row (λ r. 1) block_data s h refl;
-  codewords = most_at_row codeword_count (λ r. most_codewords) s h refl;
+  codewords = most_at_row codeword_count (λ r. most_grid_codewords) s h refl;
   dealt = same_at_row (λ r. r.blocks * block_length r) codeword_count s h refl;
   data_dealt = same_at_row (λ r. r.blocks * block_data r) (λ r. r.data_count) s h refl;
   short = most_at_row block_length (λ r. longest_block) s h refl;
@@ -190,11 +191,11 @@ found_none p (r ∷ rows) e = none_case (p r) refl e (found_none p rows)
     none_case false t e later = (t, later e)
 
 -- Where it gives none, no row has enough data codewords, not even the last.
-pub none_for_words : (count : ℕ) (o : Option SizeRow) → o ≡ row_for_words count → IfNone o (most_data < count)
+pub none_for_words : (count : ℕ) (o : Option SizeRow) → o ≡ row_for_words count → IfNone o (most_grid_data < count)
 unfolding size_table
 none_for_words count (Some size) e = tt
 none_for_words count None e =
-    leb-false count most_data (at_found (λ row. nat_le count row.data_count ≡ false)
+    leb-false count most_grid_data (at_found (λ row. nat_le count row.data_count ≡ false)
     (λ row. nat_eq row.side largest_side) size_table (row_of 104 16 24 96 816 336 6 28)
     (found_none (λ row. nat_le count row.data_count) size_table (sym e)) refl)
 

@@ -1,8 +1,8 @@
 -- The Reed-Solomon blocks into which the codewords of a square are dealt, as those of a symbol of any size are. The
 -- blocks of a square of the table are all of one length.
 use Rattle.std.specs.Prelude.{◌≡◌, ℕ, ◌<◌, List}
-use Rattle.dm_modules.specs.Blocks as symbols
-pub use Rattle.dm_modules.specs.Blocks.{places_of_block, block_of}
+use Rattle.dm_layout.specs.symbols.Blocks as symbols
+pub use Rattle.dm_layout.specs.symbols.Blocks.{places_of_block, block_of}
 use Rattle.dm_layout.specs.Sizes.{SizeRow, IsRow, block_data, block_length}
 use Rattle.dm_layout.specs.Words.{WordsView, IsWords, symbol_words, data_of}
 

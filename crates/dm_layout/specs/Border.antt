@@ -2,7 +2,7 @@
 -- symbol, and the fixed square: all as in symbols of any size.
 use Rattle.std.specs.Prelude.{ℕ, Bool}
 use Rattle.dm_place.specs.Border as matrix
-use Rattle.dm_modules.specs.Border as symbols
+use Rattle.dm_layout.specs.symbols.Border as symbols
 pub use Rattle.dm_place.specs.Border.{symbol_line}
 use Rattle.dm_layout.specs.Sizes.{SizeRow, symbol_size}
 use Rattle.dm_layout.specs.Grid.{GridView, symbol_modules}

@@ -2,7 +2,7 @@
 use Rattle.std.specs.Prelude.{Bool}
 use Rattle.std.specs.Ordering.{on}
 use Rattle.std.specs.Cmp.{IsEquivalence, IsPartialEquivalence, partial_equiv_from_equiv, on_equiv}
-use Rattle.dm_modules.specs.Equality as symbols
+use Rattle.dm_layout.specs.symbols.Equality as symbols
 use Rattle.dm_layout.specs.Grid.{GridView, symbol_modules}
 use Rattle.dm_layout.specs.Words.{WordsView, symbol_words}
 

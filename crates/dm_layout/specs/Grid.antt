@@ -1,7 +1,7 @@
 -- A grid is the square of modules of a symbol, each dark or light (ISO/IEC 16022, symbol structure). A module of a grid
 -- is also called a cell here.
 use Rattle.std.specs.Prelude.{◌≡◌, ℕ, ◌/◌, ◌%◌, ◌^◌, Bool, List, length, nat_eq, get_or, All}
-use Rattle.dm_modules.specs.Modules.{ModulesView, module_at, rows_by, rows_of}
+use Rattle.dm_layout.specs.symbols.Symbols.{SymbolView, module_at, rows_by, rows_of}
 use Rattle.dm_layout.specs.Sizes.{SizeRow, IsRow, symbol_size}
 
 -- A grid has a size and the rows of its cells, from the top, each from the left; true is dark.
@@ -10,7 +10,7 @@ pub record GridView : Type 0 where
   pub rows : List (List Bool)
 
 -- The cells of a grid are the modules of a symbol.
-abbrev pub symbol_modules : GridView → ModulesView
+abbrev pub symbol_modules : GridView → SymbolView
 symbol_modules grid = record { size = symbol_size grid.size; rows = grid.rows }
 
 -- A grid is well formed if its size stands in the table of squares and its cells are well-formed modules.

@@ -8,7 +8,7 @@ use Rattle.dm_layout.specs.Words.{WordsView, IsWords}
 use Rattle.dm_layout.specs.Border.{mapped_cell, border_fault_count, HasFixedSquare}
 
 -- A grid holds codewords if both are of one size of the table of squares, and its modules hold the codewords. That this
--- is what `dm_modules` says of modules is a law, in `Squares.antt`.
+-- is what is said of the modules of a symbol is a law, in `Squares.antt`.
 pub record Holds (grid : GridView) (words : WordsView) : Type 0 where
   pub square : IsGrid grid
   pub codewords : IsWords words

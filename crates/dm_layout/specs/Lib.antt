@@ -1,3 +1,4 @@
+pub mod symbols
 pub mod Sizes
 pub mod Grid
 pub mod Words

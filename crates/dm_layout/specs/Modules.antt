@@ -1,6 +1,6 @@
 -- What single modules of a symbol are, by row and column: ISO/IEC 16022, symbol structure and module placement.
 use Rattle.std.specs.Prelude.{◌≡◌, ℕ, ◌<◌, Bool, true, Option}
-use Rattle.dm_modules.specs.Border as symbols
+use Rattle.dm_layout.specs.symbols.Border as symbols
 use Rattle.dm_layout.specs.Sizes.{SizeRow, IsRow, symbol_size}
 use Rattle.dm_layout.specs.Border.{is_border, is_fixed, symbol_line}
 use Rattle.dm_layout.specs.Placement.{IsPlace}

@@ -1,9 +1,9 @@
 -- The square sizes of ECC 200, as one table: ISO/IEC 16022, symbol sizes and capacities.
 use Rattle.std.specs.Prelude.{◌≡◌, ℕ, ◌*◌, ◌/◌, false, ◌&&◌, List, [], ◌∷◌, map, filter, nat_eq, nat_le, Option, Some}
 use Rattle.std.specs.Prelude.{None, find, if◌then◌else◌}
-use Rattle.dm_modules.specs.Sizes as symbols
-use Rattle.dm_modules.specs.Sizes.{SizeEntry, entry_of}
-pub use Rattle.dm_modules.specs.Sizes.{longest_block}
+use Rattle.dm_layout.specs.symbols.Sizes as symbols
+use Rattle.dm_layout.specs.symbols.Sizes.{SizeEntry, entry_of}
+pub use Rattle.dm_layout.specs.symbols.Sizes.{longest_block, most_block_check}
 
 -- A size is a row of the table.
 pub record SizeRow : Type 0 where
@@ -78,20 +78,16 @@ abbrev pub most_across : ℕ
 most_across = 4
 
 -- No symbol of the table has more data codewords than this.
-abbrev pub most_data : ℕ
-most_data = 816
+abbrev pub most_grid_data : ℕ
+most_grid_data = 816
 
 -- No symbol of the table has more codewords than this, data and check codewords together.
-abbrev pub most_codewords : ℕ
-most_codewords = 1152
+abbrev pub most_grid_codewords : ℕ
+most_grid_codewords = 1152
 
 -- No symbol of the table has more blocks than this.
-abbrev pub most_blocks : ℕ
-most_blocks = 6
-
--- No block of a symbol of the table has more check codewords than this.
-abbrev pub most_block_check : ℕ
-most_block_check = 68
+abbrev pub most_grid_blocks : ℕ
+most_grid_blocks = 6
 
 -- The size with a given side is the row of the table that has it, if there is one.
 abbrev pub row_with_side : ℕ → Option SizeRow
@@ -112,8 +108,8 @@ IsRow row = row_with_side row.side ≡ Some row
 abbrev pub regions_across : SizeRow → ℕ
 regions_across row = row.mapping / row.region_side
 
--- A row of the table stands for this size of a symbol, with as many columns as rows. What this crate says of a row, and
--- of grids and codewords of its size, `dm_modules` says of this size.
+-- A row of the table stands for this size of a symbol, with as many columns as rows. What is said of a row, and of
+-- grids and codewords of its size, is said of this size in `symbols/`.
 abbrev pub symbol_size : SizeRow → SizeEntry
 symbol_size row =
     entry_of row.side row.side row.region_side row.region_side (regions_across row) (regions_across row) row.data_count

@@ -1,10 +1,9 @@
--- Laws: what this crate says of squares is what `dm_modules` says of symbols, for symbols whose rows and columns are
--- alike.
+-- Laws: what is said of squares is what is said of symbols, for symbols whose rows and columns are alike.
 use Rattle.std.specs.Prelude.{◌≡◌, ◌↔◌, ℕ, ◌<◌}
-use Rattle.dm_modules.specs.Sizes as sizes
-use Rattle.dm_modules.specs.Modules.{IsModules}
-use Rattle.dm_modules.specs.Words as codewords
-use Rattle.dm_modules.specs.Holding as holding
+use Rattle.dm_layout.specs.symbols.Sizes as sizes
+use Rattle.dm_layout.specs.symbols.Symbols.{IsSymbol}
+use Rattle.dm_layout.specs.symbols.Words as codewords
+use Rattle.dm_layout.specs.symbols.Holding as holding
 use Rattle.dm_layout.specs.Sizes.{SizeRow, IsRow, symbol_size, block_data, block_length}
 use Rattle.dm_layout.specs.Grid.{GridView, IsGrid, symbol_modules}
 use Rattle.dm_layout.specs.Words.{WordsView, IsWords, symbol_words}
@@ -26,7 +25,7 @@ SizesAreSquares = (row : SizeRow) → IsRow row → IsSquare row
 
 -- Grids are the modules of symbols of such sizes.
 abbrev pub GridsAreModules : Type 0
-GridsAreModules = (grid : GridView) → IsRow grid.size → IsGrid grid ↔ IsModules (symbol_modules grid)
+GridsAreModules = (grid : GridView) → IsRow grid.size → IsGrid grid ↔ IsSymbol (symbol_modules grid)
 
 -- The codewords of squares are those of symbols of such sizes.
 abbrev pub WordsAreCodewords : Type 0

@@ -1,7 +1,7 @@
 -- The codewords of a square, which are those of a symbol of its size, in the symbol's order (ISO/IEC 16022, symbol
 -- sizes and capacities).
 use Rattle.std.specs.Prelude.{◌≡◌, ℕ, ◌<◌, List, length, All}
-use Rattle.dm_modules.specs.Words as symbols
+use Rattle.dm_layout.specs.symbols.Words as symbols
 use Rattle.dm_layout.specs.Sizes.{SizeRow, IsRow, symbol_size, codeword_count}
 
 -- The codewords of a square belong to its size.

@@ -13,7 +13,7 @@ abbrev pub sides_of : ℕ → ℕ → ℕ → SidesRow
 sides_of rows columns count = record { rows = rows; columns = columns; count = count }
 
 -- The 24 squares of ISO/IEC 16022 come first, then its 6 rectangles and the 18 of ISO/IEC 21471. That these are the
--- mapping matrices of the table of sizes is a law of `dm_modules`.
+-- mapping matrices of the table of sizes is a law of `dm_layout`.
 unfoldable pub sides_table : List SidesRow
 sides_table =
     sides_of 8 8 8

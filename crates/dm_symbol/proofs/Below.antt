@@ -6,7 +6,7 @@ use Rattle.dm_words.specs.declared.extent.Extent.TheVariants.{Usual, Wide}
 use Rattle.dm_words.specs.declared.item.Item.{Item}
 use Rattle.dm_words.specs.declared.profile.Profile.{Profile}
 use Rattle.dm_code.specs.Codeword.{IsCodeword, IsNear, distance}
-use Rattle.dm_layout.specs.Sizes.{SizeRow, IsRow, codeword_count, block_length, most_data}
+use Rattle.dm_layout.specs.Sizes.{SizeRow, IsRow, codeword_count, block_length, most_grid_data}
 use Rattle.dm_layout.specs.Grid.{GridView, IsGrid}
 use Rattle.dm_layout.specs.Placement.{shapes, EachCellOnce}
 use Rattle.dm_layout.specs.Blocks.{AreBlocks}
@@ -107,7 +107,7 @@ one_result extent words h = one_result_of extent words h
 
 -- The normal form of a message, with pads, spells the message.
 pub normal_form_spells : (extent : Extent) (p : Profile) (m : List Item) (count : ℕ) → IsMessage m
-    → length (normal_form p m) ≤ count → count ≤ most_data
+    → length (normal_form p m) ≤ count → count ≤ most_grid_data
     → Spells extent (padded (normal_form p m) count) m
 normal_form_spells extent p m count h fits most = normal_form_spells_of extent p m count h fits (omega (arith, most))
 

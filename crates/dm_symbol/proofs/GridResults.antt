@@ -7,7 +7,7 @@ use Rattle.dm_words.specs.declared.extent.Extent.{Extent}
 use Rattle.dm_words.specs.declared.item.Item.{Item}
 use Rattle.dm_words.specs.Outcomes.{outcome}
 use Rattle.arrayvec.specs.ArrayVec.{ArrayVec}
-use Rattle.dm_modules.specs.Sizes.{SizeEntry}
+use Rattle.dm_layout.specs.symbols.Sizes.{SizeEntry}
 use Rattle.dm_layout.specs.Sizes.{block_check, symbol_size}
 use Rattle.dm_layout.specs.Grid.{GridView, IsGrid, symbol_modules}
 use Rattle.dm_layout.specs.Words.{WordsView}

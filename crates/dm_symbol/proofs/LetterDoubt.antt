@@ -3,7 +3,7 @@ use Rattle.std.proofs.Common.{ℕ, ◌<◌, Some, None, Result, Ok, Err, ap, sub
 use Rattle.dm_words.specs.declared.extent.Extent.{Extent}
 use Rattle.dm_words.specs.declared.profile.Profile.{Profile}
 use Rattle.dm_words.specs.Letters.{LetterView}
-use Rattle.dm_modules.specs.Modules.{ModulesView}
+use Rattle.dm_layout.specs.symbols.Symbols.{SymbolView}
 use Rattle.dm_symbol.specs.declared.letters.LetterReadFault.{LetterReadFault}
 use Rattle.dm_symbol.specs.declared.letters.LetterReadFault.TheVariants as fault
 use Rattle.dm_symbol.specs.declared.letters.LetterNormalFault.{LetterNormalFault}
@@ -15,7 +15,7 @@ use Rattle.dm_symbol.specs.LetterNormal.{NormalLetterResult}
 use Rattle.dm_symbol.proofs.LightDoubt.{erased_alike, faults_alike, few_alike, restored_alike}
 use Rattle.dm_symbol.proofs.SymbolSteps.{lost_moves, readings_move}
 
-module _ (doubtful : ModulesView) (light : AreLight doubtful) (modules : ModulesView) (extent : Extent)
+module _ (doubtful : SymbolView) (light : AreLight doubtful) (modules : SymbolView) (extent : Extent)
     (limit : ℕ) where
   -- The symbol has the same result of reading.
   pub letter_read_alike : (result : Result LetterReadingView LetterReadFault)
@@ -53,7 +53,7 @@ module _ (doubtful : ModulesView) (light : AreLight doubtful) (modules : Modules
   }
 
   -- It has the same result of normalising.
-  pub letter_normal_alike : (profile : Profile) (result : Result ModulesView LetterNormalFault)
+  pub letter_normal_alike : (profile : Profile) (result : Result SymbolView LetterNormalFault)
       → NormalLetterResult extent profile modules None limit result
       → NormalLetterResult extent profile modules (Some doubtful) limit result
   letter_normal_alike profile result (NormalLetterResult.normal symbol h e) =

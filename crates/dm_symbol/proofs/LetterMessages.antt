@@ -10,7 +10,7 @@ use Rattle.dm_words.specs.Letters.{LetterView}
 use Rattle.dm_words.specs.LetterExtents.{as_letter, RefusedIn}
 use Rattle.dm_words.specs.Refused.{Refused}
 use Rattle.dm_words.proofs.Exported.{said_wide, spelled_said, usual_spells}
-use Rattle.dm_modules.specs.Modules.{ModulesView}
+use Rattle.dm_layout.specs.symbols.Symbols.{SymbolView}
 use Rattle.dm_symbol.specs.declared.letters.LetterReadFault.{LetterReadFault}
 use Rattle.dm_symbol.specs.declared.letters.LetterReadFault.TheVariants as fault
 use Rattle.dm_symbol.specs.declared.reading.ReadFault.{ReadFault}
@@ -29,7 +29,7 @@ refused_usual : (extent : Extent) (words : List ℕ) (why : WordFault) → exten
     → RefusedIn extent words (words_fault.Word why)
 refused_usual extent words why is r = RefusedIn.of_message why is (subst (λ x. Refused x words why) is r) refl
 
-module _ (modules : ModulesView) (doubtful : Option ModulesView) (limit : ℕ) where
+module _ (modules : SymbolView) (doubtful : Option SymbolView) (limit : ℕ) where
   -- What is read as a message is read as the letter with its items.
   pub message_reads_letter : (extent : Extent) (m : List Item) → ReadsSymbol extent modules doubtful limit m
       → ReadsLetter extent modules doubtful limit (as_letter m)

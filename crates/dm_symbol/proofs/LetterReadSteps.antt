@@ -5,8 +5,8 @@ use Rattle.dm_words.specs.declared.extent.Extent.{Extent}
 use Rattle.dm_words.specs.declared.letters.fault.LetterFault.{LetterFault}
 use Rattle.dm_words.specs.Letters.{LetterView}
 use Rattle.dm_words.specs.LetterExtents.{SaysIn, RefusedIn}
-use Rattle.dm_modules.specs.Modules.{ModulesView}
-use Rattle.dm_modules.specs.Words.{WordsView, data_of}
+use Rattle.dm_layout.specs.symbols.Symbols.{SymbolView}
+use Rattle.dm_layout.specs.symbols.Words.{WordsView, data_of}
 use Rattle.dm_symbol.specs.declared.letters.LetterReadFault.{LetterReadFault}
 use Rattle.dm_symbol.specs.declared.letters.LetterReadFault.TheVariants as fault
 use Rattle.dm_symbol.specs.declared.symbol.reading.BlockReading.{BlockReading}
@@ -40,7 +40,7 @@ letter_no_border : (n : ℕ) (r : LetterReadingView)
     → ◌≡◌ {A = Result LetterReadingView LetterReadFault} (Ok r) (Err (fault.Border n)) → ⊥
 letter_no_border n r e = cc
 
-module _ (extent : Extent) (modules : ModulesView) (doubtful : Option ModulesView) (limit : ℕ) where
+module _ (extent : Extent) (modules : SymbolView) (doubtful : Option SymbolView) (limit : ℕ) where
   -- The surely wrong modules of the borders.
   abbrev faults : ℕ
   faults = sure_fault_count modules doubtful

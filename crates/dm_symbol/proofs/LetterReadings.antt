@@ -8,7 +8,7 @@ use Rattle.dm_words.specs.Letters.{LetterView, IsLetter}
 use Rattle.dm_words.specs.LetterExtents.{SaysIn, RefusedIn, IsSaidIn}
 use Rattle.dm_words.proofs.Exported.{said_is_one, said_is_right, said_not_refused, said_or_refused, refused_is_one}
 use Rattle.dm_words.proofs.Exported.{said_wide, usual_spells}
-use Rattle.dm_modules.specs.Modules.{ModulesView, IsModules}
+use Rattle.dm_layout.specs.symbols.Symbols.{SymbolView, IsSymbol}
 use Rattle.dm_symbol.specs.declared.letters.LetterReadFault.{LetterReadFault}
 use Rattle.dm_symbol.specs.declared.letters.LetterReadFault.TheVariants as fault
 use Rattle.dm_symbol.specs.Doubt.{sure_fault_count, erased_in}
@@ -61,7 +61,7 @@ identified_or_refused extent words bytes = elim (said_or_refused extent words by
       inl (record { letter = said.0; identifier = number.0 }, (said.1, number.1))
 ]
 
-module _ (modules : ModulesView) (doubtful : Option ModulesView) where
+module _ (modules : SymbolView) (doubtful : Option SymbolView) where
   -- A symbol is read as at most one letter, whatever the extents.
   pub one_symbol_letter : (extent other : Extent) (k l : ℕ) (x y : LetterView)
       → ReadsLetter extent modules doubtful k x → ReadsLetter other modules doubtful l y → x ≡ y
@@ -124,7 +124,7 @@ module _ (modules : ModulesView) (doubtful : Option ModulesView) where
         x.2 ∙ ap result_for same ∙ sym y.2
 
     -- A symbol has a result.
-    pub some_letter_result : IsModules modules
+    pub some_letter_result : IsSymbol modules
         → (result : Result LetterReadingView LetterReadFault) × LetterReadResult extent modules doubtful limit result
     some_letter_result h =
         let a = some_outcome (SaysIdentified extent) (RefusedIn extent) modules doubtful limit
@@ -202,7 +202,7 @@ ok_no_fault : (reading : LetterReadingView) (why : LetterReadFault)
 ok_no_fault reading why e = cc
 
 -- What is read in the extent `Usual` is read in `Wide` with the same result.
-pub wide_reads_the_usual_letter : (modules : ModulesView) (doubtful : Option ModulesView) (limit : ℕ)
+pub wide_reads_the_usual_letter : (modules : SymbolView) (doubtful : Option SymbolView) (limit : ℕ)
     (reading : LetterReadingView) → LetterReadResult Usual modules doubtful limit (Ok reading)
     → LetterReadResult Wide modules doubtful limit (Ok reading)
 wide_reads_the_usual_letter modules doubtful limit reading a =

@@ -10,10 +10,10 @@ use Rattle.dm_place.specs.Placement.{place}
 use Rattle.dm_words.specs.declared.extent.Extent.{Extent}
 use Rattle.dm_words.specs.declared.item.Item.{Item}
 use Rattle.dm_words.specs.declared.profile.Profile.{Profile}
-use Rattle.dm_modules.specs.Sizes.{SizeEntry, mapping_rows, mapping_columns, codeword_count}
-use Rattle.dm_modules.specs.Modules.{ModulesView, rows_of}
-use Rattle.dm_modules.specs.Border.{is_fault}
-use Rattle.dm_modules.specs.Blocks.{places_of_block}
+use Rattle.dm_layout.specs.symbols.Sizes.{SizeEntry, mapping_rows, mapping_columns, codeword_count}
+use Rattle.dm_layout.specs.symbols.Symbols.{SymbolView, rows_of}
+use Rattle.dm_layout.specs.symbols.Border.{is_fault}
+use Rattle.dm_layout.specs.symbols.Blocks.{places_of_block}
 use Rattle.dm_symbol.specs.declared.symbol.inspection.SymbolInspectionIn.{SymbolInspectionIn}
 use Rattle.dm_symbol.specs.declared.reading.ReadFault.{ReadFault}
 use Rattle.dm_symbol.specs.declared.reading.ReadFault.TheVariants as fault
@@ -28,7 +28,7 @@ use Rattle.dm_symbol.proofs.SymbolDoubt.{erased_by_none, erased_nowhere, same_an
 use Rattle.dm_symbol.proofs.SymbolSteps.{near_moves, lost_moves, mended_moves, readings_move}
 
 -- The sure border faults are as many where the same modules are doubtful.
-same_sure_faults : (modules : ModulesView) (p q : Option ModulesView)
+same_sure_faults : (modules : SymbolView) (p q : Option SymbolView)
     → ((row column : ℕ) → is_doubtful p row column ≡ is_doubtful q row column)
     → sure_fault_count modules p ≡ sure_fault_count modules q
 same_sure_faults modules p q same = rows 0 modules.size.rows
@@ -90,7 +90,7 @@ light_rows rows columns list h row column =
     light_by (λ r c. get_or list (r * columns + c) false) rows columns
     (λ r c. light_list list h (r * columns + c)) 0 row column
 
-module _ (doubtful : ModulesView) (light : AreLight doubtful) where
+module _ (doubtful : SymbolView) (light : AreLight doubtful) where
   -- No codeword is erased.
   none_is_erased : (size : SizeEntry) (word : ℕ) → is_erased size (Some doubtful) word ≡ false
   none_is_erased size word =
@@ -107,7 +107,7 @@ module _ (doubtful : ModulesView) (light : AreLight doubtful) where
       erased_nowhere 0 (is_erased size (Some doubtful)) (none_is_erased size)
       (places_of_block size.blocks b (codeword_count size))
 
-  module _ (modules : ModulesView) where
+  module _ (modules : SymbolView) where
     -- All border faults are sure.
     pub faults_alike : sure_fault_count modules None ≡ sure_fault_count modules (Some doubtful)
     faults_alike = same_sure_faults modules None (Some doubtful) (λ row column. sym (light row column))
@@ -167,7 +167,7 @@ module _ (doubtful : ModulesView) (light : AreLight doubtful) where
     }
 
     -- It has the same result of normalising.
-    pub normal_alike : (extent : Extent) (profile : Profile) (limit : ℕ) (result : Result ModulesView NormalFault)
+    pub normal_alike : (extent : Extent) (profile : Profile) (limit : ℕ) (result : Result SymbolView NormalFault)
         → NormalSymbolResult extent profile modules None limit result
         → NormalSymbolResult extent profile modules (Some doubtful) limit result
     normal_alike extent profile limit result (NormalSymbolResult.normal symbol h e) =

@@ -6,9 +6,9 @@ use Rattle.dm_words.specs.declared.profile.Profile.{Profile}
 use Rattle.dm_words.specs.Letters.{LetterView}
 use Rattle.dm_words.specs.LetterExtents.{IsSaidIn}
 use Rattle.dm_words.specs.LetterForm.{letter_form}
-use Rattle.dm_modules.specs.declared.size.SizeChoice.TheVariants.{Square}
-use Rattle.dm_modules.specs.Sizes.{entry_for}
-use Rattle.dm_modules.specs.Modules.{ModulesView, IsModules}
+use Rattle.dm_layout.specs.declared.symbols.size.SizeChoice.TheVariants.{Square}
+use Rattle.dm_layout.specs.symbols.Sizes.{entry_for}
+use Rattle.dm_layout.specs.symbols.Symbols.{SymbolView, IsSymbol}
 use Rattle.dm_symbol.specs.declared.letters.LetterReadFault.{LetterReadFault}
 use Rattle.dm_symbol.specs.declared.letters.LetterNormalFault.{LetterNormalFault}
 use Rattle.dm_symbol.specs.declared.letters.LetterNormalFault.TheVariants.{Read, TooLong}
@@ -25,23 +25,23 @@ use Rattle.dm_symbol.proofs.WrittenWords.{words_written_once, written_fit}
 err_is : (a b : LetterReadFault) → ◌≡◌ {A = Result LetterReadingView LetterReadFault} (Err a) (Err b) → a ≡ b
 err_is a b e = cc
 
-module _ (extent : Extent) (p : Profile) (modules : ModulesView) (doubtful : Option ModulesView) where
+module _ (extent : Extent) (p : Profile) (modules : SymbolView) (doubtful : Option SymbolView) where
   -- A normal symbol is that of the letter that the symbol is read as.
-  pub normal_of_read : (n : ModulesView) (k l : ℕ) (x : LetterView) → HasNormalLetter extent p modules doubtful k n
+  pub normal_of_read : (n : SymbolView) (k l : ℕ) (x : LetterView) → HasNormalLetter extent p modules doubtful k n
       → ReadsLetter extent modules doubtful l x → IsNormalOfLetter p x n
   normal_of_read n k l x h r =
       subst (λ y. IsNormalOfLetter p y n) (one_symbol_letter modules doubtful extent extent k l h.letter x h.read r)
       h.normal_symbol
 
   -- A symbol has at most one normal symbol under a profile.
-  pub one_normal_letter : (n o : ModulesView) (k l : ℕ) → HasNormalLetter extent p modules doubtful k n
+  pub one_normal_letter : (n o : SymbolView) (k l : ℕ) → HasNormalLetter extent p modules doubtful k n
       → HasNormalLetter extent p modules doubtful l o → n ≡ o
   one_normal_letter n o k l hn ho =
       words_written_once Square (letter_form p ho.letter) n o (normal_of_read n k l ho.letter hn ho.read)
       ho.normal_symbol
 
   -- A symbol that is read as a letter with a normal symbol isn't read as one that has none.
-  not_too_long : (n : ModulesView) (k l : ℕ) → HasNormalLetter extent p modules doubtful k n
+  not_too_long : (n : SymbolView) (k l : ℕ) → HasNormalLetter extent p modules doubtful k n
       → HasNoNormalLetter extent p modules doubtful l → ⊥
   not_too_long n k l h none =
       none.too_long (written_fit Square (letter_form p none.letter) n (normal_of_read n k l none.letter h none.read))
@@ -53,7 +53,7 @@ module _ (extent : Extent) (p : Profile) (modules : ModulesView) (doubtful : Opt
     no_fault x why r a = letter_no_fault modules doubtful extent limit x why r a
 
     -- A symbol has at most one result of normalising.
-    pub one_normal_letter_result : (a b : Result ModulesView LetterNormalFault)
+    pub one_normal_letter_result : (a b : Result SymbolView LetterNormalFault)
         → NormalLetterResult extent p modules doubtful limit a
         → NormalLetterResult extent p modules doubtful limit b → a ≡ b
     one_normal_letter_result a b (NormalLetterResult.normal n h e) (NormalLetterResult.normal o k f) =
@@ -76,8 +76,8 @@ module _ (extent : Extent) (p : Profile) (modules : ModulesView) (doubtful : Opt
         e ∙ ap (λ x. Err (Read x)) (err_is why other same) ∙ sym f
 
     -- A symbol has a result of normalising.
-    pub some_normal_letter_result : IsModules modules
-        → (result : Result ModulesView LetterNormalFault) × NormalLetterResult extent p modules doubtful limit result
+    pub some_normal_letter_result : IsSymbol modules
+        → (result : Result SymbolView LetterNormalFault) × NormalLetterResult extent p modules doubtful limit result
     some_normal_letter_result h =
         let read = some_letter_result modules doubtful extent limit h in
         elim (letter_or_fault modules doubtful extent limit read.0 read.1) [
@@ -100,8 +100,8 @@ module _ (extent : Extent) (p : Profile) (modules : ModulesView) (doubtful : Opt
 
 -- The result of normalising for the normal symbol of a letter that is read is the symbol itself, in each extent in
 -- which the letter can be said.
-pub normal_letter_twice : (extent again : Extent) (p : Profile) (modules normal : ModulesView)
-    (doubtful : Option ModulesView) (limit other : ℕ) (x : LetterView) (result : Result ModulesView LetterNormalFault)
+pub normal_letter_twice : (extent again : Extent) (p : Profile) (modules normal : SymbolView)
+    (doubtful : Option SymbolView) (limit other : ℕ) (x : LetterView) (result : Result SymbolView LetterNormalFault)
     → ReadsLetter extent modules doubtful limit x → IsNormalOfLetter p x normal → IsSaidIn again x
     → NormalLetterResult again p normal None other result ↔ (result ≡ Ok normal)
 normal_letter_twice extent again p modules normal doubtful limit other x result r n said =
@@ -117,7 +117,7 @@ normal_letter_twice extent again p modules normal doubtful limit other x result 
     )
 
 -- Two symbols that are read have equal normal symbols exactly where their letters are equal.
-pub equal_normal_letters : (extent other : Extent) (p : Profile) (g h a b : ModulesView) (d e : Option ModulesView)
+pub equal_normal_letters : (extent other : Extent) (p : Profile) (g h a b : SymbolView) (d e : Option SymbolView)
     (k l i j : ℕ) (x y : LetterView)
     → ReadsLetter extent g d k x → ReadsLetter other h e l y → HasNormalLetter extent p g d i a
     → HasNormalLetter other p h e j b → (a ≡ b) ↔ (x ≡ y)
@@ -129,35 +129,35 @@ equal_normal_letters extent other p g h a b d e k l i j x y hx hy ha hb =
 -- ---- what a result of normalising says
 
 -- Equal results that are symbols have equal symbols.
-ok_is : (a b : ModulesView) → ◌≡◌ {A = Result ModulesView LetterNormalFault} (Ok a) (Ok b) → a ≡ b
+ok_is : (a b : SymbolView) → ◌≡◌ {A = Result SymbolView LetterNormalFault} (Ok a) (Ok b) → a ≡ b
 ok_is a b e = cc
 
 -- A fault isn't a symbol.
-err_no_ok : (a : ModulesView) (f : LetterNormalFault)
-    → ◌≡◌ {A = Result ModulesView LetterNormalFault} (Err f) (Ok a) → ⊥
+err_no_ok : (a : SymbolView) (f : LetterNormalFault)
+    → ◌≡◌ {A = Result SymbolView LetterNormalFault} (Err f) (Ok a) → ⊥
 err_no_ok a f e = cc
 
 -- Two equal faults of reading say the same.
 read_is : (a b : LetterReadFault)
-    → ◌≡◌ {A = Result ModulesView LetterNormalFault} (Err (Read a)) (Err (Read b)) → a ≡ b
+    → ◌≡◌ {A = Result SymbolView LetterNormalFault} (Err (Read a)) (Err (Read b)) → a ≡ b
 read_is a b e = cc
 
 -- A fault of reading isn't that the letter is too long.
 read_no_too_long : (a : LetterReadFault)
-    → ◌≡◌ {A = Result ModulesView LetterNormalFault} (Err (Read a)) (Err TooLong) → ⊥
+    → ◌≡◌ {A = Result SymbolView LetterNormalFault} (Err (Read a)) (Err TooLong) → ⊥
 read_no_too_long a e = cc
 
-module _ (extent : Extent) (p : Profile) (modules : ModulesView) (doubtful : Option ModulesView) (limit : ℕ) where
+module _ (extent : Extent) (p : Profile) (modules : SymbolView) (doubtful : Option SymbolView) (limit : ℕ) where
   -- A result is one of these.
-  abbrev Is : Result ModulesView LetterNormalFault → Type 0
+  abbrev Is : Result SymbolView LetterNormalFault → Type 0
   Is = NormalLetterResult extent p modules doubtful limit
 
   -- Another result is the same.
-  same : (a b : Result ModulesView LetterNormalFault) → Is a → Is b → a ≡ b
+  same : (a b : Result SymbolView LetterNormalFault) → Is a → Is b → a ≡ b
   same = one_normal_letter_result extent p modules doubtful limit
 
   -- The result is a normal symbol where the symbol has it.
-  normal_told : (result : Result ModulesView LetterNormalFault) (n : ModulesView) → Is result → result ≡ Ok n
+  normal_told : (result : Result SymbolView LetterNormalFault) (n : SymbolView) → Is result → result ≡ Ok n
       → HasNormalLetter extent p modules doubtful limit n
   normal_told result n (NormalLetterResult.normal o h e) f =
       subst (HasNormalLetter extent p modules doubtful limit) (ok_is o n (sym e ∙ f)) h
@@ -165,14 +165,14 @@ module _ (extent : Extent) (p : Profile) (modules : ModulesView) (doubtful : Opt
   normal_told result n (NormalLetterResult.fault why h e) f = absurd (err_no_ok n (Read why) (sym e ∙ f))
 
   -- The result is that there is none where the symbol has none.
-  too_long_told : (result : Result ModulesView LetterNormalFault) → Is result → result ≡ Err TooLong
+  too_long_told : (result : Result SymbolView LetterNormalFault) → Is result → result ≡ Err TooLong
       → HasNoNormalLetter extent p modules doubtful limit
   too_long_told result (NormalLetterResult.normal o h e) f = absurd (err_no_ok o TooLong (sym f ∙ e))
   too_long_told result (NormalLetterResult.too_long h e) f = h
   too_long_told result (NormalLetterResult.fault why h e) f = absurd (read_no_too_long why (sym e ∙ f))
 
   -- The result is a fault of reading where the symbol is refused with it.
-  fault_told : (result : Result ModulesView LetterNormalFault) (why : LetterReadFault) → Is result
+  fault_told : (result : Result SymbolView LetterNormalFault) (why : LetterReadFault) → Is result
       → result ≡ Err (Read why) → LetterReadResult extent modules doubtful limit (Err why)
   fault_told result why (NormalLetterResult.normal o h e) f = absurd (err_no_ok o (Read why) (sym f ∙ e))
   fault_told result why (NormalLetterResult.too_long h e) f = absurd (read_no_too_long why (sym f ∙ e))
@@ -180,7 +180,7 @@ module _ (extent : Extent) (p : Profile) (modules : ModulesView) (doubtful : Opt
       subst (λ x. LetterReadResult extent modules doubtful limit (Err x)) (read_is other why (sym e ∙ f)) h
 
   -- The result defined for a symbol is what normalising it gives.
-  pub is_letter_normalised : (result : Result ModulesView LetterNormalFault) → Is result
+  pub is_letter_normalised : (result : Result SymbolView LetterNormalFault) → Is result
       → IsLetterNormalised extent p modules doubtful limit result
   is_letter_normalised result a = record {
     result_is = a;

@@ -6,7 +6,7 @@ use Rattle.dm_words.specs.declared.extent.Extent.TheVariants.{Usual, Wide}
 use Rattle.dm_words.specs.declared.item.Item.{Item}
 use Rattle.dm_words.specs.Messages.{IsMessage, most_spelled}
 use Rattle.dm_words.proofs.Exported.{spelled_is_few, spelled_is_message}
-use Rattle.dm_layout.specs.Sizes.{most_data}
+use Rattle.dm_layout.specs.Sizes.{most_grid_data}
 use Rattle.dm_layout.specs.Grid.{GridView}
 use Rattle.dm_symbol.specs.Blocks.{data_part}
 use Rattle.dm_symbol.specs.Reading.{Reads}
@@ -30,13 +30,13 @@ few_items_are_read extent grid limit m r =
 
 -- So can those of the largest size.
 pub no_more_items_are_read : (extent : Extent) (grid : GridView) (limit : ℕ) (m : List Item) → Reads extent grid limit m
-    → length m ≤ most_spelled extent most_data
+    → length m ≤ most_spelled extent most_grid_data
 no_more_items_are_read extent grid limit m r =
     let fits = (size_facts grid.size r.corrected.of_size.row).few_data in
     omega (
       arith,
       few_items_are_read extent grid limit m r,
-      more_spelled extent grid.size.data_count most_data fits,
+      more_spelled extent grid.size.data_count most_grid_data fits,
     )
 
 -- What is read is a message.

@@ -3,10 +3,10 @@ use Rattle.std.proofs.Common.{◌≡◌, ℕ, ◌≤◌, List, length, Option, a
 use Rattle.std.specs.List.{range_with_len}
 use Rattle.std.proofs.lemmas.List.{length-map}
 use Rattle.std.proofs.lemmas.List.FromFn.{length-range_with_len}
-use Rattle.dm_modules.specs.Sizes.{SizeEntry, block_check}
-use Rattle.dm_modules.specs.Modules.{ModulesView}
-use Rattle.dm_modules.specs.Words.{WordsView, data_of}
-use Rattle.dm_modules.specs.Holding.{Holds}
+use Rattle.dm_layout.specs.symbols.Sizes.{SizeEntry, block_check}
+use Rattle.dm_layout.specs.symbols.Symbols.{SymbolView}
+use Rattle.dm_layout.specs.symbols.Words.{WordsView, data_of}
+use Rattle.dm_layout.specs.symbols.Holding.{Holds}
 use Rattle.dm_symbol.specs.declared.symbol.reading.BlockReading.{BlockReading}
 use Rattle.dm_symbol.specs.declared.symbol.reading.Lost.TheVariants.{Block}
 use Rattle.dm_symbol.specs.Doubt.{sure_fault_count, erased_in}
@@ -15,7 +15,7 @@ use Rattle.dm_symbol.specs.SymbolReading.{IsFirstLost, block_reading, block_read
 use Rattle.dm_symbol.specs.inner.Restoring.{IsRestored, IsLost}
 
 -- Words that modules hold are codewords of a symbol of their size.
-pub held_by_modules : (modules : ModulesView) (w : WordsView) → Holds modules w → AreHeldBy modules w.list
+pub held_by_modules : (modules : SymbolView) (w : WordsView) → Holds modules w → AreHeldBy modules w.list
 held_by_modules modules w h = subst (λ x. Holds modules x) (ap (λ s. words_with s w.list) h.same_size) h
 
 -- As much is said of a symbol's blocks as it has.
@@ -26,7 +26,7 @@ readings_count size erased u v =
     (λ b. block_reading (block_check size) (erased b) (block_in size u b) (block_in size v b))
     ∙ length-range_with_len 0 size.blocks
 
-module _ (modules : ModulesView) (doubtful : Option ModulesView) (limit : ℕ) where
+module _ (modules : SymbolView) (doubtful : Option SymbolView) (limit : ℕ) where
   -- The surely wrong modules of the borders.
   abbrev faults : ℕ
   faults = sure_fault_count modules doubtful

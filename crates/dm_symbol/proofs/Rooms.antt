@@ -3,9 +3,10 @@ use Rattle.std.proofs.Common.{◌≡◌, ◌≤◌, ℕ, List, length, Option, S
 use Rattle.std.specs.Prelude.{IfSome, nat_le, ◌&&◌}
 use Rattle.std.proofs.lemmas.Bool.{and_parts}
 use Rattle.dm_words.specs.Smallest.{IsTaken}
-use Rattle.dm_modules.specs.declared.size.SizeChoice.{SizeChoice}
-use Rattle.dm_modules.specs.Sizes.{SizeEntry, size_table, entry_for, takes, codeword_count, most_rows, most_codewords}
-use Rattle.dm_modules.proofs.Exported.{found_passes, size_facts}
+use Rattle.dm_layout.specs.declared.symbols.size.SizeChoice.{SizeChoice}
+use Rattle.dm_layout.specs.symbols.Sizes.{SizeEntry, size_table, entry_for, takes, codeword_count, most_rows}
+use Rattle.dm_layout.specs.symbols.Sizes.{most_codewords}
+use Rattle.dm_layout.proofs.symbols.Exported.{found_passes, size_facts}
 use Rattle.dm_symbol.specs.WrittenWords.{HaveRoom}
 use Rattle.dm_symbol.proofs.SymbolCompletions.{chosen_stands}
 
@@ -37,8 +38,8 @@ room_for_most choice form rows words high long =
     room_for_each choice form rows words (λ size taken.
     let f = size_facts size taken.0 in (omega (arith, f.rows_fit, high), omega (arith, f.codewords, long)))
 
--- Where there is room for the symbol in which data codewords are written, there is room for a symbol of the size that is
--- chosen.
+-- Where there is room for the symbol in which data codewords are written, there is room for a symbol of the size that
+-- is chosen.
 pub room_for_chosen : (choice : SizeChoice) (form : List ℕ) (rows words : ℕ)
     (size : SizeEntry) → HaveRoom choice form rows words
     → entry_for choice (length form) ≡ Some size

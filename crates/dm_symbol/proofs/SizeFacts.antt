@@ -6,7 +6,8 @@ use Rattle.std.specs.List.{AllByRecursion, list_all}
 use Rattle.std.proofs.lemmas.Bool.{and_parts, eqb-true, eq-eqb, ltb-true, leb-true, ne_eqb}
 use Rattle.std.proofs.lemmas.List.Sums.{AllPass-from_list_all}
 use Rattle.std.proofs.lemmas.List.Elements.{recursion_from_All}
-use Rattle.dm_layout.specs.Sizes.{SizeRow, IsRow, size_table, row_for_words, row_with_side, most_data, codeword_count}
+use Rattle.dm_layout.specs.Sizes.{SizeRow, IsRow, size_table, row_for_words, row_with_side, most_grid_data}
+use Rattle.dm_layout.specs.Sizes.{codeword_count}
 use Rattle.dm_layout.specs.Sizes.{block_data, block_check, block_length}
 use Rattle.dm_layout.proofs.Exported.{found_row, row_facts}
 use Rattle.dm_words.specs.declared.extent.Extent.{Extent}
@@ -27,7 +28,7 @@ found P p (r ∷ rows) row h e = here (p r) refl e (λ f. found P p rows row h.1
 -- The numbers of a row that no fact of the layer below tells of pass a test.
 abbrev row_test : SizeRow → Bool
 row_test s =
-    nat_le 1 (block_data s) && nat_le s.data_count most_data && nat_le (block_check s) 68 && nat_eq s.limit
+    nat_le 1 (block_data s) && nat_le s.data_count most_grid_data && nat_le (block_check s) 68 && nat_eq s.limit
     (block_check s / 2)
 
 -- Each row of the table passes: this is computed.
@@ -51,7 +52,7 @@ pub record Facts (s : SizeRow) : Type 0 where
   pub words_dealt : s.blocks * block_length s ≡ codeword_count s
   pub length : block_data s + block_check s ≡ block_length s
   pub some_data : 0 < block_data s
-  pub few_data : s.data_count ≤ most_data
+  pub few_data : s.data_count ≤ most_grid_data
   pub few_checks : block_check s ≤ 68
   pub short : block_length s ≤ 255
   pub half : s.limit ≡ block_check s / 2
@@ -62,7 +63,7 @@ size_facts s h =
     let known = row_facts s h in
     let c = and_parts _ (nat_eq s.limit (block_check s / 2)) (test_of_row s h) in
     let b = and_parts _ (nat_le (block_check s) 68) c.0 in
-    let a = and_parts (nat_le 1 (block_data s)) (nat_le s.data_count most_data) b.0 in
+    let a = and_parts (nat_le 1 (block_data s)) (nat_le s.data_count most_grid_data) b.0 in
     record {
       some_blocks = known.blocks;
       data_dealt = known.data_dealt;

@@ -5,11 +5,11 @@ use Rattle.dm_words.specs.declared.extent.Extent.{Extent}
 use Rattle.dm_words.specs.declared.item.Item.{Item}
 use Rattle.dm_words.specs.declared.fault.TooLong.{TooLong}
 use Rattle.dm_words.specs.Smallest.{IsSmallestFor, IsPlainest, SpellsThenPads, NoneSpells}
-use Rattle.dm_modules.specs.declared.size.SizeChoice.{SizeChoice}
-use Rattle.dm_modules.specs.Sizes.{SizeEntry}
-use Rattle.dm_modules.specs.Modules.{ModulesView}
-use Rattle.dm_modules.specs.Words.{WordsView}
-use Rattle.dm_modules.specs.Holding.{IsLaid}
+use Rattle.dm_layout.specs.declared.symbols.size.SizeChoice.{SizeChoice}
+use Rattle.dm_layout.specs.symbols.Sizes.{SizeEntry}
+use Rattle.dm_layout.specs.symbols.Symbols.{SymbolView}
+use Rattle.dm_layout.specs.symbols.Words.{WordsView}
+use Rattle.dm_layout.specs.symbols.Holding.{IsLaid}
 use Rattle.dm_symbol.specs.SymbolBlocks.{words_with, AreOfSize, AreCodewordsOf, first_data}
 use Rattle.dm_symbol.specs.SmallestSymbol.{IsSmallestSymbol, IsSmallestWritten, NoneIsRead, NoSmallerIsRead}
 use Rattle.dm_symbol.proofs.SymbolNormals.{laid_result}
@@ -27,14 +27,14 @@ none_is_read extent choice m none other doubtful limit taken reads =
     (data_counted other.size reads.codewords reads.restored.of_size) reads.spelled
 
 -- No symbol of a smaller size is read as the message.
-no_smaller : (extent : Extent) (choice : SizeChoice) (m : List Item) (g : ModulesView)
+no_smaller : (extent : Extent) (choice : SizeChoice) (m : List Item) (g : SymbolView)
     → IsSmallestSymbol extent choice m g → NoSmallerIsRead extent choice m g
 no_smaller extent choice m g n other doubtful limit taken less reads =
     n.smallest.smallest other.size (first_data other.size reads.codewords) taken less
     (data_counted other.size reads.codewords reads.restored.of_size) reads.spelled
 
 -- The modules in which the completed codewords are laid are the smallest symbol of the message.
-pub laid_is_smallest : (extent : Extent) (choice : SizeChoice) (m : List Item) (modules : ModulesView) (w : WordsView)
+pub laid_is_smallest : (extent : Extent) (choice : SizeChoice) (m : List Item) (modules : SymbolView) (w : WordsView)
     (size : SizeEntry) (chosen : List ℕ)
     → IsSmallestFor extent choice size chosen m → IsPlainest chosen m → SpellsThenPads extent chosen m → w.size ≡ size
     → first_data size w.list ≡ chosen → AreCodewordsOf size w.list → IsLaid w modules
@@ -54,7 +54,7 @@ laid_is_smallest extent choice m modules w size chosen smallest plainest padded 
     }
 
 -- It is the right result.
-pub is_smallest_written : (extent : Extent) (choice : SizeChoice) (m : List Item) (g : ModulesView)
+pub is_smallest_written : (extent : Extent) (choice : SizeChoice) (m : List Item) (g : SymbolView)
     → IsSmallestSymbol extent choice m g → IsSmallestWritten extent choice m (Ok g)
 is_smallest_written extent choice m g n = record {
   written = n;

@@ -6,13 +6,14 @@ use Rattle.std.proofs.lemmas.List.{ext_get_or, length-take, length-take-le}
 use Rattle.dm_code.specs.Codeword.{IsNear, distance}
 use Rattle.dm_code.specs.Erased.{IsNearBut, blank, distance_but}
 use Rattle.dm_code.proofs.Exported.{near_but_one, near_but_none, near_none_but}
-use Rattle.dm_modules.specs.Sizes.{SizeEntry, IsSize, share, codeword_count, block_data, block_check, block_length}
-use Rattle.dm_modules.specs.Holding.{IsLaid}
-use Rattle.dm_modules.specs.Modules.{ModulesView}
-use Rattle.dm_modules.specs.Words.{WordsView, IsWords, data_of}
-use Rattle.dm_modules.proofs.Exported.{length_of_block, word_of_block}
-use Rattle.dm_modules.proofs.Exported.{one_held, one_laid}
-use Rattle.dm_modules.proofs.Exported.{size_facts, short_block, some_block_data, block_parts}
+use Rattle.dm_layout.specs.symbols.Sizes.{SizeEntry, IsSize, share, codeword_count, block_data, block_check}
+use Rattle.dm_layout.specs.symbols.Sizes.{block_length}
+use Rattle.dm_layout.specs.symbols.Holding.{IsLaid}
+use Rattle.dm_layout.specs.symbols.Symbols.{SymbolView}
+use Rattle.dm_layout.specs.symbols.Words.{WordsView, IsWords, data_of}
+use Rattle.dm_layout.proofs.symbols.Exported.{length_of_block, word_of_block}
+use Rattle.dm_layout.proofs.symbols.Exported.{one_held, one_laid}
+use Rattle.dm_layout.proofs.symbols.Exported.{size_facts, short_block, some_block_data, block_parts}
 use Rattle.dm_symbol.specs.SymbolBlocks.{words_with, AreOfSize, AreHeldBy, block_in}
 
 -- No symbol has more data codewords than these.
@@ -118,10 +119,10 @@ near_but_is_one k word places first second small bytes room short within hf hs =
 -- ---- codewords and modules
 
 -- Modules hold only one list of codewords.
-pub held_is_one : (modules : ModulesView) (u v : List ℕ) → AreHeldBy modules u → AreHeldBy modules v → u ≡ v
+pub held_is_one : (modules : SymbolView) (u v : List ℕ) → AreHeldBy modules u → AreHeldBy modules v → u ≡ v
 held_is_one modules u v hu hv =
     ap (λ (w : WordsView). w.list) (one_held modules (words_with modules.size u) (words_with modules.size v) hu hv)
 
 -- Codewords are laid in only one symbol.
-pub laid_is_one : (m n : ModulesView) (words : WordsView) → IsLaid words m → IsLaid words n → m ≡ n
+pub laid_is_one : (m n : SymbolView) (words : WordsView) → IsLaid words m → IsLaid words n → m ≡ n
 laid_is_one m n words hm hn = one_laid words m n hm hn

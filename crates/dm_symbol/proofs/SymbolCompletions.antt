@@ -9,11 +9,11 @@ use Rattle.std.proofs.lemmas.List.{get_or-replicate, length-append, length-repli
 use Rattle.std.proofs.lemmas.List.Elements.{All-append, All-from_get_or, All-take}
 use Rattle.std.proofs.Math.Seq.{take-append_seam}
 use Rattle.dm_code.specs.Codeword.{IsCodeword}
-use Rattle.dm_modules.specs.declared.size.SizeChoice.{SizeChoice}
-use Rattle.dm_modules.specs.Sizes.{SizeEntry, IsSize, entry_for, takes}
-use Rattle.dm_modules.specs.Sizes.{size_table, block_data, block_check, block_length}
-use Rattle.dm_modules.specs.Blocks.{AreBlocks}
-use Rattle.dm_modules.proofs.Exported.{at_found, blocks_make_words, same_data_by_blocks}
+use Rattle.dm_layout.specs.declared.symbols.size.SizeChoice.{SizeChoice}
+use Rattle.dm_layout.specs.symbols.Sizes.{SizeEntry, IsSize, entry_for, takes}
+use Rattle.dm_layout.specs.symbols.Sizes.{size_table, block_data, block_check, block_length}
+use Rattle.dm_layout.specs.symbols.Blocks.{AreBlocks}
+use Rattle.dm_layout.proofs.symbols.Exported.{at_found, blocks_make_words, same_data_by_blocks}
 use Rattle.dm_symbol.specs.SymbolBlocks.{words_with, AreOfSize, AreCodewordsOf, block_in, first_data}
 use Rattle.dm_symbol.proofs.Below.{codewords_are_bytes, checks_are_there}
 use Rattle.dm_symbol.proofs.Choosing.{chosen}

@@ -13,15 +13,15 @@ use Rattle.dm_place.specs.Placement.{place, shapes}
 use Rattle.dm_place.proofs.Exported.{count_at_sides}
 use Rattle.dm_code.specs.Erased.{erased_from, erased_places}
 use Rattle.dm_code.proofs.Exported.{erased_within}
-use Rattle.dm_modules.specs.Sizes.{SizeEntry, share, mapping_rows, mapping_columns, codeword_count}
-use Rattle.dm_modules.specs.Sizes.{block_length}
-use Rattle.dm_modules.specs.Modules.{ModulesView}
-use Rattle.dm_modules.specs.Words.{WordsView}
-use Rattle.dm_modules.specs.Blocks.{places_of_block}
-use Rattle.dm_modules.specs.Holding.{Holds}
-use Rattle.dm_modules.proofs.Exported.{length-block_of}
-use Rattle.dm_modules.proofs.Exported.{placed_size}
-use Rattle.dm_modules.specs.Border.{is_fault, border_fault_count}
+use Rattle.dm_layout.specs.symbols.Sizes.{SizeEntry, share, mapping_rows, mapping_columns, codeword_count}
+use Rattle.dm_layout.specs.symbols.Sizes.{block_length}
+use Rattle.dm_layout.specs.symbols.Symbols.{SymbolView}
+use Rattle.dm_layout.specs.symbols.Words.{WordsView}
+use Rattle.dm_layout.specs.symbols.Blocks.{places_of_block}
+use Rattle.dm_layout.specs.symbols.Holding.{Holds}
+use Rattle.dm_layout.proofs.symbols.Exported.{length-block_of}
+use Rattle.dm_layout.proofs.symbols.Exported.{placed_size}
+use Rattle.dm_layout.specs.symbols.Border.{is_fault, border_fault_count}
 use Rattle.dm_symbol.specs.Doubt.{is_doubtful_bit, is_erased, erased_in, is_sure_fault, sure_fault_count}
 use Rattle.dm_symbol.specs.inner.Marks.{is_mark, marked_in}
 
@@ -37,7 +37,7 @@ places_count B b count hb =
     ∙ length-block_of B b words hb ∙ ap (λ n. share n B b) long
 
 -- The erased places of a block lie in it.
-pub erased_inside : (size : SizeEntry) (doubtful : Option ModulesView) (b i : ℕ) → b < size.blocks
+pub erased_inside : (size : SizeEntry) (doubtful : Option SymbolView) (b i : ℕ) → b < size.blocks
     → i < length (erased_in size doubtful b) → get_or (erased_in size doubtful b) i 0 < block_length size b
 erased_inside size doubtful b i hb hi =
     let places = places_of_block size.blocks b (codeword_count size) in
@@ -98,7 +98,7 @@ map_twice f g (x ∷ xs) = ap (λ ys. f (g x) ∷ ys) (map_twice f g xs)
 module _ (size : SizeEntry) (rows : List (List Bool)) (marks : List ℕ)
     (h : Holds (record { size = size; rows = rows }) (record { size = size; list = marks })) where
   -- These are the doubtful modules.
-  abbrev doubt : ModulesView
+  abbrev doubt : SymbolView
   doubt = record { size = size; rows = rows }
 
   -- A codeword is erased where its mark isn't 0.
@@ -131,7 +131,7 @@ module _ (size : SizeEntry) (rows : List (List Bool)) (marks : List ℕ)
       ∙ sym (map_twice is_mark at_mark (places (length marks))))
 
 -- Doubtful modules of the size of a symbol hold the marks.
-pub erased_by_held : (size : SizeEntry) (doubtful : ModulesView) (marks : WordsView) (b : ℕ) → doubtful.size ≡ size
+pub erased_by_held : (size : SizeEntry) (doubtful : SymbolView) (marks : WordsView) (b : ℕ) → doubtful.size ≡ size
     → Holds doubtful marks
     → erased_in size (Some doubtful) b ≡ marked_in size (Some marks) b
 erased_by_held size doubtful marks b of_size h =
@@ -151,7 +151,7 @@ nothing_doubted true = refl
 nothing_doubted false = refl
 
 -- Where no module is doubtful, each border fault is sure.
-pub faults_by_none : (modules : ModulesView) → border_fault_count modules ≡ sure_fault_count modules None
+pub faults_by_none : (modules : SymbolView) → border_fault_count modules ≡ sure_fault_count modules None
 faults_by_none modules = rows 0 modules.size.rows
   where
     line : (row a n : ℕ) → count_by (is_fault modules row) (range_with_len a n) ≡ count_by

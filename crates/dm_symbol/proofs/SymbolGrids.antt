@@ -18,11 +18,11 @@ use Rattle.dm_layout.specs.Sizes.{SizeRow, IsRow, size_table, codeword_count, bl
 use Rattle.dm_layout.specs.Grid.{GridView}
 use Rattle.dm_layout.specs.Border.{border_fault_count}
 use Rattle.dm_layout.specs.Blocks.{block_of}
-use Rattle.dm_modules.specs.Sizes.{SizeEntry, IsSize, entry_with, mapping_rows, mapping_columns}
-use Rattle.dm_modules.specs.Sizes.{size_table as all_sizes}
-use Rattle.dm_modules.specs.Sizes as sizes
-use Rattle.dm_modules.specs.Modules.{ModulesView}
-use Rattle.dm_modules.proofs.Exported.{at_found}
+use Rattle.dm_layout.specs.symbols.Sizes.{SizeEntry, IsSize, entry_with, mapping_rows, mapping_columns}
+use Rattle.dm_layout.specs.symbols.Sizes.{size_table as all_sizes}
+use Rattle.dm_layout.specs.symbols.Sizes as sizes
+use Rattle.dm_layout.specs.symbols.Symbols.{SymbolView}
+use Rattle.dm_layout.proofs.symbols.Exported.{at_found}
 use Rattle.dm_symbol.specs.Blocks.{AreWordsOf, AreHeld, BlocksAreNear, block_at}
 use Rattle.dm_symbol.specs.Reading.{Reads}
 use Rattle.dm_symbol.specs.Doubt.{sure_fault_count, erased_in}
@@ -119,7 +119,7 @@ module _ (s : SizeRow) (cells : List (List Bool)) (e : SizeEntry) (rows : List (
   grid = record { size = s; rows = cells }
 
   -- These are the modules.
-  abbrev modules : ModulesView
+  abbrev modules : SymbolView
   modules = record { size = e; rows = rows }
 
   -- Their sizes have the same numbers.
@@ -224,7 +224,7 @@ module _ (s : SizeRow) (cells : List (List Bool)) (e : SizeEntry) (rows : List (
   }
 
 -- A grid and its modules are read the same.
-pub grid_and_modules : (extent : Extent) (grid : GridView) (modules : ModulesView) (limit : ℕ) (m : List Item)
+pub grid_and_modules : (extent : Extent) (grid : GridView) (modules : SymbolView) (limit : ℕ) (m : List Item)
     → AreModulesOf grid modules
     → Reads extent grid limit m ↔ ReadsSymbol extent modules None limit m
 grid_and_modules extent grid modules limit m am = (

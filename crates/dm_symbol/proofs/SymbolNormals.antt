@@ -8,16 +8,16 @@ use Rattle.dm_words.specs.declared.item.Item.{Item}
 use Rattle.dm_words.specs.declared.profile.Profile.{Profile}
 use Rattle.dm_words.specs.Messages.{IsMessage}
 use Rattle.dm_code.specs.Erased.{IsNearBut}
-use Rattle.dm_modules.specs.declared.size.SizeChoice.{SizeChoice}
-use Rattle.dm_modules.specs.declared.size.SizeChoice.TheVariants.{Square}
-use Rattle.dm_modules.specs.Sizes.{block_check}
-use Rattle.dm_modules.specs.Modules.{ModulesView}
+use Rattle.dm_layout.specs.declared.symbols.size.SizeChoice.{SizeChoice}
+use Rattle.dm_layout.specs.declared.symbols.size.SizeChoice.TheVariants.{Square}
+use Rattle.dm_layout.specs.symbols.Sizes.{block_check}
+use Rattle.dm_layout.specs.symbols.Symbols.{SymbolView}
 use Rattle.dm_symbol.specs.declared.symbol.reading.BlockReading.{BlockReading}
 use Rattle.dm_symbol.specs.declared.reading.ReadFault.{ReadFault}
 use Rattle.dm_symbol.specs.declared.normalising.NormalFault.{NormalFault}
 use Rattle.dm_symbol.specs.declared.normalising.NormalFault.TheVariants.{Read, TooLong}
 use Rattle.dm_symbol.specs.Doubt.{sure_fault_count, erased_in}
-use Rattle.dm_modules.specs.Holding.{IsLaid}
+use Rattle.dm_layout.specs.symbols.Holding.{IsLaid}
 use Rattle.dm_words.specs.Spells.{Spells}
 use Rattle.dm_symbol.specs.SymbolBlocks.{words_with, AreCodewordsOf, block_in, first_data}
 use Rattle.dm_symbol.specs.SymbolReading.{ReadingView, AreRestored, ReadsSymbol, SymbolReadResult}
@@ -37,7 +37,7 @@ use Rattle.dm_symbol.proofs.SymbolWriteSteps.{chosen_holds}
 use Rattle.dm_symbol.proofs.WrittenWords.{words_written_once, written_fit, written_words_are_there}
 use Rattle.dm_words.specs.NormalForm.{normal_form}
 use Rattle.dm_words.proofs.Exported.{normal_form_codewords, normal_form_count, normal_form_spells}
-use Rattle.dm_modules.proofs.Exported.{size_facts}
+use Rattle.dm_layout.proofs.symbols.Exported.{size_facts}
 use Rattle.dm_symbol.proofs.NormalGrids.{one_spelled}
 use Rattle.dm_symbol.proofs.SymbolBelow.{held_is_one}
 use Rattle.dm_symbol.proofs.SymbolReadings.{data_are_bytes}
@@ -54,7 +54,7 @@ map_to_one f r a (suc n) e = ap (λ x. x ∷ map f (range_with_len (a + 1) n)) (
 
 -- In a symbol in which codewords are laid, these are their own restored codewords, and no border fault is sure. So it
 -- is read as what they spell, for every limit, with nothing wrong in it.
-module _ (g : ModulesView) (words : List ℕ) (laid : IsLaid (words_with g.size words) g)
+module _ (g : SymbolView) (words : List ℕ) (laid : IsLaid (words_with g.size words) g)
     (checked : AreCodewordsOf g.size words) where
   pub no_sure_fault : sure_fault_count g None ≡ 0
   no_sure_fault = sym (faults_by_none g) ∙ laid.border
@@ -106,7 +106,7 @@ module _ (g : ModulesView) (words : List ℕ) (laid : IsLaid (words_with g.size 
       all by)
 
 -- The data codewords of a symbol in which a message is written spell it.
-pub written_spells : (extent : Extent) (choice : SizeChoice) (p : Profile) (m : List Item) (modules : ModulesView)
+pub written_spells : (extent : Extent) (choice : SizeChoice) (p : Profile) (m : List Item) (modules : SymbolView)
     → IsMessage m
     → (n : IsWrittenIn choice p m modules) → Spells extent (first_data modules.size n.words) m
 written_spells extent choice p m modules h n =
@@ -116,7 +116,7 @@ written_spells extent choice p m modules h n =
     (normal_form_spells extent p m modules.size.data_count h holds (omega (arith, few)))
 
 -- Messages that are written in the same symbol, in whatever choices, are equal.
-pub written_tells : (choice other : SizeChoice) (p q : Profile) (m n : List Item) (g : ModulesView) → IsMessage m
+pub written_tells : (choice other : SizeChoice) (p q : Profile) (m n : List Item) (g : SymbolView) → IsMessage m
     → IsMessage n
     → IsWrittenIn choice p m g → IsWrittenIn other q n g → m ≡ n
 written_tells choice other p q m n g hm hn nm nn =
@@ -127,20 +127,20 @@ written_tells choice other p q m n g hm hn nm nn =
 
 -- A message that fits a size of a choice is written in some symbol.
 pub written_is_there : (choice : SizeChoice) (p : Profile) (m : List Item) → IsMessage m → FitsChoice choice p m
-    → (modules : ModulesView) × IsWrittenIn choice p m modules
+    → (modules : SymbolView) × IsWrittenIn choice p m modules
 written_is_there choice p m h fits =
     written_words_are_there choice (normal_form p m) (normal_form_count p m)
     (λ count. normal_form_codewords p m count h) fits
 
 -- A symbol in which a message is written is read as it.
-pub written_reads : (extent : Extent) (choice : SizeChoice) (p : Profile) (m : List Item) (g : ModulesView) (limit : ℕ)
+pub written_reads : (extent : Extent) (choice : SizeChoice) (p : Profile) (m : List Item) (g : SymbolView) (limit : ℕ)
     → IsMessage m
     → IsWrittenIn choice p m g → ReadsSymbol extent g None limit m
 written_reads extent choice p m g limit h n =
     laid_reads g n.words n.laid n.checked extent m limit (written_spells extent choice p m g h n)
 
 -- Nothing is wrong in it.
-pub written_result : (extent : Extent) (choice : SizeChoice) (p : Profile) (m : List Item) (g : ModulesView)
+pub written_result : (extent : Extent) (choice : SizeChoice) (p : Profile) (m : List Item) (g : SymbolView)
     (limit : ℕ) → IsMessage m
     → IsWrittenIn choice p m g
     → SymbolReadResult extent g None limit
@@ -149,7 +149,7 @@ written_result extent choice p m g limit h n =
     laid_result g n.words n.laid n.checked extent m limit (written_spells extent choice p m g h n)
 
 -- It has one result.
-pub written_is_read : (extent : Extent) (choice : SizeChoice) (p : Profile) (m : List Item) (g : ModulesView)
+pub written_is_read : (extent : Extent) (choice : SizeChoice) (p : Profile) (m : List Item) (g : SymbolView)
     (limit : ℕ)
     (result : Result ReadingView ReadFault) → IsMessage m → IsWrittenIn choice p m g
     → SymbolReadResult extent g None limit result
@@ -161,7 +161,7 @@ written_is_read extent choice p m g limit result h n =
     )
 
 -- Symbols in which messages are written are equal exactly where the messages are.
-pub written_symbols_tell : (choice : SizeChoice) (p : Profile) (m n : List Item) (g h : ModulesView) → IsMessage m
+pub written_symbols_tell : (choice : SizeChoice) (p : Profile) (m n : List Item) (g h : SymbolView) → IsMessage m
     → IsMessage n
     → IsWrittenIn choice p m g → IsWrittenIn choice p n h → (g ≡ h) ↔ (m ≡ n)
 written_symbols_tell choice p m n g h hm hn ng nh = (
@@ -175,16 +175,17 @@ written_symbols_tell choice p m n g h hm hn ng nh = (
 err_is : (a b : ReadFault) → ◌≡◌ {A = Result ReadingView ReadFault} (Err a) (Err b) → a ≡ b
 err_is a b e = cc
 
-module _ (extent : Extent) (p : Profile) (modules : ModulesView) (doubtful : Option ModulesView) where
+module _ (extent : Extent) (p : Profile) (modules : SymbolView) (doubtful : Option SymbolView) where
   -- A symbol has at most one normal symbol under a profile.
-  pub one_normal_symbol : (n o : ModulesView) (k l : ℕ) → HasNormalSymbol extent p modules doubtful k n
+  pub one_normal_symbol : (n o : SymbolView) (k l : ℕ) → HasNormalSymbol extent p modules doubtful k n
       → HasNormalSymbol extent p modules doubtful l o → n ≡ o
   one_normal_symbol n o k l hn ho =
       let same = one_symbol_message modules doubtful extent extent k l hn.message ho.message hn.read ho.read in
-      words_written_once Square (normal_form p ho.message) n o (subst (λ m. IsNormalSymbol p m n) same hn.normal_symbol) ho.normal_symbol
+      words_written_once Square (normal_form p ho.message) n o
+      (subst (λ m. IsNormalSymbol p m n) same hn.normal_symbol) ho.normal_symbol
 
   -- A symbol that is read as a message with a normal symbol isn't read as one that has none.
-  not_too_long : (n : ModulesView) (k l : ℕ) → HasNormalSymbol extent p modules doubtful k n
+  not_too_long : (n : SymbolView) (k l : ℕ) → HasNormalSymbol extent p modules doubtful k n
       → HasNoNormalSymbol extent p modules doubtful l → ⊥
   not_too_long n k l h none =
       let same = one_symbol_message modules doubtful extent extent k l h.message none.message h.read none.read in
@@ -196,7 +197,7 @@ module _ (extent : Extent) (p : Profile) (modules : ModulesView) (doubtful : Opt
   no_fault limit m why r a = symbol_read_by_result modules doubtful extent limit (Err why) m a r
 
   -- A symbol has at most one result of normalising.
-  pub one_normal_symbol_result : (limit : ℕ) (a b : Result ModulesView NormalFault)
+  pub one_normal_symbol_result : (limit : ℕ) (a b : Result SymbolView NormalFault)
       → NormalSymbolResult extent p modules doubtful limit a
       → NormalSymbolResult extent p modules doubtful limit b → a ≡ b
   one_normal_symbol_result limit a b (NormalSymbolResult.normal n h e) (NormalSymbolResult.normal o k f) =
@@ -220,7 +221,7 @@ module _ (extent : Extent) (p : Profile) (modules : ModulesView) (doubtful : Opt
       e ∙ ap (λ x. Err (Read x)) inner ∙ sym f
 
 -- A normal symbol has itself as its normal symbol, in each extent.
-normal_of_normal : (extent again : Extent) (p : Profile) (modules normal : ModulesView) (doubtful : Option ModulesView)
+normal_of_normal : (extent again : Extent) (p : Profile) (modules normal : SymbolView) (doubtful : Option SymbolView)
     (limit other : ℕ)
     → HasNormalSymbol extent p modules doubtful limit normal → HasNormalSymbol again p normal None other normal
 normal_of_normal extent again p modules normal doubtful limit other h = record {
@@ -231,9 +232,9 @@ normal_of_normal extent again p modules normal doubtful limit other h = record {
 }
 
 -- The result of normalising for a normal symbol is the symbol itself.
-pub symbol_twice_is_once : (extent again : Extent) (p : Profile) (modules normal : ModulesView)
-    (doubtful : Option ModulesView)
-    (limit other : ℕ) (result : Result ModulesView NormalFault) → HasNormalSymbol extent p modules doubtful limit normal
+pub symbol_twice_is_once : (extent again : Extent) (p : Profile) (modules normal : SymbolView)
+    (doubtful : Option SymbolView)
+    (limit other : ℕ) (result : Result SymbolView NormalFault) → HasNormalSymbol extent p modules doubtful limit normal
     → NormalSymbolResult again p normal None other result ↔ (result ≡ Ok normal)
 symbol_twice_is_once extent again p modules normal doubtful limit other result h =
     let itself : NormalSymbolResult again p normal None other (Ok normal) =
@@ -243,7 +244,7 @@ symbol_twice_is_once extent again p modules normal doubtful limit other result h
     )
 
 -- Two symbols that are read have equal normal symbols exactly where their messages are equal.
-pub equal_normal_symbols : (extent other : Extent) (p : Profile) (g h a b : ModulesView) (d e : Option ModulesView)
+pub equal_normal_symbols : (extent other : Extent) (p : Profile) (g h a b : SymbolView) (d e : Option SymbolView)
     (k l : ℕ) (m n : List Item)
     → ReadsSymbol extent g d k m → ReadsSymbol other h e l n → HasNormalSymbol extent p g d k a
     → HasNormalSymbol other p h e l b
@@ -263,7 +264,7 @@ ok_no_fault : (reading : ReadingView) (why : ReadFault)
 ok_no_fault reading why e = cc
 
 -- What is read in the extent `Usual` is read in `Wide` with the same result.
-pub wide_reads_the_usual_symbol : (modules : ModulesView) (doubtful : Option ModulesView) (limit : ℕ)
+pub wide_reads_the_usual_symbol : (modules : SymbolView) (doubtful : Option SymbolView) (limit : ℕ)
     (reading : ReadingView)
     → SymbolReadResult Usual modules doubtful limit (Ok reading)
     → SymbolReadResult Wide modules doubtful limit (Ok reading)
@@ -285,29 +286,29 @@ wide_reads_the_usual_symbol modules doubtful limit reading a = moved (Ok reading
 -- ---- what a result of normalising says
 
 -- Equal results that are symbols have equal symbols.
-ok_is : (a b : ModulesView) → ◌≡◌ {A = Result ModulesView NormalFault} (Ok a) (Ok b) → a ≡ b
+ok_is : (a b : SymbolView) → ◌≡◌ {A = Result SymbolView NormalFault} (Ok a) (Ok b) → a ≡ b
 ok_is a b e = cc
 
 -- A fault isn't a symbol.
-err_no_ok : (a : ModulesView) (f : NormalFault) → ◌≡◌ {A = Result ModulesView NormalFault} (Err f) (Ok a) → ⊥
+err_no_ok : (a : SymbolView) (f : NormalFault) → ◌≡◌ {A = Result SymbolView NormalFault} (Err f) (Ok a) → ⊥
 err_no_ok a f e = cc
 
 -- A symbol isn't a fault.
-ok_no_err : (a : ModulesView) (f : NormalFault) → ◌≡◌ {A = Result ModulesView NormalFault} (Ok a) (Err f) → ⊥
+ok_no_err : (a : SymbolView) (f : NormalFault) → ◌≡◌ {A = Result SymbolView NormalFault} (Ok a) (Err f) → ⊥
 ok_no_err a f e = cc
 
 -- Two equal faults of reading say the same.
-read_is : (a b : ReadFault) → ◌≡◌ {A = Result ModulesView NormalFault} (Err (Read a)) (Err (Read b)) → a ≡ b
+read_is : (a b : ReadFault) → ◌≡◌ {A = Result SymbolView NormalFault} (Err (Read a)) (Err (Read b)) → a ≡ b
 read_is a b e = cc
 
 -- A fault of reading isn't that the message is too long.
-read_no_too_long : (a : ReadFault) → ◌≡◌ {A = Result ModulesView NormalFault} (Err (Read a)) (Err TooLong) → ⊥
+read_no_too_long : (a : ReadFault) → ◌≡◌ {A = Result SymbolView NormalFault} (Err (Read a)) (Err TooLong) → ⊥
 read_no_too_long a e = cc
 
-module _ (extent : Extent) (p : Profile) (modules : ModulesView) (doubtful : Option ModulesView) (limit : ℕ) where
+module _ (extent : Extent) (p : Profile) (modules : SymbolView) (doubtful : Option SymbolView) (limit : ℕ) where
   -- The result is a normal symbol exactly where the symbol has it.
-  says_normal : (result : Result ModulesView NormalFault) → NormalSymbolResult extent p modules doubtful limit result
-      → (n : ModulesView)
+  says_normal : (result : Result SymbolView NormalFault) → NormalSymbolResult extent p modules doubtful limit result
+      → (n : SymbolView)
       → (result ≡ Ok n) ↔ HasNormalSymbol extent p modules doubtful limit n
   says_normal result a n = (
     λ e. told result a e,
@@ -315,7 +316,7 @@ module _ (extent : Extent) (p : Profile) (modules : ModulesView) (doubtful : Opt
         (NormalSymbolResult.normal n h refl),
   )
     where
-      told : (result : Result ModulesView NormalFault) → NormalSymbolResult extent p modules doubtful limit result
+      told : (result : Result SymbolView NormalFault) → NormalSymbolResult extent p modules doubtful limit result
           → result ≡ Ok n
           → HasNormalSymbol extent p modules doubtful limit n
       told result (NormalSymbolResult.normal o h e) f =
@@ -324,7 +325,7 @@ module _ (extent : Extent) (p : Profile) (modules : ModulesView) (doubtful : Opt
       told result (NormalSymbolResult.fault why h e) f = absurd (err_no_ok n (Read why) (sym e ∙ f))
 
   -- The result is that there is none exactly where the symbol has none.
-  says_too_long : (result : Result ModulesView NormalFault) → NormalSymbolResult extent p modules doubtful limit result
+  says_too_long : (result : Result SymbolView NormalFault) → NormalSymbolResult extent p modules doubtful limit result
       → (result ≡ Err TooLong) ↔ HasNoNormalSymbol extent p modules doubtful limit
   says_too_long result a = (
     λ e. told result a e,
@@ -332,7 +333,7 @@ module _ (extent : Extent) (p : Profile) (modules : ModulesView) (doubtful : Opt
         (NormalSymbolResult.too_long h refl),
   )
     where
-      told : (result : Result ModulesView NormalFault) → NormalSymbolResult extent p modules doubtful limit result
+      told : (result : Result SymbolView NormalFault) → NormalSymbolResult extent p modules doubtful limit result
           → result ≡ Err TooLong
           → HasNoNormalSymbol extent p modules doubtful limit
       told result (NormalSymbolResult.normal o h e) f = absurd (ok_no_err o TooLong (sym e ∙ f))
@@ -340,7 +341,7 @@ module _ (extent : Extent) (p : Profile) (modules : ModulesView) (doubtful : Opt
       told result (NormalSymbolResult.fault why h e) f = absurd (read_no_too_long why (sym e ∙ f))
 
   -- The result is a fault of reading exactly where the symbol is refused with it.
-  says_fault : (result : Result ModulesView NormalFault) → NormalSymbolResult extent p modules doubtful limit result
+  says_fault : (result : Result SymbolView NormalFault) → NormalSymbolResult extent p modules doubtful limit result
       → (why : ReadFault)
       → (result ≡ Err (Read why)) ↔ SymbolReadResult extent modules doubtful limit (Err why)
   says_fault result a why = (
@@ -349,7 +350,7 @@ module _ (extent : Extent) (p : Profile) (modules : ModulesView) (doubtful : Opt
         (NormalSymbolResult.fault why h refl),
   )
     where
-      told : (result : Result ModulesView NormalFault) → NormalSymbolResult extent p modules doubtful limit result
+      told : (result : Result SymbolView NormalFault) → NormalSymbolResult extent p modules doubtful limit result
           → result ≡ Err (Read why)
           → SymbolReadResult extent modules doubtful limit (Err why)
       told result (NormalSymbolResult.normal o h e) f = absurd (ok_no_err o (Read why) (sym e ∙ f))
@@ -358,7 +359,7 @@ module _ (extent : Extent) (p : Profile) (modules : ModulesView) (doubtful : Opt
           subst (λ x. SymbolReadResult extent modules doubtful limit (Err x)) (read_is other why (sym e ∙ f)) h
 
   -- The result defined for a symbol is what normalising it gives.
-  pub is_symbol_normalised : (result : Result ModulesView NormalFault)
+  pub is_symbol_normalised : (result : Result SymbolView NormalFault)
       → NormalSymbolResult extent p modules doubtful limit result
       → IsSymbolNormalised extent p modules doubtful limit result
   is_symbol_normalised result a = record {

@@ -6,9 +6,9 @@ use Rattle.std.specs.List.{All}
 use Rattle.std.proofs.lemmas.Bool.{cases_eq, cases_lt}
 use Rattle.dm_code.specs.Erased.{IsNearBut}
 use Rattle.dm_code.proofs.Exported.{near_but_or_none}
-use Rattle.dm_modules.specs.Sizes.{SizeEntry, block_check}
-use Rattle.dm_modules.specs.Modules.{ModulesView, IsModules}
-use Rattle.dm_modules.proofs.Exported.{some_held, blocks_make_words}
+use Rattle.dm_layout.specs.symbols.Sizes.{SizeEntry, block_check}
+use Rattle.dm_layout.specs.symbols.Symbols.{SymbolView, IsSymbol}
+use Rattle.dm_layout.proofs.symbols.Exported.{some_held, blocks_make_words}
 use Rattle.dm_symbol.specs.Doubt.{sure_fault_count, erased_in}
 use Rattle.dm_symbol.specs.SymbolBlocks.{AreOfSize, AreHeldBy, HasNearBut, block_in, first_data}
 use Rattle.dm_symbol.specs.SymbolReading.{AreRestored, IsFirstLost}
@@ -54,7 +54,7 @@ near_or_first_lost size erased words h (suc n) hn =
     ]
 
 -- Words whose blocks all have codewords near to them but for their erased places are restored.
-restored : (modules : ModulesView) (doubtful : Option ModulesView) (words : List ℕ) → AreHeldBy modules words
+restored : (modules : SymbolView) (doubtful : Option SymbolView) (words : List ℕ) → AreHeldBy modules words
     → ((b : ℕ) → b < modules.size.blocks → HasNearBut (block_check modules.size) (block_in modules.size words b)
     (erased_in modules.size doubtful b))
     → (codewords : List ℕ) × AreRestored modules doubtful words codewords
@@ -87,7 +87,7 @@ pub data Outcome (Said Fault : Type 0) : Type 0 where
   Says : List ℕ → List ℕ → Said → Outcome Said Fault
 
 module _ {Said Fault : Type 0} (says : List ℕ → Said → Type 0) (refuses : List ℕ → Fault → Type 0)
-    (modules : ModulesView) (doubtful : Option ModulesView) (limit : ℕ) where
+    (modules : SymbolView) (doubtful : Option SymbolView) (limit : ℕ) where
   -- The surely wrong modules of the borders.
   abbrev faults : ℕ
   faults = sure_fault_count modules doubtful
@@ -157,7 +157,7 @@ module _ {Said Fault : Type 0} (says : List ℕ → Said → Type 0) (refuses : 
   -- An outcome is there for each symbol, where each list of bytes says something or is refused.
   module _ (said_or_refused : (words : List ℕ) → All (λ w. w < 256) words
       → ((a : Said) × says words a) ⊎ ((b : Fault) × refuses words b)) where
-    pub some_outcome : IsModules modules → (a : Outcome Said Fault) × IsOutcome a
+    pub some_outcome : IsSymbol modules → (a : Outcome Said Fault) × IsOutcome a
     some_outcome h =
         elim (cases_lt limit faults) [
           | inl more ↦ (Border faults, (more, refl))

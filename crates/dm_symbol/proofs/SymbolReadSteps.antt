@@ -6,8 +6,8 @@ use Rattle.dm_words.specs.declared.item.Item.{Item}
 use Rattle.dm_words.specs.declared.fault.WordFault.{WordFault}
 use Rattle.dm_words.specs.Spells.{Spells}
 use Rattle.dm_words.specs.Refused.{Refused}
-use Rattle.dm_modules.specs.Modules.{ModulesView}
-use Rattle.dm_modules.specs.Words.{WordsView, data_of}
+use Rattle.dm_layout.specs.symbols.Symbols.{SymbolView}
+use Rattle.dm_layout.specs.symbols.Words.{WordsView, data_of}
 use Rattle.dm_symbol.specs.declared.symbol.reading.BlockReading.{BlockReading}
 use Rattle.dm_symbol.specs.declared.reading.ReadFault.{ReadFault}
 use Rattle.dm_symbol.specs.declared.reading.ReadFault.TheVariants as fault
@@ -37,7 +37,7 @@ message_no_border : (n : ℕ) (r : ReadingView)
     → ◌≡◌ {A = Result ReadingView ReadFault} (Ok r) (Err (fault.Border n)) → ⊥
 message_no_border n r e = cc
 
-module _ (extent : Extent) (modules : ModulesView) (doubtful : Option ModulesView) (limit : ℕ) where
+module _ (extent : Extent) (modules : SymbolView) (doubtful : Option SymbolView) (limit : ℕ) where
   -- The surely wrong modules of the borders.
   abbrev faults : ℕ
   faults = sure_fault_count modules doubtful

@@ -12,9 +12,9 @@ use Rattle.dm_words.specs.declared.fault.WordFault.{WordFault}
 use Rattle.dm_words.specs.Spells.{Spells}
 use Rattle.dm_words.specs.Refused.{Refused}
 use Rattle.dm_words.specs.Messages.{IsMessage}
-use Rattle.dm_modules.specs.Sizes.{SizeEntry, block_check, block_length}
-use Rattle.dm_modules.specs.Modules.{ModulesView}
-use Rattle.dm_modules.proofs.Exported.{place_inside, same_by_blocks}
+use Rattle.dm_layout.specs.symbols.Sizes.{SizeEntry, block_check, block_length}
+use Rattle.dm_layout.specs.symbols.Symbols.{SymbolView}
+use Rattle.dm_layout.proofs.symbols.Exported.{place_inside, same_by_blocks}
 use Rattle.dm_symbol.specs.declared.reading.ReadFault.{ReadFault}
 use Rattle.dm_symbol.specs.declared.reading.ReadFault.TheVariants as fault
 use Rattle.dm_symbol.specs.Doubt.{sure_fault_count, erased_in}
@@ -79,7 +79,7 @@ ok_no_fault : (reading : ReadingView) (why : ReadFault)
     → ◌≡◌ {A = Result ReadingView ReadFault} (Ok reading) (Err why) → ⊥
 ok_no_fault reading why e = cc
 
-module _ (modules : ModulesView) (doubtful : Option ModulesView) where
+module _ (modules : SymbolView) (doubtful : Option SymbolView) where
   -- The erased places of a block.
   abbrev erased : ℕ → List ℕ
   erased = erased_in modules.size doubtful

@@ -14,10 +14,10 @@ use Rattle.dm_layout.specs.Sizes.{SizeRow, size_table, row_for_words, symbol_siz
 use Rattle.dm_layout.specs.Grid.{GridView, IsGrid, symbol_modules}
 use Rattle.dm_layout.specs.Border.{border_fault_count}
 use Rattle.dm_layout.proofs.Exported.{is_modules, laid_in_modules}
-use Rattle.dm_modules.specs.declared.size.SizeChoice.TheVariants.{Square}
-use Rattle.dm_modules.specs.Sizes.{SizeEntry, entry_for, is_square}
-use Rattle.dm_modules.specs.Sizes as symbols
-use Rattle.dm_modules.specs.Modules.{ModulesView}
+use Rattle.dm_layout.specs.declared.symbols.size.SizeChoice.TheVariants.{Square}
+use Rattle.dm_layout.specs.symbols.Sizes.{SizeEntry, entry_for, is_square}
+use Rattle.dm_layout.specs.symbols.Sizes as symbols
+use Rattle.dm_layout.specs.symbols.Symbols.{SymbolView}
 use Rattle.dm_symbol.specs.declared.reading.Reading.{Reading}
 use Rattle.dm_symbol.specs.declared.reading.ReadFault.{ReadFault}
 use Rattle.dm_symbol.specs.declared.reading.ReadFault.TheVariants as fault
@@ -42,7 +42,7 @@ module _ (grid : GridView) (g : IsGrid grid) where
   abbrev size : SizeEntry
   size = symbol_size grid.size
 
-  abbrev pub cells_of_symbol : ModulesView
+  abbrev pub cells_of_symbol : SymbolView
   cells_of_symbol = symbol_modules grid
 
   -- They have the cells of the grid.

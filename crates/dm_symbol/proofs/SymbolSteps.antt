@@ -8,7 +8,7 @@ use Rattle.std.specs.List.{range_with_len}
 use Rattle.std.proofs.lemmas.List.{get_or_append_left, get_or_push, map-append}
 use Rattle.dm_code.specs.Codeword.{IsNear, distance}
 use Rattle.dm_code.specs.Erased.{IsNearBut, distance_but, erased_places}
-use Rattle.dm_modules.specs.Sizes.{SizeEntry, block_check}
+use Rattle.dm_layout.specs.symbols.Sizes.{SizeEntry, block_check}
 use Rattle.dm_symbol.specs.declared.symbol.reading.BlockReading.{BlockReading}
 use Rattle.dm_symbol.specs.SymbolBlocks.{AreBlocksNear, HasNearBut, block_in}
 use Rattle.dm_symbol.specs.SymbolReading.{IsFirstLost, IsBlockRestored, AreBlocksMended}

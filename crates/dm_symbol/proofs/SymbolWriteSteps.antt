@@ -10,12 +10,12 @@ use Rattle.std.proofs.lemmas.List.Elements.{recursion_from_All}
 use Rattle.std.proofs.lemmas.List.Sums.{AllPass-from_list_all}
 use Rattle.std.proofs.Math.Seq.{take-append_seam}
 use Rattle.dm_code.specs.Codeword.{IsCodeword, distance}
-use Rattle.dm_modules.specs.declared.size.SizeChoice.{SizeChoice}
-use Rattle.dm_modules.specs.Sizes.{SizeEntry, entry_for, takes, size_table, block_data, block_check, most_data}
-use Rattle.dm_modules.specs.Blocks.{block_of}
-use Rattle.dm_modules.proofs.Exported.{data_of_block, same_data_by_blocks}
-use Rattle.dm_modules.proofs.Exported.{enough}
-use Rattle.dm_modules.proofs.Exported.{at_found}
+use Rattle.dm_layout.specs.declared.symbols.size.SizeChoice.{SizeChoice}
+use Rattle.dm_layout.specs.symbols.Sizes.{SizeEntry, entry_for, takes, size_table, block_data, block_check, most_data}
+use Rattle.dm_layout.specs.symbols.Blocks.{block_of}
+use Rattle.dm_layout.proofs.symbols.Exported.{data_of_block, same_data_by_blocks}
+use Rattle.dm_layout.proofs.symbols.Exported.{enough}
+use Rattle.dm_layout.proofs.symbols.Exported.{at_found}
 use Rattle.dm_symbol.specs.SymbolBlocks.{words_with, AreOfSize, AreCodewordsOf, block_in, first_data}
 use Rattle.dm_symbol.specs.WrittenWords.{FitChoice}
 use Rattle.dm_symbol.proofs.Below.{codewords_apart}

@@ -4,7 +4,7 @@ use Rattle.std.proofs.Common.{ap, subst, ◌∙◌, arith}
 use Rattle.dm_words.specs.declared.item.Item.{Item}
 use Rattle.dm_words.specs.declared.profile.Profile.{Profile}
 use Rattle.dm_words.specs.declared.fault.TooLong.{TooLong}
-use Rattle.dm_layout.specs.Sizes.{SizeRow, row_for_words, most_data}
+use Rattle.dm_layout.specs.Sizes.{SizeRow, row_for_words, most_grid_data}
 use Rattle.dm_layout.specs.Grid.{GridView}
 use Rattle.dm_layout.specs.Words.{WordsView}
 use Rattle.dm_layout.specs.Holds.{IsLaid}
@@ -34,14 +34,15 @@ laid_is_normal p m grid w size smallest of_size prefix checked laid =
     }
 
 -- No size holds more codewords than the largest.
-none_for_more : (count : ℕ) (o : Option SizeRow) → row_for_words count ≡ o → most_data < count → IsSome o → ⊥
+none_for_more : (count : ℕ) (o : Option SizeRow) → row_for_words count ≡ o → most_grid_data < count → IsSome o → ⊥
 none_for_more count (Some s) e long is =
     let here = holds_that_many count s e in
     omega (arith, long, here.1, (size_facts s here.0).few_data)
 none_for_more count None e long is = absurd (false≢true is)
 
 -- A message whose normal form is longer than the largest size holds fits no size.
-pub too_long_fits_none : (p : Profile) (m : List Item) → most_data < length (normal_form p m) → FitsSomeSize p m → ⊥
+pub too_long_fits_none : (p : Profile) (m : List Item) → most_grid_data < length (normal_form p m) → FitsSomeSize p m
+    → ⊥
 too_long_fits_none p m long fits =
     none_for_more (length (normal_form p m)) (row_for_words (length (normal_form p m))) refl long fits
 

@@ -10,10 +10,10 @@ use Rattle.dm_words.specs.LetterExtents.{as_letter, SaysIn, IsSaidIn}
 use Rattle.dm_words.specs.LetterForm.{letter_form}
 use Rattle.dm_words.specs.Pads.{padded}
 use Rattle.dm_words.proofs.Exported.{form_says_in, letter_form_codewords, letter_form_count, said_is_one}
-use Rattle.dm_modules.specs.declared.size.SizeChoice.{SizeChoice}
-use Rattle.dm_modules.specs.Sizes.{SizeEntry, block_check}
-use Rattle.dm_modules.specs.Modules.{ModulesView}
-use Rattle.dm_modules.proofs.Exported.{size_facts}
+use Rattle.dm_layout.specs.declared.symbols.size.SizeChoice.{SizeChoice}
+use Rattle.dm_layout.specs.symbols.Sizes.{SizeEntry, block_check}
+use Rattle.dm_layout.specs.symbols.Symbols.{SymbolView}
+use Rattle.dm_layout.proofs.symbols.Exported.{size_facts}
 use Rattle.dm_symbol.specs.declared.letters.LetterReadFault.{LetterReadFault}
 use Rattle.dm_symbol.specs.Doubt.{erased_in}
 use Rattle.dm_symbol.specs.SymbolBlocks.{block_in}
@@ -35,7 +35,7 @@ use Rattle.dm_symbol.proofs.WrittenWords.{words_written_once, written_hold, writ
 -- ---- messages
 
 -- A letter without a head and marks is written as the message is that has its items.
-pub message_as_letter : (choice : SizeChoice) (p : Profile) (m : List Item) (g : ModulesView)
+pub message_as_letter : (choice : SizeChoice) (p : Profile) (m : List Item) (g : SymbolView)
     → IsLetterWrittenIn choice p (as_letter m) g ↔ IsWrittenIn choice p m g
 message_as_letter choice p m g = (λ n. n, λ n. n)
 
@@ -56,12 +56,12 @@ nothing_is_wrong size words =
 module _ (choice : SizeChoice) (p : Profile) (l : LetterView) where
   -- A right letter that fits a size of the choice is written in some symbol.
   pub written_letter_is_there : IsLetter l → LetterFits choice p l
-      → (modules : ModulesView) × IsLetterWrittenIn choice p l modules
+      → (modules : SymbolView) × IsLetterWrittenIn choice p l modules
   written_letter_is_there right fits =
       written_words_are_there choice (letter_form p l) (letter_form_count p l)
       (λ count. letter_form_codewords p l count right) fits
 
-  module _ (g : ModulesView) (n : IsLetterWrittenIn choice p l g) (right : IsLetter l) where
+  module _ (g : SymbolView) (n : IsLetterWrittenIn choice p l g) (right : IsLetter l) where
     -- Its data codewords are the normal form with pads, which says the letter.
     form_says : (extent : Extent) → IsSaidIn extent l → SaysIn extent (padded (letter_form p l) g.size.data_count) l
     form_says extent said =
@@ -108,7 +108,7 @@ module _ (choice : SizeChoice) (p : Profile) (l : LetterView) where
           )
 
 -- Right letters that are written in the same symbol, in whatever choices, are equal.
-pub written_letters_tell : (choice other : SizeChoice) (p q : Profile) (l k : LetterView) (g : ModulesView) → IsLetter l
+pub written_letters_tell : (choice other : SizeChoice) (p q : Profile) (l k : LetterView) (g : SymbolView) → IsLetter l
     → IsLetter k → IsLetterWrittenIn choice p l g → IsLetterWrittenIn other q k g → l ≡ k
 written_letters_tell choice other p q l k g hl hk n o =
     said_is_one Wide Wide (padded (letter_form q k) g.size.data_count) l k
@@ -116,7 +116,7 @@ written_letters_tell choice other p q l k g hl hk n o =
     (form_says choice p l g n hl Wide tt)) (form_says other q k g o hk Wide tt)
 
 -- Symbols in which right letters are written are equal exactly where the letters are.
-pub written_symbols_tell_letters : (choice : SizeChoice) (p : Profile) (l k : LetterView) (g h : ModulesView)
+pub written_symbols_tell_letters : (choice : SizeChoice) (p : Profile) (l k : LetterView) (g h : SymbolView)
     → IsLetter l → IsLetter k → IsLetterWrittenIn choice p l g → IsLetterWrittenIn choice p k h → (g ≡ h) ↔ (l ≡ k)
 written_symbols_tell_letters choice p l k g h hl hk n o = (
   λ e. written_letters_tell choice choice p p l k h hl hk (subst (IsLetterWrittenIn choice p l) e n) o,

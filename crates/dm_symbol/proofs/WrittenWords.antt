@@ -5,12 +5,12 @@ use Rattle.std.specs.List.{All}
 use Rattle.std.proofs.lemmas.Bool.{false≢true}
 use Rattle.dm_words.specs.declared.fault.TooLong.{TooLong}
 use Rattle.dm_words.specs.Pads.{padded}
-use Rattle.dm_modules.specs.declared.size.SizeChoice.{SizeChoice}
-use Rattle.dm_modules.specs.Sizes.{SizeEntry, entry_for}
-use Rattle.dm_modules.specs.Modules.{ModulesView}
-use Rattle.dm_modules.specs.Words.{WordsView}
-use Rattle.dm_modules.specs.Holding.{IsLaid}
-use Rattle.dm_modules.proofs.Exported.{some_laid}
+use Rattle.dm_layout.specs.declared.symbols.size.SizeChoice.{SizeChoice}
+use Rattle.dm_layout.specs.symbols.Sizes.{SizeEntry, entry_for}
+use Rattle.dm_layout.specs.symbols.Symbols.{SymbolView}
+use Rattle.dm_layout.specs.symbols.Words.{WordsView}
+use Rattle.dm_layout.specs.symbols.Holding.{IsLaid}
+use Rattle.dm_layout.proofs.symbols.Exported.{some_laid}
 use Rattle.dm_symbol.specs.SymbolBlocks.{words_with, AreOfSize, AreCodewordsOf, first_data}
 use Rattle.dm_symbol.specs.WrittenWords.{FitChoice, AreWrittenIn, AreWritten}
 use Rattle.dm_symbol.proofs.NormalGrids.{some_is}
@@ -20,15 +20,15 @@ use Rattle.dm_symbol.proofs.SymbolWriteSteps.{checks_follow, chosen_holds}
 
 module _ (choice : SizeChoice) (form : List ℕ) where
   -- Codewords that are written in a size of the choice fit one.
-  pub written_fit : (g : ModulesView) → AreWrittenIn choice form g → FitChoice choice form
+  pub written_fit : (g : SymbolView) → AreWrittenIn choice form g → FitChoice choice form
   written_fit g n = subst IsSome (sym n.smallest) refl
 
   -- The size has at least as many data codewords.
-  pub written_hold : (g : ModulesView) → AreWrittenIn choice form g → length form ≤ g.size.data_count
+  pub written_hold : (g : SymbolView) → AreWrittenIn choice form g → length form ≤ g.size.data_count
   written_hold g n = chosen_holds choice (length form) g.size n.smallest
 
   -- Codewords are written in only one symbol.
-  pub words_written_once : (g h : ModulesView) → AreWrittenIn choice form g → AreWrittenIn choice form h → g ≡ h
+  pub words_written_once : (g h : SymbolView) → AreWrittenIn choice form g → AreWrittenIn choice form h → g ≡ h
   words_written_once g h ng nh =
       let size : g.size ≡ h.size = some_is g.size h.size (sym ng.smallest ∙ nh.smallest) in
       let of_size : AreOfSize g.size nh.words = subst (λ s. AreOfSize s nh.words) (sym size) nh.laid.holds.codewords in
@@ -43,7 +43,7 @@ module _ (choice : SizeChoice) (form : List ℕ) where
       laid_is_one g h (words_with h.size nh.words) (subst (λ w. IsLaid w g) whole ng.laid) nh.laid
 
   -- The modules in which codewords with pads and checks are laid are the symbol in which these are written.
-  pub laid_are_written : (modules : ModulesView) (w : WordsView) (size : SizeEntry)
+  pub laid_are_written : (modules : SymbolView) (w : WordsView) (size : SizeEntry)
       → entry_for choice (length form) ≡ Some size → w.size ≡ size
       → first_data size w.list ≡ padded form size.data_count → AreCodewordsOf size w.list → IsLaid w modules
       → AreWrittenIn choice form modules
@@ -61,11 +61,11 @@ module _ (choice : SizeChoice) (form : List ℕ) where
   -- Codewords that fit a size of the choice are written in some symbol.
   pub written_words_are_there : ((count : ℕ) → length form ≤ count → length (padded form count) ≡ count)
       → ((count : ℕ) → All (λ w. w < 256) (padded form count)) → FitChoice choice form
-      → (modules : ModulesView) × AreWrittenIn choice form modules
+      → (modules : SymbolView) × AreWrittenIn choice form modules
   written_words_are_there long bytes fits = of_size (entry_for choice (length form)) refl fits
     where
       of_size : (o : Option SizeEntry) → entry_for choice (length form) ≡ o → IsSome o
-          → (modules : ModulesView) × AreWrittenIn choice form modules
+          → (modules : SymbolView) × AreWrittenIn choice form modules
       of_size None e is = absurd (false≢true is)
       of_size (Some size) e is =
           let holds = chosen_holds choice (length form) size e in
@@ -75,7 +75,7 @@ module _ (choice : SizeChoice) (form : List ℕ) where
           (laid.0, laid_are_written laid.0 (words_with size w.list) size e refl w.front w.checked laid.1)
 
   -- The symbol in which codewords are written is a right result.
-  pub words_are_written : (g : ModulesView) → AreWrittenIn choice form g → AreWritten choice form (Ok g)
+  pub words_are_written : (g : SymbolView) → AreWrittenIn choice form g → AreWritten choice form (Ok g)
   words_are_written g n = record {
     written = n;
     one = λ other o. words_written_once other g o n;
@@ -84,7 +84,7 @@ module _ (choice : SizeChoice) (form : List ℕ) where
   }
 
   -- That there is none is the right result for codewords that fit no size of the choice.
-  pub no_words_written : (result : Result ModulesView TooLong) → IsErr result → (FitChoice choice form → ⊥)
+  pub no_words_written : (result : Result SymbolView TooLong) → IsErr result → (FitChoice choice form → ⊥)
       → AreWritten choice form result
   no_words_written (Ok g) is none = absurd (false≢true is)
   no_words_written (Err e) is none = record {
@@ -95,7 +95,7 @@ module _ (choice : SizeChoice) (form : List ℕ) where
   }
 
 -- Codewords that are written in the same symbol, in whatever choices, are equal up to pads.
-pub written_words_tell : (choice other : SizeChoice) (form other_form : List ℕ) (g : ModulesView)
+pub written_words_tell : (choice other : SizeChoice) (form other_form : List ℕ) (g : SymbolView)
     → AreWrittenIn choice form g → AreWrittenIn other other_form g
     → padded form g.size.data_count ≡ padded other_form g.size.data_count
 written_words_tell choice other form other_form g n o =

@@ -11,26 +11,26 @@ use Rattle.std.specs.List.{range_with_len, list_any}
 use Rattle.dm_place.specs.Border.{symbol_line}
 use Rattle.dm_place.specs.Placement.{place}
 use Rattle.dm_code.specs.Erased.{erased_places}
-use Rattle.dm_modules.specs.Sizes.{SizeEntry, mapping_rows, mapping_columns, codeword_count}
-use Rattle.dm_modules.specs.Modules.{ModulesView}
-pub use Rattle.dm_modules.specs.SureFaults.{is_doubtful, is_sure_fault, sure_fault_count}
-use Rattle.dm_modules.specs.Blocks.{places_of_block}
+use Rattle.dm_layout.specs.symbols.Sizes.{SizeEntry, mapping_rows, mapping_columns, codeword_count}
+use Rattle.dm_layout.specs.symbols.Symbols.{SymbolView}
+pub use Rattle.dm_layout.specs.symbols.SureFaults.{is_doubtful, is_sure_fault, sure_fault_count}
+use Rattle.dm_layout.specs.symbols.Blocks.{places_of_block}
 
 -- ---- codewords
 
 -- A bit, 1 to 8, of a codeword, which is counted from 0 in the symbol, is doubtful if the module at which the bit's
 -- place lies is. Beyond these ranges this means nothing.
-abbrev pub is_doubtful_bit : SizeEntry → Option ModulesView → ℕ → ℕ → Bool
+abbrev pub is_doubtful_bit : SizeEntry → Option SymbolView → ℕ → ℕ → Bool
 is_doubtful_bit size doubtful word bit =
     is_doubtful doubtful (symbol_line size.region_rows (place (mapping_rows size) (mapping_columns size) word bit).row)
     (symbol_line size.region_columns (place (mapping_rows size) (mapping_columns size) word bit).column)
 
 -- A codeword is erased if one of its eight modules, or more, is doubtful.
-abbrev pub is_erased : SizeEntry → Option ModulesView → ℕ → Bool
+abbrev pub is_erased : SizeEntry → Option SymbolView → ℕ → Bool
 is_erased size doubtful word = list_any (is_doubtful_bit size doubtful word) (range_with_len 1 8)
 
 -- The erased places of block b of a symbol of this size are those of its places, counted from 0 in the block, whose
 -- codewords are erased.
-abbrev pub erased_in : SizeEntry → Option ModulesView → ℕ → List ℕ
+abbrev pub erased_in : SizeEntry → Option SymbolView → ℕ → List ℕ
 erased_in size doubtful b =
     erased_places (map (is_erased size doubtful) (places_of_block size.blocks b (codeword_count size)))

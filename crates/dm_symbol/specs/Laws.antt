@@ -7,7 +7,7 @@ use Rattle.dm_words.specs.declared.extent.Extent.TheVariants.{Usual, Wide}
 use Rattle.dm_words.specs.declared.item.Item.{Item}
 use Rattle.dm_words.specs.declared.profile.Profile.{Profile}
 use Rattle.dm_layout.specs.Border.{border_fault_count}
-use Rattle.dm_layout.specs.Sizes.{most_data}
+use Rattle.dm_layout.specs.Sizes.{most_grid_data}
 use Rattle.dm_layout.specs.Grid.{GridView, IsGrid, cell_at}
 use Rattle.dm_words.specs.Laws.{AreMacro}
 use Rattle.dm_words.specs.Macros.{macro_text}
@@ -45,7 +45,7 @@ FewItemsAreRead = (extent : Extent) (grid : GridView) (limit : ℕ) (message : L
 abbrev pub NoMoreItemsAreRead : Type 0
 NoMoreItemsAreRead = (extent : Extent) (grid : GridView) (limit : ℕ) (message : List Item)
     → Reads extent grid limit message
-    → length message ≤ most_spelled extent most_data
+    → length message ≤ most_spelled extent most_grid_data
 
 -- What is read in the extent `Usual` is read in `Wide` with the same result: the same message, corrections and border
 -- faults.

@@ -10,9 +10,9 @@ use Rattle.dm_words.specs.LetterExtents.{as_letter, IsSaidIn}
 use Rattle.dm_words.specs.LetterForm.{letter_form}
 use Rattle.dm_words.specs.Pads.{padded}
 use Rattle.dm_words.specs.Smallest.{IsTaken}
-use Rattle.dm_modules.specs.declared.size.SizeChoice.{SizeChoice}
-use Rattle.dm_modules.specs.Sizes.{SizeEntry, block_check, codeword_count, most_rows, most_codewords}
-use Rattle.dm_modules.specs.Modules.{ModulesView, IsModules}
+use Rattle.dm_layout.specs.declared.symbols.size.SizeChoice.{SizeChoice}
+use Rattle.dm_layout.specs.symbols.Sizes.{SizeEntry, block_check, codeword_count, most_rows, most_codewords}
+use Rattle.dm_layout.specs.symbols.Symbols.{SymbolView, IsSymbol}
 use Rattle.dm_symbol.specs.declared.letters.LetterReadFault.{LetterReadFault}
 use Rattle.dm_symbol.specs.declared.letters.LetterReadFault.TheVariants as fault
 use Rattle.dm_symbol.specs.declared.letters.LetterNormalFault.{LetterNormalFault}
@@ -31,7 +31,7 @@ use Rattle.dm_symbol.specs.LetterNormal.{HasNormalLetter, NormalLetterResult}
 -- With the same doubtful modules, a symbol is read as at most one letter, whatever the extents and the limits.
 abbrev pub OneSymbolLetter : Type 0
 OneSymbolLetter =
-    (extent other_extent : Extent) (modules : ModulesView) (doubtful : Option ModulesView) (limit other_limit : ℕ)
+    (extent other_extent : Extent) (modules : SymbolView) (doubtful : Option SymbolView) (limit other_limit : ℕ)
     (letter other : LetterView) → ReadsLetter extent modules doubtful limit letter
     → ReadsLetter other_extent modules doubtful other_limit other → letter ≡ other
 
@@ -39,56 +39,56 @@ OneSymbolLetter =
 -- hold of it.
 abbrev pub ReadLettersAreRight : Type 0
 ReadLettersAreRight =
-    (extent : Extent) (modules : ModulesView) (doubtful : Option ModulesView) (limit : ℕ) (letter : LetterView)
+    (extent : Extent) (modules : SymbolView) (doubtful : Option SymbolView) (limit : ℕ) (letter : LetterView)
     → ReadsLetter extent modules doubtful limit letter → IsLetter letter × IsSaidIn extent letter
 
 -- A symbol has some result of reading for an extent, doubtful modules and a limit.
 abbrev pub LetterReadResultIsThere : Type 0
 LetterReadResultIsThere =
-    (extent : Extent) (modules : ModulesView) (doubtful : Option ModulesView) (limit : ℕ) → IsModules modules
+    (extent : Extent) (modules : SymbolView) (doubtful : Option SymbolView) (limit : ℕ) → IsSymbol modules
     → (result : Result LetterReadingView LetterReadFault) × LetterReadResult extent modules doubtful limit result
 
 -- A symbol has at most one result of reading for an extent, doubtful modules and a limit.
 abbrev pub LetterReadResultIsOne : Type 0
 LetterReadResultIsOne =
-    (extent : Extent) (modules : ModulesView) (doubtful : Option ModulesView) (limit : ℕ)
+    (extent : Extent) (modules : SymbolView) (doubtful : Option SymbolView) (limit : ℕ)
     (result other : Result LetterReadingView LetterReadFault) → LetterReadResult extent modules doubtful limit result
     → LetterReadResult extent modules doubtful limit other → result ≡ other
 
 -- A symbol has some result of normalising for an extent, a profile, doubtful modules and a limit.
 abbrev pub NormalLetterResultIsThere : Type 0
 NormalLetterResultIsThere =
-    (extent : Extent) (profile : Profile) (modules : ModulesView) (doubtful : Option ModulesView) (limit : ℕ)
-    → IsModules modules
-    → (result : Result ModulesView LetterNormalFault) × NormalLetterResult extent profile modules doubtful limit result
+    (extent : Extent) (profile : Profile) (modules : SymbolView) (doubtful : Option SymbolView) (limit : ℕ)
+    → IsSymbol modules
+    → (result : Result SymbolView LetterNormalFault) × NormalLetterResult extent profile modules doubtful limit result
 
 -- A symbol has at most one result of normalising for an extent, a profile, doubtful modules and a limit.
 abbrev pub NormalLetterResultIsOne : Type 0
 NormalLetterResultIsOne =
-    (extent : Extent) (profile : Profile) (modules : ModulesView) (doubtful : Option ModulesView) (limit : ℕ)
-    (result other : Result ModulesView LetterNormalFault)
+    (extent : Extent) (profile : Profile) (modules : SymbolView) (doubtful : Option SymbolView) (limit : ℕ)
+    (result other : Result SymbolView LetterNormalFault)
     → NormalLetterResult extent profile modules doubtful limit result
     → NormalLetterResult extent profile modules doubtful limit other → result ≡ other
 
 -- Where the modules that are given as doubtful are all light, a symbol is read as it is with none given.
 abbrev pub LightDoubtReadsLettersAlike : Type 0
 LightDoubtReadsLettersAlike =
-    (extent : Extent) (modules doubtful : ModulesView) (limit : ℕ) (result : Result LetterReadingView LetterReadFault)
+    (extent : Extent) (modules doubtful : SymbolView) (limit : ℕ) (result : Result LetterReadingView LetterReadFault)
     → AreLight doubtful → LetterReadResult extent modules None limit result
     → LetterReadResult extent modules (Some doubtful) limit result
 
 -- Where the modules that are given as doubtful are all light, a symbol is normalised as it is with none given.
 abbrev pub LightDoubtNormalisesLettersAlike : Type 0
 LightDoubtNormalisesLettersAlike =
-    (extent : Extent) (profile : Profile) (modules doubtful : ModulesView) (limit : ℕ)
-    (result : Result ModulesView LetterNormalFault) → AreLight doubtful
+    (extent : Extent) (profile : Profile) (modules doubtful : SymbolView) (limit : ℕ)
+    (result : Result SymbolView LetterNormalFault) → AreLight doubtful
     → NormalLetterResult extent profile modules None limit result
     → NormalLetterResult extent profile modules (Some doubtful) limit result
 
 -- What is read as a message is read, in the same extent, as the letter with its items and without a head and marks.
 abbrev pub MessagesAreReadAsLetters : Type 0
 MessagesAreReadAsLetters =
-    (extent : Extent) (modules : ModulesView) (doubtful : Option ModulesView) (limit : ℕ) (message : List Item)
+    (extent : Extent) (modules : SymbolView) (doubtful : Option SymbolView) (limit : ℕ) (message : List Item)
     → ReadsSymbol extent modules doubtful limit message
     → ReadsLetter extent modules doubtful limit (as_letter message)
 
@@ -96,7 +96,7 @@ MessagesAreReadAsLetters =
 -- its items are that message.
 abbrev pub UsualLettersAreMessages : Type 0
 UsualLettersAreMessages =
-    (modules : ModulesView) (doubtful : Option ModulesView) (limit : ℕ) (letter : LetterView)
+    (modules : SymbolView) (doubtful : Option SymbolView) (limit : ℕ) (letter : LetterView)
     → ReadsLetter Usual modules doubtful limit letter
     → (letter ≡ as_letter letter.items) × ReadsSymbol Usual modules doubtful limit letter.items
 
@@ -120,7 +120,7 @@ SayTheSame (Err why) (Err other) = other ≡ letter_fault why
 -- message and as a letter say the same.
 abbrev pub MessageResultsAreLetterResults : Type 0
 MessageResultsAreLetterResults =
-    (extent : Extent) (modules : ModulesView) (doubtful : Option ModulesView) (limit : ℕ)
+    (extent : Extent) (modules : SymbolView) (doubtful : Option SymbolView) (limit : ℕ)
     (result : Result ReadingView ReadFault) (of_letter : Result LetterReadingView LetterReadFault)
     → (extent ≡ Usual) ⊎ IsOk result → SymbolReadResult extent modules doubtful limit result
     → LetterReadResult extent modules doubtful limit of_letter → SayTheSame result of_letter
@@ -128,14 +128,14 @@ MessageResultsAreLetterResults =
 -- What is read in the extent `Usual` is read in `Wide` with the same result.
 abbrev pub WideReadsTheUsualLetter : Type 0
 WideReadsTheUsualLetter =
-    (modules : ModulesView) (doubtful : Option ModulesView) (limit : ℕ) (reading : LetterReadingView)
+    (modules : SymbolView) (doubtful : Option SymbolView) (limit : ℕ) (reading : LetterReadingView)
     → LetterReadResult Usual modules doubtful limit (Ok reading)
     → LetterReadResult Wide modules doubtful limit (Ok reading)
 
 -- A letter without a head and marks is written as the message is that has its items; so it has the same normal symbol.
 abbrev pub MessagesAreWrittenAsLetters : Type 0
 MessagesAreWrittenAsLetters =
-    (choice : SizeChoice) (profile : Profile) (message : List Item) (modules : ModulesView)
+    (choice : SizeChoice) (profile : Profile) (message : List Item) (modules : SymbolView)
     → IsLetterWrittenIn choice profile (as_letter message) modules ↔ IsWrittenIn choice profile message modules
 
 -- Where there is room for each size of the choice, there is room for the symbol in which a letter is written.
@@ -156,14 +156,14 @@ MostRoomServesLetters =
 abbrev pub AWrittenLetterIsThere : Type 0
 AWrittenLetterIsThere =
     (choice : SizeChoice) (profile : Profile) (letter : LetterView) → IsLetter letter → LetterFits choice profile letter
-    → (modules : ModulesView) × IsLetterWrittenIn choice profile letter modules
+    → (modules : SymbolView) × IsLetterWrittenIn choice profile letter modules
 
 -- The symbol in which a right letter is written, in whatever choice of sizes, is read as that letter in each extent in
 -- which the letter can be said and for every limit, with nothing wrong in any block and no border fault, and has no
 -- other result; so is the normal symbol. Its identifier is that of the codewords that are written.
 abbrev pub WrittenLetterIsRead : Type 0
 WrittenLetterIsRead =
-    (extent : Extent) (choice : SizeChoice) (profile : Profile) (letter : LetterView) (modules : ModulesView)
+    (extent : Extent) (choice : SizeChoice) (profile : Profile) (letter : LetterView) (modules : SymbolView)
     (limit identifier : ℕ) (result : Result LetterReadingView LetterReadFault) → IsLetter letter
     → IsSaidIn extent letter → IsLetterWrittenIn choice profile letter modules
     → IsIdentifier (padded (letter_form profile letter) modules.size.data_count) letter identifier
@@ -175,7 +175,7 @@ WrittenLetterIsRead =
 -- letters are: where heads, items, and numbers and places of marks are.
 abbrev pub WrittenSymbolsTellLetters : Type 0
 WrittenSymbolsTellLetters =
-    (choice : SizeChoice) (profile : Profile) (letter other_letter : LetterView) (modules other : ModulesView)
+    (choice : SizeChoice) (profile : Profile) (letter other_letter : LetterView) (modules other : SymbolView)
     → IsLetter letter → IsLetter other_letter → IsLetterWrittenIn choice profile letter modules
     → IsLetterWrittenIn choice profile other_letter other → (modules ≡ other) ↔ (letter ≡ other_letter)
 
@@ -184,8 +184,8 @@ WrittenSymbolsTellLetters =
 -- letter with a head or marks can't be: its normal symbol is refused there.)
 abbrev pub NormalLetterTwiceIsOnce : Type 0
 NormalLetterTwiceIsOnce =
-    (extent other_extent : Extent) (profile : Profile) (modules normal : ModulesView) (doubtful : Option ModulesView)
-    (limit other_limit : ℕ) (letter : LetterView) (result : Result ModulesView LetterNormalFault)
+    (extent other_extent : Extent) (profile : Profile) (modules normal : SymbolView) (doubtful : Option SymbolView)
+    (limit other_limit : ℕ) (letter : LetterView) (result : Result SymbolView LetterNormalFault)
     → ReadsLetter extent modules doubtful limit letter → IsNormalOfLetter profile letter normal
     → IsSaidIn other_extent letter
     → NormalLetterResult other_extent profile normal None other_limit result ↔ (result ≡ Ok normal)
@@ -195,8 +195,8 @@ NormalLetterTwiceIsOnce =
 -- other limits than their letters.
 abbrev pub EqualNormalSymbolsMeanEqualLetters : Type 0
 EqualNormalSymbolsMeanEqualLetters =
-    (extent other_extent : Extent) (profile : Profile) (modules other normal other_normal : ModulesView)
-    (doubtful other_doubtful : Option ModulesView) (limit other_limit normal_limit other_normal_limit : ℕ)
+    (extent other_extent : Extent) (profile : Profile) (modules other normal other_normal : SymbolView)
+    (doubtful other_doubtful : Option SymbolView) (limit other_limit normal_limit other_normal_limit : ℕ)
     (letter other_letter : LetterView)
     → ReadsLetter extent modules doubtful limit letter
     → ReadsLetter other_extent other other_doubtful other_limit other_letter

@@ -6,7 +6,7 @@ use Rattle.dm_words.specs.declared.letters.fault.LetterFault.{LetterFault}
 use Rattle.dm_words.specs.Letters.{LetterView}
 use Rattle.dm_words.specs.LetterExtents.{SaysIn, RefusedIn}
 use Rattle.dm_words.specs.Symbology.{IsIdentifier}
-use Rattle.dm_modules.specs.Modules.{ModulesView}
+use Rattle.dm_layout.specs.symbols.Symbols.{SymbolView}
 use Rattle.dm_symbol.specs.declared.letters.LetterReadingIn.{LetterReadingIn}
 use Rattle.dm_symbol.specs.declared.letters.LetterReadFault.{LetterReadFault}
 use Rattle.dm_symbol.specs.declared.letters.LetterReadFault.TheVariants as fault
@@ -19,7 +19,7 @@ use Rattle.dm_symbol.specs.SymbolReading.{AreRestored, IsFirstLost, block_readin
 -- and each block of the words that it holds is near, but for its erased places, to the same block of codewords whose
 -- data codewords say the letter in that extent. That there is a limit of wrong modules in borders, that each block is
 -- corrected up to what its check codewords allow, and that the fixed square isn't looked at, are rules of this project.
-pub record ReadsLetter (extent : Extent) (modules : ModulesView) (doubtful : Option ModulesView) (limit : ℕ)
+pub record ReadsLetter (extent : Extent) (modules : SymbolView) (doubtful : Option SymbolView) (limit : ℕ)
     (letter : LetterView) : Type 0 where
   pub border : sure_fault_count modules doubtful ≤ limit
   pub words : List ℕ
@@ -55,7 +55,7 @@ letter_reading_of letter identifier blocks faults =
 -- are refused; the letter that they say, with its identifier, what reading says of each block and the number of sure
 -- border faults. Where codewords are restored, one of the last two is there, and by a law no more than one. That they
 -- are looked for in this order is a rule of this project.
-pub data LetterReadResult (extent : Extent) (modules : ModulesView) (doubtful : Option ModulesView) (limit : ℕ)
+pub data LetterReadResult (extent : Extent) (modules : SymbolView) (doubtful : Option SymbolView) (limit : ℕ)
     (result : Result LetterReadingView LetterReadFault) : Type 0 where
   border : limit < sure_fault_count modules doubtful → result ≡ Err (fault.Border (sure_fault_count modules doubtful))
       → LetterReadResult extent modules doubtful limit result
@@ -80,7 +80,7 @@ IsReadAsLetter result wanted = MatchResult result (λ reading. reading.letter �
 
 -- What reading a symbol gives: the result defined above; a reading of a letter exactly where the symbol is read as that
 -- letter; and a number of border faults exactly where the sure ones are more than `limit`, and this is their number.
-pub record IsLetterRead (extent : Extent) (modules : ModulesView) (doubtful : Option ModulesView) (limit : ℕ)
+pub record IsLetterRead (extent : Extent) (modules : SymbolView) (doubtful : Option SymbolView) (limit : ℕ)
     (result : Result LetterReadingView LetterReadFault) : Type 0 where
   pub result_is : LetterReadResult extent modules doubtful limit result
   pub letter : (l : LetterView) → IsReadAsLetter result l ↔ ReadsLetter extent modules doubtful limit l

@@ -3,17 +3,17 @@ use Rattle.std.specs.Prelude.{ℕ, List, Option, None, Result, Ok, IfOk, OnErr, 
 use Rattle.dm_words.specs.declared.item.Item.{Item}
 use Rattle.dm_words.specs.declared.extent.Extent.{Extent}
 use Rattle.dm_words.specs.declared.fault.TooLong.{TooLong}
-use Rattle.dm_modules.specs.declared.size.SizeChoice.{SizeChoice}
-use Rattle.dm_modules.specs.Sizes.{block_check}
-use Rattle.dm_modules.specs.Modules.{ModulesView}
-use Rattle.dm_modules.specs.Holding.{IsLaid}
+use Rattle.dm_layout.specs.declared.symbols.size.SizeChoice.{SizeChoice}
+use Rattle.dm_layout.specs.symbols.Sizes.{block_check}
+use Rattle.dm_layout.specs.symbols.Symbols.{SymbolView}
+use Rattle.dm_layout.specs.symbols.Holding.{IsLaid}
 use Rattle.dm_words.specs.Smallest.{IsTaken, IsSmaller, IsSmallestFor, IsPlainest, SpellsThenPads, NoneSpells}
 use Rattle.dm_symbol.specs.SymbolBlocks.{words_with, AreCodewordsOf, first_data}
 use Rattle.dm_symbol.specs.SymbolReading.{ReadsSymbol, SymbolReadResult, symbol_reading_of}
 use Rattle.dm_symbol.specs.SymbolLaws.{nothing_wrong}
 
 -- The modules are a symbol with the smallest data codewords of the message.
-pub record IsSmallestSymbol (extent : Extent) (choice : SizeChoice) (message : List Item) (modules : ModulesView)
+pub record IsSmallestSymbol (extent : Extent) (choice : SizeChoice) (message : List Item) (modules : SymbolView)
     : Type 0 where
   -- Codewords of this size are laid in it: it holds them, each module of its borders has the right colour, and it has
   -- the fixed square.
@@ -29,25 +29,25 @@ pub record IsSmallestSymbol (extent : Extent) (choice : SizeChoice) (message : L
 
 -- The symbol is read as the message in the extent, for every limit, with nothing wrong in any block and no border
 -- fault.
-abbrev pub IsReadWithNothingWrong : Extent → List Item → ModulesView → Type 0
+abbrev pub IsReadWithNothingWrong : Extent → List Item → SymbolView → Type 0
 IsReadWithNothingWrong extent message modules = (limit : ℕ) → SymbolReadResult extent modules None limit
     (Ok (symbol_reading_of message (replicate modules.size.blocks (nothing_wrong (block_check modules.size))) 0))
 
 -- No symbol of a smaller size of the choice is read as the message in the extent, whatever is wrong or doubtful in it.
-abbrev pub NoSmallerIsRead : Extent → SizeChoice → List Item → ModulesView → Type 0
-NoSmallerIsRead extent choice message modules = (other : ModulesView) (doubtful : Option ModulesView) (limit : ℕ)
+abbrev pub NoSmallerIsRead : Extent → SizeChoice → List Item → SymbolView → Type 0
+NoSmallerIsRead extent choice message modules = (other : SymbolView) (doubtful : Option SymbolView) (limit : ℕ)
     → IsTaken choice other.size → IsSmaller other.size modules.size → ReadsSymbol extent other doubtful limit message
     → ⊥
 
 -- No symbol of any size of the choice is read as the message in the extent, whatever is wrong or doubtful in it.
 abbrev pub NoneIsRead : Extent → SizeChoice → List Item → Type 0
-NoneIsRead extent choice message = (other : ModulesView) (doubtful : Option ModulesView) (limit : ℕ)
+NoneIsRead extent choice message = (other : SymbolView) (doubtful : Option SymbolView) (limit : ℕ)
     → IsTaken choice other.size → ReadsSymbol extent other doubtful limit message → ⊥
 
 -- Writing a message in its smallest symbol gives one that is read as the message, where no smaller one is; or that none
 -- is, of any size of the choice.
 pub record IsSmallestWritten (extent : Extent) (choice : SizeChoice) (message : List Item)
-    (result : Result ModulesView TooLong) : Type 0 where
+    (result : Result SymbolView TooLong) : Type 0 where
   pub written : IfOk result (λ modules. IsSmallestSymbol extent choice message modules)
   pub read : IfOk result (λ modules. IsReadWithNothingWrong extent message modules)
   pub no_smaller : IfOk result (λ modules. NoSmallerIsRead extent choice message modules)

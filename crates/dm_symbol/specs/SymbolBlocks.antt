@@ -3,11 +3,11 @@
 use Rattle.std.specs.Prelude.{ℕ, ◌<◌, List, take}
 use Rattle.dm_code.specs.Codeword.{IsCodeword}
 use Rattle.dm_code.specs.Erased.{IsNearBut}
-use Rattle.dm_modules.specs.Sizes.{SizeEntry, block_check}
-use Rattle.dm_modules.specs.Words.{WordsView, IsWords}
-use Rattle.dm_modules.specs.Blocks.{block_of}
-use Rattle.dm_modules.specs.Modules.{ModulesView}
-use Rattle.dm_modules.specs.Holding.{Holds}
+use Rattle.dm_layout.specs.symbols.Sizes.{SizeEntry, block_check}
+use Rattle.dm_layout.specs.symbols.Words.{WordsView, IsWords}
+use Rattle.dm_layout.specs.symbols.Blocks.{block_of}
+use Rattle.dm_layout.specs.symbols.Symbols.{SymbolView}
+use Rattle.dm_layout.specs.symbols.Holding.{Holds}
 
 -- These are the codewords of a symbol of this size.
 abbrev pub words_with : SizeEntry → List ℕ → WordsView
@@ -18,7 +18,7 @@ abbrev pub AreOfSize : SizeEntry → List ℕ → Type 0
 AreOfSize size words = IsWords (words_with size words)
 
 -- The modules, whose size is one of the table, hold these words, which are all codewords of a symbol of that size.
-abbrev pub AreHeldBy : ModulesView → List ℕ → Type 0
+abbrev pub AreHeldBy : SymbolView → List ℕ → Type 0
 AreHeldBy modules words = Holds modules (words_with modules.size words)
 
 -- Among the codewords of a symbol of this size, the data codewords come first.

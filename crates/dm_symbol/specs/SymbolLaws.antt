@@ -11,10 +11,10 @@ use Rattle.dm_layout.specs.Sizes as squares
 use Rattle.dm_layout.specs.Grid.{GridView, IsGrid, symbol_modules}
 use Rattle.dm_code.specs.Codeword.{IsNear}
 use Rattle.dm_code.specs.Erased.{IsNearBut}
-use Rattle.dm_modules.specs.declared.size.SizeChoice.{SizeChoice}
-use Rattle.dm_modules.specs.Sizes.{SizeEntry, block_check, codeword_count, most_rows, most_codewords}
-use Rattle.dm_modules.specs.Modules.{ModulesView, IsModules, module_at}
-use Rattle.dm_modules.specs.Border.{border_fault_count}
+use Rattle.dm_layout.specs.declared.symbols.size.SizeChoice.{SizeChoice}
+use Rattle.dm_layout.specs.symbols.Sizes.{SizeEntry, block_check, codeword_count, most_rows, most_codewords}
+use Rattle.dm_layout.specs.symbols.Symbols.{SymbolView, IsSymbol, module_at}
+use Rattle.dm_layout.specs.symbols.Border.{border_fault_count}
 use Rattle.dm_symbol.specs.declared.symbol.reading.BlockReading.{BlockReading}
 use Rattle.dm_symbol.specs.declared.symbol.inspection.SymbolInspectionIn.{SymbolInspectionIn}
 use Rattle.dm_symbol.specs.declared.reading.Reading.{Reading}
@@ -36,58 +36,58 @@ NoDoubtIsNearness =
 
 -- With no module doubtful, the sure border faults are all border faults.
 abbrev pub NoDoubtCountsAllFaults : Type 0
-NoDoubtCountsAllFaults = (modules : ModulesView) → sure_fault_count modules None ≡ border_fault_count modules
+NoDoubtCountsAllFaults = (modules : SymbolView) → sure_fault_count modules None ≡ border_fault_count modules
 
 -- Modules are all light if none of them is dark.
-abbrev pub AreLight : ModulesView → Type 0
+abbrev pub AreLight : SymbolView → Type 0
 AreLight modules = (row column : ℕ) → module_at modules row column ≡ false
 
 -- Where the modules that are given as doubtful are all light, a symbol is read as it is with none given.
 abbrev pub LightDoubtIsNoDoubt : Type 0
 LightDoubtIsNoDoubt =
-    (extent : Extent) (modules doubtful : ModulesView) (limit : ℕ) (result : Result ReadingView ReadFault)
+    (extent : Extent) (modules doubtful : SymbolView) (limit : ℕ) (result : Result ReadingView ReadFault)
     → AreLight doubtful → SymbolReadResult extent modules None limit result
     → SymbolReadResult extent modules (Some doubtful) limit result
 
 -- So it is normalised.
 abbrev pub LightDoubtNormalisesAlike : Type 0
 LightDoubtNormalisesAlike =
-    (extent : Extent) (profile : Profile) (modules doubtful : ModulesView) (limit : ℕ)
-    (result : Result ModulesView NormalFault) → AreLight doubtful
+    (extent : Extent) (profile : Profile) (modules doubtful : SymbolView) (limit : ℕ)
+    (result : Result SymbolView NormalFault) → AreLight doubtful
     → NormalSymbolResult extent profile modules None limit result
     → NormalSymbolResult extent profile modules (Some doubtful) limit result
 
 -- And so it is inspected.
 abbrev pub LightDoubtShowsAlike : Type 0
 LightDoubtShowsAlike =
-    (room : ℕ) (modules doubtful : ModulesView) (inspection : SymbolInspectionIn room) → AreLight doubtful
+    (room : ℕ) (modules doubtful : SymbolView) (inspection : SymbolInspectionIn room) → AreLight doubtful
     → IsSymbolInspection modules None inspection → IsSymbolInspection modules (Some doubtful) inspection
 
 -- With the same doubtful modules, a symbol is read as at most one message, whatever the extents and the limits.
 abbrev pub OneSymbolMessage : Type 0
 OneSymbolMessage =
-    (extent other_extent : Extent) (modules : ModulesView) (doubtful : Option ModulesView) (limit other_limit : ℕ)
+    (extent other_extent : Extent) (modules : SymbolView) (doubtful : Option SymbolView) (limit other_limit : ℕ)
     (message other : List Item) → ReadsSymbol extent modules doubtful limit message
     → ReadsSymbol other_extent modules doubtful other_limit other → message ≡ other
 
 -- A symbol has at most one result of reading for an extent, doubtful modules and a limit.
 abbrev pub SymbolReadResultIsOne : Type 0
 SymbolReadResultIsOne =
-    (extent : Extent) (modules : ModulesView) (doubtful : Option ModulesView) (limit : ℕ)
+    (extent : Extent) (modules : SymbolView) (doubtful : Option SymbolView) (limit : ℕ)
     (result other : Result ReadingView ReadFault) → SymbolReadResult extent modules doubtful limit result
     → SymbolReadResult extent modules doubtful limit other → result ≡ other
 
 -- A symbol has at most one result of normalising for an extent, a profile, doubtful modules and a limit.
 abbrev pub NormalSymbolResultIsOne : Type 0
 NormalSymbolResultIsOne =
-    (extent : Extent) (profile : Profile) (modules : ModulesView) (doubtful : Option ModulesView) (limit : ℕ)
-    (result other : Result ModulesView NormalFault) → NormalSymbolResult extent profile modules doubtful limit result
+    (extent : Extent) (profile : Profile) (modules : SymbolView) (doubtful : Option SymbolView) (limit : ℕ)
+    (result other : Result SymbolView NormalFault) → NormalSymbolResult extent profile modules doubtful limit result
     → NormalSymbolResult extent profile modules doubtful limit other → result ≡ other
 
 -- What is read in the extent `Usual` is read in `Wide` with the same result.
 abbrev pub WideReadsTheUsualSymbol : Type 0
 WideReadsTheUsualSymbol =
-    (modules : ModulesView) (doubtful : Option ModulesView) (limit : ℕ) (reading : ReadingView)
+    (modules : SymbolView) (doubtful : Option SymbolView) (limit : ℕ) (reading : ReadingView)
     → SymbolReadResult Usual modules doubtful limit (Ok reading)
     → SymbolReadResult Wide modules doubtful limit (Ok reading)
 
@@ -95,7 +95,7 @@ WideReadsTheUsualSymbol =
 abbrev pub AWrittenSymbolIsThere : Type 0
 AWrittenSymbolIsThere =
     (choice : SizeChoice) (profile : Profile) (message : List Item) → IsMessage message
-    → FitsChoice choice profile message → (modules : ModulesView) × IsWrittenIn choice profile message modules
+    → FitsChoice choice profile message → (modules : SymbolView) × IsWrittenIn choice profile message modules
 
 -- Where there is room for each size of the choice, there is room for the symbol in which a message is written.
 abbrev pub RoomForEachServes : Type 0
@@ -118,7 +118,7 @@ nothing_wrong k = record { corrected = 0; erased = 0; left = k }
 -- every limit, with nothing wrong in any block and no border fault, and has no other result; so is the normal symbol.
 abbrev pub WrittenSymbolIsRead : Type 0
 WrittenSymbolIsRead =
-    (extent : Extent) (choice : SizeChoice) (profile : Profile) (message : List Item) (modules : ModulesView)
+    (extent : Extent) (choice : SizeChoice) (profile : Profile) (message : List Item) (modules : SymbolView)
     (limit : ℕ)
     (result : Result ReadingView ReadFault) → IsMessage message → IsWrittenIn choice profile message modules
     → SymbolReadResult extent modules None limit result
@@ -129,7 +129,7 @@ WrittenSymbolIsRead =
 -- are.
 abbrev pub WrittenSymbolsTellMessages : Type 0
 WrittenSymbolsTellMessages =
-    (choice : SizeChoice) (profile : Profile) (message other_message : List Item) (modules other : ModulesView)
+    (choice : SizeChoice) (profile : Profile) (message other_message : List Item) (modules other : SymbolView)
     → IsMessage message → IsMessage other_message → IsWrittenIn choice profile message modules
     → IsWrittenIn choice profile other_message other → (modules ≡ other) ↔ (message ≡ other_message)
 
@@ -137,8 +137,8 @@ WrittenSymbolsTellMessages =
 -- and limit.
 abbrev pub NormalSymbolTwiceIsOnce : Type 0
 NormalSymbolTwiceIsOnce =
-    (extent other_extent : Extent) (profile : Profile) (modules normal : ModulesView) (doubtful : Option ModulesView)
-    (limit other : ℕ) (result : Result ModulesView NormalFault)
+    (extent other_extent : Extent) (profile : Profile) (modules normal : SymbolView) (doubtful : Option SymbolView)
+    (limit other : ℕ) (result : Result SymbolView NormalFault)
     → HasNormalSymbol extent profile modules doubtful limit normal
     → NormalSymbolResult other_extent profile normal None other result ↔ (result ≡ Ok normal)
 
@@ -146,8 +146,8 @@ NormalSymbolTwiceIsOnce =
 -- symbols under one profile exactly where their messages are equal, whatever the limits.
 abbrev pub EqualNormalSymbolsMeanEqualMessages : Type 0
 EqualNormalSymbolsMeanEqualMessages =
-    (extent other_extent : Extent) (profile : Profile) (modules other normal other_normal : ModulesView)
-    (doubtful other_doubtful : Option ModulesView) (limit other_limit : ℕ) (message other_message : List Item)
+    (extent other_extent : Extent) (profile : Profile) (modules other normal other_normal : SymbolView)
+    (doubtful other_doubtful : Option SymbolView) (limit other_limit : ℕ) (message other_message : List Item)
     → ReadsSymbol extent modules doubtful limit message
     → ReadsSymbol other_extent other other_doubtful other_limit other_message
     → HasNormalSymbol extent profile modules doubtful limit normal
@@ -155,9 +155,9 @@ EqualNormalSymbolsMeanEqualMessages =
     → (normal ≡ other_normal) ↔ (message ≡ other_message)
 
 -- These are the modules of a symbol that has the cells of the grid: it has as many rows and columns as the grid.
-pub record AreModulesOf (grid : GridView) (modules : ModulesView) : Type 0 where
+pub record AreModulesOf (grid : GridView) (modules : SymbolView) : Type 0 where
   pub is_grid : IsGrid grid
-  pub are_modules : IsModules modules
+  pub are_modules : IsSymbol modules
   pub rows : modules.size.rows ≡ grid.size.side
   pub columns : modules.size.columns ≡ grid.size.side
   pub cells : modules.rows ≡ grid.rows
@@ -165,7 +165,7 @@ pub record AreModulesOf (grid : GridView) (modules : ModulesView) : Type 0 where
 -- A grid is read as a message exactly where its modules are, with none of them doubtful.
 abbrev pub GridsAreReadAsSymbols : Type 0
 GridsAreReadAsSymbols =
-    (extent : Extent) (grid : GridView) (modules : ModulesView) (limit : ℕ) (message : List Item)
+    (extent : Extent) (grid : GridView) (modules : SymbolView) (limit : ℕ) (message : List Item)
     → AreModulesOf grid modules → Reads extent grid limit message ↔ ReadsSymbol extent modules None limit message
 
 -- This is said of a block of k check codewords of which so many codewords were corrected, and none was erased.

@@ -4,8 +4,8 @@ use Rattle.std.specs.Prelude.{◌≡◌, ℕ, List, Option, Result, Ok, Err, OnO
 use Rattle.dm_words.specs.declared.item.Item.{Item}
 use Rattle.dm_words.specs.declared.extent.Extent.{Extent}
 use Rattle.dm_words.specs.declared.profile.Profile.{Profile}
-use Rattle.dm_modules.specs.declared.size.SizeChoice.TheVariants.{Square}
-use Rattle.dm_modules.specs.Modules.{ModulesView}
+use Rattle.dm_layout.specs.declared.symbols.size.SizeChoice.TheVariants.{Square}
+use Rattle.dm_layout.specs.symbols.Symbols.{SymbolView}
 use Rattle.dm_words.specs.Outcomes.{outcome}
 use Rattle.dm_symbol.specs.declared.reading.ReadFault.{ReadFault}
 use Rattle.dm_symbol.specs.declared.normalising.NormalFault.{NormalFault}
@@ -14,24 +14,24 @@ use Rattle.dm_symbol.specs.NormalSymbol.{IsNormalSymbol, FitsChoice}
 use Rattle.dm_symbol.specs.SymbolReading.{ReadingView, ReadsSymbol, SymbolReadResult}
 
 -- The symbol is read as a message, and this is the normal symbol of that message.
-pub record HasNormalSymbol (extent : Extent) (profile : Profile) (modules : ModulesView) (doubtful : Option ModulesView)
-    (limit : ℕ) (normal : ModulesView) : Type 0 where
+pub record HasNormalSymbol (extent : Extent) (profile : Profile) (modules : SymbolView) (doubtful : Option SymbolView)
+    (limit : ℕ) (normal : SymbolView) : Type 0 where
   pub message : List Item
   pub read : ReadsSymbol extent modules doubtful limit message
   pub normal_symbol : IsNormalSymbol profile message normal
 
 -- The symbol is read as a message that fits no square, and so has no normal symbol.
-pub record HasNoNormalSymbol (extent : Extent) (profile : Profile) (modules : ModulesView)
-    (doubtful : Option ModulesView) (limit : ℕ) : Type 0 where
+pub record HasNoNormalSymbol (extent : Extent) (profile : Profile) (modules : SymbolView)
+    (doubtful : Option SymbolView) (limit : ℕ) : Type 0 where
   pub message : List Item
   pub read : ReadsSymbol extent modules doubtful limit message
   pub too_long : FitsChoice Square profile message → ⊥
 
 -- The result for a symbol is the normal symbol of the message that it is read as; or that this message fits no square;
 -- or the fault of reading.
-pub data NormalSymbolResult (extent : Extent) (profile : Profile) (modules : ModulesView)
-    (doubtful : Option ModulesView) (limit : ℕ) (result : Result ModulesView NormalFault) : Type 0 where
-  normal : (normal_symbol : ModulesView) → HasNormalSymbol extent profile modules doubtful limit normal_symbol
+pub data NormalSymbolResult (extent : Extent) (profile : Profile) (modules : SymbolView)
+    (doubtful : Option SymbolView) (limit : ℕ) (result : Result SymbolView NormalFault) : Type 0 where
+  normal : (normal_symbol : SymbolView) → HasNormalSymbol extent profile modules doubtful limit normal_symbol
       → result ≡ Ok normal_symbol → NormalSymbolResult extent profile modules doubtful limit result
   too_long : HasNoNormalSymbol extent profile modules doubtful limit → result ≡ Err TooLong
       → NormalSymbolResult extent profile modules doubtful limit result
@@ -40,10 +40,10 @@ pub data NormalSymbolResult (extent : Extent) (profile : Profile) (modules : Mod
 
 -- What normalising a symbol gives: the result defined above; and each kind of result is given exactly where its
 -- condition holds.
-pub record IsSymbolNormalised (extent : Extent) (profile : Profile) (modules : ModulesView)
-    (doubtful : Option ModulesView) (limit : ℕ) (result : Result ModulesView NormalFault) : Type 0 where
+pub record IsSymbolNormalised (extent : Extent) (profile : Profile) (modules : SymbolView)
+    (doubtful : Option SymbolView) (limit : ℕ) (result : Result SymbolView NormalFault) : Type 0 where
   pub result_is : NormalSymbolResult extent profile modules doubtful limit result
-  pub normal : (normal_symbol : ModulesView) → (result ≡ Ok normal_symbol)
+  pub normal : (normal_symbol : SymbolView) → (result ≡ Ok normal_symbol)
       ↔ HasNormalSymbol extent profile modules doubtful limit normal_symbol
   pub too_long : (result ≡ Err TooLong) ↔ HasNoNormalSymbol extent profile modules doubtful limit
   pub fault : (why : ReadFault) → (result ≡ Err (Read why)) ↔ SymbolReadResult extent modules doubtful limit (Err why)
@@ -52,9 +52,9 @@ pub record IsSymbolNormalised (extent : Extent) (profile : Profile) (modules : M
 -- normal symbol held `before` and holds `after`. The outcome is what normalising the symbol gives. `reading` is what
 -- the symbol says, where there is a normal symbol and where the message fits no square. After a fault the target of the
 -- normal symbol is as it was.
-pub record IsSymbolNormalisedTo {U : Type 0} (extent : Extent) (profile : Profile) (modules : ModulesView)
-    (doubtful : Option ModulesView) (limit : ℕ) (done : Result U NormalFault) (reading : ReadingView)
-    (before after : ModulesView) : Type 0 where
+pub record IsSymbolNormalisedTo {U : Type 0} (extent : Extent) (profile : Profile) (modules : SymbolView)
+    (doubtful : Option SymbolView) (limit : ℕ) (done : Result U NormalFault) (reading : ReadingView)
+    (before after : SymbolView) : Type 0 where
   pub normal : IsSymbolNormalised extent profile modules doubtful limit (outcome done after)
   pub reading_is : OnOk done (SymbolReadResult extent modules doubtful limit (Ok reading))
   pub reading_of_long : done ≡ Err TooLong → SymbolReadResult extent modules doubtful limit (Ok reading)

@@ -7,8 +7,8 @@ use Rattle.dm_words.specs.declared.item.Item.{Item}
 use Rattle.dm_words.specs.declared.extent.Extent.{Extent}
 use Rattle.dm_words.specs.declared.fault.WordFault.{WordFault}
 use Rattle.dm_code.specs.Erased.{IsNearBut, distance_but}
-use Rattle.dm_modules.specs.Sizes.{SizeEntry, block_check}
-use Rattle.dm_modules.specs.Modules.{ModulesView}
+use Rattle.dm_layout.specs.symbols.Sizes.{SizeEntry, block_check}
+use Rattle.dm_layout.specs.symbols.Symbols.{SymbolView}
 use Rattle.dm_words.specs.Spells.{Spells}
 use Rattle.dm_words.specs.Refused.{Refused}
 use Rattle.dm_symbol.specs.declared.symbol.reading.BlockReading.{BlockReading}
@@ -20,7 +20,7 @@ use Rattle.dm_symbol.specs.SymbolBlocks.{AreOfSize, AreHeldBy, AreBlocksNear, Ha
 
 -- The codewords are those of a symbol of this size, and each block of the words, which the modules hold, is near to the
 -- same block of them but for what is doubtful.
-pub record AreRestored (modules : ModulesView) (doubtful : Option ModulesView) (words codewords : List ℕ) : Type 0 where
+pub record AreRestored (modules : SymbolView) (doubtful : Option SymbolView) (words codewords : List ℕ) : Type 0 where
   pub words_held : AreHeldBy modules words
   pub of_size : AreOfSize modules.size codewords
   pub near : AreBlocksNear modules.size (erased_in modules.size doubtful) words codewords
@@ -30,7 +30,7 @@ pub record AreRestored (modules : ModulesView) (doubtful : Option ModulesView) (
 -- data codewords spell the message in that extent. That there is a limit of wrong modules in borders, that each block
 -- is corrected up to what its check codewords allow, and that the fixed square isn't looked at, are rules of this
 -- project.
-pub record ReadsSymbol (extent : Extent) (modules : ModulesView) (doubtful : Option ModulesView) (limit : ℕ)
+pub record ReadsSymbol (extent : Extent) (modules : SymbolView) (doubtful : Option SymbolView) (limit : ℕ)
     (message : List Item) : Type 0 where
   pub border : sure_fault_count modules doubtful ≤ limit
   pub words : List ℕ
@@ -93,7 +93,7 @@ symbol_reading_of message blocks faults = record { message = message; blocks = b
 -- are refused; the message that they spell, with what reading says of each block and the number of sure border faults.
 -- Where codewords are restored, one of the last two is there, and by a law no more than one. That they are looked for
 -- in this order is a rule of this project.
-pub data SymbolReadResult (extent : Extent) (modules : ModulesView) (doubtful : Option ModulesView) (limit : ℕ)
+pub data SymbolReadResult (extent : Extent) (modules : SymbolView) (doubtful : Option SymbolView) (limit : ℕ)
     (result : Result ReadingView ReadFault) : Type 0 where
   border : limit < sure_fault_count modules doubtful → result ≡ Err (fault.Border (sure_fault_count modules doubtful))
       → SymbolReadResult extent modules doubtful limit result
@@ -117,7 +117,7 @@ IsSymbolReadAs result wanted = MatchResult result (λ reading. reading.message �
 -- What reading a symbol gives: the result defined above; a reading of a message exactly where the symbol is read as
 -- that message; and a number of border faults exactly where the sure ones are more than `limit`, and this is their
 -- number.
-pub record IsSymbolRead (extent : Extent) (modules : ModulesView) (doubtful : Option ModulesView) (limit : ℕ)
+pub record IsSymbolRead (extent : Extent) (modules : SymbolView) (doubtful : Option SymbolView) (limit : ℕ)
     (result : Result ReadingView ReadFault) : Type 0 where
   pub result_is : SymbolReadResult extent modules doubtful limit result
   pub message : (m : List Item) → IsSymbolReadAs result m ↔ ReadsSymbol extent modules doubtful limit m

@@ -2,10 +2,10 @@
 -- Which codewords are written for a message or a letter is said by its normal form.
 use Rattle.std.specs.Prelude.{◌≡◌, ◌≤◌, ℕ, List, Some, IsSome, IfSome, length, Result, IfOk, IsOk, OnErr, ◌↔◌}
 use Rattle.dm_words.specs.declared.fault.TooLong.{TooLong}
-use Rattle.dm_modules.specs.declared.size.SizeChoice.{SizeChoice}
-use Rattle.dm_modules.specs.Sizes.{entry_for, codeword_count}
-use Rattle.dm_modules.specs.Modules.{ModulesView}
-use Rattle.dm_modules.specs.Holding.{IsLaid}
+use Rattle.dm_layout.specs.declared.symbols.size.SizeChoice.{SizeChoice}
+use Rattle.dm_layout.specs.symbols.Sizes.{entry_for, codeword_count}
+use Rattle.dm_layout.specs.symbols.Symbols.{SymbolView}
+use Rattle.dm_layout.specs.symbols.Holding.{IsLaid}
 use Rattle.dm_words.specs.Pads.{padded}
 use Rattle.dm_symbol.specs.SymbolBlocks.{words_with, AreCodewordsOf, first_data}
 
@@ -20,7 +20,7 @@ HaveRoom choice form rows words =
     IfSome (entry_for choice (length form)) (λ size. (size.rows ≤ rows) × (codeword_count size ≤ words))
 
 -- Data codewords without pads are written in the modules, in a size of the choice.
-pub record AreWrittenIn (choice : SizeChoice) (form : List ℕ) (modules : ModulesView) : Type 0 where
+pub record AreWrittenIn (choice : SizeChoice) (form : List ℕ) (modules : SymbolView) : Type 0 where
   -- The size is the smallest of the choice with at least as many data codewords: the one of the smallest area, and of
   -- those of equal area the one with the fewest columns.
   pub smallest : entry_for choice (length form) ≡ Some modules.size
@@ -35,8 +35,8 @@ pub record AreWrittenIn (choice : SizeChoice) (form : List ℕ) (modules : Modul
 
 -- Where data codewords fit some size of the choice, writing them gives the only symbol in which they are written so;
 -- otherwise it gives that there is none.
-pub record AreWritten (choice : SizeChoice) (form : List ℕ) (result : Result ModulesView TooLong) : Type 0 where
+pub record AreWritten (choice : SizeChoice) (form : List ℕ) (result : Result SymbolView TooLong) : Type 0 where
   pub written : IfOk result (λ modules. AreWrittenIn choice form modules)
-  pub one : IfOk result (λ modules. (other : ModulesView) → AreWrittenIn choice form other → other ≡ modules)
+  pub one : IfOk result (λ modules. (other : SymbolView) → AreWrittenIn choice form other → other ≡ modules)
   pub fits : IsOk result ↔ FitChoice choice form
-  pub none : OnErr result ((modules : ModulesView) → AreWrittenIn choice form modules → ⊥)
+  pub none : OnErr result ((modules : SymbolView) → AreWrittenIn choice form modules → ⊥)

@@ -10,7 +10,7 @@ pub mod writing;
 
 use crate::symbol::reading::BlockReading;
 use arrayvec::ArrayVec;
-use dm_modules::MOST_BLOCKS;
+use dm_layout::symbols::MOST_BLOCKS;
 use dm_words::{LARGEST_MARKS, LARGEST_ROOM, LetterFault, LetterIn};
 
 /// What a symbol says as a letter, and how much of it was wrong, with room for a letter of at most `ITEMS` items and

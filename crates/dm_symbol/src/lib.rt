@@ -25,7 +25,7 @@
 //! that is usually accepted.
 //!
 //! The types of the layers below are given on, among them [`GridFault`], [`Size`] with its [`table()`] of
-//! [`SIZE_COUNT`], [`Words`], [`Item`], [`WordFault`], and the limits [`LARGEST_SIDE`], [`MOST_BLOCKS`],
+//! [`GRID_SIZE_COUNT`], [`Words`], [`Item`], [`WordFault`], and the limits [`LARGEST_SIDE`], [`MOST_GRID_BLOCKS`],
 //! [`MOST_ITEMS`], [`MESSAGE_ROOM`] and [`LARGEST_ROOM`], the last for a [`MessageIn`] of any symbol, and
 //! [`LARGEST_MARKS`] for the marks of a [`LetterIn`].
 //!
@@ -45,8 +45,12 @@ mod reading;
 mod symbol;
 mod writing;
 
-pub use dm_layout::{Grid, GridFault, LARGEST_SIDE, MOST_BLOCKS, SIZE_COUNT, Size, Words, table};
-pub use dm_modules::{SizeChoice, Symbol, SymbolIn, SymbolSize, SymbolWords, SymbolWordsIn};
+pub use dm_layout::symbols::{
+    SizeChoice, Symbol, SymbolIn, SymbolSize, SymbolWords, SymbolWordsIn,
+};
+pub use dm_layout::{
+    GRID_SIZE_COUNT, Grid, GridFault, LARGEST_SIDE, MOST_GRID_BLOCKS, Size, Words, table,
+};
 pub use dm_words::{
     Appended, Extent, Head, Item, LARGEST_MARKS, LARGEST_ROOM, LetterFault, LetterIn, MESSAGE_ROOM,
     MOST_ITEMS, Mark, Message, MessageIn, Profile, TooLong, WordFault,

@@ -6,8 +6,8 @@ ghost use Rattle.dm_symbol.specs.Reading.{IsRead, reading_of};
 
 use crate::symbol::reading::{BlockReading, ReadOptions, read_parts};
 use arrayvec::ArrayVec;
-use dm_layout::{Grid, MOST_BLOCKS, MOST_CODEWORDS};
-use dm_modules::SymbolWordsIn;
+use dm_layout::symbols::SymbolWordsIn;
+use dm_layout::{Grid, MOST_GRID_BLOCKS, MOST_GRID_CODEWORDS};
 use dm_words::{Extent, Message, WordFault};
 
 /// What a grid says, and how much of it was wrong.
@@ -16,7 +16,7 @@ pub struct Reading {
     /// The message.
     pub message: Message,
     /// For each block, in order, the number of its codewords that were corrected.
-    pub corrected: ArrayVec<u8, MOST_BLOCKS>,
+    pub corrected: ArrayVec<u8, MOST_GRID_BLOCKS>,
     /// How many modules of the borders have the wrong colour.
     pub border_faults: u16,
 }
@@ -65,7 +65,7 @@ pub fn read(grid: &Grid, border_limit: u16) -> Result<Reading, ReadFault>
 ///
 /// After `Ok`, `reading` holds what the grid says, whatever it held before. After `Border` it is as it was, and after
 /// another fault it holds some reading. One `Reading` serves any number of grids, and isn't cleared for the largest
-/// symbol; the codewords are, [`MOST_CODEWORDS`](dm_layout::MOST_CODEWORDS) bytes a call.
+/// symbol; the codewords are, [`MOST_GRID_CODEWORDS`](dm_layout::MOST_GRID_CODEWORDS) bytes a call.
 pub fn read_to(
     extent: Extent,
     grid: &Grid,
@@ -79,7 +79,7 @@ pub fn read_to(
     let size = grid.size();
     // For the proof alone: what `check_count` ensures says that the codewords fit.
     let _checks = size.check_count();
-    let mut words = SymbolWordsIn::<MOST_CODEWORDS>::zeros(size.symbol());
+    let mut words = SymbolWordsIn::<MOST_GRID_CODEWORDS>::zeros(size.symbol());
     let mut blocks = ArrayVec::new();
     let how = ReadOptions {
         extent,
@@ -102,8 +102,8 @@ pub fn read_to(
 }
 
 /// Leaves in `counts` in how many codewords each of these blocks was wrong.
-fn count_corrected(blocks: &[BlockReading], counts: &mut ArrayVec<u8, MOST_BLOCKS>)
-    requires { length blocks.now ≤ MOST_BLOCKS }
+fn count_corrected(blocks: &[BlockReading], counts: &mut ArrayVec<u8, MOST_GRID_BLOCKS>)
+    requires { length blocks.now ≤ MOST_GRID_BLOCKS }
     ensures { counts.new.items ≡ map (λ block. block.corrected) blocks.now }
 {
     counts.clear();

@@ -8,9 +8,9 @@ ghost use Rattle.dm_symbol.specs.NormalGrid.{IsWritten};
 
 use crate::symbol::writing::complete_with;
 use arrayvec::ArrayVec;
-use dm_layout::{Grid, MOST_CODEWORDS, Size, lay_symbol_to};
-use dm_modules::SymbolWordsIn;
-use dm_words::{MOST_DATA, Message, Profile, TooLong, add_pads, normal_words_in};
+use dm_layout::symbols::SymbolWordsIn;
+use dm_layout::{Grid, MOST_GRID_CODEWORDS, Size, lay_symbol_to};
+use dm_words::{MOST_GRID_DATA, Message, Profile, TooLong, add_pads, normal_words_in};
 
 /// Gives the normal grid of a message under [`Profile::Ascii`]: what [`write_as`] gives for that profile.
 pub fn write(message: &Message) -> Result<Grid, TooLong>
@@ -40,8 +40,8 @@ pub fn write_to(profile: Profile, message: &Message, grid: &mut Grid) -> Result<
     ensures same { OnErr result (grid.new ≡ grid.old) }
 {
     // Room for the codewords of any size. It is made before the first return, so that it is cleared only once.
-    let mut words = SymbolWordsIn::<MOST_CODEWORDS>::zeros(grid.size().symbol());
-    let mut list = ArrayVec::<u8, MOST_DATA>::new();
+    let mut words = SymbolWordsIn::<MOST_GRID_CODEWORDS>::zeros(grid.size().symbol());
+    let mut list = ArrayVec::<u8, MOST_GRID_DATA>::new();
     match normal_words_in(profile, message, &mut list) {
         Ok(()) => {}
         Err(TooLong) => return Err(TooLong),

@@ -24,7 +24,7 @@ use crate::task::RecordTask;
 use crate::text::LF;
 use arrayvec::ArrayVec;
 use dm_symbol::{
-    Extent, Grid, MOST_BLOCKS, Message, NormalFault, Profile, ReadFault, Reading, TooLong,
+    Extent, Grid, MOST_GRID_BLOCKS, Message, NormalFault, Profile, ReadFault, Reading, TooLong,
     light_grid, normal_to, read_to, usual_limit, write_to,
 };
 use std::marker::Model;
@@ -352,7 +352,7 @@ fn push_counts(text: &mut GatheredText, side: u16, reading: &Reading)
 }
 
 /// Gives the same numbers, each in 16 bits.
-fn widen(counts: &ArrayVec<u8, MOST_BLOCKS>) -> ArrayVec<u16, MOST_BLOCKS>
+fn widen(counts: &ArrayVec<u8, MOST_GRID_BLOCKS>) -> ArrayVec<u16, MOST_GRID_BLOCKS>
     ensures { result.items ≡ counts.now.items }
 {
     let mut wide = ArrayVec::new();

@@ -5,7 +5,7 @@
 
 use arrayvec::ArrayVec;
 use dm_code::{encode, syndromes};
-use dm_layout::{Grid, LARGEST_SIDE, MOST_CODEWORDS, Size, Words, table};
+use dm_layout::{Grid, LARGEST_SIDE, MOST_GRID_CODEWORDS, Size, Words, table};
 use dm_symbol::{
     Extent, Message, NormalFault, Profile, ReadFault, ReadOptions, Reading, Symbol, SymbolReading,
     SymbolSize, SymbolWords, TooLong, light_grid, read_symbol_to,
@@ -52,9 +52,9 @@ pub(crate) fn size_of(side: u16) -> Size {
 
 /// The codewords of this size that begin with these; the rest are 0.
 pub(crate) fn words_of(size: Size, prefix: &[u8]) -> Words {
-    let mut list = [0; MOST_CODEWORDS];
+    let mut list = [0; MOST_GRID_CODEWORDS];
     for i in 0..prefix.len() {
-        if i < MOST_CODEWORDS {
+        if i < MOST_GRID_CODEWORDS {
             list[i] = prefix[i];
         }
     }

@@ -1,11 +1,11 @@
 //! Messages and codewords of which tests are made.
 
 use arrayvec::ArrayVec;
-use dm_layout::MOST_CODEWORDS;
+use dm_layout::MOST_GRID_CODEWORDS;
 use dm_words::{Item, Message};
 
 /// Room for the codewords of a symbol.
-pub(crate) type Codewords = ArrayVec<u8, MOST_CODEWORDS>;
+pub(crate) type Codewords = ArrayVec<u8, MOST_GRID_CODEWORDS>;
 
 /// FNC1 before four bytes of value 128.
 pub(crate) static MARKED: [Item; 5] = [

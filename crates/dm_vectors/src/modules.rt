@@ -1,6 +1,6 @@
-//! Sizes, modules, codewords and blocks of all sizes, squares and rectangles: `dm_modules`.
+//! Sizes, modules, codewords and blocks of all sizes, squares and rectangles: `symbols` of `dm_layout`.
 
-use dm_modules::{Symbol, SymbolSize, SymbolWords};
+use dm_layout::symbols::{Symbol, SymbolSize, SymbolWords};
 
 mod blocks;
 mod faults;

@@ -7,7 +7,7 @@ use crate::messages::{
     of_items, of_many, randomised, segment,
 };
 use arrayvec::ArrayVec;
-use dm_layout::{Grid, LARGEST_SIDE, MOST_DATA, Size, Words, table};
+use dm_layout::{Grid, LARGEST_SIDE, MOST_GRID_DATA, Size, Words, table};
 use dm_symbol::{
     Item, Message, NormalFault, Profile, ReadFault, Reading, TooLong, WordFault, usual_limit,
 };
@@ -217,7 +217,7 @@ fn writes_every_size(rt: HostRuntime) {
     // two digits take one codeword, also at the sizes of several blocks
     holds(&rt, is_filled(&write(&of_many(b'7', 408)), 52, 207));
     holds(&rt, is_filled(&write(&of_many(b'7', 1632)), 104, 207));
-    holds(&rt, write(&of_many(b'A', MOST_DATA + 1)).is_err());
+    holds(&rt, write(&of_many(b'A', MOST_GRID_DATA + 1)).is_err());
 }
 
 #[test]

@@ -20,7 +20,7 @@ mod wide;
 
 /// What the codewords spell, and the fault of no codeword where there are too many of them.
 fn message(words: &[u8]) -> Result<Message, WordFault> {
-    if words.len() > MOST_DATA {
+    if words.len() > MOST_GRID_DATA {
         return Err(WordFault::LeftOut(0, 0));
     }
     message_of(words)
@@ -240,7 +240,7 @@ fn refuses_reserved_codewords(rt: HostRuntime) {
 }
 
 /// The codewords with pads up to this size, where there is one that has room for them.
-fn with_pads(words: &[u8], size: Option<Size>) -> Option<ArrayVec<u8, MOST_DATA>> {
+fn with_pads(words: &[u8], size: Option<Size>) -> Option<ArrayVec<u8, MOST_GRID_DATA>> {
     match size {
         Some(size) if words.len() <= usize::from(size.data_count()) => Some(padded(words, size)),
         _ => None,
@@ -248,7 +248,7 @@ fn with_pads(words: &[u8], size: Option<Size>) -> Option<ArrayVec<u8, MOST_DATA>
 }
 
 /// Whether these are the codewords.
-fn are_words(outcome: &Option<ArrayVec<u8, MOST_DATA>>, expected: &[u8]) -> bool {
+fn are_words(outcome: &Option<ArrayVec<u8, MOST_GRID_DATA>>, expected: &[u8]) -> bool {
     match outcome {
         Some(words) => words.as_slice() == expected,
         None => false,
@@ -263,7 +263,7 @@ fn a_segment_may_fill_the_symbol(rt: HostRuntime) {
 
 /// A segment of 250 bytes 0, whose length takes two codewords, the last of which is this one, with pads up to the size
 /// of side 64, and no codewords where it has no such size.
-fn padded_segment(last: u8) -> ArrayVec<u8, MOST_DATA> {
+fn padded_segment(last: u8) -> ArrayVec<u8, MOST_GRID_DATA> {
     match with_pads(&segment(&[231, 38, last], 0, 253), Size::of_side(64)) {
         Some(words) => words,
         None => ArrayVec::new(),

@@ -12,7 +12,7 @@ use Rattle.dm_words.specs.declared.letters.fault.LetterFault.{LetterFault}
 use Rattle.dm_words.specs.declared.letters.fault.LetterFault.TheVariants as fault
 use Rattle.dm_words.specs.declared.letters.head.Head.{Head}
 use Rattle.dm_words.specs.declared.letters.mark.Mark.{Mark}
-use Rattle.dm_words.specs.Messages.{largest_data}
+use Rattle.dm_words.specs.Messages.{most_data}
 use Rattle.dm_words.specs.Pads.{padded}
 use Rattle.dm_words.specs.NormalForm.{normal_form}
 use Rattle.dm_words.specs.Spells.{Spells}
@@ -113,7 +113,7 @@ said_or_refused Wide words fit =
 
 -- The normal form of a letter, with pads, says it in each extent in which it can be said.
 pub form_says_in : (extent : Extent) (profile : Profile) (l : LetterView) (count : ℕ) → IsLetter l → IsSaidIn extent l
-    → length (letter_form profile l) ≤ count → count ≤ largest_data
+    → length (letter_form profile l) ≤ count → count ≤ most_data
     → SaysIn extent (padded (letter_form profile l) count) l
 form_says_in Wide profile l count right is le most =
     SaysIn.of_letter refl (letter_form_says profile l count right le most)

@@ -4,14 +4,14 @@ use Rattle.std.proofs.Common.{sym, subst, ap, ◌∙◌, append_assoc, arith, le
 use Rattle.std.specs.List.{AllByRecursion}
 use Rattle.std.proofs.lemmas.List.{append-nil, length-take, length-drop, take-append-drop}
 use Rattle.std.proofs.lemmas.List.Elements.{recursion_from_All}
-use Rattle.dm_words.specs.Messages.{largest_data}
+use Rattle.dm_words.specs.Messages.{most_data}
 use Rattle.dm_words.specs.declared.extent.Extent.TheVariants.{Wide}
 use Rattle.dm_words.specs.declared.item.Item.{Item}
 use Rattle.dm_words.specs.declared.letters.head.Head.{Head}
 use Rattle.dm_words.specs.declared.letters.mark.Mark.{Mark}
 use Rattle.dm_words.specs.declared.letters.opening.Opening.TheVariants.{Headed}
 use Rattle.dm_words.specs.declared.profile.Profile.{Profile}
-use Rattle.dm_words.specs.Messages.{IsItem, largest_data}
+use Rattle.dm_words.specs.Messages.{IsItem, most_data}
 use Rattle.dm_words.specs.Ascii.{IsAsciiUnit, ascii}
 use Rattle.dm_words.specs.Joined.{Piece, spelled, gathered, whats, AreJoined}
 use Rattle.dm_words.specs.Pads.{pads, padded}
@@ -198,7 +198,7 @@ headed_says said items marks count right fit are =
 -- The form of a letter, with pads up to a count, says the letter.
 form_says : (profile : Profile) (said : Option Head) (items : List Item) (marks : List Mark) (count : ℕ)
     → IsLetter (record { head = said; items = items; marks = marks })
-    → length (form_by profile said items marks) ≤ count → count ≤ largest_data
+    → length (form_by profile said items marks) ≤ count → count ≤ most_data
     → SpellsLetter (padded (form_by profile said items marks) count)
     (record { head = said; items = items; marks = marks })
 form_says profile None items [] count right le most =
@@ -211,7 +211,7 @@ form_says profile (Some said) items marks count right le most =
 
 -- The normal form of a letter, with pads up to a count, says the letter.
 pub letter_form_says : (profile : Profile) (l : LetterView) (count : ℕ) → IsLetter l
-    → length (letter_form profile l) ≤ count → count ≤ largest_data
+    → length (letter_form profile l) ≤ count → count ≤ most_data
     → SpellsLetter (padded (letter_form profile l) count) l
 letter_form_says profile l count right le most = form_says profile l.head l.items l.marks count right le most
 

@@ -15,7 +15,7 @@ use Rattle.dm_words.specs.declared.item.Item.TheVariants.{Byte, Fnc1}
 use Rattle.dm_words.specs.declared.profile.Profile.{Profile}
 use Rattle.dm_words.specs.declared.profile.Profile.TheVariants.{Ascii, Shorter}
 use Rattle.dm_words.specs.Joined.{Piece}
-use Rattle.dm_words.specs.Messages.{byte_of, IsItem, IsMessage, byte_items, largest_data}
+use Rattle.dm_words.specs.Messages.{byte_of, IsItem, IsMessage, byte_items, most_data}
 use Rattle.dm_words.specs.Ascii.{is_digit, digit_pair, single, ascii}
 use Rattle.dm_words.specs.Pads.{pads, padded}
 use Rattle.dm_words.specs.Base256.{written, randomised, AreBytes, IsLengthField, short, long, IsSegment}
@@ -152,7 +152,7 @@ some_items (i ∷ m) lt = omega arith
 
 -- The shorter form with pads spells the message.
 shorter_spells : (extent : Extent) (m : List Item) (count : ℕ) → IsMessage m → length (shorter m) ≤ count
-    → count ≤ largest_data → Spells extent (padded (shorter m) count) m
+    → count ≤ most_data → Spells extent (padded (shorter m) count) m
 shorter_spells extent m count fit le most =
     let items = recursion_from_All IsItem m fit in
     elim (segment_or_ascii m) [
@@ -167,7 +167,7 @@ shorter_spells extent m count fit le most =
 
 -- The normal form with pads spells the message.
 pub normal_form_spells : (extent : Extent) (profile : Profile) (m : List Item) (count : ℕ) → IsMessage m
-    → length (normal_form profile m) ≤ count → count ≤ largest_data
+    → length (normal_form profile m) ≤ count → count ≤ most_data
     → Spells extent (padded (normal_form profile m) count) m
 normal_form_spells extent Ascii m count fit le most = form.ascii_spells extent m count (recursion_from_All IsItem m fit)
 normal_form_spells extent Shorter m count fit le most = shorter_spells extent m count fit le most

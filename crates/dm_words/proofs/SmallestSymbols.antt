@@ -3,9 +3,9 @@ use Rattle.std.proofs.Common.{◌≡◌, ℕ, zero, suc, ◌+◌, ◌-◌, ◌*�
 use Rattle.std.proofs.Common.{subst, ◌∙◌, arith, true, inl, inr, nat_eq}
 use Rattle.std.specs.Prelude.{◌&&◌, All}
 use Rattle.std.proofs.lemmas.List.Elements.{recursion_from_All}
-use Rattle.dm_modules.specs.declared.size.SizeChoice.{SizeChoice}
-use Rattle.dm_modules.specs.Sizes.{SizeEntry, size_table, IsSize, takes, area}
-use Rattle.dm_modules.proofs.Exported.{at_found}
+use Rattle.dm_layout.specs.declared.symbols.size.SizeChoice.{SizeChoice}
+use Rattle.dm_layout.specs.symbols.Sizes.{SizeEntry, size_table, IsSize, takes, area}
+use Rattle.dm_layout.proofs.symbols.Exported.{at_found}
 use Rattle.dm_words.specs.declared.extent.Extent.{Extent}
 use Rattle.dm_words.specs.declared.extent.Extent.TheVariants.{Usual, Wide}
 use Rattle.dm_words.specs.declared.item.Item.{Item}

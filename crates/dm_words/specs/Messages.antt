@@ -1,6 +1,7 @@
 -- Messages: lists of items, and how many items there can be (ISO/IEC 16022, encodation schemes).
 use Rattle.std.specs.Prelude.{ℕ, zero, suc, ◌+◌, ◌*◌, ◌<◌, List, [], ◌∷◌, All}
-use Rattle.dm_layout.specs.Sizes.{most_data}
+use Rattle.dm_layout.specs.Sizes.{most_grid_data}
+pub use Rattle.dm_layout.specs.symbols.Sizes.{most_data}
 use Rattle.dm_words.specs.declared.extent.Extent.{Extent}
 use Rattle.dm_words.specs.declared.extent.Extent.TheVariants.{Usual, Wide}
 use Rattle.dm_words.specs.declared.item.Item.{Item}
@@ -24,14 +25,10 @@ IsItem item = byte_of item < 256
 abbrev pub IsMessage : List Item → Type 0
 IsMessage message = All IsItem message
 
--- No symbol of any shape has more data codewords than this: 144 x 144 has as many.
-abbrev pub largest_data : ℕ
-largest_data = 1558
-
 -- In the usual extent a square of at most 104 rows says at most this many items: two for each data codeword of the
 -- largest of these. A macro adds some in the wide one.
 abbrev pub most_items : ℕ
-most_items = 2 * most_data
+most_items = 2 * most_grid_data
 
 -- This many codewords spell at most this many items, and some spell so many: two for each, and in the wide extent,
 -- where

@@ -3,7 +3,7 @@
 -- outcome.
 use Rattle.std.specs.Prelude.{◌≡◌, ◌≤◌, ◌<◌, ◌↔◌, ℕ, List, length, Result, Ok, Err, IfOk, IsErr}
 use Rattle.arrayvec.specs.ArrayVec.{ArrayVec}
-use Rattle.dm_layout.specs.Sizes.{most_data}
+use Rattle.dm_layout.specs.Sizes.{most_grid_data}
 use Rattle.dm_words.specs.declared.extent.Extent.{Extent}
 use Rattle.dm_words.specs.declared.fault.TooLong.{TooLong}
 use Rattle.dm_words.specs.declared.fault.WordFault.{WordFault}
@@ -28,5 +28,5 @@ pub record IsMessageResult (extent : Extent) (words : List ℕ) (result : Result
 pub record IsNormalFormResult (profile : Profile) (message : List Item) (result : Result (ArrayVec ℕ) TooLong) : Type
     0 where
   pub words : IfOk result (λ words. words.items ≡ normal_form profile message)
-  pub most : IfOk result (λ words. length words.items ≤ most_data)
-  pub too_long : IsErr result ↔ (most_data < length (normal_form profile message))
+  pub most : IfOk result (λ words. length words.items ≤ most_grid_data)
+  pub too_long : IsErr result ↔ (most_grid_data < length (normal_form profile message))

@@ -11,16 +11,17 @@ ghost use Rattle.dm_words.specs.inner.Scan.Results.{HasRoomAt, IsPartTaken};
 use crate::codeword::{BASE256_LATCH, RANDOM_FACTOR};
 use crate::fault::WordFault;
 use crate::item::{Item, byte};
-use crate::limits::{LARGEST_DATA, LARGEST_ROOM};
+use crate::limits::LARGEST_ROOM;
 use crate::message::MessageIn;
 use arrayvec::ArrayVec;
+use dm_layout::symbols::MOST_DATA;
 
 /// The most bytes whose length is one number.
 pub(crate) const MOST_SHORT: usize = 249;
 
 /// Gives the pseudo-random number of a place of the symbol: 1 to 255.
 fn random(place: usize) -> u32
-    requires { place ≤ LARGEST_DATA + 1 }
+    requires { place ≤ MOST_DATA + 1 }
     ensures { result ≡ random_at place }
 {
     RANDOM_FACTOR * place as u32 % 255 + 1
@@ -29,7 +30,7 @@ fn random(place: usize) -> u32
 /// Gives the value that the codeword at an index stands for: the randomising is taken away.
 fn plain_value(words: &[u8], index: usize) -> u8
     requires in_range { index < length words.now }
-    requires short { length words.now ≤ LARGEST_DATA }
+    requires short { length words.now ≤ MOST_DATA }
     ensures { result ≡ plain_at (index + 1) (slice_index words.now index) }
 {
     ((words[index] as u32 + 256 - random(index + 1)) % 256) as u8
@@ -43,7 +44,7 @@ fn push_bytes<const ROOM: usize>(
     message: &mut MessageIn<ROOM>,
 )
     requires in_range { start + count ≤ length words.now }
-    requires short { length words.now ≤ LARGEST_DATA }
+    requires short { length words.now ≤ MOST_DATA }
     requires room { length message.old + count ≤ ROOM }
     ensures { message.new
         ≡ message.old ++ byte_items (take count (plain (start + 1) (drop start words.now))) }
@@ -61,7 +62,7 @@ pub(crate) fn segment_part<const ROOM: usize>(
     message: &mut MessageIn<ROOM>,
 ) -> Result<usize, WordFault>
     requires in_range { at < length words.now }
-    requires short { length words.now ≤ LARGEST_DATA }
+    requires short { length words.now ≤ MOST_DATA }
     requires room { HasRoomAt ROOM words.now at message.old }
     ensures { IsPartTaken result message.old message.new
         (segment_behind (at + 1) (plain (at + 2) (drop (at + 1) words.now))) }
@@ -98,7 +99,7 @@ pub(crate) fn segment_part<const ROOM: usize>(
 /// Writes a value as the next codeword of a symbol that begins with these words.
 pub(crate) fn push_value<const N: usize>(words: &mut ArrayVec<u8, N>, value: u8)
     requires room { length words.old.items < N }
-    requires most { N ≤ LARGEST_DATA }
+    requires most { N ≤ MOST_DATA }
     ensures { words.new.items
         ≡ words.old.items ++ randomised (length words.old.items + 1) value ∷ [] }
 {
@@ -109,8 +110,8 @@ pub(crate) fn push_value<const N: usize>(words: &mut ArrayVec<u8, N>, value: u8)
 /// Writes the length field for this many bytes: one number up to `MOST_SHORT`, else two.
 pub(crate) fn push_length<const N: usize>(words: &mut ArrayVec<u8, N>, count: usize)
     requires room { length words.old.items + 2 ≤ N }
-    requires few { count ≤ LARGEST_DATA }
-    requires most { N ≤ LARGEST_DATA }
+    requires few { count ≤ MOST_DATA }
+    requires most { N ≤ MOST_DATA }
     ensures { words.new.items
         ≡ words.old.items ++ written (length words.old.items + 1) (length_numbers count) }
 {
@@ -152,7 +153,7 @@ fn next_random(number: u32) -> u32
 pub(crate) fn write_segment<const N: usize>(items: &[Item], words: &mut ArrayVec<u8, N>)
     requires fits { length (one_segment (map byte_of items.now)) ≤ N }
     requires least { 3 ≤ N }
-    requires most { N ≤ LARGEST_DATA }
+    requires most { N ≤ MOST_DATA }
     ensures { words.new.items ≡ one_segment (map byte_of items.now) }
 {
     words.clear();
@@ -164,7 +165,7 @@ pub(crate) fn write_segment<const N: usize>(items: &[Item], words: &mut ArrayVec
 /// Writes the bytes of the items, as the next codewords of a symbol that begins with these words.
 pub(crate) fn write_bytes<const N: usize>(items: &[Item], words: &mut ArrayVec<u8, N>)
     requires room { length words.old.items + length items.now ≤ N }
-    requires most { N ≤ LARGEST_DATA }
+    requires most { N ≤ MOST_DATA }
     ensures { words.new.items
         ≡ words.old.items ++ written (length words.old.items + 1) (map byte_of items.now) }
 {

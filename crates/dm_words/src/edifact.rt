@@ -7,8 +7,8 @@ ghost use Rattle.dm_words.specs.inner.Scan.Prefixes.{group_values, edifact_run, 
 ghost use Rattle.dm_words.specs.inner.Scan.Results.{HasRoomAt, IsGroupTaken, IsEdifactTaken};
 
 use crate::item::Item;
-use crate::limits::LARGEST_DATA;
 use crate::message::MessageIn;
+use dm_layout::symbols::MOST_DATA;
 
 /// The value that ends a run.
 const UNLATCH_VALUE: u8 = 31;
@@ -67,7 +67,7 @@ pub(crate) fn edifact_part<const ROOM: usize>(
     message: &mut MessageIn<ROOM>,
 ) -> usize
     requires in_range { at < length words.now }
-    requires short { length words.now ≤ LARGEST_DATA }
+    requires short { length words.now ≤ MOST_DATA }
     requires room { HasRoomAt ROOM words.now at message.old }
     ensures { IsEdifactTaken result message.old message.new
         (edifact_run (drop (at + 1) words.now)) }

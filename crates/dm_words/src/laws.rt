@@ -1,15 +1,15 @@
 //! Laws of the definitions in `specs/`, and of the limits. Each function has an empty body: its contract is the law.
 
 ghost use Rattle.std.specs.Prelude.{◌≡◌, ℕ, ◌+◌, ◌*◌, ◌≤◌, ◌↔◌, List, length};
-ghost use Rattle.dm_layout.specs.Sizes.{most_data};
-ghost use Rattle.dm_modules.specs.declared.size.SizeChoice.{SizeChoice};
-ghost use Rattle.dm_modules.specs.Sizes.{SizeEntry};
+ghost use Rattle.dm_layout.specs.Sizes.{most_grid_data};
+ghost use Rattle.dm_layout.specs.declared.symbols.size.SizeChoice.{SizeChoice};
+ghost use Rattle.dm_layout.specs.symbols.Sizes.{SizeEntry};
 ghost use Rattle.dm_words.specs.declared.extent.Extent.{Extent};
 ghost use Rattle.dm_words.specs.declared.item.Item.{Item};
 ghost use Rattle.dm_words.specs.declared.fault.WordFault.{WordFault};
 ghost use Rattle.dm_words.specs.declared.c40.set.CodeSet.{CodeSet};
 ghost use Rattle.dm_words.specs.declared.c40.set.Shift.{Shift};
-ghost use Rattle.dm_words.specs.Messages.{IsMessage, largest_data, most_spelled, byte_items};
+ghost use Rattle.dm_words.specs.Messages.{IsMessage, most_data, most_spelled, byte_items};
 ghost use Rattle.dm_words.specs.Rows.{IsTable};
 ghost use Rattle.dm_words.specs.Codewords.{codeword_rows};
 ghost use Rattle.dm_words.specs.CodeSets.{basic_rows, shifted_rows};
@@ -25,8 +25,9 @@ ghost use Rattle.dm_words.specs.Refused.{Refused};
 ghost use Rattle.dm_words.specs.Laws.{HasOneResult, AreCodewords, AreRunValues, BeginsNoSpelling, CanBeLeftOut};
 ghost use Rattle.dm_words.specs.Laws.{AreMacro, SomeSpell};
 
-use crate::limits::{LARGEST_DATA, LARGEST_ROOM, MESSAGE_ROOM, MOST_ITEMS};
-use dm_layout::MOST_DATA;
+use crate::limits::{LARGEST_ROOM, MESSAGE_ROOM, MOST_ITEMS};
+use dm_layout::MOST_GRID_DATA;
+use dm_layout::symbols::MOST_DATA;
 
 /// In each extent, a list of codewords, however long, spells exactly one message and is refused with no fault, or is
 /// refused with exactly one fault and spells none.
@@ -96,7 +97,7 @@ pub fn ascii_is_greedy()
 /// size of the table has, has that many codewords, and they spell the message in each extent.
 pub fn normal_form_spells()
     ensures message { (extent : Extent) (profile : Profile) (m : List Item) (count : ℕ)
-        → IsMessage m → length (normal_form profile m) ≤ count → count ≤ largest_data
+        → IsMessage m → length (normal_form profile m) ≤ count → count ≤ most_data
         → Spells extent (padded (normal_form profile m) count) m }
     ensures count { (profile : Profile) (m : List Item) (count : ℕ)
         → length (normal_form profile m) ≤ count
@@ -161,12 +162,12 @@ pub fn tables_are_sound()
 
 /// The most data codewords of a square are those of the largest one. What is read of them in the usual extent has two
 /// items for each, and a message has room for the most that are read in the wide extent; `LARGEST_ROOM` is room for the
-/// most that are read there of a symbol of any shape. `MOST_DATA` is the constant of `dm_layout`, whose law
-/// `laws::sizes::constants_are_the_limits` says the same of it.
+/// most that are read there of a symbol of any shape. `MOST_GRID_DATA` and `MOST_DATA` are constants of `dm_layout`,
+/// whose laws `constants_are_the_limits` say the same of them.
 pub fn limits_are_those_of_the_table()
-    ensures data { MOST_DATA ≡ most_data }
-    ensures largest { LARGEST_DATA ≡ largest_data }
-    ensures items { MOST_ITEMS ≡ most_spelled Extent.Usual most_data }
-    ensures room { MESSAGE_ROOM ≡ most_spelled Extent.Wide most_data }
-    ensures largest_room { LARGEST_ROOM ≡ most_spelled Extent.Wide largest_data }
+    ensures data { MOST_GRID_DATA ≡ most_grid_data }
+    ensures largest { MOST_DATA ≡ most_data }
+    ensures items { MOST_ITEMS ≡ most_spelled Extent.Usual most_grid_data }
+    ensures room { MESSAGE_ROOM ≡ most_spelled Extent.Wide most_grid_data }
+    ensures largest_room { LARGEST_ROOM ≡ most_spelled Extent.Wide most_data }
 {}

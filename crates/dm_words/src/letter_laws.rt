@@ -1,12 +1,12 @@
 //! Laws of letters. Each function has an empty body: its contract is the law.
 
 ghost use Rattle.std.specs.Prelude.{◌≡◌, ℕ, ◌≤◌, ◌↔◌, ◌⊎◌, List, [], length, None};
-ghost use Rattle.dm_words.specs.Messages.{largest_data};
+ghost use Rattle.dm_words.specs.Messages.{most_data};
 ghost use Rattle.dm_words.specs.declared.extent.Extent.{Extent};
 ghost use Rattle.dm_words.specs.declared.item.Item.{Item};
 ghost use Rattle.dm_words.specs.declared.profile.Profile.{Profile};
 ghost use Rattle.dm_words.specs.Laws.{AreCodewords};
-ghost use Rattle.dm_words.specs.Messages.{largest_data};
+ghost use Rattle.dm_words.specs.Messages.{most_data};
 ghost use Rattle.dm_words.specs.Designators.{IsDesignator, designator, most_assigned};
 ghost use Rattle.dm_words.specs.Pads.{padded};
 ghost use Rattle.dm_words.specs.Spells.{Spells};
@@ -45,7 +45,7 @@ pub fn wide_is_letter()
 /// symbol can have, has that many codewords, each of 0 to 255, and they say the letter.
 pub fn letter_form_says()
     ensures letter { (profile : Profile) (l : LetterView) (count : ℕ) → IsLetter l
-        → length (letter_form profile l) ≤ count → count ≤ largest_data
+        → length (letter_form profile l) ≤ count → count ≤ most_data
         → SpellsLetter (padded (letter_form profile l) count) l }
     ensures count { (profile : Profile) (l : LetterView) (count : ℕ)
         → length (letter_form profile l) ≤ count

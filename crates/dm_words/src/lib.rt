@@ -10,14 +10,14 @@
 //! ASCII or one segment of Base 256 ([`shorter_words()`]). [`smallest_words_to()`] writes codewords of the smallest
 //! size of a choice that has any that spell the message in an extent into a target. [`padded()`] gives codewords with
 //! pads up to the data codewords of a size; [`add_pads()`] adds the pads in a target, and [`pad_to()`] in one of any
-//! room up to [`LARGEST_DATA`] codewords, for symbols that are no squares or larger ones.
+//! room up to [`MOST_DATA`] codewords, for symbols that are no squares or larger ones.
 //!
 //! Letters: [`letter_to_as()`] reads the [`Letter`] that a list says in an extent into a target, which is a [`Head`] or
 //! none, items and [`Mark`]s, or gives the [`LetterFault`] with which the list is refused. [`letter_words_in()`] writes
 //! the codewords of a letter. [`head_of()`], [`head_words()`], [`designator_of()`] and [`designator_words()`] read and
 //! write a head or a designator alone.
 //!
-//! Limits: up to [`LARGEST_DATA`] codewords are read and written. A square has up to [`MOST_DATA`], for which a
+//! Limits: up to [`MOST_DATA`] codewords are read and written. A square has up to [`MOST_GRID_DATA`], for which a
 //! [`Message`] or a [`Letter`] serves: it has room for [`MESSAGE_ROOM`] items, of which the usual extent takes
 //! [`MOST_ITEMS`], and for [`MOST_MARKS`] marks. A [`MessageIn`] and a [`LetterIn`] have any room; for every symbol
 //! [`LARGEST_ROOM`] and [`LARGEST_MARKS`] are enough.
@@ -47,7 +47,8 @@ mod profile;
 mod reading;
 mod smallest;
 
-pub use dm_layout::MOST_DATA;
+pub use dm_layout::MOST_GRID_DATA;
+pub use dm_layout::symbols::MOST_DATA;
 pub use extent::Extent;
 pub use fault::{TooLong, WordFault};
 pub use item::Item;
@@ -61,7 +62,7 @@ pub use letters::mark::Mark;
 pub use letters::normal_form::letter_words_in;
 pub use letters::reading::letter_to_as;
 pub use letters::symbology::symbology_number;
-pub use limits::{LARGEST_DATA, LARGEST_MARKS, LARGEST_ROOM, MESSAGE_ROOM, MOST_ITEMS, MOST_MARKS};
+pub use limits::{LARGEST_MARKS, LARGEST_ROOM, MESSAGE_ROOM, MOST_ITEMS, MOST_MARKS};
 pub use message::{Message, MessageIn};
 pub use normal_form::{ascii_words, normal_words_in, shorter_words};
 pub use pad::{add_pads, pad_to, padded};

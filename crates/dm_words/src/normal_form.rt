@@ -12,15 +12,16 @@ use crate::ascii::{AsciiForm, ascii_form, surely_fits, write_ascii};
 use crate::base256::{segment_length, write_segment};
 use crate::fault::TooLong;
 use crate::item::Item;
-use crate::limits::{LARGEST_DATA, LARGEST_ROOM};
+use crate::limits::LARGEST_ROOM;
 use crate::message::{Message, MessageIn};
 use crate::profile::Profile;
 use arrayvec::ArrayVec;
-use dm_layout::MOST_DATA;
+use dm_layout::MOST_GRID_DATA;
+use dm_layout::symbols::MOST_DATA;
 
 /// Gives the ASCII codewords of a message, without pads: from the left, two digits in one codeword wherever two come
-/// first. `TooLong` exactly where they are more than `MOST_DATA`. ISO/IEC 16022, ASCII encodation.
-pub fn ascii_words(message: &Message) -> Result<ArrayVec<u8, MOST_DATA>, TooLong>
+/// first. `TooLong` exactly where they are more than `MOST_GRID_DATA`. ISO/IEC 16022, ASCII encodation.
+pub fn ascii_words(message: &Message) -> Result<ArrayVec<u8, MOST_GRID_DATA>, TooLong>
     ensures { IsNormalFormResult Profile.Ascii message.now result }
 {
     words_of(Profile::Ascii, message)
@@ -28,16 +29,16 @@ pub fn ascii_words(message: &Message) -> Result<ArrayVec<u8, MOST_DATA>, TooLong
 
 /// Gives the shorter codewords of a message, without pads: one segment of Base 256 from the first codeword on, if the
 /// message has no FNC1 and this takes fewer codewords than ASCII; else those of [`ascii_words()`]. The length of the
-/// segment is always written out. `TooLong` exactly where they are more than `MOST_DATA`. ISO/IEC 16022, Base 256
+/// segment is always written out. `TooLong` exactly where they are more than `MOST_GRID_DATA`. ISO/IEC 16022, Base 256
 /// encodation.
-pub fn shorter_words(message: &Message) -> Result<ArrayVec<u8, MOST_DATA>, TooLong>
+pub fn shorter_words(message: &Message) -> Result<ArrayVec<u8, MOST_GRID_DATA>, TooLong>
     ensures { IsNormalFormResult Profile.Shorter message.now result }
 {
     words_of(Profile::Shorter, message)
 }
 
 /// Gives the codewords of a message under a profile.
-fn words_of(profile: Profile, message: &Message) -> Result<ArrayVec<u8, MOST_DATA>, TooLong>
+fn words_of(profile: Profile, message: &Message) -> Result<ArrayVec<u8, MOST_GRID_DATA>, TooLong>
     ensures { IsNormalFormResult profile message.now result }
 {
     let mut words = ArrayVec::new();
@@ -59,7 +60,7 @@ pub fn normal_words_in<const ROOM: usize, const N: usize>(
 ) -> Result<(), TooLong>
     requires room { ROOM ≤ LARGEST_ROOM }
     requires least { 3 ≤ N }
-    requires most { N ≤ LARGEST_DATA }
+    requires most { N ≤ MOST_DATA }
     ensures form { OnOk result (words.new.items ≡ normal_form profile message.now) }
     ensures too_long { IsErr result ↔ (N < length (normal_form profile message.now)) }
     ensures same { OnErr result (words.new.items ≡ words.old.items) }
@@ -83,7 +84,7 @@ fn write_counted<const N: usize>(
 ) -> Result<(), TooLong>
     requires few { length items.now ≤ LARGEST_ROOM }
     requires least { 3 ≤ N }
-    requires most { N ≤ LARGEST_DATA }
+    requires most { N ≤ MOST_DATA }
     ensures form { OnOk result (words.new.items ≡ normal_form profile items.now) }
     ensures too_long { IsErr result ↔ (N < length (normal_form profile items.now)) }
     ensures same { OnErr result (words.new.items ≡ words.old.items) }

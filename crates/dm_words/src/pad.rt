@@ -4,13 +4,13 @@ ghost use Rattle.std.specs.Prelude.{◌≡◌, ◌≤◌, length};
 ghost use Rattle.dm_words.specs.Pads.{padded, pad_at};
 
 use crate::codeword::{FIRST_PAD, RANDOM_FACTOR};
-use crate::limits::LARGEST_DATA;
 use arrayvec::ArrayVec;
-use dm_layout::{MOST_DATA, Size};
+use dm_layout::symbols::MOST_DATA;
+use dm_layout::{MOST_GRID_DATA, Size};
 
 /// Gives the pad at a place, where it isn't the first of the symbol.
 fn pad_word(place: u16) -> u8
-    requires { place ≤ LARGEST_DATA }
+    requires { place ≤ MOST_DATA }
     ensures { result ≡ pad_at place }
 {
     let number = FIRST_PAD as u32 + (RANDOM_FACTOR * place as u32) % 253 + 1;
@@ -23,7 +23,7 @@ fn pad_word(place: u16) -> u8
 
 /// Gives the words, followed by pads up to the data codewords of the size: the first pad is 129, each further one is
 /// randomised by its place. The words are those of a message, at most as many as the size has data codewords.
-pub fn padded(words: &[u8], size: Size) -> ArrayVec<u8, MOST_DATA>
+pub fn padded(words: &[u8], size: Size) -> ArrayVec<u8, MOST_GRID_DATA>
     requires { length words.now ≤ size.data_count }
     ensures words { result.items ≡ padded words.now size.data_count }
     ensures count { length result.items ≡ size.data_count }
@@ -37,7 +37,7 @@ pub fn padded(words: &[u8], size: Size) -> ArrayVec<u8, MOST_DATA>
 }
 
 /// Adds pads to the words of a message, as [`padded()`] does, where they stand.
-pub fn add_pads(words: &mut ArrayVec<u8, MOST_DATA>, size: Size)
+pub fn add_pads(words: &mut ArrayVec<u8, MOST_GRID_DATA>, size: Size)
     requires { length words.old.items ≤ size.data_count }
     ensures words { words.new.items ≡ padded words.old.items size.data_count }
     ensures count { length words.new.items ≡ size.data_count }
@@ -50,7 +50,7 @@ pub fn add_pads(words: &mut ArrayVec<u8, MOST_DATA>, size: Size)
 pub fn pad_to<const N: usize>(words: &mut ArrayVec<u8, N>, count: usize)
     requires fits { length words.old.items ≤ count }
     requires room { count ≤ N }
-    requires most { count ≤ LARGEST_DATA }
+    requires most { count ≤ MOST_DATA }
     ensures words { words.new.items ≡ padded words.old.items count }
     ensures count { length words.new.items ≡ count }
 {

@@ -23,11 +23,11 @@ use crate::edifact::edifact_part;
 use crate::extent::Extent;
 use crate::fault::WordFault;
 use crate::item::Item;
-use crate::limits::LARGEST_DATA;
 use crate::macros::{add_header, add_trailer, macro_digit};
 use crate::message::{Message, MessageIn};
 use crate::numbers::number_at;
-use dm_layout::MOST_DATA;
+use dm_layout::MOST_GRID_DATA;
+use dm_layout::symbols::MOST_DATA;
 
 /// Takes the part at an index: adds its items to the message, and gives the number of its codewords; `None` at the end.
 pub(crate) fn next_part<const ROOM: usize>(
@@ -37,7 +37,7 @@ pub(crate) fn next_part<const ROOM: usize>(
     message: &mut MessageIn<ROOM>,
 ) -> Result<Option<usize>, WordFault>
     requires in_range { at ≤ length words.now }
-    requires short { length words.now ≤ LARGEST_DATA }
+    requires short { length words.now ≤ MOST_DATA }
     requires room { HasRoomAt ROOM words.now at message.old }
     ensures { IsPartTakenOrEnd result message.old message.new
         (first_part extent (at + 1) (drop at words.now)) }
@@ -59,7 +59,7 @@ fn part_of<const ROOM: usize>(
     message: &mut MessageIn<ROOM>,
 ) -> Result<Option<usize>, WordFault>
     requires in_range { at < length words.now }
-    requires short { length words.now ≤ LARGEST_DATA }
+    requires short { length words.now ≤ MOST_DATA }
     requires room { HasRoomAt ROOM words.now at message.old }
     ensures { IsPartTakenOrEnd result message.old message.new
         (part_by extent (at + 1) first (drop (at + 1) words.now) meaning) }
@@ -110,7 +110,7 @@ fn raised_part<const ROOM: usize>(
     message: &mut MessageIn<ROOM>,
 ) -> Result<usize, WordFault>
     requires in_range { at < length words.now }
-    requires short { length words.now ≤ LARGEST_DATA }
+    requires short { length words.now ≤ MOST_DATA }
     requires room { HasRoomAt ROOM words.now at message.old }
     ensures { IsPartTaken result message.old message.new
         (raised_unit (at + 1) (drop (at + 1) words.now)) }
@@ -157,7 +157,7 @@ fn one_word_parts<const ROOM: usize>(
     message: &mut MessageIn<ROOM>,
 ) -> usize
     requires in_range { start ≤ length words.now }
-    requires short { length words.now ≤ LARGEST_DATA }
+    requires short { length words.now ≤ MOST_DATA }
     requires room { HasRoomAt ROOM words.now start message.old }
     ensures from { start ≤ result }
     ensures within { result ≤ length words.now }
@@ -197,7 +197,7 @@ fn add_parts<const ROOM: usize>(
     message: &mut MessageIn<ROOM>,
 ) -> Result<(), WordFault>
     requires in_range { start ≤ length words.now }
-    requires short { length words.now ≤ LARGEST_DATA }
+    requires short { length words.now ≤ MOST_DATA }
     requires room { HasRoomAt ROOM words.now start message.old }
     ensures read { outcome result message.new
         ≡ read_on extent message.old (start + 1) (drop start words.now) }
@@ -212,11 +212,11 @@ fn add_parts<const ROOM: usize>(
 }
 
 /// Gives the message that the data codewords of a symbol spell, in any of the five encodations of the usual extent, or
-/// the fault with which they are refused. The list is the whole data part, at most `MOST_DATA` codewords, so its end is
-/// the end of the symbol. What follows the first pad is ignored. The first faulty part from the left decides;
+/// the fault with which they are refused. The list is the whole data part, at most `MOST_GRID_DATA` codewords, so its
+/// end is the end of the symbol. What follows the first pad is ignored. The first faulty part from the left decides;
 /// `WordFault` says when each fault comes. ISO/IEC 16022, encodation schemes.
 pub fn message_of(words: &[u8]) -> Result<Message, WordFault>
-    requires { length words.now ≤ MOST_DATA }
+    requires { length words.now ≤ MOST_GRID_DATA }
     ensures { IsMessageResult Extent.Usual words.now result }
 {
     let mut message = Message::new();
@@ -227,7 +227,7 @@ pub fn message_of(words: &[u8]) -> Result<Message, WordFault>
 }
 
 /// Does the same as [`message_of()`] for an extent, in a target with room for all that so many codewords, at most
-/// [`LARGEST_DATA`], can spell in it: after `Ok`, `message` holds the message, whatever it held before. After a fault
+/// [`MOST_DATA`], can spell in it: after `Ok`, `message` holds the message, whatever it held before. After a fault
 /// it holds some message. At [`Extent::Wide`] EDIFACT is read too; a macro as the first codeword gives the message its
 /// header and its trailer, so it has up to seven items more than two for each codeword; and an Upper Shift that waits
 /// where a run of C40 or Text ends is dropped. ISO/IEC 16022, encodation schemes, 05 and 06 macro characters.
@@ -236,7 +236,7 @@ pub fn message_to_as<const ROOM: usize>(
     words: &[u8],
     message: &mut MessageIn<ROOM>,
 ) -> Result<(), WordFault>
-    requires short { length words.now ≤ LARGEST_DATA }
+    requires short { length words.now ≤ MOST_DATA }
     requires room { most_spelled extent (length words.now) ≤ ROOM }
     ensures { IsMessageResult extent words.now (outcome result message.new) }
 {
@@ -256,7 +256,7 @@ fn framed_parts<const ROOM: usize>(
     message: &mut MessageIn<ROOM>,
 ) -> Result<(), WordFault>
     requires some { 1 ≤ length words.now }
-    requires short { length words.now ≤ LARGEST_DATA }
+    requires short { length words.now ≤ MOST_DATA }
     requires room { 2 * length words.now + 7 ≤ ROOM }
     requires empty { message.old ≡ [] }
     ensures read { outcome result message.new

@@ -23,14 +23,14 @@ use crate::ascii::{ascii_form, surely_fits, write_ascii};
 use crate::extent::Extent;
 use crate::fault::TooLong;
 use crate::item::Item;
-use crate::limits::{LARGEST_DATA, LARGEST_ROOM};
+use crate::limits::LARGEST_ROOM;
 use crate::macros::{HEADER_LENGTH, TRAILER_LENGTH, macro_of};
 use crate::message::MessageIn;
 use crate::pad::pad_to;
 use crate::smallest::parts::write_parts;
 use crate::smallest::plan::{StepBits, plan_to};
 use arrayvec::ArrayVec;
-use dm_modules::{SizeChoice, SymbolSize};
+use dm_layout::symbols::{MOST_DATA, SizeChoice, SymbolSize};
 
 /// How many steps the plan of a short message has: one for each item, and one behind the last.
 const SHORT_PLAN: usize = 64;
@@ -50,7 +50,7 @@ pub fn smallest_words_to<const ROOM: usize>(
     extent: Extent,
     message: &MessageIn<ROOM>,
     choice: SizeChoice,
-    words: &mut ArrayVec<u8, LARGEST_DATA>,
+    words: &mut ArrayVec<u8, MOST_DATA>,
 ) -> Result<SymbolSize, TooLong>
     requires { ROOM ≤ LARGEST_ROOM }
     ensures smallest { IsSmallestResult extent choice message.now result words.new.items }
@@ -72,7 +72,7 @@ fn smallest_by<const STEPS: usize>(
     extent: Extent,
     items: &[Item],
     choice: SizeChoice,
-    words: &mut ArrayVec<u8, LARGEST_DATA>,
+    words: &mut ArrayVec<u8, MOST_DATA>,
 ) -> Result<SymbolSize, TooLong>
     requires few { length items.now ≤ LARGEST_ROOM }
     requires steps { length items.now < STEPS }
@@ -172,7 +172,7 @@ fn write_plainest<const N: usize>(
     requires plan { IsRightPlan extent (text_of way.macro_word items.now) plan.old }
     requires room { way.cost ≤ count }
     requires count { count ≤ N }
-    requires most { N ≤ LARGEST_DATA }
+    requires most { N ≤ MOST_DATA }
     ensures spells { SpellsThenPads extent (padded words.new.items count) items.now }
     ensures fits { length words.new.items ≤ count }
     ensures plainest { IsPlainest (padded words.new.items count) items.now }
@@ -222,7 +222,7 @@ fn write_usual_if_fits<const N: usize>(
     requires steps { length items.now < length plan.old }
     requires message { IsMessage items.now }
     requires count { count ≤ N }
-    requires most { N ≤ LARGEST_DATA }
+    requires most { N ≤ MOST_DATA }
     requires no_ascii { count < length (ascii items.now) }
     requires spells { SpellsThenPads extent (padded words.old.items count) items.now }
     requires fits { length words.old.items ≤ count }
@@ -256,7 +256,7 @@ fn write_way<const N: usize>(
     requires plan { IsRightPlan extent (text_of way.macro_word items.now) plan.now }
     requires room { way.cost ≤ count }
     requires count { count ≤ N }
-    requires most { N ≤ LARGEST_DATA }
+    requires most { N ≤ MOST_DATA }
     ensures spells { SpellsThenPads extent (padded words.new.items count) items.now }
     ensures usual { IsTrue result → SpellsThenPads Usual (padded words.new.items count) items.now }
     ensures fits { length words.new.items ≤ count }
@@ -287,7 +287,7 @@ fn write_plain<const N: usize>(
     requires plan { IsRightPlan extent items.now plan.now }
     requires room { parts_cost extent items.now ≤ count }
     requires count { count ≤ N }
-    requires most { N ≤ LARGEST_DATA }
+    requires most { N ≤ MOST_DATA }
     ensures spells { SpellsThenPads extent (padded words.new.items count) items.now }
     ensures usual { IsTrue result → SpellsThenPads Usual (padded words.new.items count) items.now }
     ensures fits { length words.new.items ≤ count }

@@ -7,7 +7,7 @@
 #![tactic(auto)]
 
 ghost use Rattle.std.specs.Prelude.{◌≡◌, map};
-ghost use Rattle.dm_modules.specs.Sizes.{size_table};
+ghost use Rattle.dm_layout.specs.symbols.Sizes.{size_table};
 ghost use Rattle.ecc200_calls.specs.Inspections.{IsInspectResult};
 ghost use Rattle.ecc200_calls.specs.Places.{IsPlacesResult};
 ghost use Rattle.ecc200_calls.specs.Readings.{IsReadResult, usual_limit};

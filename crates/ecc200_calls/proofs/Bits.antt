@@ -19,10 +19,10 @@ use Rattle.dm_place.specs.Border.{has_fixed_square, is_fixed, fixed_is_dark, sym
 use Rattle.dm_place.specs.Placement.{At, EachCellOnce, IsPlace, places_in_order}
 use Rattle.dm_place.proofs.Exported.{ArePlaces, all_are_places, one_bit, none_fixed, place_at, length-places_in_order}
 use Rattle.dm_place.proofs.Exported.{once_at_sides}
-use Rattle.dm_modules.specs.Sizes.{SizeEntry, IsSize, area, mapping_rows, mapping_columns, size_table}
-use Rattle.dm_modules.specs.Border.{is_border, border_is_dark}
-use Rattle.dm_modules.proofs.Exported.{at_found, off_edge, placed_size, region_below, row_inside, size_facts}
-use Rattle.dm_modules.proofs.Exported.{symbol_line-form, symbol_line-one}
+use Rattle.dm_layout.specs.symbols.Sizes.{SizeEntry, IsSize, area, mapping_rows, mapping_columns, size_table}
+use Rattle.dm_layout.specs.symbols.Border.{is_border, border_is_dark}
+use Rattle.dm_layout.proofs.symbols.Exported.{at_found, off_edge, placed_size, region_below, row_inside, size_facts}
+use Rattle.dm_layout.proofs.symbols.Exported.{symbol_line-form, symbol_line-one}
 use Rattle.ecc200_calls.specs.declared.place_table.PlaceOut.{PlaceOut}
 use Rattle.ecc200_calls.specs.Places.{ArePlacesOf, nothing, bit_place, border_place, fixed_place}
 use Rattle.ecc200_calls.specs.Places as places

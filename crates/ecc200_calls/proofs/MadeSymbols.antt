@@ -6,8 +6,8 @@ use Rattle.std.specs.List.{flat_map}
 use Rattle.std.proofs.Math.Seq.{get_or-append_right, take-append_seam}
 use Rattle.std.proofs.lemmas.List.{get_or_append_left, get_or-map, length-map}
 use Rattle.std.proofs.lemmas.List.Elements.{All-head, All-tail}
-use Rattle.dm_modules.specs.Sizes.{SizeEntry, entry_with}
-use Rattle.dm_modules.specs.Modules.{ModulesView, IsModules, is_dark_number, rows_of}
+use Rattle.dm_layout.specs.symbols.Sizes.{SizeEntry, entry_with}
+use Rattle.dm_layout.specs.symbols.Symbols.{SymbolView, IsSymbol, is_dark_number, rows_of}
 use Rattle.ecc200_calls.specs.Laws.{ModulesMakeTheSymbol, OneSymbolIsMade}
 use Rattle.ecc200_calls.specs.Modules.{AreModulesOf, module_of, modules_of}
 use Rattle.ecc200_calls.specs.Symbols.{symbol_shown}
@@ -53,7 +53,7 @@ module_at (line ∷ rows) side (suc r) c wide lr lc =
     ∙ module_at rows side r c (All-tail (λ l. length l ≡ side) line rows wide) (omega arith) lc
 
 -- The modules of a symbol make that symbol.
-symbol_again : (symbol : ModulesView) → IsModules symbol
+symbol_again : (symbol : SymbolView) → IsSymbol symbol
     → AreModulesOf symbol.size.rows symbol.size.columns (modules_of symbol) symbol
 symbol_again symbol well =
     let columns = symbol.size.columns in
@@ -88,6 +88,6 @@ pub one_made : OneSymbolIsMade
 one_made rows columns modules symbol other a b =
     let size = same_size rows columns symbol.size other.size a.size b.size in
     let lines : symbol.rows ≡ other.rows = a.colours ∙ sym b.colours in
-    let first : symbol ≡ (let m : ModulesView = record { size = other.size; rows = symbol.rows } in m) =
-    ap (λ s. let m : ModulesView = record { size = s; rows = symbol.rows } in m) size in
-    first ∙ ap (λ r. let m : ModulesView = record { size = other.size; rows = r } in m) lines
+    let first : symbol ≡ (let m : SymbolView = record { size = other.size; rows = symbol.rows } in m) =
+    ap (λ s. let m : SymbolView = record { size = s; rows = symbol.rows } in m) size in
+    first ∙ ap (λ r. let m : SymbolView = record { size = other.size; rows = r } in m) lines

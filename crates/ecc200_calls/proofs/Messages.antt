@@ -14,8 +14,8 @@ use Rattle.dm_symbol.specs.declared.SizeChoice.{SizeChoice}
 use Rattle.dm_symbol.specs.Messages.{IsItem, IsMessage}
 use Rattle.dm_symbol.specs.NormalForm.{normal_form}
 use Rattle.dm_symbol.specs.NormalSymbol.{FitsChoice}
-use Rattle.dm_modules.specs.Sizes.{SizeEntry, entry_for, most_data, size_table, takes}
-use Rattle.dm_modules.proofs.Exported.{at_found, found_passes}
+use Rattle.dm_layout.specs.symbols.Sizes.{SizeEntry, entry_for, most_data, size_table, takes}
+use Rattle.dm_layout.proofs.symbols.Exported.{at_found, found_passes}
 use Rattle.dm_words.proofs.Exported.{normal_form_items}
 use Rattle.ecc200_calls.specs.Items.{number_of, numbers_of}
 

@@ -7,9 +7,9 @@ use Rattle.dm_symbol.specs.declared.Extent.{Extent}
 use Rattle.dm_symbol.specs.declared.Profile.{Profile}
 use Rattle.dm_symbol.specs.SymbolLaws.{AreLight}
 use Rattle.dm_symbol.proofs.Exported.{light_rows, read_alike, normal_alike, shown_alike}
-use Rattle.dm_modules.specs.Sizes.{SizeEntry, entry_with, size_table}
-use Rattle.dm_modules.proofs.Exported.{found_passes}
-use Rattle.dm_modules.specs.Modules.{ModulesView, is_dark_number, rows_of}
+use Rattle.dm_layout.specs.symbols.Sizes.{SizeEntry, entry_with, size_table}
+use Rattle.dm_layout.proofs.symbols.Exported.{found_passes}
+use Rattle.dm_layout.specs.symbols.Symbols.{SymbolView, is_dark_number, rows_of}
 use Rattle.ecc200_calls.specs.declared.inspection.InspectionOut.{InspectionOut}
 use Rattle.ecc200_calls.specs.declared.reading.ReadingOut.{ReadingOut}
 use Rattle.ecc200_calls.specs.declared.symbol.SymbolOut.{SymbolOut}
@@ -47,14 +47,14 @@ zeros_are_light (x ∷ xs) h (suc k) l = zeros_are_light xs (λ j m. h (suc j) (
 -- What is so of the symbol of the modules, and of the doubtful ones of them, is so of what is given; if what is so of
 -- the symbol alone is so too where all modules that are given as doubtful are light.
 given_by : (rows columns : ℕ) (modules doubt : List ℕ) (size : SizeEntry) (some : Bool)
-    (Result : ModulesView → Option ModulesView → Type 0) (Whole : Type 0)
-    → ((symbol : ModulesView) (doubtful : Option ModulesView) → AreGiven rows columns modules doubt symbol doubtful
+    (Result : SymbolView → Option SymbolView → Type 0) (Whole : Type 0)
+    → ((symbol : SymbolView) (doubtful : Option SymbolView) → AreGiven rows columns modules doubt symbol doubtful
     → Result symbol doubtful → Whole)
-    → ((symbol doubtful : ModulesView) → AreLight doubtful → Result symbol None → Result symbol (Some doubtful))
+    → ((symbol doubtful : SymbolView) → AreLight doubtful → Result symbol None → Result symbol (Some doubtful))
     → IsKnown rows columns modules doubt size some → IsOfGiven size modules doubt some Result → Whole
 given_by rows columns modules doubt size some Result Whole of_symbol alike known of = by_doubt doubt refl of
   where
-    made : (numbers : List ℕ) (symbol : ModulesView) → AreModulesOf size.rows size.columns numbers symbol
+    made : (numbers : List ℕ) (symbol : SymbolView) → AreModulesOf size.rows size.columns numbers symbol
         → AreModulesOf rows columns numbers symbol
     made numbers symbol are =
         subst (λ r. AreModulesOf r columns numbers symbol) known.rows_are
@@ -71,7 +71,7 @@ given_by rows columns modules doubt size some Result Whole of_symbol alike known
         of_symbol symbol None
         (record { modules_are = made modules symbol are; doubtful_are = AreDoubtful.none e refl }) result
     by_doubt (x ∷ xs) e (IsOfGiven.sure symbol none_told are result) =
-        let light : ModulesView =
+        let light : SymbolView =
         record { size = size; rows = rows_of rows columns (map is_dark_number doubt) } in
         let some_numbers : doubt ≢ [] = λ none. cc in
         let count : length doubt ≡ rows * columns =
@@ -143,7 +143,7 @@ module _ (rows columns : ℕ) (modules doubt : List ℕ) (size : SizeEntry) (som
 
 -- What is so of a symbol of this size into which the modules are put is so of what is given, where none is doubtful.
 pub sure_given : (size : SizeEntry) (modules doubt : List ℕ) (some : Bool)
-    (Result : SizeEntry → ModulesView → Option ModulesView → Type 0) (before symbol : ModulesView) → some ≡ false
+    (Result : SizeEntry → SymbolView → Option SymbolView → Type 0) (before symbol : SymbolView) → some ≡ false
     → before.size ≡ size → symbol.size ≡ before.size
     → AreModulesOf before.size.rows before.size.columns modules symbol → Result symbol.size symbol None
     → IsOfGiven size modules doubt some (Result size)
@@ -153,7 +153,7 @@ sure_given size modules doubt some Result before symbol none_told e same are res
 
 -- So it is where some are, whose numbers are put into another.
 pub doubted_given : (size : SizeEntry) (modules doubt : List ℕ) (some : Bool)
-    (Result : SizeEntry → ModulesView → Option ModulesView → Type 0) (before symbol other doubtful : ModulesView)
+    (Result : SizeEntry → SymbolView → Option SymbolView → Type 0) (before symbol other doubtful : SymbolView)
     → some ≡ true → before.size ≡ size → symbol.size ≡ before.size
     → AreModulesOf before.size.rows before.size.columns modules symbol → other.size ≡ size
     → AreModulesOf other.size.rows other.size.columns doubt doubtful → Result symbol.size symbol (Some doubtful)

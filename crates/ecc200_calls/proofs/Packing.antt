@@ -21,9 +21,9 @@ use Rattle.std.proofs.lemmas.Simd.{bit_mask_l, mask_l-lt, length-chunk, get_or-c
 use Rattle.std.specs.List.{range_with_len}
 use Rattle.std.proofs.lemmas.List.Elements.{All-get_or}
 use Rattle.std.proofs.lemmas.List.FromFn.{fill_by_all}
-use Rattle.dm_modules.specs.Sizes.{area}
+use Rattle.dm_layout.specs.symbols.Sizes.{area}
 use Rattle.ecc200_calls.specs.Modules.{AreModulesOf}
-use Rattle.dm_modules.specs.Modules.{ModulesView, IsModules, module_at, is_dark_bit, is_dark_number as is_dark}
+use Rattle.dm_layout.specs.symbols.Symbols.{SymbolView, IsSymbol, module_at, is_dark_bit, is_dark_number as is_dark}
 
 -- The next power of 2 is twice the last one.
 pow_next : (i : ℕ) → 2 ^ (i + 1) ≡ 2 ^ i * 2
@@ -151,7 +151,7 @@ mask_dark n modules bits e long column l within =
 -- ---- all rows
 
 -- A row that is put by the numbers of its two parts has the colours that these parts have.
-pub both_parts : (symbol : ModulesView) (row columns start end : ℕ) (colour : ℕ → Bool)
+pub both_parts : (symbol : SymbolView) (row columns start end : ℕ) (colour : ℕ → Bool)
     → ((c : ℕ) → c < 128 → c < columns → module_at symbol row c ≡ is_dark_bit start c)
     → ((c : ℕ) → 128 + c < columns → module_at symbol row (128 + c) ≡ is_dark_bit end c)
     → ((c : ℕ) → c < 128 → c < columns → is_dark_bit start c ≡ colour c)
@@ -167,7 +167,7 @@ both_parts symbol row columns start end colour put_start put_end start_is end_is
 ]
 
 -- Where the rows above one have the colours of their numbers, and it has them too, the rows above the next one have.
-pub above_more : (old new : ModulesView) (numbers : List ℕ) (row rows columns : ℕ) → row < rows
+pub above_more : (old new : SymbolView) (numbers : List ℕ) (row rows columns : ℕ) → row < rows
     → ((c : ℕ) → c < columns → module_at new row c ≡ is_dark (get_or numbers (row * columns + c) 0))
     → ((r c : ℕ) → r < rows → c < columns → r ≢ row → module_at new r c ≡ module_at old r c)
     → ((r c : ℕ) → r < row → c < columns → module_at old r c ≡ is_dark (get_or numbers (r * columns + c) 0))
@@ -180,7 +180,7 @@ above_more old new numbers row rows columns low here others above r c lr lc = el
 ]
 
 -- Where each module has the colour of its number, the numbers are those of the symbol.
-pub all_packed : (symbol : ModulesView) (numbers : List ℕ) → IsModules symbol → length numbers ≡ area symbol.size
+pub all_packed : (symbol : SymbolView) (numbers : List ℕ) → IsSymbol symbol → length numbers ≡ area symbol.size
     → ((r c : ℕ) → r < symbol.size.rows → c < symbol.size.columns
     → module_at symbol r c ≡ is_dark (get_or numbers (r * symbol.size.columns + c) 0))
     → AreModulesOf symbol.size.rows symbol.size.columns numbers symbol

@@ -13,13 +13,14 @@ use Rattle.dm_symbol.specs.declared.Item.{Item}
 use Rattle.dm_symbol.specs.declared.Profile.{Profile}
 use Rattle.dm_symbol.specs.declared.SizeChoice.{SizeChoice}
 use Rattle.dm_symbol.specs.declared.SizeChoice.TheVariants.{Exact, Square}
-use Rattle.dm_symbol.specs.Messages.{largest_data, most_spelled}
+use Rattle.dm_symbol.specs.Messages.{most_data, most_spelled}
 use Rattle.dm_symbol.specs.NormalForm.{normal_form}
 use Rattle.dm_symbol.proofs.Exported.{room_for_each, room_for_most}
-use Rattle.dm_modules.specs.Sizes.{SizeEntry, IsSize, codeword_count, entry_for, entry_of, most_codewords, size_table}
-use Rattle.dm_modules.specs.Sizes.{takes}
-use Rattle.dm_modules.specs.Words.{WordsView, IsWords}
-use Rattle.dm_modules.proofs.Exported.{at_found, found_passes, same_size, size_facts}
+use Rattle.dm_layout.specs.symbols.Sizes.{SizeEntry, IsSize, codeword_count, entry_for, entry_of, most_codewords}
+use Rattle.dm_layout.specs.symbols.Sizes.{size_table}
+use Rattle.dm_layout.specs.symbols.Sizes.{takes}
+use Rattle.dm_layout.specs.symbols.Words.{WordsView, IsWords}
+use Rattle.dm_layout.proofs.symbols.Exported.{at_found, found_passes, same_size, size_facts}
 use Rattle.ecc200_calls.specs.inner.Rooms.{AreWordsFor, IsRoom, HasRoom, HasRoomToWrite}
 
 -- A size with at most so many data codewords has at most so many rows and codewords.
@@ -59,7 +60,7 @@ module _ (most rows words : ℕ) (each : list_all (fits most rows words) size_ta
       (leb-true _ _ parts.0, leb-true _ _ parts.1)
 
   -- There is room for such a symbol, and for what it says.
-  room : (items : ℕ) → 2 * most + 7 ≤ items → items ≤ most_spelled Wide largest_data → IsRoom rows words
+  room : (items : ℕ) → 2 * most + 7 ≤ items → items ≤ most_spelled Wide most_data → IsRoom rows words
       → (size : SizeEntry) → IsSize size → size.data_count ≤ most → HasRoom rows words items size
   room items enough few_items is size entry le =
       let f = few (λ s. nat_eq s.rows size.rows && nat_eq s.columns size.columns) size entry le in

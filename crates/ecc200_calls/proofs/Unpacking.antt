@@ -14,8 +14,8 @@ use Rattle.std.proofs.Math.Seq.{take-append_seam}
 use Rattle.std.specs.List.{range_with_len}
 use Rattle.std.proofs.lemmas.List.FromFn.{fill_by_all, get_or-map-range_with_len, length-map-range_with_len}
 use Rattle.std.proofs.lemmas.Simd.{put_chunk_is, take_more_put_chunk}
-use Rattle.dm_modules.specs.Modules.{is_dark_bit}
-use Rattle.dm_modules.proofs.Exported.{cut_cell}
+use Rattle.dm_layout.specs.symbols.Symbols.{is_dark_bit}
+use Rattle.dm_layout.proofs.symbols.Exported.{cut_cell}
 use Rattle.ecc200_calls.specs.Modules.{module_of}
 use Rattle.ecc200_calls.specs.inner.UnpackedCells.{unpacked_cells, unpacked_row}
 

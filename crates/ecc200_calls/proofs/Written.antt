@@ -6,7 +6,7 @@ use Rattle.dm_symbol.specs.declared.Profile.{Profile}
 use Rattle.dm_symbol.specs.declared.SizeChoice.{SizeChoice}
 use Rattle.dm_symbol.specs.declared.SizeChoice.TheVariants.{Square}
 use Rattle.dm_symbol.specs.declared.NormalFault.TheVariants.{TooLong}
-use Rattle.dm_modules.specs.Modules.{ModulesView}
+use Rattle.dm_layout.specs.symbols.Symbols.{SymbolView}
 use Rattle.dm_symbol.specs.Messages.{IsMessage}
 use Rattle.dm_symbol.specs.SymbolReading.{ReadsSymbol}
 use Rattle.dm_symbol.specs.SymbolNormal.{NormalSymbolResult}
@@ -25,7 +25,7 @@ writing_given choice profile numbers message before after is are (IsMessageGiven
     record { result = Ok symbol; result_is = WrittenResult.written message symbol is are written refl; shown = e }
 
 -- What is given in squares for a message that a symbol is read as is what normalising gives.
-pub normal_of_message : (extent : Extent) (profile : Profile) (symbol : ModulesView) (doubtful : Option ModulesView)
+pub normal_of_message : (extent : Extent) (profile : Profile) (symbol : SymbolView) (doubtful : Option SymbolView)
     (limit : ℕ) (message : List Item) (before after : SymbolOut) → ReadsSymbol extent symbol doubtful limit message
     → IsMessageGiven Square profile message before after
     → IsNormalGiven extent profile symbol doubtful limit before after

@@ -2,7 +2,7 @@
 use Rattle.std.specs.Prelude.{◌≡◌, ℕ, List, map, length, Option, Some, None}
 use Rattle.dm_symbol.specs.declared.BlockReading.{BlockReading}
 use Rattle.dm_symbol.specs.declared.SymbolInspectionIn.{SymbolInspectionIn}
-use Rattle.dm_modules.specs.Modules.{ModulesView}
+use Rattle.dm_layout.specs.symbols.Symbols.{SymbolView}
 use Rattle.dm_symbol.specs.SymbolInspection.{IsSymbolInspection}
 use Rattle.ecc200_calls.specs.declared.fault.Fault.{Fault}
 use Rattle.ecc200_calls.specs.declared.inspection.InspectionOut.{InspectionOut}
@@ -60,7 +60,7 @@ inspection_shown rows columns inspection before =
     }
 
 -- The inspection of a symbol, with these of its modules doubtful, is given.
-pub record IsInspectionGiven (rows columns : ℕ) (symbol : ModulesView) (doubtful : Option ModulesView)
+pub record IsInspectionGiven (rows columns : ℕ) (symbol : SymbolView) (doubtful : Option SymbolView)
     (before after : InspectionOut) : Type 0 where
   pub room : ℕ
   pub inspection : SymbolInspectionIn room
@@ -71,7 +71,7 @@ pub record IsInspectionGiven (rows columns : ℕ) (symbol : ModulesView) (doubtf
 pub data IsInspectResult (rows columns : ℕ) (modules doubt : List ℕ) (before after : InspectionOut) : Type 0 where
   not_given : (why : Fault) → IsGivenFault rows columns modules doubt why → after ≡ no_inspection why before
       → IsInspectResult rows columns modules doubt before after
-  of_symbol : (symbol : ModulesView) (doubtful : Option ModulesView)
+  of_symbol : (symbol : SymbolView) (doubtful : Option SymbolView)
       → AreGiven rows columns modules doubt symbol doubtful
       → IsInspectionGiven rows columns symbol doubtful before after
       → IsInspectResult rows columns modules doubt before after

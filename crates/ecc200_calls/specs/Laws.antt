@@ -1,6 +1,6 @@
 -- What holds of the modules of all symbols.
 use Rattle.std.specs.Prelude.{◌≡◌, ℕ, ◌*◌, List, take}
-use Rattle.dm_modules.specs.Modules.{ModulesView, IsModules}
+use Rattle.dm_layout.specs.symbols.Symbols.{SymbolView, IsSymbol}
 use Rattle.ecc200_calls.specs.declared.symbol.SymbolOut.{SymbolOut}
 use Rattle.ecc200_calls.specs.Modules.{AreModulesOf}
 use Rattle.ecc200_calls.specs.Symbols.{symbol_shown}
@@ -8,11 +8,11 @@ use Rattle.ecc200_calls.specs.Symbols.{symbol_shown}
 -- The modules of a symbol as it is given, as many as its rows times its columns, make that symbol.
 abbrev pub ModulesMakeTheSymbol : Type 0
 ModulesMakeTheSymbol =
-    (symbol : ModulesView) (before : SymbolOut) → IsModules symbol → AreModulesOf symbol.size.rows symbol.size.columns
+    (symbol : SymbolView) (before : SymbolOut) → IsSymbol symbol → AreModulesOf symbol.size.rows symbol.size.columns
     (take (symbol.size.rows * symbol.size.columns) (symbol_shown symbol before).modules) symbol
 
 -- Modules make at most one symbol.
 abbrev pub OneSymbolIsMade : Type 0
 OneSymbolIsMade =
-    (rows columns : ℕ) (modules : List ℕ) (symbol other : ModulesView) → AreModulesOf rows columns modules symbol
+    (rows columns : ℕ) (modules : List ℕ) (symbol other : SymbolView) → AreModulesOf rows columns modules symbol
     → AreModulesOf rows columns modules other → symbol ≡ other

@@ -2,8 +2,8 @@
 use Rattle.std.specs.Prelude.{◌≡◌, ◌≢◌, ℕ, ◌*◌, Bool, if◌then◌else◌, List, [], map, flat_map, length, Option, Some}
 use Rattle.std.specs.Prelude.{None}
 use Rattle.std.specs.Prelude.{IsNone}
-use Rattle.dm_modules.specs.Sizes.{entry_with}
-use Rattle.dm_modules.specs.Modules.{ModulesView, is_dark_number, rows_of}
+use Rattle.dm_layout.specs.symbols.Sizes.{entry_with}
+use Rattle.dm_layout.specs.symbols.Symbols.{SymbolView, is_dark_number, rows_of}
 use Rattle.ecc200_calls.specs.declared.fault.Fault.{Fault}
 use Rattle.ecc200_calls.specs.Faults.{shape, no_such_size, wrong_doubt}
 
@@ -12,11 +12,11 @@ abbrev pub module_of : Bool → ℕ
 module_of dark = if dark then 1 else 0
 
 -- The modules of a symbol are those of its rows, one row after the other.
-abbrev pub modules_of : ModulesView → List ℕ
+abbrev pub modules_of : SymbolView → List ℕ
 modules_of symbol = flat_map (map module_of) symbol.rows
 
 -- These are the modules of the symbol, whose size has these rows and columns; any number but 0 is a dark module.
-pub record AreModulesOf (rows columns : ℕ) (modules : List ℕ) (symbol : ModulesView) : Type 0 where
+pub record AreModulesOf (rows columns : ℕ) (modules : List ℕ) (symbol : SymbolView) : Type 0 where
   pub count : length modules ≡ rows * columns
   pub size : entry_with rows columns ≡ Some symbol.size
   pub colours : symbol.rows ≡ rows_of rows columns (map is_dark_number modules)
@@ -28,13 +28,13 @@ pub data IsModulesFault (rows columns : ℕ) (modules : List ℕ) (why : Fault) 
       IsModulesFault rows columns modules why
 
 -- No module is doubtful where no numbers are given; where some are, those modules are whose number isn't 0.
-pub data AreDoubtful (rows columns : ℕ) (numbers : List ℕ) (doubtful : Option ModulesView) : Type 0 where
+pub data AreDoubtful (rows columns : ℕ) (numbers : List ℕ) (doubtful : Option SymbolView) : Type 0 where
   none : numbers ≡ [] → doubtful ≡ None → AreDoubtful rows columns numbers doubtful
-  some : (modules : ModulesView) → numbers ≢ [] → AreModulesOf rows columns numbers modules → doubtful ≡ Some modules
+  some : (modules : SymbolView) → numbers ≢ [] → AreModulesOf rows columns numbers modules → doubtful ≡ Some modules
       → AreDoubtful rows columns numbers doubtful
 
 -- These are the modules of the symbol, and these of them are doubtful.
-pub record AreGiven (rows columns : ℕ) (modules doubt : List ℕ) (symbol : ModulesView) (doubtful : Option ModulesView)
+pub record AreGiven (rows columns : ℕ) (modules doubt : List ℕ) (symbol : SymbolView) (doubtful : Option SymbolView)
     : Type 0 where
   pub modules_are : AreModulesOf rows columns modules symbol
   pub doubtful_are : AreDoubtful rows columns doubt doubtful
@@ -43,5 +43,5 @@ pub record AreGiven (rows columns : ℕ) (modules doubt : List ℕ) (symbol : Mo
 -- given that aren't as many.
 pub data IsGivenFault (rows columns : ℕ) (modules doubt : List ℕ) (why : Fault) : Type 0 where
   of_modules : IsModulesFault rows columns modules why → IsGivenFault rows columns modules doubt why
-  of_doubt : (symbol : ModulesView) → AreModulesOf rows columns modules symbol → doubt ≢ []
+  of_doubt : (symbol : SymbolView) → AreModulesOf rows columns modules symbol → doubt ≢ []
       → length doubt ≢ rows * columns → why ≡ wrong_doubt → IsGivenFault rows columns modules doubt why

@@ -3,8 +3,8 @@ use Rattle.std.specs.Prelude.{◌≡◌, ℕ, ◌+◌, ◌*◌, ◌<◌, ◌≤�
 use Rattle.dm_place.specs.declared.shape.Cell.{Cell}
 use Rattle.dm_place.specs.Border.{is_fixed, fixed_is_dark, symbol_line}
 use Rattle.dm_place.specs.Placement.{IsPlace}
-use Rattle.dm_modules.specs.Sizes.{SizeEntry, area, entry_with, mapping_rows, mapping_columns}
-use Rattle.dm_modules.specs.Border.{is_border, border_is_dark}
+use Rattle.dm_layout.specs.symbols.Sizes.{SizeEntry, area, entry_with, mapping_rows, mapping_columns}
+use Rattle.dm_layout.specs.symbols.Border.{is_border, border_is_dark}
 use Rattle.ecc200_calls.specs.declared.fault.Fault.{Fault}
 use Rattle.ecc200_calls.specs.declared.place_table.PlaceOut.{PlaceOut}
 use Rattle.ecc200_calls.specs.declared.place_table.PlacesOut.{PlacesOut}

@@ -3,7 +3,7 @@ use Rattle.std.specs.Prelude.{◌≡◌, ℕ, ◌+◌, ◌/◌, List, length, ma
 use Rattle.dm_symbol.specs.declared.Extent.{Extent}
 use Rattle.dm_symbol.specs.declared.BlockReading.{BlockReading}
 use Rattle.dm_symbol.specs.declared.ReadFault.{ReadFault}
-use Rattle.dm_modules.specs.Modules.{ModulesView}
+use Rattle.dm_layout.specs.symbols.Symbols.{SymbolView}
 use Rattle.dm_symbol.specs.SymbolReading.{ReadingView, SymbolReadResult}
 use Rattle.ecc200_calls.specs.declared.fault.Fault.{Fault}
 use Rattle.ecc200_calls.specs.declared.reading.ReadingOut.{ReadingOut}
@@ -66,7 +66,7 @@ result_shown rows columns (Ok reading) before = reading_shown rows columns readi
 result_shown rows columns (Err why) before = no_reading (read_fault why) before
 
 -- The result of reading a symbol in an extent, with these of its modules doubtful, is given.
-pub record IsReadingGiven (extent : Extent) (rows columns : ℕ) (symbol : ModulesView) (doubtful : Option ModulesView)
+pub record IsReadingGiven (extent : Extent) (rows columns : ℕ) (symbol : SymbolView) (doubtful : Option SymbolView)
     (limit : ℕ) (before after : ReadingOut) : Type 0 where
   pub result : Result ReadingView ReadFault
   pub result_is : SymbolReadResult extent symbol doubtful limit result
@@ -77,7 +77,7 @@ pub data ExtentResult (extent : Extent) (rows columns : ℕ) (modules doubt : Li
     (before after : ReadingOut) : Type 0 where
   not_given : (why : Fault) → IsGivenFault rows columns modules doubt why → after ≡ no_reading why before
       → ExtentResult extent rows columns modules doubt limit before after
-  of_symbol : (symbol : ModulesView) (doubtful : Option ModulesView)
+  of_symbol : (symbol : SymbolView) (doubtful : Option SymbolView)
       → AreGiven rows columns modules doubt symbol doubtful
       → IsReadingGiven extent rows columns symbol doubtful limit before after
       → ExtentResult extent rows columns modules doubt limit before after

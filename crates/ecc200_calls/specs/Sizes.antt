@@ -1,6 +1,6 @@
 -- The table of sizes.
 use Rattle.std.specs.Prelude.{if◌then◌else◌}
-use Rattle.dm_modules.specs.Sizes.{SizeEntry, mapping_rows, mapping_columns, limit}
+use Rattle.dm_layout.specs.symbols.Sizes.{SizeEntry, mapping_rows, mapping_columns, limit}
 use Rattle.ecc200_calls.specs.declared.size_table.SizeOut.{SizeOut}
 
 -- An entry of the table is given in this way.

@@ -7,7 +7,7 @@ use Rattle.dm_symbol.specs.declared.Profile.{Profile}
 use Rattle.dm_symbol.specs.declared.Profile.TheVariants.{Ascii, Shorter}
 use Rattle.dm_symbol.specs.declared.SizeChoice.{SizeChoice}
 use Rattle.dm_symbol.specs.declared.NormalFault.{NormalFault}
-use Rattle.dm_modules.specs.Modules.{ModulesView}
+use Rattle.dm_layout.specs.symbols.Symbols.{SymbolView}
 use Rattle.dm_symbol.specs.Messages.{IsMessage}
 use Rattle.dm_symbol.specs.NormalSymbol.{IsWrittenIn, FitsChoice}
 use Rattle.dm_symbol.specs.SymbolNormal.{NormalSymbolResult}
@@ -27,7 +27,7 @@ abbrev pub no_symbol : Fault → SymbolOut → SymbolOut
 no_symbol why before = record { fault = why; rows = 0; columns = 0; modules = before.modules }
 
 -- A symbol has its rows, its columns and its modules.
-abbrev pub symbol_shown : ModulesView → SymbolOut → SymbolOut
+abbrev pub symbol_shown : SymbolView → SymbolOut → SymbolOut
 symbol_shown symbol before =
     record {
       fault = no_fault;
@@ -37,7 +37,7 @@ symbol_shown symbol before =
     }
 
 -- A result is given as its symbol, or as its fault.
-abbrev pub result_shown : Result ModulesView Fault → SymbolOut → SymbolOut
+abbrev pub result_shown : Result SymbolView Fault → SymbolOut → SymbolOut
 result_shown (Ok symbol) before = symbol_shown symbol before
 result_shown (Err why) before = no_symbol why before
 
@@ -49,18 +49,18 @@ profile_of number = if nat_eq number 0 then Some Ascii else (if nat_eq number 1 
 -- no item, with its index, counted from 0, or with 65535 if the index is more; or that the message fits no size of the
 -- choice; or the symbol in which it is written.
 pub data WrittenResult (choice : SizeChoice) (profile : Profile) (numbers : List ℕ)
-    (result : Result ModulesView Fault) : Type 0 where
+    (result : Result SymbolView Fault) : Type 0 where
   no_message : (place : ℕ) → IsFirstForeign numbers place
       → result ≡ Err (foreign (get_or numbers place 0) (min place 65535)) → WrittenResult choice profile numbers result
   no_size : (message : List Item) → IsMessage message → numbers_of message ≡ numbers
       → (FitsChoice choice profile message → ⊥) → result ≡ Err too_long → WrittenResult choice profile numbers result
-  written : (message : List Item) (symbol : ModulesView) → IsMessage message → numbers_of message ≡ numbers
+  written : (message : List Item) (symbol : SymbolView) → IsMessage message → numbers_of message ≡ numbers
       → IsWrittenIn choice profile message symbol → result ≡ Ok symbol → WrittenResult choice profile numbers result
 
 -- The result for the numbers of a message is given.
 pub record IsWritingGiven (choice : SizeChoice) (profile : Profile) (numbers : List ℕ) (before after : SymbolOut)
     : Type 0 where
-  pub result : Result ModulesView Fault
+  pub result : Result SymbolView Fault
   pub result_is : WrittenResult choice profile numbers result
   pub shown : after ≡ result_shown result before
 
@@ -69,7 +69,7 @@ pub data IsMessageGiven (choice : SizeChoice) (profile : Profile) (message : Lis
     : Type 0 where
   no_size : (FitsChoice choice profile message → ⊥) → after ≡ no_symbol too_long before
       → IsMessageGiven choice profile message before after
-  written : (symbol : ModulesView) → IsWrittenIn choice profile message symbol → after ≡ symbol_shown symbol before
+  written : (symbol : SymbolView) → IsWrittenIn choice profile message symbol → after ≡ symbol_shown symbol before
       → IsMessageGiven choice profile message before after
 
 -- Writing these numbers under a profile gives that there is no such choice of sizes, or the result in that choice.
@@ -87,14 +87,14 @@ pub data IsWriteResult (numbers : List ℕ) (how : How) (before after : SymbolOu
       → ChoiceResult profile numbers how before after → IsWriteResult numbers how before after
 
 -- A result of normalising is given as its symbol, or as its fault.
-abbrev pub normal_shown : Result ModulesView NormalFault → SymbolOut → SymbolOut
+abbrev pub normal_shown : Result SymbolView NormalFault → SymbolOut → SymbolOut
 normal_shown (Ok normal) before = symbol_shown normal before
 normal_shown (Err why) before = no_symbol (normal_fault why) before
 
 -- The result of normalising a symbol, with these of its modules doubtful, is given.
-pub record IsNormalGiven (extent : Extent) (profile : Profile) (symbol : ModulesView) (doubtful : Option ModulesView)
+pub record IsNormalGiven (extent : Extent) (profile : Profile) (symbol : SymbolView) (doubtful : Option SymbolView)
     (limit : ℕ) (before after : SymbolOut) : Type 0 where
-  pub result : Result ModulesView NormalFault
+  pub result : Result SymbolView NormalFault
   pub result_is : NormalSymbolResult extent profile symbol doubtful limit result
   pub shown : after ≡ normal_shown result before
 
@@ -104,7 +104,7 @@ pub data NormalisedResult (extent : Extent) (profile : Profile) (rows columns : 
     (before after : SymbolOut) : Type 0 where
   not_given : (why : Fault) → IsGivenFault rows columns modules doubt why → after ≡ no_symbol why before
       → NormalisedResult extent profile rows columns modules doubt limit before after
-  of_symbol : (symbol : ModulesView) (doubtful : Option ModulesView)
+  of_symbol : (symbol : SymbolView) (doubtful : Option SymbolView)
       → AreGiven rows columns modules doubt symbol doubtful
       → IsNormalGiven extent profile symbol doubtful limit before after
       → NormalisedResult extent profile rows columns modules doubt limit before after

@@ -5,7 +5,7 @@ ghost use Rattle.ecc200_calls.specs.Modules.{IsGivenFault};
 ghost use Rattle.ecc200_calls.specs.inner.Given.{AreZero, IsKnown};
 
 use crate::fault::Fault;
-use dm_modules::SymbolSize;
+use dm_layout::symbols::SymbolSize;
 
 /// What is known of modules that are given: the size of their symbol, and whether any of them is doubtful.
 #[derive(Clone, Copy)]

@@ -1,7 +1,7 @@
 //! Inspecting.
 
 ghost use Rattle.std.specs.Prelude.{◌≡◌, ◌≤◌, IfSome, IsTrue, length, map, option_map};
-ghost use Rattle.dm_modules.specs.Sizes.{area, codeword_count};
+ghost use Rattle.dm_layout.specs.symbols.Sizes.{area, codeword_count};
 ghost use Rattle.ecc200_calls.specs.Arrays.{over};
 ghost use Rattle.ecc200_calls.specs.Inspections.{IsInspectResult, IsInspectionGiven, corrected_shown, erased_shown};
 ghost use Rattle.ecc200_calls.specs.Inspections.{inspection_shown, left_shown, no_inspection};
@@ -13,7 +13,7 @@ use crate::fault::Fault;
 use crate::given::{Given, check_given};
 use crate::modules::put_modules;
 use crate::room::*;
-use dm_modules::{MOST_BLOCKS, MOST_CODEWORDS, SymbolIn, SymbolSize};
+use dm_layout::symbols::{MOST_BLOCKS, MOST_CODEWORDS, SymbolIn, SymbolSize};
 use dm_symbol::{BlockReading, SymbolInspectionIn, inspect_symbol_to};
 
 /// This is shown instead of the number of corrected codewords where a block is beyond correction.

@@ -1,7 +1,7 @@
 //! Normalising.
 
 ghost use Rattle.std.specs.Prelude.{◌≡◌, IfSome, IsTrue, length, option_map};
-ghost use Rattle.dm_modules.specs.Sizes.{area};
+ghost use Rattle.dm_layout.specs.symbols.Sizes.{area};
 ghost use Rattle.dm_symbol.specs.declared.SizeChoice.TheVariants.{Square};
 ghost use Rattle.ecc200_calls.specs.Symbols.{IsNormalGiven, IsNormalResult, NormalisedResult, ProfileResult};
 ghost use Rattle.ecc200_calls.specs.inner.Given.{IsOfGiven};
@@ -15,7 +15,7 @@ use crate::profile::profile_of;
 use crate::room::*;
 use crate::symbol::{SymbolOut, show_fault};
 use crate::writing::write_message;
-use dm_modules::{SymbolIn, SymbolWordsIn};
+use dm_layout::symbols::{SymbolIn, SymbolWordsIn};
 use dm_symbol::{
     Extent, Profile, ReadOptions, SizeChoice, SymbolReadingIn, WriteOptions, read_symbol_to,
 };

@@ -2,12 +2,12 @@
 
 ghost use Rattle.std.specs.Prelude.{◌≡◌, ◌+◌, ◌*◌, ◌≤◌, ◌<◌, ℕ, get_or, length};
 ghost use Rattle.dm_place.specs.Placement.{CellsInside, bits_from, places_in_order};
-ghost use Rattle.dm_modules.specs.Sizes.{area, mapping_columns, mapping_rows};
+ghost use Rattle.dm_layout.specs.symbols.Sizes.{area, mapping_columns, mapping_rows};
 ghost use Rattle.ecc200_calls.specs.Places.{IsPlacesResult, nothing, place_at};
 ghost use Rattle.ecc200_calls.specs.inner.PlaceSteps.{structure_place, with_bits};
 
 use crate::fault::Fault;
-use dm_modules::{MOST_MODULES, SymbolSize, border_colour, symbol_column, symbol_row};
+use dm_layout::symbols::{MOST_MODULES, SymbolSize, border_colour, symbol_column, symbol_row};
 use dm_place::{Cell, Shapes};
 
 /// What a module is: the bit of a codeword, a module of a border, or of the fixed square.

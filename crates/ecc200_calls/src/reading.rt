@@ -1,7 +1,7 @@
 //! Reading.
 
 ghost use Rattle.std.specs.Prelude.{◌≡◌, ◌≤◌, ◌/◌, IfSome, IsTrue, length, map, option_map};
-ghost use Rattle.dm_modules.specs.Sizes.{area};
+ghost use Rattle.dm_layout.specs.symbols.Sizes.{area};
 ghost use Rattle.dm_symbol.specs.SymbolReading.{reading_in};
 ghost use Rattle.ecc200_calls.specs.Arrays.{over};
 ghost use Rattle.ecc200_calls.specs.Readings.{ExtentResult, IsReadResult, IsReadingGiven, corrected_in, erased_in};
@@ -15,7 +15,7 @@ use crate::given::{Given, check_given};
 use crate::message::put_message;
 use crate::modules::put_modules;
 use crate::room::*;
-use dm_modules::{MOST_BLOCKS, SymbolIn, SymbolSize, SymbolWordsIn};
+use dm_layout::symbols::{MOST_BLOCKS, SymbolIn, SymbolSize, SymbolWordsIn};
 use dm_symbol::{BlockReading, Extent, ReadOptions, SymbolReadingIn, read_symbol_to};
 use dm_words::LARGEST_ROOM;
 

@@ -2,11 +2,11 @@
 //! that serves.
 
 ghost use Rattle.std.specs.Prelude.{◌≡◌, ◌≤◌, length};
-ghost use Rattle.dm_modules.specs.Sizes.{codeword_count};
+ghost use Rattle.dm_layout.specs.symbols.Sizes.{codeword_count};
 ghost use Rattle.ecc200_calls.specs.inner.Rooms.{AreWordsFor, HasRoom, HasRoomToWrite};
 
 use crate::message::most_words;
-use dm_modules::{MOST_CODEWORDS, MOST_ROWS, SizeChoice, SymbolSize};
+use dm_layout::symbols::{MOST_CODEWORDS, MOST_ROWS, SizeChoice, SymbolSize};
 use dm_words::{Item, LARGEST_ROOM, MESSAGE_ROOM};
 
 /// The most data codewords of a symbol for which the small room serves. All symbols with at most 1,024 modules have no
@@ -142,7 +142,7 @@ fn words_for(choice: SizeChoice, items: &[Item]) -> u16
 }
 
 /// Gives the smallest size, for which each room serves.
-#[tactic(auto, unfolding(dm_modules::specs::Sizes::size_table))]
+#[tactic(auto, unfolding(dm_layout::specs::symbols::Sizes::size_table))]
 pub(crate) fn smallest_size() -> SymbolSize
     ensures rows { result.rows ≡ 10 }
     ensures words { codeword_count result ≡ 8 }

@@ -1,10 +1,10 @@
 //! The table of sizes.
 
 ghost use Rattle.std.specs.Prelude.{◌≡◌, length, map};
-ghost use Rattle.dm_modules.specs.Sizes.{size_table};
+ghost use Rattle.dm_layout.specs.symbols.Sizes.{size_table};
 ghost use Rattle.ecc200_calls.specs.Sizes.{size_shown};
 
-use dm_modules::{SIZE_COUNT, SymbolSize, table};
+use dm_layout::symbols::{SIZE_COUNT, SymbolSize, table};
 
 /// An entry of the table of sizes.
 #[repr(C)]

@@ -5,7 +5,7 @@ ghost use Rattle.ecc200_calls.specs.Symbols.{no_symbol, symbol_shown};
 
 use crate::fault::Fault;
 use crate::modules::show_modules;
-use dm_modules::{MOST_MODULES, SymbolIn};
+use dm_layout::symbols::{MOST_MODULES, SymbolIn};
 
 /// A symbol: the first `rows * columns` modules, row by row from the top, 1 for dark. After a fault all but the fault
 /// and the modules is 0.

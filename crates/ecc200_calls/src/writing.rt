@@ -10,7 +10,7 @@ use crate::message::{first_foreign, message_of_bytes, message_of_numbers};
 use crate::profile::profile_of;
 use crate::room::*;
 use crate::symbol::{SymbolOut, show_fault, show_symbol};
-use dm_modules::{MOST_DATA, SymbolIn, SymbolWordsIn};
+use dm_layout::symbols::{MOST_DATA, SymbolIn, SymbolWordsIn};
 use dm_symbol::{MessageIn, Profile, TooLong, WriteOptions, write_symbol_to};
 
 /// The most items that any symbol holds in a normal form: two for each data codeword.

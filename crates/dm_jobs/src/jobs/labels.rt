@@ -4,7 +4,7 @@ use crate::chance::Chance;
 use crate::digest::Digest;
 use crate::message::put_message;
 use crate::texts::{Text, labelled};
-use dm_modules::{SizeChoice, Symbol, SymbolWords, table};
+use dm_layout::symbols::{SizeChoice, Symbol, SymbolWords, table};
 use dm_symbol::{Message, Profile, WriteOptions, write_smallest_to, write_symbol_to};
 use dm_words::Extent;
 

@@ -4,7 +4,7 @@ use crate::chance::Chance;
 use crate::digest::Digest;
 use crate::library::{Caller, exact};
 use crate::texts::{Text, serial};
-use dm_modules::MOST_MODULES;
+use dm_layout::symbols::MOST_MODULES;
 use ecc200_calls::{Fault, PlaceOut, PlacesOut, places};
 
 /// The kind of a module that is a bit of a codeword.

@@ -6,7 +6,7 @@ use crate::failure::Failure;
 use crate::message::put_message;
 use crate::page::{add_record, answers, side_at, turn, turn_some};
 use crate::texts::{Text, scanned};
-use dm_modules::{SizeChoice, Symbol, SymbolSize, SymbolWords, table};
+use dm_layout::symbols::{SizeChoice, Symbol, SymbolSize, SymbolWords, table};
 use dm_symbol::{Message, WriteOptions, write_smallest_to, write_symbol_to};
 use dm_text::{Profile, Task};
 use dm_words::{Extent, TooLong};

@@ -1,9 +1,9 @@
 -- How sizes, grids and codewords of squares are kept: as those of symbols. The views and the invariants of their types
 -- cite this.
 use Rattle.std.specs.Prelude.{◌≡◌}
-use Rattle.dm_modules.specs.Sizes.{SizeEntry}
-use Rattle.dm_modules.specs.Modules.{ModulesView}
-use Rattle.dm_modules.specs.Words as symbols
+use Rattle.dm_layout.specs.symbols.Sizes.{SizeEntry}
+use Rattle.dm_layout.specs.symbols.Symbols.{SymbolView}
+use Rattle.dm_layout.specs.symbols.Words as symbols
 use Rattle.dm_layout.specs.Sizes.{IsRow, row_of_entry, symbol_size}
 use Rattle.dm_layout.specs.Grid.{GridView}
 use Rattle.dm_layout.specs.Words.{WordsView}
@@ -14,7 +14,7 @@ pub record IsKept (size : SizeEntry) : Type 0 where
   pub same : symbol_size (row_of_entry size) ≡ size
 
 -- The grid that is kept as these modules has them as its cells.
-abbrev pub kept_grid : ModulesView → GridView
+abbrev pub kept_grid : SymbolView → GridView
 kept_grid symbol = record { size = row_of_entry symbol.size; rows = symbol.rows }
 
 -- The codewords of a square that are kept as these of a symbol are the same.

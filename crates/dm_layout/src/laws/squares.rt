@@ -1,5 +1,5 @@
-//! Squares are symbols whose rows and columns are alike: what this crate says of squares is what `dm_modules` says of
-//! such symbols.
+//! Squares are symbols whose rows and columns are alike: what is said of squares is what is said of such
+//! symbols.
 
 ghost use Rattle.dm_layout.specs.Sizes.{TableIsOfSquares};
 ghost use Rattle.dm_layout.specs.Squares.{SizesAreSquares, GridsAreModules, WordsAreCodewords, HeldAlike, LaidAlike};

@@ -2,9 +2,9 @@
 -- erased.
 use Rattle.std.specs.Prelude.{ℕ, Bool, not, nat_eq, List, [], map, Option, Some, None}
 use Rattle.dm_code.specs.Erased.{erased_places}
-use Rattle.dm_modules.specs.Sizes.{SizeEntry}
-use Rattle.dm_modules.specs.Words.{WordsView}
-use Rattle.dm_modules.specs.Blocks.{block_of}
+use Rattle.dm_layout.specs.symbols.Sizes.{SizeEntry}
+use Rattle.dm_layout.specs.symbols.Words.{WordsView}
+use Rattle.dm_layout.specs.symbols.Blocks.{block_of}
 
 -- A mark says that its codeword is erased.
 abbrev pub is_mark : ℕ → Bool

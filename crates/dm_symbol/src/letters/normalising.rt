@@ -10,7 +10,7 @@ use crate::letters::writing::write_letter_to;
 use crate::letters::{LetterNormalFault, LetterReadingIn};
 use crate::symbol::reading::ReadOptions;
 use crate::symbol::writing::WriteOptions;
-use dm_modules::{SizeChoice, Symbol, SymbolIn, SymbolWords};
+use dm_layout::symbols::{SizeChoice, Symbol, SymbolIn, SymbolWords};
 use dm_words::{LARGEST_MARKS, LARGEST_ROOM, Profile, TooLong};
 
 /// Gives the normal symbol, under a profile, of the letter that a symbol says, whatever its shape, size, encodation and

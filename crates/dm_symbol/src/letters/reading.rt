@@ -1,7 +1,7 @@
 //! Reading a symbol of any size as a letter.
 
 ghost use Rattle.std.specs.Prelude.{◌≡◌, ◌≤◌, ◌*◌, ℕ, List, OnOk, IfSome, option_map};
-ghost use Rattle.dm_modules.specs.Sizes.{codeword_count};
+ghost use Rattle.dm_layout.specs.symbols.Sizes.{codeword_count};
 ghost use Rattle.dm_words.specs.Messages.{most_spelled};
 ghost use Rattle.dm_words.specs.Outcomes.{outcome};
 ghost use Rattle.dm_symbol.specs.SymbolReading.{AreRestored};
@@ -9,7 +9,7 @@ ghost use Rattle.dm_symbol.specs.LetterReading.{IsLetterRead, letter_reading_in}
 
 use crate::letters::{LetterReadFault, LetterReadingIn};
 use crate::symbol::reading::{Lost, ReadOptions, restore_to};
-use dm_modules::{SymbolIn, SymbolWordsIn};
+use dm_layout::symbols::{SymbolIn, SymbolWordsIn};
 use dm_words::{LARGEST_ROOM, letter_to_as, symbology_number};
 
 /// Reads a symbol of any size as a letter, which is a head or none, items and marks (ISO/IEC 16022, decode algorithm,
@@ -20,9 +20,9 @@ use dm_words::{LARGEST_ROOM, letter_to_as, symbology_number};
 /// these, letters with marks or a head, and texts whose macro stands behind empty runs. The fault is that of the first
 /// step that fails: `Border`, `Block` or `Words`.
 ///
-/// After `Ok`, `reading` holds what the symbol says, whatever it held before, and the number of the symbology identifier
-/// of its codewords. After `Border` it is as it was, and after another fault it holds some reading. `words` is room for
-/// the codewords, whatever they were before; after `Ok` it holds them as they were restored.
+/// After `Ok`, `reading` holds what the symbol says, whatever it held before, and the number of the symbology
+/// identifier of its codewords. After `Border` it is as it was, and after another fault it holds some reading. `words`
+/// is room for the codewords, whatever they were before; after `Ok` it holds them as they were restored.
 ///
 /// Doubtful modules, where there are any, are a symbol of the same size. The rooms are for what a symbol of this size
 /// has: all its codewords, the items that its data codewords can spell in the extent, and a mark for each two of these.

@@ -6,7 +6,7 @@ ghost use Rattle.dm_symbol.specs.NormalLetter.{IsLetterWritten, HasRoomForLetter
 
 use crate::symbol::writing::{WriteOptions, write_words_to};
 use arrayvec::ArrayVec;
-use dm_modules::{MOST_DATA, SymbolIn, SymbolWordsIn};
+use dm_layout::symbols::{MOST_DATA, SymbolIn, SymbolWordsIn};
 use dm_words::{LARGEST_MARKS, LARGEST_ROOM, LetterIn, TooLong, letter_words_in};
 
 /// Writes a letter of any room up to [`LARGEST_ROOM`] items and [`LARGEST_MARKS`] marks (ISO/IEC 16022, symbol

@@ -3,9 +3,9 @@
 ghost use Rattle.std.specs.Prelude.{◌≡◌, ◌≢◌, ◌*◌, ◌<◌, ◌≤◌, ℕ, [], Some, IfOk, IfSome};
 ghost use Rattle.std.specs.Prelude.{MatchResult, length, map, option_map};
 ghost use Rattle.dm_code.specs.Codeword.{IsCodeword, IsNear, distance};
-ghost use Rattle.dm_modules.specs.Sizes.{block_check, block_length};
-ghost use Rattle.dm_modules.specs.Blocks.{block_of};
-ghost use Rattle.dm_modules.specs.Holding.{Holds};
+ghost use Rattle.dm_layout.specs.symbols.Sizes.{block_check, block_length};
+ghost use Rattle.dm_layout.specs.symbols.Blocks.{block_of};
+ghost use Rattle.dm_layout.specs.symbols.Holding.{Holds};
 ghost use Rattle.dm_symbol.specs.Reading.{HasNear};
 ghost use Rattle.dm_symbol.specs.SymbolBlocks.{AreOfSize, block_in};
 ghost use Rattle.dm_symbol.specs.SymbolReading.{IsBlockRestored};
@@ -14,7 +14,7 @@ ghost use Rattle.dm_symbol.specs.inner.Marks.{is_mark, marked_in};
 use crate::symbol::reading::BlockReading;
 use arrayvec::ArrayVec;
 use dm_code::{BeyondLimit, LONGEST_WORD, Quick, correct_erased, correct_to};
-use dm_modules::{LONGEST_BLOCK, SymbolIn, SymbolWordsIn, block, lift, put_block};
+use dm_layout::symbols::{LONGEST_BLOCK, SymbolIn, SymbolWordsIn, block, lift, put_block};
 
 /// Restores a block to the codeword that is near to it but for the places that have marks, and gives what became of it,
 /// or None where no codeword is near and it stays. With no marks, none of its places is erased.

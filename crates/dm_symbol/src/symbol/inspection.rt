@@ -1,7 +1,7 @@
 //! Inspection of a symbol of any size: its codewords before and after they are restored, whether it can be read or not.
 
 ghost use Rattle.std.specs.Prelude.{◌≡◌, ◌≤◌, [], IfSome, Some, length, option_map};
-ghost use Rattle.dm_modules.specs.Sizes.{codeword_count};
+ghost use Rattle.dm_layout.specs.symbols.Sizes.{codeword_count};
 ghost use Rattle.dm_symbol.specs.Doubt.{erased_in};
 ghost use Rattle.dm_symbol.specs.SymbolBlocks.{AreOfSize};
 ghost use Rattle.dm_symbol.specs.SymbolReading.{AreBlocksMended};
@@ -11,7 +11,7 @@ ghost use Rattle.dm_symbol.specs.inner.Marks.{marked_in};
 use crate::symbol::correction::{marks_for, restore_block};
 use crate::symbol::reading::BlockReading;
 use arrayvec::ArrayVec;
-use dm_modules::{
+use dm_layout::symbols::{
     MOST_BLOCKS, MOST_CODEWORDS, SymbolIn, SymbolSize, SymbolWordsIn, border_faults, lift_to,
 };
 

@@ -8,7 +8,7 @@ ghost use Rattle.dm_symbol.specs.SymbolNormal.{IsSymbolNormalisedTo};
 use crate::normalising::NormalFault;
 use crate::symbol::reading::{ReadOptions, SymbolReadingIn, read_symbol_to};
 use crate::symbol::writing::{WriteOptions, write_symbol_to};
-use dm_modules::{SizeChoice, Symbol, SymbolIn, SymbolWords};
+use dm_layout::symbols::{SizeChoice, Symbol, SymbolIn, SymbolWords};
 use dm_words::{LARGEST_ROOM, Profile, TooLong};
 
 /// Gives the normal symbol, under a profile, of the message that a symbol says, whatever its shape, size, encodation

@@ -2,7 +2,7 @@
 
 ghost use Rattle.std.specs.Prelude.{◌≡◌, ◌≤◌, ◌<◌, ℕ, List, [], None, Some, OnOk, IfErr, IfSome};
 ghost use Rattle.std.specs.Prelude.{length, option_map};
-ghost use Rattle.dm_modules.specs.Sizes.{codeword_count};
+ghost use Rattle.dm_layout.specs.symbols.Sizes.{codeword_count};
 ghost use Rattle.dm_words.specs.Messages.{most_spelled};
 ghost use Rattle.dm_words.specs.Outcomes.{outcome};
 ghost use Rattle.dm_symbol.specs.Doubt.{erased_in};
@@ -15,7 +15,7 @@ ghost use Rattle.dm_symbol.specs.SymbolReading.{reading_in, symbol_reading_of};
 use crate::reading::ReadFault;
 use crate::symbol::correction::{marks_for, restore_block};
 use arrayvec::ArrayVec;
-use dm_modules::{MOST_BLOCKS, SymbolIn, SymbolWordsIn, border_faults, lift_to};
+use dm_layout::symbols::{MOST_BLOCKS, SymbolIn, SymbolWordsIn, border_faults, lift_to};
 use dm_words::{Extent, LARGEST_ROOM, MessageIn, message_to_as};
 
 /// How a symbol is read.

@@ -2,7 +2,7 @@
 
 ghost use Rattle.std.specs.Prelude.{◌≡◌, ◌≢◌, ◌<◌, ◌≤◌, ℕ, length, OnErr};
 ghost use Rattle.dm_code.specs.Codeword.{IsCodeword};
-ghost use Rattle.dm_modules.specs.Sizes.{block_check, codeword_count};
+ghost use Rattle.dm_layout.specs.symbols.Sizes.{block_check, codeword_count};
 ghost use Rattle.dm_words.specs.Outcomes.{outcome};
 ghost use Rattle.dm_symbol.specs.SymbolBlocks.{AreOfSize, AreCodewordsOf, block_in, first_data};
 ghost use Rattle.dm_symbol.specs.NormalSymbol.{IsSymbolWritten, HasRoomFor};
@@ -11,7 +11,7 @@ ghost use Rattle.dm_symbol.specs.WrittenWords.{HaveRoom, AreWritten};
 
 use arrayvec::ArrayVec;
 use dm_code::encode;
-use dm_modules::{
+use dm_layout::symbols::{
     MOST_DATA, SizeChoice, Symbol, SymbolIn, SymbolSize, SymbolWords, SymbolWordsIn, block, lay_to,
     put_block_checks,
 };

@@ -3,12 +3,12 @@
 use crate::calls::{block, put_block, size_of, words_of};
 use crate::claims::holds;
 use crate::messages::are_all;
-use dm_layout::{MOST_CODEWORDS, Words};
+use dm_layout::{MOST_GRID_CODEWORDS, Words};
 
 /// The codewords of this side, each of which is the rest of its place by 251.
 fn counted(side: u16) -> Words {
-    let mut list = [0; MOST_CODEWORDS];
-    for place in 0..MOST_CODEWORDS {
+    let mut list = [0; MOST_GRID_CODEWORDS];
+    for place in 0..MOST_GRID_CODEWORDS {
         list[place] = (place % 251) as u8;
     }
     words_of(size_of(side), &list)

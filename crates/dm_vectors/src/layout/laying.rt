@@ -2,7 +2,7 @@
 
 use crate::calls::{grid_of, is_dark_at, lay, lift, side_of, size_of, words_of};
 use crate::claims::holds;
-use dm_layout::{Grid, MOST_CODEWORDS, Size, Words, lay_to, lift_to, table};
+use dm_layout::{Grid, MOST_GRID_CODEWORDS, Size, Words, lay_to, lift_to, table};
 
 /// Whether each cell of the row is as drawn, 1 for dark.
 fn is_drawn_row(grid: &Grid, row: u16, drawn: &[u8]) -> bool {
@@ -71,8 +71,8 @@ fn zeros_with_the_fixed_square(rt: HostRuntime) {
 
 /// The codewords of this size, each of which is this many times its place.
 fn multiples(size: Size, factor: usize) -> Words {
-    let mut list = [0; MOST_CODEWORDS];
-    for place in 0..MOST_CODEWORDS {
+    let mut list = [0; MOST_GRID_CODEWORDS];
+    for place in 0..MOST_GRID_CODEWORDS {
         list[place] = (place.wrapping_mul(factor) % 256) as u8;
     }
     words_of(size, &list)

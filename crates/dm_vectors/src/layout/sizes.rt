@@ -2,10 +2,10 @@
 
 use crate::calls::size_of;
 use crate::claims::holds;
-use dm_layout::{MOST_DATA, SIZE_COUNT, Size, table};
+use dm_layout::{GRID_SIZE_COUNT, MOST_GRID_DATA, Size, table};
 
 /// Side, regions, region side, mapping side, data, check, blocks, limit, as the standard's table has them.
-static ROWS: [[u16; 8]; SIZE_COUNT] = [
+static ROWS: [[u16; 8]; GRID_SIZE_COUNT] = [
     [10, 1, 8, 8, 3, 5, 1, 2],
     [12, 1, 10, 10, 5, 7, 1, 3],
     [14, 1, 12, 12, 8, 10, 1, 5],
@@ -46,7 +46,7 @@ fn row_of(size: Size) -> [u16; 8] {
 #[test]
 fn every_row_is_that_of_the_standard(rt: HostRuntime) {
     let sizes = table();
-    for i in 0..SIZE_COUNT {
+    for i in 0..GRID_SIZE_COUNT {
         holds(
             &rt,
             row_of(sizes[i]) == ROWS[i] && Size::of_side(ROWS[i][0]) == Some(sizes[i]),
@@ -73,7 +73,7 @@ fn the_smallest_size_that_holds_the_words(rt: HostRuntime) {
     for (count, side) in &SIDES {
         holds(&rt, Size::for_words(*count) == Size::of_side(*side));
     }
-    holds(&rt, Size::for_words(MOST_DATA as u16 + 1).is_none());
+    holds(&rt, Size::for_words(MOST_GRID_DATA as u16 + 1).is_none());
     holds(&rt, Size::of_side(11).is_none());
 }
 

@@ -2,7 +2,7 @@
 
 use crate::claims::holds;
 use crate::modules::words_of;
-use dm_modules::{MOST_CODEWORDS, SymbolSize, SymbolWords, block, put_block};
+use dm_layout::symbols::{MOST_CODEWORDS, SymbolSize, SymbolWords, block, put_block};
 
 /// How many data codewords a block has, and how many codewords; 0 where there is no such block.
 fn lengths_of(size: SymbolSize, b: usize) -> (u16, u16) {

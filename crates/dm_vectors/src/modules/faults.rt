@@ -4,7 +4,7 @@ ghost use Rattle.std.specs.Prelude.{◌≡◌};
 
 use crate::claims::holds;
 use crate::modules::words_of;
-use dm_modules::{Symbol, SymbolSize, border_colour, border_faults, lay};
+use dm_layout::symbols::{Symbol, SymbolSize, border_colour, border_faults, lay};
 
 /// Gives a module the other colour, where there is such a module.
 fn turn(symbol: &mut Symbol, row: u16, column: u16)

@@ -3,7 +3,7 @@
 
 use crate::claims::holds;
 use crate::modules::{symbol_of, words_of};
-use dm_modules::{border_faults, lay, lift};
+use dm_layout::symbols::{border_faults, lay, lift};
 
 /// Whether this symbol holds these codewords, has right borders, and is the one in which the codewords are laid.
 fn is_printed(rows: u16, columns: u16, words: &[u8], lines: &[&str]) -> bool {

@@ -1,7 +1,7 @@
 //! Tests of sizes.
 
 use crate::claims::holds;
-use dm_modules::{SIZE_COUNT, SizeChoice, SymbolSize, table};
+use dm_layout::symbols::{SIZE_COUNT, SizeChoice, SymbolSize, table};
 
 /// Rows, columns, rows and columns of a region, regions down and across, data, check, blocks, check codewords and limit
 /// of a block, as the standards' tables have them.

@@ -104,7 +104,7 @@ fn extents_tell_what_is_read(rt: HostRuntime) {
 fn fullest() -> Grid {
     let mut data_words: Codewords = ArrayVec::new();
     add_word(&mut data_words, 236);
-    for _ in 1..MOST_DATA {
+    for _ in 1..MOST_GRID_DATA {
         add_word(&mut data_words, 207);
     }
     completed_grid(LARGEST_SIDE as u16, &data_words)

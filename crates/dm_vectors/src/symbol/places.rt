@@ -72,7 +72,7 @@ fn are_refused(places: &mut Places) -> bool {
 
 /// Whether a message is too long for ASCII alone, with places that hold earlier results.
 fn is_too_long_for_ascii(places: &mut Places) -> bool {
-    let long = of_many(200, MOST_DATA / 2 + 1);
+    let long = of_many(200, MOST_GRID_DATA / 2 + 1);
     !is_written_to(Profile::Ascii, &long, &mut places.grid)
         && is_written_to(Profile::Shorter, &long, &mut places.grid)
         && normalise(Profile::Ascii, places) == Err(NormalFault::TooLong)

@@ -111,7 +111,7 @@ fn normalises_a_segment_that_fills_side_104(rt: HostRuntime) {
 
 #[test]
 fn what_fits_no_symbol_is_refused_under_either_profile(rt: HostRuntime) {
-    let more = of_many(255, MOST_DATA - 2);
+    let more = of_many(255, MOST_GRID_DATA - 2);
     holds(
         &rt,
         is_too_long(Profile::Ascii, &more) && is_too_long(Profile::Shorter, &more),

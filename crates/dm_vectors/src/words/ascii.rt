@@ -60,8 +60,8 @@ fn fills_a_message(rt: HostRuntime) {
     holds(&rt, full.push(Item::Fnc1) == Err(Item::Fnc1));
     holds(&rt, full.items().len() == MESSAGE_ROOM);
     let digits = of_many(b'7', MOST_ITEMS);
-    holds(&rt, is_written(&digits, 207, MOST_DATA));
-    holds(&rt, spells(&[207; MOST_DATA], digits.items()));
+    holds(&rt, is_written(&digits, 207, MOST_GRID_DATA));
+    holds(&rt, spells(&[207; MOST_GRID_DATA], digits.items()));
 }
 
 /// Whether so many letters take as many codewords.
@@ -73,7 +73,10 @@ fn takes_one_each(count: usize) -> bool {
 fn letters_take_a_codeword_each(rt: HostRuntime) {
     holds(
         &rt,
-        takes_one_each(204) && takes_one_each(205) && takes_one_each(MOST_DATA),
+        takes_one_each(204) && takes_one_each(205) && takes_one_each(MOST_GRID_DATA),
     );
-    holds(&rt, ascii_words(&of_many(b'A', MOST_DATA + 1)).is_err());
+    holds(
+        &rt,
+        ascii_words(&of_many(b'A', MOST_GRID_DATA + 1)).is_err(),
+    );
 }

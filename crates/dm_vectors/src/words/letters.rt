@@ -12,7 +12,7 @@ type Row = (
 
 /// What the codewords say, and the fault of no codeword where there are too many of them.
 fn letter(words: &[u8]) -> Result<Letter, LetterFault> {
-    if words.len() > MOST_DATA {
+    if words.len() > MOST_GRID_DATA {
         return Err(LetterFault::Append(0));
     }
     let mut letter = Letter::new();
@@ -23,7 +23,7 @@ fn letter(words: &[u8]) -> Result<Letter, LetterFault> {
 }
 
 /// The codewords of the letter in its normal form under the profile.
-fn form_of(profile: Profile, letter: &Letter) -> Result<ArrayVec<u8, MOST_DATA>, TooLong> {
+fn form_of(profile: Profile, letter: &Letter) -> Result<ArrayVec<u8, MOST_GRID_DATA>, TooLong> {
     let mut words = ArrayVec::new();
     match letter_words_in(profile, letter, &mut words) {
         Ok(()) => Ok(words),
@@ -101,7 +101,7 @@ fn are_refused(rows: &[(&[u8], LetterFault)]) -> bool {
 
 /// The number of the symbology identifier of the codewords, and 0 where they say no letter.
 fn identifier(words: &[u8]) -> u8 {
-    if words.len() > MOST_DATA {
+    if words.len() > MOST_GRID_DATA {
         return 0;
     }
     let mut letter = Letter::new();
@@ -344,8 +344,8 @@ fn letters_are_written(rt: HostRuntime) {
 
 #[test]
 fn long_letters_are_read_back(rt: HostRuntime) {
-    holds(&rt, is_read_back(&of_many_with_mark(MOST_DATA - 5)));
-    let too_long = form_of(Profile::Ascii, &of_many_with_mark(MOST_DATA - 4));
+    holds(&rt, is_read_back(&of_many_with_mark(MOST_GRID_DATA - 5)));
+    let too_long = form_of(Profile::Ascii, &of_many_with_mark(MOST_GRID_DATA - 4));
     holds(&rt, too_long == Err(TooLong));
     let mut cleared = of_many_with_mark(3);
     cleared.clear();

@@ -5,7 +5,7 @@ use super::*;
 /// Places for codewords and messages, which hold whatever was written and read last.
 #[derive(Drop)]
 struct Places {
-    words: ArrayVec<u8, MOST_DATA>,
+    words: ArrayVec<u8, MOST_GRID_DATA>,
     message: Message,
     read: Message,
 }
@@ -18,7 +18,7 @@ static SHORTER: [(&[u8], &[u8]); 3] = [
 ];
 
 /// Whether the codewords are written into their place, with pads up to the size of side 12.
-fn is_written_to(message: &Message, words: &mut ArrayVec<u8, MOST_DATA>) -> bool {
+fn is_written_to(message: &Message, words: &mut ArrayVec<u8, MOST_GRID_DATA>) -> bool {
     if normal_words_in(Profile::Shorter, message, words).is_err() {
         return false;
     }
@@ -33,7 +33,7 @@ fn is_written_to(message: &Message, words: &mut ArrayVec<u8, MOST_DATA>) -> bool
 
 /// What the codewords spell, in its place, and the fault of no codeword where there are too many of them.
 fn read_to(words: &[u8], message: &mut Message) -> Result<(), WordFault> {
-    if words.len() > MOST_DATA {
+    if words.len() > MOST_GRID_DATA {
         return Err(WordFault::LeftOut(0, 0));
     }
     message_to_as(Extent::Usual, words, message)

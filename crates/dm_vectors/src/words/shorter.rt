@@ -3,7 +3,7 @@
 use super::*;
 
 /// The normal codewords of the message under the profile.
-fn normal_of(profile: Profile, message: &Message) -> Option<ArrayVec<u8, MOST_DATA>> {
+fn normal_of(profile: Profile, message: &Message) -> Option<ArrayVec<u8, MOST_GRID_DATA>> {
     let mut words = ArrayVec::new();
     match normal_words_in(profile, message, &mut words) {
         Ok(()) => Some(words),
@@ -13,7 +13,7 @@ fn normal_of(profile: Profile, message: &Message) -> Option<ArrayVec<u8, MOST_DA
 
 /// Whether the codewords, with pads up to the smallest size that holds them, are read as the message.
 fn spells_with_pads(words: &[u8], message: &Message) -> bool {
-    if words.len() > MOST_DATA {
+    if words.len() > MOST_GRID_DATA {
         return false;
     }
     match with_pads(words, Size::for_words(words.len() as u16)) {
@@ -24,7 +24,7 @@ fn spells_with_pads(words: &[u8], message: &Message) -> bool {
 
 /// The shorter codewords of the message, where they are read as it, alone and with pads, and are the normal ones under
 /// `Shorter`.
-fn shorter_of(message: &Message) -> Option<ArrayVec<u8, MOST_DATA>> {
+fn shorter_of(message: &Message) -> Option<ArrayVec<u8, MOST_GRID_DATA>> {
     match shorter_words(message) {
         Ok(words) if is_right(&words, message) => Some(words),
         _ => None,
@@ -109,7 +109,7 @@ fn the_length_of_a_segment_is_written_out(rt: HostRuntime) {
 
 #[test]
 fn messages_that_fit_no_symbol_are_refused(rt: HostRuntime) {
-    let more = of_many(255, MOST_DATA - 2);
+    let more = of_many(255, MOST_GRID_DATA - 2);
     holds(&rt, ascii_words(&more).is_err());
     holds(&rt, shorter_words(&more).is_err());
 }

@@ -1,7 +1,7 @@
 //! The smallest symbol of a message. The codewords are those of a plain model, which isn't this program.
 
 use super::*;
-use dm_modules::SizeChoice;
+use dm_layout::symbols::SizeChoice;
 
 /// Whether the smallest codewords of the message in an extent, among the squares, are these, and are read as it.
 fn is_smallest(extent: Extent, message: &Message, expected: &[u8]) -> bool {

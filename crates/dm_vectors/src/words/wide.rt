@@ -5,7 +5,7 @@ use super::*;
 
 /// What the codewords spell in an extent, and the fault of no codeword where there are too many of them.
 pub(super) fn message_in(extent: Extent, words: &[u8]) -> Result<Message, WordFault> {
-    if words.len() > MOST_DATA {
+    if words.len() > MOST_GRID_DATA {
         return Err(WordFault::LeftOut(0, 0));
     }
     let mut message = Message::new();

@@ -7,9 +7,9 @@ ghost use Rattle.dm_words.specs.Values.{IsRunValue};
 ghost use Rattle.dm_words.specs.inner.Scan.Results.{GivesPair};
 
 use crate::codeword::UNLATCH;
-use crate::limits::LARGEST_DATA;
 use crate::numbers::number_at;
 use arrayvec::ArrayVec;
+use dm_layout::symbols::MOST_DATA;
 
 /// Why no further pair follows: the next codeword is the unlatch, fewer than two codewords are left, or their number is
 /// 0 or more than 64000.
@@ -83,7 +83,7 @@ pub(crate) fn pairs_to<const VALUES: usize>(
     words: &[u8],
     values: &mut ArrayVec<u8, VALUES>,
 ) -> Pairs
-    requires short { length words.now ≤ LARGEST_DATA }
+    requires short { length words.now ≤ MOST_DATA }
     requires room { 3 * length words.now ≤ 2 * VALUES }
     requires empty { values.old.items ≡ [] }
     ensures values { values.new.items ≡ flat (pairs_in words.now).taken }

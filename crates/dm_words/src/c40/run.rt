@@ -10,9 +10,10 @@ use crate::c40::set::CodeSet;
 use crate::c40::value::{Rest, Spelled, read_values};
 use crate::extent::Extent;
 use crate::fault::WordFault;
-use crate::limits::{LARGEST_DATA, MOST_VALUES, SHORT_RUN, SHORT_VALUES};
+use crate::limits::{MOST_VALUES, SHORT_RUN, SHORT_VALUES};
 use crate::message::MessageIn;
 use arrayvec::ArrayVec;
+use dm_layout::symbols::MOST_DATA;
 
 /// Gives the place of the pair that holds the value of an index, in a run whose latch stands at a place.
 fn pair_place(place: u16, index: u16) -> u16
@@ -32,8 +33,8 @@ fn fault_of(
     end: PairsEnd,
     spelled: Spelled,
 ) -> Option<WordFault>
-    requires place { place ≤ LARGEST_DATA }
-    requires pair_words { pair_words ≤ LARGEST_DATA }
+    requires place { place ≤ MOST_DATA }
+    requires pair_words { pair_words ≤ MOST_DATA }
     requires values { spelled.value_count ≤ MOST_VALUES }
     ensures { result ≡ run_fault extent place pair_words end spelled.value_count spelled.rest }
 {
@@ -61,7 +62,7 @@ pub(crate) fn run_part<const ROOM: usize>(
     message: &mut MessageIn<ROOM>,
 ) -> Result<usize, WordFault>
     requires in_range { at < length words.now }
-    requires short { length words.now ≤ LARGEST_DATA }
+    requires short { length words.now ≤ MOST_DATA }
     requires room { HasRoomAt ROOM words.now at message.old }
     ensures { IsPartTaken result message.old message.new
         (run_behind extent set (at + 1) (drop (at + 1) words.now)) }
@@ -98,7 +99,7 @@ fn run_by<const VALUES: usize, const ROOM: usize>(
     message: &mut MessageIn<ROOM>,
 ) -> Result<usize, WordFault>
     requires in_range { at < length words.now }
-    requires short { length words.now ≤ LARGEST_DATA }
+    requires short { length words.now ≤ MOST_DATA }
     requires empty { values.old.items ≡ [] }
     requires values { 3 * length words.now ≤ 2 * VALUES }
     requires room { HasRoomAt ROOM words.now at message.old }

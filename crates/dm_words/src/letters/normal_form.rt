@@ -15,10 +15,11 @@ use crate::letters::designator::{ECI, MOST_ASSIGNED, designator_words};
 use crate::letters::head::{Head, head_words};
 use crate::letters::letter::LetterIn;
 use crate::letters::mark::Mark;
-use crate::limits::{LARGEST_DATA, LARGEST_MARKS, LARGEST_ROOM};
+use crate::limits::{LARGEST_MARKS, LARGEST_ROOM};
 use crate::normal_form::normal_words_in;
 use crate::profile::Profile;
 use arrayvec::ArrayVec;
+use dm_layout::symbols::MOST_DATA;
 
 /// Gives how many codewords a mark of this number has: ECI and the designator.
 fn mark_length(number: u32) -> usize
@@ -162,7 +163,7 @@ pub fn letter_words_in<const ROOM: usize, const MARKS: usize, const N: usize>(
     requires room { ROOM ≤ LARGEST_ROOM }
     requires marks { MARKS ≤ LARGEST_MARKS }
     requires least { 3 ≤ N }
-    requires most { N ≤ LARGEST_DATA }
+    requires most { N ≤ MOST_DATA }
     ensures form { OnOk result (words.new.items ≡ letter_form profile letter.now) }
     ensures too_long { IsErr result ↔ (N < length (letter_form profile letter.now)) }
     ensures same { OnErr result (words.new.items ≡ words.old.items) }

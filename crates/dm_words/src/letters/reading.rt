@@ -21,11 +21,12 @@ use crate::letters::fault::LetterFault;
 use crate::letters::head::Head;
 use crate::letters::letter::LetterIn;
 use crate::letters::opening::{Opened, Opening, opening_of};
-use crate::limits::{LARGEST_DATA, LARGEST_ROOM};
+use crate::limits::LARGEST_ROOM;
 use crate::macros::{add_header, add_trailer};
 use crate::message::MessageIn;
 use crate::numbers::number_at;
 use crate::reading::{message_to_as, next_part};
+use dm_layout::symbols::MOST_DATA;
 
 /// Takes the mark whose ECI stands at an index: adds it, and gives the number of its codewords.
 fn mark_part<const ROOM: usize, const MARKS: usize>(
@@ -34,7 +35,7 @@ fn mark_part<const ROOM: usize, const MARKS: usize>(
     content: &mut Content<ROOM, MARKS>,
 ) -> Result<Option<usize>, LetterFault>
     requires in_range { at < length words.now }
-    requires short { length words.now ≤ LARGEST_DATA }
+    requires short { length words.now ≤ MOST_DATA }
     requires most { ROOM ≤ LARGEST_ROOM }
     requires marks { length words.now ≤ 2 * MARKS }
     requires so_far { IsContentAt ROOM words.now at (content_view content.old) }
@@ -58,7 +59,7 @@ fn item_part<const ROOM: usize, const MARKS: usize>(
     content: &mut Content<ROOM, MARKS>,
 ) -> Result<Option<usize>, LetterFault>
     requires in_range { at ≤ length words.now }
-    requires short { length words.now ≤ LARGEST_DATA }
+    requires short { length words.now ≤ MOST_DATA }
     requires so_far { IsContentAt ROOM words.now at (content_view content.old) }
     requires other { BeginNoEci (drop at words.now) }
     ensures { IsLetterPartTaken result (content_view content.old) (content_view content.new)
@@ -77,7 +78,7 @@ pub(crate) fn next_letter_part<const ROOM: usize, const MARKS: usize>(
     content: &mut Content<ROOM, MARKS>,
 ) -> Result<Option<usize>, LetterFault>
     requires in_range { at ≤ length words.now }
-    requires short { length words.now ≤ LARGEST_DATA }
+    requires short { length words.now ≤ MOST_DATA }
     requires most { ROOM ≤ LARGEST_ROOM }
     requires marks { length words.now ≤ 2 * MARKS }
     requires so_far { IsContentAt ROOM words.now at (content_view content.old) }
@@ -97,7 +98,7 @@ fn add_letter_parts<const ROOM: usize, const MARKS: usize>(
     content: &mut Content<ROOM, MARKS>,
 ) -> Result<(), LetterFault>
     requires in_range { start ≤ length words.now }
-    requires short { length words.now ≤ LARGEST_DATA }
+    requires short { length words.now ≤ MOST_DATA }
     requires most { ROOM ≤ LARGEST_ROOM }
     requires marks { length words.now ≤ 2 * MARKS }
     requires so_far { IsContentAt ROOM words.now start (content_view content.old) }
@@ -155,7 +156,7 @@ fn read_behind<const ROOM: usize, const MARKS: usize>(
     content: &mut Content<ROOM, MARKS>,
 ) -> Result<(), LetterFault>
     requires found { opened words.now ≡ Some found }
-    requires short { length words.now ≤ LARGEST_DATA }
+    requires short { length words.now ≤ MOST_DATA }
     requires most { ROOM ≤ LARGEST_ROOM }
     requires room { most_spelled Wide (length words.now) ≤ ROOM }
     requires marks { length words.now ≤ 2 * MARKS }
@@ -179,7 +180,7 @@ fn read_content<const ROOM: usize, const MARKS: usize>(
     words: &[u8],
     content: &mut Content<ROOM, MARKS>,
 ) -> Result<Option<Head>, LetterFault>
-    requires short { length words.now ≤ LARGEST_DATA }
+    requires short { length words.now ≤ MOST_DATA }
     requires most { ROOM ≤ LARGEST_ROOM }
     requires room { most_spelled Wide (length words.now) ≤ ROOM }
     requires marks { length words.now ≤ 2 * MARKS }
@@ -201,7 +202,7 @@ fn read_content<const ROOM: usize, const MARKS: usize>(
 }
 
 /// Reads the letter that the data codewords of a symbol say, in an extent, into a target with room for all that so many
-/// codewords, at most [`LARGEST_DATA`], can say, and for one mark for each two of them: after `Ok`, `letter` holds the
+/// codewords, at most [`MOST_DATA`], can say, and for one mark for each two of them: after `Ok`, `letter` holds the
 /// letter, whatever it held before. After a fault it has no head, no item and no mark. The list is the whole data part,
 /// so its end is the end of the symbol.
 ///
@@ -215,7 +216,7 @@ pub fn letter_to_as<const ROOM: usize, const MARKS: usize>(
     words: &[u8],
     letter: &mut LetterIn<ROOM, MARKS>,
 ) -> Result<(), LetterFault>
-    requires short { length words.now ≤ LARGEST_DATA }
+    requires short { length words.now ≤ MOST_DATA }
     requires most { ROOM ≤ LARGEST_ROOM }
     requires room { most_spelled extent (length words.now) ≤ ROOM }
     requires marks { length words.now ≤ 2 * MARKS }
@@ -238,7 +239,7 @@ fn refused_to<const ROOM: usize, const MARKS: usize>(
     fault: WordFault,
     letter: &mut LetterIn<ROOM, MARKS>,
 ) -> Result<(), LetterFault>
-    requires short { length words.now ≤ LARGEST_DATA }
+    requires short { length words.now ≤ MOST_DATA }
     requires most { ROOM ≤ LARGEST_ROOM }
     requires room { most_spelled extent (length words.now) ≤ ROOM }
     requires marks { length words.now ≤ 2 * MARKS }
@@ -261,7 +262,7 @@ fn wide_letter_to<const ROOM: usize, const MARKS: usize>(
     words: &[u8],
     letter: &mut LetterIn<ROOM, MARKS>,
 ) -> Result<(), LetterFault>
-    requires short { length words.now ≤ LARGEST_DATA }
+    requires short { length words.now ≤ MOST_DATA }
     requires most { ROOM ≤ LARGEST_ROOM }
     requires room { most_spelled Wide (length words.now) ≤ ROOM }
     requires marks { length words.now ≤ 2 * MARKS }

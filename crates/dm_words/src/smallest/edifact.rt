@@ -7,9 +7,10 @@ ghost use Rattle.dm_words.specs.inner.Written.{IsEdifactEnded, IsPartWritten};
 
 use crate::extent::Extent;
 use crate::item::{Item, byte};
-use crate::limits::{LARGEST_DATA, LARGEST_ROOM};
+use crate::limits::LARGEST_ROOM;
 use crate::smallest::plan::StepBits;
 use arrayvec::ArrayVec;
+use dm_layout::symbols::MOST_DATA;
 
 /// The latch to EDIFACT.
 const LATCH: u8 = 240;
@@ -66,7 +67,7 @@ fn end_run<const N: usize>(group: Group, words: &mut ArrayVec<u8, N>, total: usi
     requires group { IsSmallGroup group }
     requires room { length words.old.items + length (waiting_values group) ≤ total }
     requires total { total ≤ N }
-    requires most { N ≤ LARGEST_DATA }
+    requires most { N ≤ MOST_DATA }
     ensures { IsEdifactEnded group total words.old.items words.new.items }
 {
     if let Group::Empty = group {
@@ -94,7 +95,7 @@ pub(crate) fn write_edifact<const N: usize>(
     requires budget { length words.old.items + 1
         + (going_from extent (drop at items.now)).edifact.none ≤ total }
     requires total { total ≤ N }
-    requires most { N ≤ LARGEST_DATA }
+    requires most { N ≤ MOST_DATA }
     ensures further { at < result }
     ensures within { result ≤ length items.now }
     ensures budget { length words.new.items + parts_cost extent (drop result items.now) ≤ total }

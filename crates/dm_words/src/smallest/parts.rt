@@ -9,12 +9,13 @@ ghost use Rattle.dm_words.specs.inner.Written.{IsPartWritten, ArePartsWritten};
 use crate::ascii::{digit_pair, unit_of, write_unit};
 use crate::extent::Extent;
 use crate::item::{Item, byte};
-use crate::limits::{LARGEST_DATA, LARGEST_ROOM};
+use crate::limits::LARGEST_ROOM;
 use crate::smallest::edifact::write_edifact;
 use crate::smallest::plan::{Begin, StepBits};
 use crate::smallest::run::write_run;
 use crate::smallest::segment::{segment_end, write_segment};
 use arrayvec::ArrayVec;
+use dm_layout::symbols::MOST_DATA;
 
 /// What is known of a part that was written.
 #[derive(Clone, Copy)]
@@ -41,7 +42,7 @@ fn write_part<const N: usize>(
     requires plan { IsRightPlan extent items.now plan.now }
     requires budget { length words.old.items + parts_cost extent (drop at items.now) ≤ total }
     requires total { total ≤ N }
-    requires most { N ≤ LARGEST_DATA }
+    requires most { N ≤ MOST_DATA }
     ensures further { at < result.next }
     ensures within { result.next ≤ length items.now }
     ensures budget { length words.new.items + parts_cost extent (drop result.next items.now)
@@ -107,7 +108,7 @@ pub(crate) fn write_parts<const N: usize>(
     requires plan { IsRightPlan extent items.now plan.now }
     requires budget { length words.old.items + parts_cost extent items.now ≤ total }
     requires total { total ≤ N }
-    requires most { N ≤ LARGEST_DATA }
+    requires most { N ≤ MOST_DATA }
     ensures parts { ArePartsWritten extent total words.old.items words.new.items items.now }
     ensures usual { IsTrue result
         → ArePartsWritten Usual total words.old.items words.new.items items.now }

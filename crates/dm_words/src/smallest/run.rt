@@ -14,10 +14,11 @@ use crate::c40::set::CodeSet;
 use crate::codeword::UNLATCH;
 use crate::extent::Extent;
 use crate::item::Item;
-use crate::limits::{LARGEST_DATA, LARGEST_ROOM};
+use crate::limits::LARGEST_ROOM;
 use crate::smallest::plan::StepBits;
 use crate::smallest::values::values_of;
 use arrayvec::ArrayVec;
+use dm_layout::symbols::MOST_DATA;
 
 /// Gives the latch to a set.
 fn latch(set: CodeSet) -> u8
@@ -120,7 +121,7 @@ pub(crate) fn write_run<const N: usize>(
     requires budget { length words.old.items + 1
         + owed 0 (going_pairs set (going_from extent (drop at items.now))) ≤ total }
     requires total { total ≤ N }
-    requires most { N ≤ LARGEST_DATA }
+    requires most { N ≤ MOST_DATA }
     ensures further { at < result }
     ensures within { result ≤ length items.now }
     ensures budget { length words.new.items + parts_cost extent (drop result items.now) ≤ total }

@@ -11,9 +11,10 @@ use crate::base256::{MOST_SHORT, push_length, push_value, write_bytes};
 use crate::codeword::BASE256_LATCH;
 use crate::extent::Extent;
 use crate::item::Item;
-use crate::limits::{LARGEST_DATA, LARGEST_ROOM};
+use crate::limits::LARGEST_ROOM;
 use crate::smallest::plan::StepBits;
 use arrayvec::ArrayVec;
+use dm_layout::symbols::MOST_DATA;
 
 /// Gives the index behind a segment whose length is written out, from that of its first byte.
 pub(crate) fn segment_end(extent: Extent, items: &[Item], at: usize, plan: &[StepBits]) -> usize
@@ -43,7 +44,7 @@ fn push_field<const N: usize>(words: &mut ArrayVec<u8, N>, count: usize, total: 
     requires some { 0 < count }
     requires room { length words.old.items + 1 + count ≤ total }
     requires total { total ≤ N }
-    requires most { N ≤ LARGEST_DATA }
+    requires most { N ≤ MOST_DATA }
     ensures { IsFieldWritten total count words.old.items words.new.items }
 {
     if count > MOST_SHORT && words.len() + 1 + count == total {
@@ -64,7 +65,7 @@ pub(crate) fn write_segment<const N: usize>(
     requires message { IsMessage items.now }
     requires room { length words.old.items + 2 + length items.now ≤ total }
     requires total { total ≤ N }
-    requires most { N ≤ LARGEST_DATA }
+    requires most { N ≤ MOST_DATA }
     ensures fits { length words.new.items ≤ total }
     ensures most { length words.new.items ≤ length words.old.items + 1
         + length (length_numbers (length items.now)) + length items.now }

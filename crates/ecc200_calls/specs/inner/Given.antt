@@ -1,7 +1,7 @@
 -- What is known of the modules that are given to a call.
 use Rattle.std.specs.Prelude.{◌≡◌, ◌≢◌, ℕ, ◌<◌, Bool, true, false, List, [], length, get_or, Option, Some, None}
-use Rattle.dm_modules.specs.Sizes.{SizeEntry, area, entry_with}
-use Rattle.dm_modules.specs.Modules.{ModulesView}
+use Rattle.dm_layout.specs.symbols.Sizes.{SizeEntry, area, entry_with}
+use Rattle.dm_layout.specs.symbols.Symbols.{SymbolView}
 use Rattle.ecc200_calls.specs.Modules.{AreModulesOf}
 
 -- All of these numbers are 0.
@@ -21,9 +21,9 @@ pub record IsKnown (rows columns : ℕ) (modules doubt : List ℕ) (size : SizeE
 
 -- This is so of the symbol of these modules, and of the doubtful ones of them by these numbers, where some are.
 pub data IsOfGiven (size : SizeEntry) (modules doubt : List ℕ) (some : Bool)
-    (Result : ModulesView → Option ModulesView → Type 0) : Type 0 where
-  sure : (symbol : ModulesView) → some ≡ false → AreModulesOf size.rows size.columns modules symbol
+    (Result : SymbolView → Option SymbolView → Type 0) : Type 0 where
+  sure : (symbol : SymbolView) → some ≡ false → AreModulesOf size.rows size.columns modules symbol
       → Result symbol None → IsOfGiven size modules doubt some Result
-  doubted : (symbol doubtful : ModulesView) → some ≡ true → AreModulesOf size.rows size.columns modules symbol
+  doubted : (symbol doubtful : SymbolView) → some ≡ true → AreModulesOf size.rows size.columns modules symbol
       → AreModulesOf size.rows size.columns doubt doubtful → Result symbol (Some doubtful)
       → IsOfGiven size modules doubt some Result

@@ -2,8 +2,8 @@
 use Rattle.std.specs.Prelude.{ℕ, ◌+◌, ◌*◌, Bool, nat_eq, Option, Some, None, List, [], ◌∷◌, set}
 use Rattle.dm_place.specs.declared.cells.Place.{Place}
 use Rattle.dm_place.specs.Border.{symbol_line}
-use Rattle.dm_modules.specs.Sizes.{SizeEntry}
-use Rattle.dm_modules.specs.Border.{border_colour}
+use Rattle.dm_layout.specs.symbols.Sizes.{SizeEntry}
+use Rattle.dm_layout.specs.symbols.Border.{border_colour}
 use Rattle.ecc200_calls.specs.declared.place_table.PlaceOut.{PlaceOut}
 use Rattle.ecc200_calls.specs.Places.{bit_place, border_place, fixed_place}
 

@@ -6,10 +6,10 @@ use Rattle.dm_symbol.specs.declared.Item.{Item}
 use Rattle.dm_symbol.specs.declared.Profile.{Profile}
 use Rattle.dm_symbol.specs.declared.SizeChoice.{SizeChoice}
 use Rattle.dm_symbol.specs.declared.SizeChoice.TheVariants.{Exact}
-use Rattle.dm_symbol.specs.Messages.{largest_data, most_spelled}
+use Rattle.dm_symbol.specs.Messages.{most_data, most_spelled}
 use Rattle.dm_symbol.specs.NormalForm.{normal_form}
 use Rattle.dm_symbol.specs.NormalSymbol.{HasRoomFor}
-use Rattle.dm_modules.specs.Sizes.{SizeEntry, codeword_count, most_codewords, most_rows}
+use Rattle.dm_layout.specs.symbols.Sizes.{SizeEntry, codeword_count, most_codewords, most_rows}
 
 -- A room is for no fewer rows and codewords than the smallest symbol has, and for no more than the largest has.
 pub record IsRoom (rows words : ℕ) : Type 0 where
@@ -25,7 +25,7 @@ pub record HasRoom (rows words items : ℕ) (size : SizeEntry) : Type 0 where
   pub high : size.rows ≤ rows
   pub long : codeword_count size ≤ words
   pub spelled : (extent : Extent) → most_spelled extent size.data_count ≤ items
-  pub most : items ≤ most_spelled Wide largest_data
+  pub most : items ≤ most_spelled Wide most_data
 
 -- There is room for the symbol in which a message is written in a choice of sizes, and for its codewords.
 pub record HasRoomToWrite (rows words : ℕ) (choice : SizeChoice) (message : List Item) : Type 0 where

@@ -1,7 +1,7 @@
 -- Modules of a row that are unpacked together.
 use Rattle.std.specs.Prelude.{ℕ, ◌-◌, List, ◌++◌, map, min}
 use Rattle.std.specs.List.{range_with_len}
-use Rattle.dm_modules.specs.Modules.{is_dark_bit}
+use Rattle.dm_layout.specs.symbols.Symbols.{is_dark_bit}
 use Rattle.ecc200_calls.specs.Modules.{module_of}
 
 -- These are the first modules of a row that is written as a number.

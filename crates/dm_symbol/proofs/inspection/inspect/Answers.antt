@@ -1,6 +1,6 @@
 use Rattle.std.proofs.Common.{◌∙◌, length, map, None, ap, subst, arith}
 use Rattle.std.specs.Prelude.{option_map}
-use Rattle.dm_modules.specs.Modules.{ModulesView}
+use Rattle.dm_layout.specs.symbols.Symbols.{SymbolView}
 use Rattle.dm_layout.proofs.Exported.{row_facts}
 use Rattle.dm_symbol.specs.declared.symbol.reading.BlockReading.{BlockReading}
 use Rattle.dm_symbol.specs.Blocks.{symbol}
@@ -12,7 +12,7 @@ pub corrected_counts-requires : goal.corrected_counts-requires
 corrected_counts-requires c =
     let s = c.args.grid.now.size in
     let few = (row_facts s c.size-size.ensures.grid.row).few_blocks in
-    let count = c.inspect_symbol_to.ensures.count ∙ ap (λ (n : ModulesView). n.size.blocks) c.as_symbol.ensures in
+    let count = c.inspect_symbol_to.ensures.count ∙ ap (λ (n : SymbolView). n.size.blocks) c.as_symbol.ensures in
     omega (arith, ap length c.deref.ensures.0, count, few)
 
 pub returns : goal.returns

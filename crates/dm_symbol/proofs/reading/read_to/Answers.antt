@@ -1,6 +1,6 @@
 use Rattle.std.proofs.Common.{◌≡◌, ◌≤◌, ◌∙◌, [], length, map, None, Ok, Err, ap, subst, sym, arith, rules}
-use Rattle.dm_modules.specs.Modules.{ModulesView}
-use Rattle.dm_modules.specs.Sizes.{codeword_count}
+use Rattle.dm_layout.specs.symbols.Symbols.{SymbolView}
+use Rattle.dm_layout.specs.symbols.Sizes.{codeword_count}
 use Rattle.dm_layout.specs.Sizes.{symbol_size}
 use Rattle.dm_layout.specs.Grid.{symbol_modules}
 use Rattle.dm_layout.proofs.Exported.{row_facts}
@@ -21,7 +21,7 @@ pub read_parts-requires : goal.read_parts-requires
 read_parts-requires c =
     let s = c.args.grid.now.size in
     let m = c.as_symbol.result.now in
-    let size : m.size ≡ symbol_size s = ap (λ (n : ModulesView). n.size) c.as_symbol.ensures in
+    let size : m.size ≡ symbol_size s = ap (λ (n : SymbolView). n.size) c.as_symbol.ensures in
     let count : codeword_count m.size ≤ 1152 =
     let same = ap codeword_count size in
     let few = (row_facts s c.size-size.ensures.grid.row).codewords in omega (arith, same, few) in
@@ -34,7 +34,7 @@ pub count_corrected-requires : goal.count_corrected-requires
 count_corrected-requires c =
     let s = c.args.grid.now.size in
     let few = (row_facts s c.size-size.ensures.grid.row).few_blocks in
-    let count = c.in-Ok.ensures.count ∙ ap (λ (n : ModulesView). n.size.blocks) c.as_symbol.ensures in
+    let count = c.in-Ok.ensures.count ∙ ap (λ (n : SymbolView). n.size.blocks) c.as_symbol.ensures in
     omega (arith, ap length c.deref.ensures.0, count, few)
 
 pub returns-in-Err-clause-read : goal.returns-in-Err-clause-read

@@ -1,8 +1,8 @@
 use Rattle.std.proofs.Common.{◌≡◌, refl, sym, Result, Err}
 use Rattle.std.specs.Prelude.{IsNone}
 use Rattle.std.proofs.lemmas.Bool.{false≢true}
-use Rattle.dm_layout.specs.declared.grid.GridFault.{GridFault}
-use Rattle.dm_layout.specs.declared.grid.GridFault.TheVariants.{NotSquare, NoSuchSize}
+use Rattle.dm_layout.specs.declared.grids.grid.GridFault.{GridFault}
+use Rattle.dm_layout.specs.declared.grids.grid.GridFault.TheVariants.{NotSquare, NoSuchSize}
 use Rattle.dm_layout.specs.Sizes.{row_with_side, size_table}
 use Rattle.dm_symbol.proofs.writing.light_grid.Goals as goal
 

@@ -1,6 +1,6 @@
 use Rattle.std.proofs.Common.{◌≡◌, ◌∙◌, length, refl, sym, ap, subst, Some, arith, rules}
-use Rattle.dm_modules.specs.Sizes.{SizeEntry, codeword_count}
-use Rattle.dm_modules.specs.Holding.{IsLaid}
+use Rattle.dm_layout.specs.symbols.Sizes.{SizeEntry, codeword_count}
+use Rattle.dm_layout.specs.symbols.Holding.{IsLaid}
 use Rattle.dm_layout.specs.Sizes.{row_for_words, symbol_size}
 use Rattle.dm_layout.specs.Grid.{symbol_modules}
 use Rattle.dm_layout.specs.Words.{WordsView, symbol_words}

@@ -5,7 +5,7 @@ use super::super::worked::{LETTER, lines};
 use super::profiles::is_too_long;
 use super::{answers, ended, has_side, joined, push, writes, written_for};
 use crate::claims::holds;
-use dm_layout::MOST_DATA;
+use dm_layout::MOST_GRID_DATA;
 use dm_symbol::{MOST_ITEMS, Profile};
 use dm_text::Task;
 
@@ -89,6 +89,7 @@ fn longer_messages_are_refused(rt: HostRuntime) {
     let write = Task::Write(Profile::Ascii);
     holds(
         &rt,
-        is_too_long(write, &[b'7'; MOST_ITEMS + 1]) && is_too_long(write, &[b'A'; MOST_DATA + 1]),
+        is_too_long(write, &[b'7'; MOST_ITEMS + 1])
+            && is_too_long(write, &[b'A'; MOST_GRID_DATA + 1]),
     );
 }

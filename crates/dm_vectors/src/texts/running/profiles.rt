@@ -5,7 +5,7 @@ use super::super::worked::{DIGITS, EMPTY, LARGE, LETTER};
 use super::grids::record_of;
 use super::{answers, ended, has_side, push, written_for};
 use crate::claims::holds;
-use dm_layout::MOST_DATA;
+use dm_layout::MOST_GRID_DATA;
 use dm_symbol::Profile;
 use dm_text::Task;
 
@@ -88,7 +88,7 @@ fn a_segment_that_fills_side_104_is_written(rt: HostRuntime) {
 
 #[test]
 fn a_larger_segment_is_refused(rt: HostRuntime) {
-    let more = line_of(b"\\xFF", MOST_DATA - 2);
+    let more = line_of(b"\\xFF", MOST_GRID_DATA - 2);
     holds(
         &rt,
         is_too_long(Task::Write(Profile::Ascii), &more)

@@ -3,7 +3,7 @@ use Rattle.std.proofs.Common.{Some, inl, inr, length, refl, sym, ap, subst, arit
 use Rattle.std.proofs.lemmas.Bool.Decides.{nat_tests}
 use Rattle.std.specs.Bool.{◌==◌}
 use Rattle.std.proofs.lemmas.Bool.{false≢true}
-use Rattle.dm_modules.specs.Sizes.{area, entry_with}
+use Rattle.dm_layout.specs.symbols.Sizes.{area, entry_with}
 use Rattle.ecc200_calls.specs.Modules.{IsGivenFault}
 use Rattle.ecc200_calls.proofs.OfGiven.{doubt_fault, sides_found}
 use Rattle.ecc200_calls.proofs.given.check_given.Goals as goal

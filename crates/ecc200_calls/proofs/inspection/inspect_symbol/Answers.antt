@@ -1,5 +1,5 @@
 use Rattle.std.proofs.Common.{◌∙◌, ap}
-use Rattle.dm_modules.specs.Sizes.{SizeEntry}
+use Rattle.dm_layout.specs.symbols.Sizes.{SizeEntry}
 use Rattle.ecc200_calls.specs.Inspections.{inspection_shown}
 use Rattle.ecc200_calls.proofs.inspection.inspect_symbol.Goals as goal
 

@@ -1,6 +1,6 @@
 use Rattle.std.proofs.Common.{◌≤◌, length, ap, arith}
 use Rattle.std.proofs.Math.Facts.{Fits-bits}
-use Rattle.dm_modules.specs.Sizes.{most_codewords}
+use Rattle.dm_layout.specs.symbols.Sizes.{most_codewords}
 use Rattle.ecc200_calls.proofs.Rooms.{words_fit}
 use Rattle.ecc200_calls.proofs.inspection.show_inspection.Goals as goal
 

@@ -1,5 +1,5 @@
 use Rattle.std.proofs.Common.{◌≡◌, ◌<◌, ◌≤◌, ◌+◌, ◌*◌, ◌%◌, ◌^◌, ◌∙◌, ℕ, arith, get_or, subst, sym, ap, bit_or}
-use Rattle.dm_modules.specs.Modules.{is_dark_bit, is_dark_number as is_dark}
+use Rattle.dm_layout.specs.symbols.Symbols.{is_dark_bit, is_dark_number as is_dark}
 use Rattle.ecc200_calls.proofs.Packing.{together_is, together_more, together_small, rest_at}
 use Rattle.ecc200_calls.proofs.modules.pack_on.Goals as goal
 

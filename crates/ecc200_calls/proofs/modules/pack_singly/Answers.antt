@@ -1,7 +1,7 @@
 use Rattle.std.proofs.Common.{◌≡◌, ◌+◌, ◌-◌, ◌*◌, ◌<◌, ◌^◌, ℕ, length, get_or, sym, subst, arith, false, Fits, Fits-le}
 use Rattle.std.specs.Int.{w16}
 use mir.Val.{bool_byte as from_bool}
-use Rattle.dm_modules.specs.Modules.{is_dark_bit, is_dark_number as is_dark}
+use Rattle.dm_layout.specs.symbols.Symbols.{is_dark_bit, is_dark_number as is_dark}
 use Rattle.ecc200_calls.proofs.Packing.{packed_fits, packed_more, packed_small}
 use Rattle.ecc200_calls.proofs.modules.pack_singly.Goals as goal
 

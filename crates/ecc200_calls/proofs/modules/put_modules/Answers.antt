@@ -1,7 +1,7 @@
 use Rattle.std.proofs.Common.{◌≡◌, ◌<◌, ◌≤◌, ◌∙◌, ◌+◌, ◌-◌, ◌*◌, ℕ, sym, ap, arith, get_or, take, drop, length, subst}
 use Rattle.std.proofs.Math.Nat.{mul-le-mul_right}
-use Rattle.dm_modules.specs.Modules.{ModulesView, module_at, is_dark_number as is_dark}
-use Rattle.dm_modules.specs.Sizes.{SizeEntry, area}
+use Rattle.dm_layout.specs.symbols.Symbols.{SymbolView, module_at, is_dark_number as is_dark}
+use Rattle.dm_layout.specs.symbols.Sizes.{SizeEntry, area}
 use Rattle.ecc200_calls.specs.Modules.{AreModulesOf}
 use Rattle.ecc200_calls.proofs.Packing.{above_more, all_packed, both_parts, rest_at}
 use Rattle.ecc200_calls.proofs.modules.put_modules.Goals as goal
@@ -10,8 +10,8 @@ pub loop-row-preserved : goal.loop-row-preserved
 loop-row-preserved g c =
     let i = c.loop-row.invariant in
     let row = c.loop-row.row in
-    let old : ModulesView = c.loop-row.symbol in
-    let new : ModulesView = c.put_row.new.self in
+    let old : SymbolView = c.loop-row.symbol in
+    let new : SymbolView = c.put_row.new.self in
     let modules = c.args.modules.now in
     let columns = old.size.columns in
     let same : new.size ≡ old.size = c.put_row.ensures.size in
@@ -44,7 +44,7 @@ loop-row-preserved g c =
 pub returns-clause-modules : goal.returns-clause-modules
 returns-clause-modules g c =
     let i = c.loop-row.invariant in
-    let symbol : ModulesView = c.loop-row.symbol in
+    let symbol : SymbolView = c.loop-row.symbol in
     let count : length c.args.modules.now ≡ area symbol.size = c.requires ∙ ap area (sym i.size) in
     subst (λ (s : SizeEntry). AreModulesOf s.rows s.columns c.args.modules.now symbol) i.size
     (all_packed symbol c.args.modules.now i.well count

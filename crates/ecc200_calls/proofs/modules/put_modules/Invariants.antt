@@ -1,5 +1,5 @@
 use Rattle.std.proofs.Common.{◌≡◌, ◌+◌, ◌*◌, ◌<◌, ℕ, get_or}
-use Rattle.dm_modules.specs.Modules.{IsModules, module_at, is_dark_number as is_dark}
+use Rattle.dm_layout.specs.symbols.Symbols.{IsSymbol, module_at, is_dark_number as is_dark}
 use Rattle.ecc200_calls.proofs.modules.put_modules.Given as goal
 
 -- The rows above this one are put.
@@ -8,7 +8,7 @@ invariant-loop-row g l = record {
   above : (r c : ℕ) → r < l.row → c < l.symbol.size.columns →
       module_at l.symbol r c ≡ is_dark (get_or l.modules (r * l.symbol.size.columns + c) 0);
   size : l.symbol.size ≡ l.initial.symbol.size;
-  well : IsModules l.symbol;
+  well : IsSymbol l.symbol;
   last : l.row-end ≡ l.symbol.size.rows;
   across : l.columns ≡ l.symbol.size.columns;
 }

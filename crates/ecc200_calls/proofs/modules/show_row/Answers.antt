@@ -4,7 +4,7 @@ use Rattle.std.proofs.lemmas.List.{length-map}
 use Rattle.std.proofs.lemmas.List.Elements.{All-get_or}
 use Rattle.std.proofs.lemmas.Slice.{drop-put_mid, take-put_mid}
 use Rattle.std.proofs.Math.Nat.{mul-le-mul_right}
-use Rattle.dm_modules.specs.Sizes.{SizeEntry, area}
+use Rattle.dm_layout.specs.symbols.Sizes.{SizeEntry, area}
 use Rattle.ecc200_calls.specs.Modules.{module_of}
 use Rattle.ecc200_calls.specs.inner.UnpackedCells.{unpacked_row}
 use Rattle.ecc200_calls.proofs.Rows.{behind_far}

@@ -1,6 +1,6 @@
 use Rattle.std.proofs.Common.{◌≡◌, ◌≤◌, ◌+◌, ◌/◌, ◌^◌, ◌∙◌, ℕ, ap, arith, bit_and, length}
 use Rattle.std.proofs.lemmas.Simd.{length-put_chunk}
-use Rattle.dm_modules.proofs.Exported.{rest_more}
+use Rattle.dm_layout.proofs.symbols.Exported.{rest_more}
 use Rattle.ecc200_calls.specs.inner.UnpackedCells.{unpacked_cells}
 use Rattle.ecc200_calls.proofs.Unpacking.{behind_chunk, sixteen, unpacked_front, written_more}
 use Rattle.ecc200_calls.proofs.modules.unpack_on.Goals as goal

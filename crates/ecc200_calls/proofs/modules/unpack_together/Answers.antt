@@ -1,4 +1,4 @@
-use Rattle.dm_modules.proofs.Exported.{sixteen_shown}
+use Rattle.dm_layout.proofs.symbols.Exported.{sixteen_shown}
 use Rattle.ecc200_calls.proofs.modules.unpack_together.Goals as goal
 
 pub returns : goal.returns

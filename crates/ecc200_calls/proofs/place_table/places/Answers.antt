@@ -2,9 +2,10 @@ use Rattle.std.proofs.Common.{◌≡◌, ◌≤◌, ◌∙◌, ℕ, ◌&&◌, na
 use Rattle.std.specs.Prelude.{IsNone}
 use Rattle.std.proofs.lemmas.Bool.{and_parts, eqb-true}
 use Rattle.dm_place.specs.Placement.{places_in_order}
-use Rattle.dm_modules.specs.Sizes.{SizeEntry, IsSize, area, entry_with, mapping_columns, mapping_rows, most_modules}
-use Rattle.dm_modules.specs.Sizes.{size_table}
-use Rattle.dm_modules.proofs.Exported.{found_passes, size_facts}
+use Rattle.dm_layout.specs.symbols.Sizes.{SizeEntry, IsSize, area, entry_with, mapping_columns, mapping_rows}
+use Rattle.dm_layout.specs.symbols.Sizes.{most_modules}
+use Rattle.dm_layout.specs.symbols.Sizes.{size_table}
+use Rattle.dm_layout.proofs.symbols.Exported.{found_passes, size_facts}
 use Rattle.ecc200_calls.specs.declared.fault.Fault.{Fault}
 use Rattle.ecc200_calls.specs.declared.place_table.PlaceOut.{PlaceOut}
 use Rattle.ecc200_calls.specs.Places.{modules, no_places, no_size}

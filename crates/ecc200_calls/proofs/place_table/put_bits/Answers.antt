@@ -2,8 +2,8 @@ use Rattle.std.proofs.Common.{◌≡◌, ◌∙◌, ℕ, ◌+◌, length, List, 
 use Rattle.dm_place.specs.declared.shape.Shape.{Shape}
 use Rattle.dm_place.specs.Placement.{ShapesInside, places_from, places_in_order, shapes}
 use Rattle.dm_place.proofs.Exported.{MatrixFacts, matrix_facts}
-use Rattle.dm_modules.specs.Sizes.{SizeEntry, IsSize, codeword_count, mapping_columns, mapping_rows}
-use Rattle.dm_modules.proofs.Exported.{placed_size, size_facts}
+use Rattle.dm_layout.specs.symbols.Sizes.{SizeEntry, IsSize, codeword_count, mapping_columns, mapping_rows}
+use Rattle.dm_layout.proofs.symbols.Exported.{placed_size, size_facts}
 use Rattle.ecc200_calls.specs.inner.PlaceSteps.{with_bits}
 use Rattle.ecc200_calls.proofs.place_table.put_bits.Goals as goal
 

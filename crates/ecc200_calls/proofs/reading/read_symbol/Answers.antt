@@ -1,6 +1,6 @@
 use Rattle.std.proofs.Common.{Err, Ok, ◌∙◌, ap}
 use Rattle.dm_symbol.specs.SymbolReading.{reading_in}
-use Rattle.dm_modules.specs.Sizes.{SizeEntry}
+use Rattle.dm_layout.specs.symbols.Sizes.{SizeEntry}
 use Rattle.ecc200_calls.specs.Readings.{no_reading, reading_shown}
 use Rattle.ecc200_calls.proofs.reading.read_symbol.Goals as goal
 

@@ -2,9 +2,9 @@ use Rattle.std.proofs.Common.{refl, arith, rules}
 use Rattle.std.specs.Prelude.{option_map}
 use Rattle.std.proofs.lemmas.Bool.{false≢true}
 use Rattle.dm_words.specs.LetterForm.{letter_form}
-use Rattle.dm_modules.specs.declared.size.SizeChoice.TheVariants.{Square}
-use Rattle.dm_modules.specs.Sizes.{most_rows, most_codewords}
-use Rattle.dm_modules.proofs.Exported.{size_facts}
+use Rattle.dm_layout.specs.declared.symbols.size.SizeChoice.TheVariants.{Square}
+use Rattle.dm_layout.specs.symbols.Sizes.{most_rows, most_codewords}
+use Rattle.dm_layout.proofs.symbols.Exported.{size_facts}
 use Rattle.dm_symbol.proofs.Rooms.{room_for_most}
 use Rattle.dm_symbol.specs.LetterNormal.{NormalLetterResult}
 use Rattle.dm_symbol.proofs.NormalLetters.{is_letter_normalised}

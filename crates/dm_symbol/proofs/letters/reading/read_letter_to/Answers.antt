@@ -1,7 +1,7 @@
 use Rattle.std.proofs.Common.{◌≡◌, ◌∙◌, length, refl, ap, subst, arith, rules}
 use Rattle.std.specs.Prelude.{option_map}
-use Rattle.dm_modules.specs.Sizes.{SizeEntry}
-use Rattle.dm_modules.specs.Words.{data_of}
+use Rattle.dm_layout.specs.symbols.Sizes.{SizeEntry}
+use Rattle.dm_layout.specs.symbols.Words.{data_of}
 use Rattle.dm_words.specs.LetterExtents.{SaysIn, RefusedIn}
 use Rattle.dm_words.specs.Symbology.{IsIdentifier}
 use Rattle.dm_words.proofs.Exported.{said_wide}

@@ -1,5 +1,5 @@
 use Rattle.std.proofs.Common.{◌≡◌, ◌≢◌, ◌∙◌, length, refl, ap, arith, rules, Ok}
-use Rattle.dm_modules.specs.Sizes.{block_check}
+use Rattle.dm_layout.specs.symbols.Sizes.{block_check}
 use Rattle.dm_symbol.specs.SymbolBlocks.{block_in}
 use Rattle.dm_symbol.proofs.Distances.{IsPut, put_if}
 use Rattle.dm_symbol.proofs.SymbolBelow.{block_lengths, plain_near}

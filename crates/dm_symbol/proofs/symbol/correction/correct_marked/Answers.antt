@@ -1,6 +1,6 @@
 use Rattle.std.proofs.Common.{◌≡◌, ◌∙◌, length, map, refl, sym, ap, arith, rules}
-use Rattle.dm_modules.specs.Sizes.{SizeEntry, block_check, block_length}
-use Rattle.dm_modules.specs.Blocks.{block_of}
+use Rattle.dm_layout.specs.symbols.Sizes.{SizeEntry, block_check, block_length}
+use Rattle.dm_layout.specs.symbols.Blocks.{block_of}
 use Rattle.dm_symbol.specs.SymbolBlocks.{block_in}
 use Rattle.dm_symbol.specs.inner.Marks.{is_mark}
 use Rattle.dm_symbol.proofs.SymbolBelow.{block_facts}

@@ -1,6 +1,6 @@
 use Rattle.std.proofs.Common.{◌≡◌, ◌∙◌, sym, ap, subst, rules}
 use Rattle.std.specs.Prelude.{IfSome, option_map}
-use Rattle.dm_modules.specs.Words.{WordsView}
+use Rattle.dm_layout.specs.symbols.Words.{WordsView}
 use Rattle.dm_symbol.specs.Doubt.{erased_in}
 use Rattle.dm_symbol.specs.SymbolBlocks.{AreOfSize}
 use Rattle.dm_symbol.specs.SymbolReading.{AreBlocksMended}

@@ -2,7 +2,7 @@ use Rattle.std.proofs.Common.{◌≡◌, ◌≢◌, ◌+◌, ◌<◌, ◌∙◌,
 use Rattle.std.proofs.Common.{below_more, arith, rules}
 use Rattle.std.specs.Prelude.{Option, None, IfSome, option_map}
 use Rattle.std.proofs.lemmas.List.{get_or_append_left, get_or_push, length_push}
-use Rattle.dm_modules.specs.Sizes.{block_check}
+use Rattle.dm_layout.specs.symbols.Sizes.{block_check}
 use Rattle.dm_symbol.specs.declared.symbol.reading.BlockReading.{BlockReading}
 use Rattle.dm_symbol.specs.SymbolBlocks.{AreOfSize, block_in}
 use Rattle.dm_symbol.specs.SymbolReading.{IsBlockRestored}

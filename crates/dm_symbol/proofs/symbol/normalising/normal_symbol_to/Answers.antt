@@ -2,9 +2,9 @@ use Rattle.std.proofs.Common.{refl, arith, rules}
 use Rattle.std.specs.Prelude.{option_map}
 use Rattle.std.proofs.lemmas.Bool.{false≢true}
 use Rattle.dm_words.specs.NormalForm.{normal_form}
-use Rattle.dm_modules.specs.declared.size.SizeChoice.TheVariants.{Square}
-use Rattle.dm_modules.specs.Sizes.{most_rows, most_codewords}
-use Rattle.dm_modules.proofs.Exported.{size_facts}
+use Rattle.dm_layout.specs.declared.symbols.size.SizeChoice.TheVariants.{Square}
+use Rattle.dm_layout.specs.symbols.Sizes.{most_rows, most_codewords}
+use Rattle.dm_layout.proofs.symbols.Exported.{size_facts}
 use Rattle.dm_symbol.proofs.Rooms.{room_for_most}
 use Rattle.dm_symbol.specs.SymbolNormal.{NormalSymbolResult}
 use Rattle.dm_symbol.proofs.SymbolNormals.{is_symbol_normalised}
@@ -71,4 +71,5 @@ read_symbol_to-requires g c =
 pub write_symbol_to-requires : goal.write_symbol_to-requires
 write_symbol_to-requires g c =
     let room = room_for_most Square (normal_form c.args.profile c.read_symbol_to.new.reading.message) most_rows
-    most_codewords (omega arith) (omega arith) in (search rules, (search rules, (search rules, (c.requires.room, room))))
+    most_codewords (omega arith) (omega arith) in
+    (search rules, (search rules, (search rules, (c.requires.room, room))))

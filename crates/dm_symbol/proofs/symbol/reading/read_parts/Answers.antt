@@ -1,9 +1,9 @@
 use Rattle.std.proofs.Common.{◌≡◌, ◌∙◌, length, refl, ap, subst, rules}
 use Rattle.std.specs.Prelude.{option_map}
-use Rattle.dm_modules.specs.Words.{data_of}
+use Rattle.dm_layout.specs.symbols.Words.{data_of}
 use Rattle.dm_words.specs.Spells.{Spells}
 use Rattle.dm_words.specs.Refused.{Refused}
-use Rattle.dm_modules.specs.Sizes.{SizeEntry}
+use Rattle.dm_layout.specs.symbols.Sizes.{SizeEntry}
 use Rattle.dm_symbol.proofs.Restoring.{restored_count}
 use Rattle.dm_symbol.specs.inner.Restoring.{IsLost}
 use Rattle.dm_symbol.proofs.SymbolBelow.{data_as_many, data_fits}

@@ -4,7 +4,7 @@ use Rattle.std.specs.Prelude.{Some, IfSome, option_map}
 use Rattle.std.proofs.lemmas.List.{length_push}
 use Rattle.std.proofs.lemmas.List.FromFn.{fill_by_all}
 use Rattle.dm_code.specs.Erased.{IsNearBut}
-use Rattle.dm_modules.specs.Sizes.{block_check}
+use Rattle.dm_layout.specs.symbols.Sizes.{block_check}
 use Rattle.dm_symbol.specs.declared.symbol.reading.BlockReading.{BlockReading}
 use Rattle.dm_symbol.specs.SymbolBlocks.{AreOfSize, HasNearBut, block_in}
 use Rattle.dm_symbol.specs.SymbolReading.{IsBlockRestored, block_reading}

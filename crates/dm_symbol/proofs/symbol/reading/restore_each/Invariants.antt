@@ -1,7 +1,7 @@
 use Rattle.std.proofs.Common.{◌≡◌, ◌<◌, ◌≤◌, ℕ, length, get_or}
 use Rattle.std.specs.Prelude.{option_map}
 use Rattle.dm_code.specs.Erased.{IsNearBut}
-use Rattle.dm_modules.specs.Sizes.{block_check}
+use Rattle.dm_layout.specs.symbols.Sizes.{block_check}
 use Rattle.dm_symbol.specs.SymbolBlocks.{AreOfSize, block_in}
 use Rattle.dm_symbol.specs.SymbolReading.{block_reading}
 use Rattle.dm_symbol.specs.inner.Marks.{marked_in}

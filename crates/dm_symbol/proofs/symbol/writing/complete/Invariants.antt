@@ -1,6 +1,6 @@
 use Rattle.std.proofs.Common.{◌≡◌, ◌<◌, ℕ}
 use Rattle.dm_code.specs.Codeword.{IsCodeword}
-use Rattle.dm_modules.specs.Sizes.{block_check}
+use Rattle.dm_layout.specs.symbols.Sizes.{block_check}
 use Rattle.dm_symbol.specs.SymbolBlocks.{block_in, first_data}
 use Rattle.dm_symbol.proofs.symbol.writing.complete.Given as goal
 

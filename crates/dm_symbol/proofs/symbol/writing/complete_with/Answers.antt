@@ -1,5 +1,5 @@
 use Rattle.std.proofs.Common.{◌≡◌, ◌∙◌, ap, subst}
-use Rattle.dm_modules.specs.Words.{WordsView}
+use Rattle.dm_layout.specs.symbols.Words.{WordsView}
 use Rattle.dm_symbol.specs.SymbolBlocks.{AreCodewordsOf}
 use Rattle.dm_symbol.proofs.symbol.writing.complete_with.Goals as goal
 

@@ -1,6 +1,6 @@
 use Rattle.std.proofs.Common.{◌∙◌, length, refl, ap, arith, rules}
-use Rattle.dm_modules.specs.Sizes.{SizeEntry}
-use Rattle.dm_modules.proofs.Exported.{size_facts}
+use Rattle.dm_layout.specs.symbols.Sizes.{SizeEntry}
+use Rattle.dm_layout.proofs.symbols.Exported.{size_facts}
 use Rattle.dm_symbol.proofs.SmallestSymbols.{laid_is_smallest, is_smallest_written, none_written}
 use Rattle.dm_symbol.proofs.symbol.writing.write_smallest_to.Goals as goal
 

@@ -1,5 +1,5 @@
 use Rattle.std.proofs.Common.{◌≡◌, ◌∙◌, length, sym, ap, Some}
-use Rattle.dm_modules.specs.Sizes.{entry_for}
+use Rattle.dm_layout.specs.symbols.Sizes.{entry_for}
 use Rattle.dm_words.specs.Pads.{padded}
 use Rattle.dm_symbol.specs.SymbolBlocks.{first_data}
 use Rattle.dm_symbol.proofs.WrittenWords.{laid_are_written, words_are_written}

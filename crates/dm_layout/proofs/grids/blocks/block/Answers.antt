@@ -1,0 +1,20 @@
+use Rattle.std.proofs.Common.{◌∙◌, ◌<◌, ap, sym, subst, take}
+use Rattle.dm_layout.specs.Sizes.{block_length}
+use Rattle.dm_layout.specs.Words.{WordsView}
+use Rattle.dm_layout.proofs.KeptSymbols.{kept_data, kept_whole}
+use Rattle.dm_layout.proofs.grids.blocks.block.Goals as goal
+
+pub returns-clause-length : goal.returns-clause-length
+returns-clause-length c =
+    let size = c.words.inside.symbol.size in
+    let below = subst (λ (w : WordsView). c.args.b < w.size.blocks) (sym c.words.view_is) c.requires in
+    c.block.ensures.length ∙ kept_whole size c.args.b c.words.invariant below
+    ∙ ap (λ (w : WordsView). block_length w.size) c.words.view_is
+
+pub returns-clause-data : goal.returns-clause-data
+returns-clause-data c =
+    let size = c.words.inside.symbol.size in
+    let below = subst (λ (w : WordsView). c.args.b < w.size.blocks) (sym c.words.view_is) c.requires in
+    rw (← c.words.view_is) (ap (λ n. take n c.block.result.items) (sym (kept_data size c.args.b c.words.invariant
+    below))
+    ∙ c.block.ensures.data)

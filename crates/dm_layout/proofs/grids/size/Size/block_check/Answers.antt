@@ -1,0 +1,7 @@
+use Rattle.std.proofs.Common.{subst}
+use Rattle.dm_layout.specs.Sizes.{IsRow}
+use Rattle.dm_layout.proofs.TableRows.{row_facts}
+use Rattle.dm_layout.proofs.grids.size.Size.block_check.Goals as goal
+
+pub returns-clause-length : goal.returns-clause-length
+returns-clause-length c = (row_facts c.args.self (subst IsRow c.self.view_is c.self.invariant.row)).short

@@ -1,7 +1,0 @@
-use Rattle.std.proofs.Common.{subst}
-use Rattle.dm_layout.specs.Sizes.{IsRow}
-use Rattle.dm_layout.proofs.TableRows.{row_facts}
-use Rattle.dm_layout.proofs.size.Size.symbol.Goals as goal
-
-pub returns-clause-most : goal.returns-clause-most
-returns-clause-most c = (row_facts c.args.self (subst IsRow c.self.view_is c.self.invariant.row)).fits

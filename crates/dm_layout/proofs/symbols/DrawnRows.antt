@@ -1,0 +1,357 @@
+-- A symbol that is drawn from the rows of its mapping matrix.
+use Rattle.std.proofs.Common.{◌≡◌, ◌≢◌, ◌⊎◌, inl, inr, ℕ, ◌+◌, ◌*◌, ◌%◌, ◌^◌, ◌<◌, ◌≤◌, Bool, true, false, ◌&&◌}
+use Rattle.std.proofs.Common.{◌||◌, nat_eq, nat_le, List, refl, sym, ◌∙◌, ap, arith, subst, eq-eqb, length, get_or, set}
+use Rattle.std.specs.Int.RustNames.{bit_or}
+use Rattle.std.proofs.lemmas.List.{length-set}
+use Rattle.dm_layout.proofs.symbols.KeptRows.{whole_cells}
+use Rattle.dm_layout.proofs.symbols.Painting.{bit_put}
+use Rattle.std.specs.Prelude.{if◌then◌else◌}
+use Rattle.std.proofs.lemmas.Bool.{true≢false, eqb-true, eqb-false, ne_eqb, and_parts, leb-true, le-leb, cases_lt}
+use Rattle.std.proofs.lemmas.Bool.{cases_eq}
+use Rattle.std.proofs.lemmas.Nat.{mod-mul-add}
+use Rattle.dm_place.specs.declared.shape.Cell.{Cell}
+use Rattle.dm_place.specs.Border.{is_fixed, fixed_is_dark, symbol_line, is_on_edge, edge_is_dark}
+use Rattle.dm_place.specs.Placement.{IsPlace, EachCellOnce}
+use Rattle.dm_place.specs.Holding.{bit_of}
+use Rattle.dm_place.proofs.Exported.{once_at_sides, none_fixed}
+use Rattle.dm_layout.specs.symbols.Border.{is_border, border_is_dark, mapped_cell}
+use Rattle.dm_layout.specs.symbols.Holding.{IsLaid}
+use Rattle.dm_layout.specs.symbols.Symbols.{SymbolView, IsSymbol, module_at}
+use Rattle.dm_layout.specs.symbols.Sizes.{SizeEntry, IsSize, mapping_rows, mapping_columns, codeword_count}
+use Rattle.dm_layout.specs.symbols.Words.{WordsView, IsWords}
+use Rattle.dm_layout.proofs.symbols.Exported.{no_faults, off_border, off_edge, mapping_line-symbol_line, placed_size}
+use Rattle.dm_layout.proofs.symbols.Exported.{row_inside}
+use Rattle.dm_layout.proofs.symbols.Exported.{size_facts}
+use Rattle.dm_layout.specs.symbols.inner.RowDrawing.{drawn_colour, IsDrawn}
+use Rattle.dm_layout.specs.symbols.inner.Drawing.{mapping_line}
+use Rattle.dm_layout.specs.symbols.inner.Reading.{look_in, whole_row}
+use Rattle.dm_layout.specs.symbols.Symbols.{is_dark_bit}
+use Rattle.dm_layout.proofs.symbols.Sizes.{column_inside}
+
+-- A border module has its colour.
+pub on_border : (size : SizeEntry) (look : ℕ → ℕ → Bool) (r c : ℕ) → is_border size r c ≡ true →
+    drawn_colour size look r c ≡ border_is_dark size r c
+on_border size look r c h =
+    ap (λ (b : Bool). if b then border_is_dark size r c
+    else look (mapping_line size.region_rows r) (mapping_line size.region_columns c)) h
+
+-- Any other module has that of a cell of the mapping matrix.
+pub off_borders : (size : SizeEntry) (look : ℕ → ℕ → Bool) (r c : ℕ) → is_border size r c ≡ false →
+    drawn_colour size look r c ≡ look (mapping_line size.region_rows r) (mapping_line size.region_columns c)
+off_borders size look r c h =
+    ap (λ (b : Bool). if b then border_is_dark size r c
+    else look (mapping_line size.region_rows r) (mapping_line size.region_columns c)) h
+
+-- One of four tests passes if the second or the third does.
+any_of : (p q r s : Bool) → (q ≡ true) ⊎ (r ≡ true) → (p || q || r || s) ≡ true
+any_of true q r s e = refl
+any_of false q r s (inl e) = ap (λ (b : Bool). b || r || s) e
+any_of false true r s (inr e) = refl
+any_of false false r s (inr e) = ap (λ (b : Bool). b || s) e
+
+-- In a row at the top or at the bottom of its regions all modules are of borders.
+pub edge_row : (size : SizeEntry) (look : ℕ → ℕ → Bool) (row c dark : ℕ) →
+    ((row % (size.region_rows + 2) ≡ size.region_rows + 1) ⊎ (row % (size.region_rows + 2) ≡ 0)) →
+    is_dark_bit dark c ≡ (is_border size row c && border_is_dark size row c) →
+    is_dark_bit dark c ≡ drawn_colour size look row c
+edge_row size look row c dark at is =
+    is ∙ ap (λ (b : Bool). b && border_is_dark size row c) here ∙ sym (on_border size look row c here)
+  where
+    test : ((row % (size.region_rows + 2) ≡ size.region_rows + 1) ⊎ (row % (size.region_rows + 2) ≡ 0)) →
+        (nat_eq (row % (size.region_rows + 2)) (size.region_rows + 1) ≡ true)
+        ⊎ (nat_eq (row % (size.region_rows + 2)) 0 ≡ true)
+    test (inl e) = inl (eq-eqb _ _ e)
+    test (inr e) = inr (eq-eqb _ _ e)
+
+    here : is_border size row c ≡ true
+    here = any_of (nat_eq (c % (size.region_columns + 2)) 0) _ _ _ (test at)
+
+-- In a row between them a module is of a border, or lies in a cell of the mapping matrix.
+pub between_row : (size : SizeEntry) (look : ℕ → ℕ → Bool) (row c dark outer inner : ℕ) → IsSize size →
+    row < size.rows → c < size.columns →
+    row % (size.region_rows + 2) ≢ 0 → row % (size.region_rows + 2) ≢ size.region_rows + 1 →
+    is_dark_bit dark c ≡ (is_border size row c && border_is_dark size row c) →
+    ((q : ℕ) → q < mapping_columns size → is_dark_bit outer (symbol_line size.region_columns q) ≡ is_dark_bit inner q) →
+    ((q : ℕ) → ((q % (size.region_columns + 2) ≡ 0) ⊎ (q % (size.region_columns + 2) ≡ size.region_columns + 1)) →
+    is_dark_bit outer q ≡ false) →
+    ((q : ℕ) → q < mapping_columns size → is_dark_bit inner q ≡ look (mapping_line size.region_rows row) q) →
+    (is_dark_bit dark c || is_dark_bit outer c) ≡ drawn_colour size look row c
+between_row size look row c dark outer inner entry lr lc top bottom is mapped border cells =
+    by_border (is_border size row c) refl
+  where
+    alone : (a b : Bool) → b ≡ false → (a || b) ≡ a
+    alone true b e = refl
+    alone false b e = e
+
+    on_side : (p q r s : Bool) → (p || q || r || s) ≡ true → q ≡ false → r ≡ false → (p ≡ true) ⊎ (s ≡ true)
+    on_side true q r s h e f = inl refl
+    on_side false true r s h e f = cc
+    on_side false false true s h e f = cc
+    on_side false false false s h e f = inr h
+
+    side : (nat_eq (c % (size.region_columns + 2)) 0 ≡ true)
+        ⊎ (nat_eq (c % (size.region_columns + 2)) (size.region_columns + 1) ≡ true) →
+        (c % (size.region_columns + 2) ≡ 0) ⊎ (c % (size.region_columns + 2) ≡ size.region_columns + 1)
+    side (inl e) = inl (eqb-true _ _ e)
+    side (inr e) = inr (eqb-true _ _ e)
+
+    by_border : (b : Bool) → is_border size row c ≡ b →
+        (is_dark_bit dark c || is_dark_bit outer c) ≡ drawn_colour size look row c
+    by_border true e =
+        alone (is_dark_bit dark c) (is_dark_bit outer c)
+        (border c (side (on_side (nat_eq (c % (size.region_columns + 2)) 0) _ _ _ e (ne_eqb _ _ bottom)
+        (ne_eqb _ _ top))))
+        ∙ is ∙ ap (λ (b : Bool). b && border_is_dark size row c) e ∙ sym (on_border size look row c e)
+    by_border false e =
+        let from = off_border size row c entry lr lc e in
+        let q : ℕ = mapping_line size.region_columns c in
+        ap (λ (b : Bool). b || is_dark_bit outer c) (is ∙ ap (λ (b : Bool). b && border_is_dark size row c) e)
+        ∙ ap (is_dark_bit outer) (sym from.1.there) ∙ mapped q from.1.inside ∙ cells q from.1.inside
+        ∙ sym (off_borders size look row c e)
+
+-- When one more row is put, the rows above the next are drawn.
+pub drawn_more : (size : SizeEntry) (look : ℕ → ℕ → Bool) (row cells end : ℕ) (old new : SymbolView) →
+    cells < 2 ^ 128 → IsDrawn size look row old → row < size.rows → new.size ≡ old.size → IsSymbol new →
+    ((c : ℕ) → c < size.columns → is_dark_bit (whole_row cells end) c ≡ drawn_colour size look row c) →
+    ((c : ℕ) → c < 128 → c < old.size.columns → module_at new row c ≡ is_dark_bit cells c) →
+    ((c : ℕ) → 128 + c < old.size.columns → module_at new row (128 + c) ≡ is_dark_bit end c) →
+    ((r c : ℕ) → r < old.size.rows → c < old.size.columns → (r ≡ row → ⊥) → module_at new r c ≡ module_at old r c) →
+    IsDrawn size look (row + 1) new
+drawn_more size look row cells end old new low so_far inside same m line start behind others = record {
+  same_size = same ∙ so_far.same_size;
+  symbol = m;
+  colours = λ r c lr lc. by_row r c lr lc (cases_eq r row);
+}
+  where
+    rows : old.size.rows ≡ size.rows
+    rows = ap (λ (s : SizeEntry). s.rows) so_far.same_size
+
+    columns : old.size.columns ≡ size.columns
+    columns = ap (λ (s : SizeEntry). s.columns) so_far.same_size
+
+    here : (c : ℕ) → c < old.size.columns → is_dark_bit (whole_row cells end) c ≡ module_at new row c
+    here =
+        whole_cells cells end old.size.columns (module_at new row) low (λ k lk h. sym (start k lk h))
+        (λ k h. sym (behind k h))
+
+    by_row : (r c : ℕ) → r < row + 1 → c < size.columns → (r ≡ row) ⊎ (r ≡ row → ⊥) →
+        module_at new r c ≡ drawn_colour size look r c
+    by_row r c lr lc (inl e) =
+        ap (λ (i : ℕ). module_at new i c) e ∙ sym (here c (omega (arith, lc, columns))) ∙ line c lc
+        ∙ ap (λ (i : ℕ). drawn_colour size look i c) (sym e)
+    by_row r c lr lc (inr ne) =
+        others r c (omega (arith, lr, inside, rows)) (omega (arith, lc, columns)) ne
+        ∙ so_far.colours r c (omega (arith, lr, ne)) lc
+
+-- The same, where the numbers of rows are given by equal ones.
+pub drawn_to : (size : SizeEntry) (look : ℕ → ℕ → Bool) (before after row cells end : ℕ) (old new : SymbolView) →
+    cells < 2 ^ 128 → IsDrawn size look before old → before ≡ row → row + 1 ≡ after → row < size.rows →
+    new.size ≡ old.size → IsSymbol new →
+    ((c : ℕ) → c < size.columns → is_dark_bit (whole_row cells end) c ≡ drawn_colour size look row c) →
+    ((c : ℕ) → c < 128 → c < old.size.columns → module_at new row c ≡ is_dark_bit cells c) →
+    ((c : ℕ) → 128 + c < old.size.columns → module_at new row (128 + c) ≡ is_dark_bit end c) →
+    ((r c : ℕ) → r < old.size.rows → c < old.size.columns → (r ≡ row → ⊥) → module_at new r c ≡ module_at old r c) →
+    IsDrawn size look after new
+drawn_to size look before after row cells end old new low so_far eb ea inside same m line start behind others =
+    subst (λ (i : ℕ). IsDrawn size look i new) ea
+    (drawn_more size look row cells end old new low (subst (λ (i : ℕ). IsDrawn size look i old) eb so_far) inside same m
+    line start behind others)
+
+-- The border modules of a row, told by its place inside a region with its border, are those of the row.
+pub dark_row : (size : SizeEntry) (region inner dark c : ℕ) → inner < size.region_rows + 2 →
+    is_dark_bit dark c ≡ (is_on_edge size.region_rows size.region_columns inner (c % (size.region_columns + 2))
+    && edge_is_dark size.region_rows inner (c % (size.region_columns + 2))) →
+    is_dark_bit dark c ≡ (is_border size (region * (size.region_rows + 2) + inner) c
+    && border_is_dark size (region * (size.region_rows + 2) + inner) c)
+dark_row size region inner dark c l is =
+    subst (λ (i : ℕ). is_dark_bit dark c ≡ (is_on_edge size.region_rows size.region_columns i
+    (c % (size.region_columns + 2)) && edge_is_dark size.region_rows i (c % (size.region_columns + 2))))
+    (sym (mod-mul-add region (size.region_rows + 2) inner l)) is
+
+-- The border modules of a row at the top or at the bottom of its regions are all that is drawn there.
+pub edge_line : (size : SizeEntry) (look : ℕ → ℕ → Bool) (region inner row dark : ℕ) → inner < size.region_rows + 2 →
+    ((inner ≡ size.region_rows + 1) ⊎ (inner ≡ 0)) → row ≡ region * (size.region_rows + 2) + inner →
+    ((c : ℕ) → c < size.columns → is_dark_bit dark c ≡ (is_on_edge size.region_rows size.region_columns inner
+    (c % (size.region_columns + 2)) && edge_is_dark size.region_rows inner (c % (size.region_columns + 2)))) →
+    (c : ℕ) → c < size.columns → is_dark_bit dark c ≡ drawn_colour size look row c
+edge_line size look region inner row dark l at er is c lc =
+    edge_row size look (region * (size.region_rows + 2) + inner) c dark (there at)
+    (dark_row size region inner dark c l (is c lc))
+    ∙ ap (λ (i : ℕ). drawn_colour size look i c) (sym er)
+  where
+    there : (inner ≡ size.region_rows + 1) ⊎ (inner ≡ 0) →
+        ((region * (size.region_rows + 2) + inner) % (size.region_rows + 2) ≡ size.region_rows + 1)
+        ⊎ ((region * (size.region_rows + 2) + inner) % (size.region_rows + 2) ≡ 0)
+    there (inl e) = inl (mod-mul-add region (size.region_rows + 2) inner l ∙ e)
+    there (inr e) = inr (mod-mul-add region (size.region_rows + 2) inner l ∙ e)
+
+-- ---- the whole symbol
+
+-- A symbol that is drawn from a mapping matrix with the fixed square, in which the codewords' bits lie at their places,
+-- is the one in which these are laid.
+pub laid_by : (words : WordsView) (modules : SymbolView) (look : ℕ → ℕ → Bool) → IsWords words →
+    modules.size ≡ words.size → IsSymbol modules →
+    ((r c : ℕ) → r < modules.size.rows → c < modules.size.columns →
+    module_at modules r c ≡ drawn_colour modules.size look r c) →
+    ((w b : ℕ) (cell : Cell) → IsPlace (mapping_rows modules.size) (mapping_columns modules.size) w b cell →
+    look cell.row cell.column ≡ bit_of words.list w b) →
+    ((r c : ℕ) → r < mapping_rows modules.size → c < mapping_columns modules.size →
+    is_fixed (mapping_rows modules.size) (mapping_columns modules.size) r c ≡ true → look r c ≡ fixed_is_dark r c) →
+    IsLaid words modules
+laid_by words modules look h same m drawn bits fixed = record {
+  holds = record {
+    symbol = m;
+    codewords = h;
+    same_size = sym same;
+    bits = λ w b cell p.
+        let law =
+        once_at_sides (mapping_rows modules.size) (mapping_columns modules.size) (codeword_count modules.size)
+        (placed_size modules.size m.size) in
+        let inside = law.inside w b cell p in
+        cell_is cell.row cell.column inside.0 inside.1 ∙ bits w b cell p;
+  };
+  border = no_faults modules (λ r c lr lc b. drawn r c lr lc ∙ on_border modules.size look r c b);
+  fixed_square = λ r c lr lc f. cell_is r c lr lc ∙ fixed r c lr lc f;
+}
+  where
+    size : SizeEntry
+    size = modules.size
+
+    cell_is : (r c : ℕ) → r < mapping_rows modules.size → c < mapping_columns modules.size →
+        mapped_cell modules r c ≡ look r c
+    cell_is r c lr lc =
+        let facts = size_facts modules.size m.size in
+        drawn (symbol_line modules.size.region_rows r) (symbol_line modules.size.region_columns c)
+        (row_inside modules.size r m.size lr) (column_inside modules.size c m.size lc)
+        ∙ off_borders modules.size look (symbol_line modules.size.region_rows r)
+        (symbol_line modules.size.region_columns c) (off_edge modules.size r c facts.least_rows facts.least_columns)
+        ∙ ap (λ (i : ℕ). look i (mapping_line modules.size.region_columns (symbol_line modules.size.region_columns c)))
+        (mapping_line-symbol_line modules.size.region_rows r facts.least_rows)
+        ∙ ap (look r) (mapping_line-symbol_line modules.size.region_columns c facts.least_columns)
+
+-- The same, where sizes and codewords are given by equal ones.
+pub laid_as : (words : WordsView) (modules : SymbolView) (s : SizeEntry) (list : List ℕ) (look : ℕ → ℕ → Bool) →
+    IsWords words → s ≡ words.size → list ≡ words.list → modules.size ≡ s → IsSymbol modules →
+    ((r c : ℕ) → r < s.rows → c < s.columns → module_at modules r c ≡ drawn_colour s look r c) →
+    ((w b : ℕ) (cell : Cell) → IsPlace (mapping_rows s) (mapping_columns s) w b cell →
+    look cell.row cell.column ≡ bit_of list w b) →
+    ((r c : ℕ) → r < mapping_rows s → c < mapping_columns s →
+    is_fixed (mapping_rows s) (mapping_columns s) r c ≡ true → look r c ≡ fixed_is_dark r c) →
+    IsLaid words modules
+laid_as words modules s list look h es el em m drawn bits fixed =
+    laid_by words modules look h (em ∙ es) m
+    (subst (λ (t : SizeEntry). (r c : ℕ) → r < t.rows → c < t.columns →
+    module_at modules r c ≡ drawn_colour t look r c) (sym em) drawn)
+    (subst (λ (ws : List ℕ). (w b : ℕ) (cell : Cell) →
+    IsPlace (mapping_rows modules.size) (mapping_columns modules.size) w b cell →
+    look cell.row cell.column ≡ bit_of ws w b) el
+    (subst (λ (t : SizeEntry). (w b : ℕ) (cell : Cell) → IsPlace (mapping_rows t) (mapping_columns t) w b cell →
+    look cell.row cell.column ≡ bit_of list w b) (sym em) bits))
+    (subst (λ (t : SizeEntry). (r c : ℕ) → r < mapping_rows t → c < mapping_columns t →
+    is_fixed (mapping_rows t) (mapping_columns t) r c ≡ true → look r c ≡ fixed_is_dark r c) (sym em) fixed)
+
+-- Bits stay at their places when the fixed square is put, since it holds none.
+pub bits_kept : (R C : ℕ) (olds news : ℕ → ℕ → Bool) (list : List ℕ) → EachCellOnce R C →
+    ((r c : ℕ) → r < R → c < C → is_fixed R C r c ≡ false → news r c ≡ olds r c) →
+    ((w b : ℕ) (cell : Cell) → IsPlace R C w b cell → olds cell.row cell.column ≡ bit_of list w b) →
+    (w b : ℕ) (cell : Cell) → IsPlace R C w b cell → news cell.row cell.column ≡ bit_of list w b
+bits_kept R C olds news list law free bits w b cell p =
+    by (is_fixed R C cell.row cell.column) refl
+  where
+    by : (t : Bool) → is_fixed R C cell.row cell.column ≡ t → news cell.row cell.column ≡ bit_of list w b
+    by true e = absurd (none_fixed R C cell.row cell.column w b law e p)
+    by false e =
+        let inside = law.inside w b cell p in
+        free cell.row cell.column inside.0 inside.1 e ∙ bits w b cell p
+
+-- ---- the fixed square
+
+-- The cells that are made dark are the dark ones of the fixed square.
+pub fixed_cells : (n r c : ℕ) → 6 ≤ n → r < n → c < n → is_fixed n n r c ≡ true →
+    ((nat_eq (r + 2) n && nat_eq (c + 4) (n + 2)) || (nat_eq (r + 2) (n + 1) && nat_eq (c + 4) (n + 3))) ≡
+    fixed_is_dark r c
+fixed_cells n r c some lr lc h =
+    let both = and_parts _ (nat_le n (c + 2)) h in
+    let rows = and_parts _ (nat_le n (r + 2)) both.0 in
+    let a = leb-true n (r + 2) rows.1 in
+    let b = leb-true n (c + 2) both.1 in
+    by (nat_eq (r + 2) n) (nat_eq (c + 4) (n + 2)) (nat_eq r c) refl refl refl a b
+  where
+    by : (t u v : Bool) → nat_eq (r + 2) n ≡ t → nat_eq (c + 4) (n + 2) ≡ u → nat_eq r c ≡ v → n ≤ r + 2 → n ≤ c + 2 →
+        ((t && u) || (nat_eq (r + 2) (n + 1) && nat_eq (c + 4) (n + 3))) ≡ v
+    by true true v e f g a b =
+        sym (sym g ∙ eq-eqb r c (omega (arith, eqb-true (r + 2) n e, eqb-true (c + 4) (n + 2) f)))
+    by true false v e f g a b =
+        let x = eqb-true (r + 2) n e in
+        let y = eqb-false (c + 4) (n + 2) f in
+        ap (λ (p : Bool). p && nat_eq (c + 4) (n + 3)) (ne_eqb (r + 2) (n + 1) (λ z. omega (arith, z, x)))
+        ∙ sym (sym g ∙ ne_eqb r c (λ z. omega (arith, z, x, y)))
+    by false true v e f g a b =
+        let x = eqb-false (r + 2) n e in
+        let y = eqb-true (c + 4) (n + 2) f in
+        ap (λ (p : Bool). nat_eq (r + 2) (n + 1) && p) (ne_eqb (c + 4) (n + 3) (λ z. omega (arith, z, y)))
+        ∙ none (nat_eq (r + 2) (n + 1))
+        ∙ sym (sym g ∙ ne_eqb r c (λ z. omega (arith, z, x, y)))
+      where
+        none : (p : Bool) → (p && false) ≡ false
+        none true = refl
+        none false = refl
+    by false false v e f g a b =
+        let x = eqb-false (r + 2) n e in
+        let y = eqb-false (c + 4) (n + 2) f in
+        ap (λ (p : Bool). p && nat_eq (c + 4) (n + 3)) (eq-eqb (r + 2) (n + 1) (omega (arith, x, a, lr)))
+        ∙ eq-eqb (c + 4) (n + 3) (omega (arith, y, b, lc))
+        ∙ sym (sym g ∙ eq-eqb r c (omega (arith, x, y, a, b, lr, lc)))
+
+-- A cell outside the fixed square isn't made dark.
+pub free_cells : (n r c : ℕ) → 6 ≤ n → r < n → c < n → n % 4 ≡ 2 → is_fixed n n r c ≡ false →
+    ((nat_eq (r + 2) n && nat_eq (c + 4) (n + 2)) || (nat_eq (r + 2) (n + 1) && nat_eq (c + 4) (n + 3))) ≡ false
+free_cells n r c some lr lc two h = by (cases_lt (r + 2) n) (cases_lt (c + 2) n)
+  where
+    both_false : (a b x y : Bool) → (a ≡ false) ⊎ (b ≡ false) → (x ≡ false) ⊎ (y ≡ false) →
+        ((a && b) || (x && y)) ≡ false
+    both_false a b x y p q = ap (λ (t : Bool). t || (x && y)) (one a b p) ∙ one x y q
+      where
+        one : (a b : Bool) → (a ≡ false) ⊎ (b ≡ false) → (a && b) ≡ false
+        one a b (inl e) = ap (λ (t : Bool). t && b) e
+        one true b (inr e) = e
+        one false b (inr e) = refl
+
+    by : (r + 2 < n) ⊎ (n ≤ r + 2) → (c + 2 < n) ⊎ (n ≤ c + 2) →
+        ((nat_eq (r + 2) n && nat_eq (c + 4) (n + 2)) || (nat_eq (r + 2) (n + 1) && nat_eq (c + 4) (n + 3))) ≡ false
+    by (inl l) k =
+        both_false _ _ _ _ (inl (ne_eqb (r + 2) n (λ e. omega (arith, e, l))))
+        (inl (ne_eqb (r + 2) (n + 1) (λ e. omega (arith, e, l))))
+    by (inr m) (inl l) =
+        both_false _ _ _ _ (inr (ne_eqb (c + 4) (n + 2) (λ e. omega (arith, e, l))))
+        (inr (ne_eqb (c + 4) (n + 3) (λ e. omega (arith, e, l))))
+    by (inr m) (inr l) =
+        absurd (true≢false (sym (ap (λ (b : Bool). (b && b) && nat_le n (r + 2) && nat_le n (c + 2))
+        (eq-eqb (n % 4) 2 two) ∙ ap (λ (b : Bool). (true && true) && b && nat_le n (c + 2)) (le-leb n (r + 2) m)
+        ∙ ap (λ (b : Bool). (true && true) && true && b) (le-leb n (c + 2) l)) ∙ h))
+
+-- Where the dark cells of the fixed square are made dark, this is what is dark.
+pub put_twice : (width n : ℕ) (olds mids news : List ℕ) (r c : ℕ) → n + 1 < length olds → n + 3 < width →
+    mids ≡ set olds n (bit_or (get_or olds n 0) (1 * 2 ^ (n + 2) % 2 ^ width)) →
+    news ≡ set mids (n + 1) (bit_or (get_or mids (n + 1) 0) (1 * 2 ^ (n + 3) % 2 ^ width)) →
+    look_in news (r + 2) (c + 4) ≡ (look_in olds (r + 2) (c + 4)
+    || ((nat_eq (r + 2) n && nat_eq (c + 4) (n + 2)) || (nat_eq (r + 2) (n + 1) && nat_eq (c + 4) (n + 3))))
+put_twice width n olds mids news r c rows columns first second =
+    let count = ap length first ∙ length-set olds n _ in
+    ap (λ (xs : List ℕ). look_in xs (r + 2) (c + 4)) second
+    ∙ bit_put width mids (n + 1) (n + 3) 1 (r + 2) (c + 4) (omega (arith, rows, count)) columns (omega arith)
+    ∙ ap (λ (b : Bool). b || (nat_eq (r + 2) (n + 1) && nat_eq (c + 4) (n + 3) && true))
+    (ap (λ (xs : List ℕ). look_in xs (r + 2) (c + 4)) first
+    ∙ bit_put width olds n (n + 2) 1 (r + 2) (c + 4) (omega (arith, rows)) (omega (arith, columns)) (omega arith))
+    ∙ regroup (look_in olds (r + 2) (c + 4)) (nat_eq (r + 2) n) (nat_eq (c + 4) (n + 2)) (nat_eq (r + 2) (n + 1))
+    (nat_eq (c + 4) (n + 3))
+  where
+    regroup : (a p q x y : Bool) → ((a || (p && q && true)) || (x && y && true)) ≡ (a || ((p && q) || (x && y)))
+    regroup true p q x y = refl
+    regroup false true true x y = refl
+    regroup false true false true true = refl
+    regroup false true false true false = refl
+    regroup false true false false y = refl
+    regroup false false q true true = refl
+    regroup false false q true false = refl
+    regroup false false q false y = refl

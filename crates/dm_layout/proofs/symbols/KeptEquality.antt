@@ -1,0 +1,199 @@
+-- Rows with the same modules, and rows in which one module is put.
+use Rattle.std.proofs.Common.{◌≡◌, ◌↔◌, ◌⊎◌, inl, inr, IsTrue, ℕ, ◌+◌, ◌-◌, ◌*◌, ◌%◌, ◌^◌, ◌<◌, ◌≤◌, Bool, true, false}
+use Rattle.std.proofs.Common.{nat_eq, ◌≢◌, ◌&&◌, refl, sym, ◌∙◌, ap, arith, eq-eqb, bit_and}
+use Rattle.std.specs.Prelude.{if◌then◌else◌}
+use Rattle.std.specs.Int.{bit_not, w128}
+use Rattle.std.proofs.lemmas.Bool.{eqb-true, eqb-false, ne_eqb, cases_lt}
+use Rattle.std.proofs.lemmas.Nat.Bits.{bit_at_clear_other, bit_at_clear_same}
+use Rattle.std.proofs.Math.Pow.{pow_pos}
+use Rattle.dm_layout.specs.symbols.Equality.{equal_modules, modules_equiv}
+use Rattle.dm_layout.specs.symbols.Symbols.{SymbolView, IsSymbol, is_dark_bit, module_at}
+use Rattle.dm_layout.specs.symbols.Sizes.{SizeEntry}
+use Rattle.dm_place.proofs.Exported.{same_tests}
+use Rattle.dm_layout.proofs.symbols.EqualityLaws.{equal_itself, told_modules}
+use Rattle.dm_layout.proofs.symbols.ModulesLemmas.{same_modules}
+use Rattle.dm_layout.proofs.symbols.Rows.{prefix_cell, same_row_numbers, weight}
+
+-- Rows have the same modules in their first columns exactly if what is cut from them is the same.
+pub same_below : (a b n : ℕ) (result : Bool) → n < 128 →
+    result ≡ nat_eq (a % (1 * 2 ^ n % 2 ^ 128)) (b % (1 * 2 ^ n % 2 ^ 128)) →
+    IsTrue result ↔ ((c : ℕ) → c < n → is_dark_bit a c ≡ is_dark_bit b c)
+same_below a b n result small is = (
+  λ t c l.
+      let e : a % (1 * 2 ^ n % 2 ^ 128) ≡ b % (1 * 2 ^ n % 2 ^ 128) = eqb-true _ _ (sym is ∙ is_true t) in
+      sym (prefix_cell a n c small l) ∙ ap (λ (i : ℕ). is_dark_bit i c) e ∙ prefix_cell b n c small l,
+  λ h. to_true (is ∙ eq-eqb _ _ (same_row_numbers n _ _ (narrow a) (narrow b) (λ c l.
+      prefix_cell a n c small l ∙ h c l ∙ sym (prefix_cell b n c small l)))),
+)
+  where
+    narrow : (x : ℕ) → x % (1 * 2 ^ n % 2 ^ 128) < 2 ^ n
+    narrow x = by_mod x (1 * 2 ^ n % 2 ^ 128) (2 ^ n) (weight n small) (pow_pos n)
+      where
+        by_mod : (x m n : ℕ) → m ≡ n → 0 < n → x % m < n
+        by_mod x m n e p = omega arith
+
+    is_true : IsTrue result → result ≡ true
+    is_true t = t
+
+    to_true : result ≡ true → IsTrue result
+    to_true e = e
+
+-- In a row with one module made light, that module is light and all others are as before.
+pub lightened_cell : (row c e : ℕ) → c < 128 → e < 128 →
+    is_dark_bit (bit_and row (bit_not w128 (1 * 2 ^ c % 2 ^ 128))) e ≡ (if nat_eq e c then false else is_dark_bit row e)
+lightened_cell row c e l le = by_column (nat_eq e c) refl
+  where
+    new : ℕ
+    new = bit_and row (bit_not w128 (1 * 2 ^ c % 2 ^ 128))
+
+    by_column : (t : Bool) → nat_eq e c ≡ t → is_dark_bit new e ≡ (if t then false else is_dark_bit row e)
+    by_column true h =
+        ap (is_dark_bit new) (eqb-true e c h) ∙ ap (λ (i : ℕ). nat_eq i 1) (bit_at_clear_same w128 row c l)
+    by_column false h = ap (λ (i : ℕ). nat_eq i 1) (bit_at_clear_other w128 row c l e le (eqb-false e c h))
+
+-- ---- one module that is put
+
+module _ (m n : SymbolView) (row column : ℕ) (dark : Bool) where
+  -- The module of a row and a column is the one that is put, or as before.
+  abbrev put_colour : ℕ → ℕ → Bool
+  put_colour r c = if nat_eq r row && nat_eq c column then dark else module_at m r c
+
+  -- Where one module of a row is put and the other rows stay, one module is put.
+  pub put_one : ((c : ℕ) → c < m.size.columns → module_at n row c ≡ (if nat_eq c column then dark else module_at m row
+      c)) →
+      ((r c : ℕ) → r < m.size.rows → c < m.size.columns → r ≢ row → module_at n r c ≡ module_at m r c) →
+      (r c : ℕ) → r < m.size.rows → c < m.size.columns →
+      module_at n r c ≡ (if nat_eq r row && nat_eq c column then dark else module_at m r c)
+  put_one here others r c lr lc = by_row (nat_eq r row) refl
+    where
+      by_row : (t : Bool) → nat_eq r row ≡ t →
+          module_at n r c ≡ (if t && nat_eq c column then dark else module_at m r c)
+      by_row true e =
+          let is = eqb-true r row e in
+          ap (λ (i : ℕ). module_at n i c) is ∙ here c lc
+          ∙ ap (λ (i : ℕ). if nat_eq c column then dark else module_at m i c) (sym is)
+      by_row false e = others r c lr lc (eqb-false r row e)
+
+  -- A module among the first 128 is put in the first number of its row.
+  pub here_first : (cells end x : ℕ) → column < 128 →
+      ((c : ℕ) → c < 128 → is_dark_bit x c ≡ (if nat_eq c column then dark else is_dark_bit cells c)) →
+      ((c : ℕ) → c < 128 → c < m.size.columns → is_dark_bit cells c ≡ module_at m row c) →
+      ((c : ℕ) → 128 + c < m.size.columns → is_dark_bit end c ≡ module_at m row (128 + c)) →
+      ((c : ℕ) → c < 128 → c < m.size.columns → module_at n row c ≡ is_dark_bit x c) →
+      ((c : ℕ) → 128 + c < m.size.columns → module_at n row (128 + c) ≡ is_dark_bit end c) →
+      (c : ℕ) → c < m.size.columns → module_at n row c ≡ (if nat_eq c column then dark else module_at m row c)
+  here_first cells end x low put old old_end start behind c lc = by_column (cases_lt c 128)
+    where
+      by_column : (c < 128) ⊎ (128 ≤ c) →
+          module_at n row c ≡ (if nat_eq c column then dark else module_at m row c)
+      by_column (inl l) =
+          start c l lc ∙ put c l ∙ ap (λ (b : Bool). if nat_eq c column then dark else b) (old c l lc)
+      by_column (inr far) =
+          let e : 128 + (c - 128) ≡ c = omega (arith, far) in
+          ap (module_at n row) (sym e) ∙ behind (c - 128) (omega (arith, lc, far))
+          ∙ old_end (c - 128) (omega (arith, lc, far)) ∙ ap (module_at m row) e
+          ∙ sym (ap (λ (b : Bool). if b then dark else module_at m row c)
+          (ne_eqb c column (λ z. omega (arith, z, far, low))))
+
+  -- One behind them is put in the second.
+  pub here_end : (cells end x : ℕ) → 128 ≤ column → column < 256 →
+      ((c : ℕ) → c < 128 → is_dark_bit x c ≡ (if nat_eq c (column - 128) then dark else is_dark_bit end c)) →
+      ((c : ℕ) → c < 128 → c < m.size.columns → is_dark_bit cells c ≡ module_at m row c) →
+      ((c : ℕ) → 128 + c < m.size.columns → is_dark_bit end c ≡ module_at m row (128 + c)) →
+      ((c : ℕ) → c < 128 → c < m.size.columns → module_at n row c ≡ is_dark_bit cells c) →
+      ((c : ℕ) → 128 + c < m.size.columns → module_at n row (128 + c) ≡ is_dark_bit x c) →
+      m.size.columns ≤ 144 →
+      (c : ℕ) → c < m.size.columns → module_at n row c ≡ (if nat_eq c column then dark else module_at m row c)
+  here_end cells end x high few put old old_end start behind most c lc = by_column (cases_lt c 128)
+    where
+      by_column : (c < 128) ⊎ (128 ≤ c) →
+          module_at n row c ≡ (if nat_eq c column then dark else module_at m row c)
+      by_column (inl l) =
+          start c l lc ∙ old c l lc
+          ∙ sym (ap (λ (b : Bool). if b then dark else module_at m row c)
+          (ne_eqb c column (λ z. omega (arith, z, l, high))))
+      by_column (inr far) =
+          let k : ℕ = c - 128 in
+          let e : 128 + k ≡ c = omega (arith, far) in
+          ap (module_at n row) (sym e) ∙ behind k (omega (arith, lc, far)) ∙ put k (omega (arith, lc, most, far))
+          ∙ ap (λ (b : Bool). if nat_eq k (column - 128) then dark else b) (old_end k (omega (arith, lc, far))
+          ∙ ap (module_at m row) e)
+          ∙ ap (λ (b : Bool). if b then dark else module_at m row c)
+          (same_tests k (column - 128) c column (λ z. omega (arith, z, e, high)) (λ z. omega (arith, z, e, high)))
+
+-- ---- symbols that are the same
+
+-- Symbols of one size are equal exactly if all modules are.
+pub all_tell : (m n : SymbolView) (b : Bool) → IsSymbol m → IsSymbol n → n.size ≡ m.size →
+    (IsTrue b ↔ ((r c : ℕ) → r < m.size.rows → c < m.size.columns → module_at m r c ≡ module_at n r c)) →
+    IsTrue b ↔ (m ≡ n)
+all_tell m n b x y same told = (
+  λ t. same_modules m n x y (sym same) (told.0 t),
+  λ e. told.1 (λ r c lr lc. ap (λ (k : SymbolView). module_at k r c) e),
+)
+
+-- What is true exactly where symbols are equal is whether they compare equal.
+pub by_told : (m n : SymbolView) (b : Bool) → IsSymbol m → IsSymbol n → (IsTrue b ↔ (m ≡ n)) → b ≡ equal_modules m n
+by_told m n true x y told = sym (equal_itself equal_modules modules_equiv m n (told.0 refl))
+by_told m n false x y told = by_test (equal_modules m n) refl
+  where
+    by_test : (t : Bool) → equal_modules m n ≡ t → false ≡ t
+    by_test true e = let f : false ≡ true = told.1 (told_modules m n x y e) in f
+    by_test false e = refl
+
+module _ (m n : SymbolView) (row a b : ℕ) (same : n.size ≡ m.size)
+    (mine : (c : ℕ) → c < 128 → c < m.size.columns → is_dark_bit a c ≡ module_at m row c)
+    (other : (c : ℕ) → c < 128 → c < n.size.columns → is_dark_bit b c ≡ module_at n row c) where
+  columns : n.size.columns ≡ m.size.columns
+  columns = ap (λ (s : SizeEntry). s.columns) same
+
+  -- In a row of at most 128 columns the modules are the same where the bits are.
+  pub told_first : (result : Bool) (k : ℕ) → k ≡ m.size.columns → k ≤ 128 →
+      (IsTrue result ↔ ((c : ℕ) → c < k → is_dark_bit a c ≡ is_dark_bit b c)) →
+      IsTrue result ↔ ((c : ℕ) → c < m.size.columns → module_at m row c ≡ module_at n row c)
+  told_first result k ek few told = (
+    λ t c l.
+        let lk : c < k = omega (arith, l, ek) in
+        let low : c < 128 = omega (arith, lk, few) in
+        let far : c < n.size.columns = omega (arith, l, columns) in
+        sym (mine c low l) ∙ told.0 t c lk ∙ other c low far,
+    λ h. told.1 (λ c lk.
+        let l : c < m.size.columns = omega (arith, lk, ek) in
+        let low : c < 128 = omega (arith, lk, few) in
+        let far : c < n.size.columns = omega (arith, l, columns) in
+        mine c low l ∙ h c l ∙ sym (other c low far)),
+  )
+
+  -- In a longer row they are so where the first numbers agree, and the bits of the second.
+  pub told_end : (x y : ℕ) (result : Bool) (k : ℕ) → k ≡ m.size.columns → a ≡ b →
+      ((c : ℕ) → 128 + c < m.size.columns → is_dark_bit x c ≡ module_at m row (128 + c)) →
+      ((c : ℕ) → 128 + c < n.size.columns → is_dark_bit y c ≡ module_at n row (128 + c)) →
+      (IsTrue result ↔ ((c : ℕ) → c < k - 128 → is_dark_bit x c ≡ is_dark_bit y c)) →
+      IsTrue result ↔ ((c : ℕ) → c < m.size.columns → module_at m row c ≡ module_at n row c)
+  told_end x y result k ek e my_end other_end told = (
+    λ t c l. by_column t c l (cases_lt c 128),
+    λ h. told.1 (λ c lk.
+        let l : 128 + c < m.size.columns = omega (arith, lk, ek) in
+        let far : 128 + c < n.size.columns = omega (arith, l, columns) in
+        my_end c l ∙ h (128 + c) l ∙ sym (other_end c far)),
+  )
+    where
+      by_column : IsTrue result → (c : ℕ) → c < m.size.columns → (c < 128) ⊎ (128 ≤ c) →
+          module_at m row c ≡ module_at n row c
+      by_column t c l (inl low) =
+          let far : c < n.size.columns = omega (arith, l, columns) in
+          sym (mine c low l) ∙ ap (λ (i : ℕ). is_dark_bit i c) e ∙ other c low far
+      by_column t c l (inr high) =
+          let is : 128 + (c - 128) ≡ c = omega (arith, high) in
+          ap (module_at m row) (sym is)
+          ∙ sym (my_end (c - 128) (omega (arith, l, high))) ∙ told.0 t (c - 128) (omega (arith, l, high, ek))
+          ∙ other_end (c - 128) (omega (arith, l, high, columns)) ∙ ap (module_at n row) is
+
+  -- Where the first numbers of a longer row differ, so do modules.
+  pub told_none : 128 < m.size.columns → a < 2 ^ 128 → b < 2 ^ 128 → (a ≡ b → ⊥) →
+      ((c : ℕ) → c < m.size.columns → module_at m row c ≡ module_at n row c) → ⊥
+  told_none wide la lb ne h =
+      ne (same_row_numbers 128 a b la lb (λ c low.
+      let l : c < m.size.columns = omega (arith, low, wide) in
+      let far : c < n.size.columns = omega (arith, l, columns) in
+      mine c low l ∙ h c l ∙ sym (other c low far)))

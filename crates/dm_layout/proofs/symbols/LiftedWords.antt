@@ -1,0 +1,254 @@
+-- That the codewords of widened rows, read slot by slot, are those of the symbol.
+use Rattle.std.proofs.Common.{◌≡◌, ℕ, ◌+◌, ◌-◌, ◌*◌, ◌/◌, ◌%◌, ◌^◌, ◌<◌, ◌≤◌, Bool, true, false, ◌&&◌, nat_eq}
+use Rattle.std.proofs.Common.{nat_lt, nat_le, List, [], ◌∷◌, map, get_or, refl, sym, ◌∙◌, ap, arith, subst}
+use Rattle.std.specs.List.{list_all}
+use Rattle.std.proofs.Math.Nat.{add-mul-div_left, add-mul-mod_self_left, div-eq_of_lt, mod-eq_of_lt}
+use Rattle.std.proofs.lemmas.Bool.{and_parts, ltb-true, ltb-false, eqb-true, lt-leb}
+use Rattle.dm_place.specs.declared.shape.Cell.{Cell}
+use Rattle.dm_place.specs.declared.shape.Shape.{Shape}
+use Rattle.dm_place.specs.declared.shape.Shape.TheVariants.{Standard, Corner1, Corner2, Corner3, Corner4}
+use Rattle.dm_place.specs.Placement.{At, cells_of, lowered_cell, wrapped_twice, wrapped_cell, standard, CellsInside}
+use Rattle.dm_place.specs.Holding.{digit, number_of, word_at}
+use Rattle.dm_place.proofs.Exported.{digit-has, sum_of_digits, inside_test, cells_inside}
+use Rattle.dm_layout.specs.symbols.Symbols.{is_dark_bit}
+use Rattle.dm_layout.specs.symbols.inner.Reading.{look_in}
+use Rattle.dm_layout.specs.symbols.inner.Slots.{bits_in, reversed_bits, first_column, slot_of, slot_byte, IsJoined}
+use Rattle.dm_layout.specs.symbols.inner.Slots.{HasSlots}
+use Rattle.dm_layout.specs.symbols.inner.Widened.{round, IsWidened}
+use Rattle.dm_layout.proofs.symbols.SlotRows.{corner_slot_is}
+
+-- ---- rows of slots
+
+-- A slot lies in its row, at its place.
+pub slot_row : (bytes r k : ℕ) → k < bytes → (bytes * r + k) / bytes ≡ r
+slot_row bytes r k l =
+    let e : bytes * r + k ≡ k + bytes * r = omega arith in
+    ap (λ (x : ℕ). x / bytes) e ∙ add-mul-div_left k r (omega (arith, l))
+    ∙ ap (λ (x : ℕ). x + r) (div-eq_of_lt l) ∙ (let z : 0 + r ≡ r = omega arith in z)
+
+pub slot_place : (bytes r k : ℕ) → k < bytes → (bytes * r + k) % bytes ≡ k
+slot_place bytes r k l =
+    let e : bytes * r + k ≡ k + bytes * r = omega arith in
+    ap (λ (x : ℕ). x % bytes) e ∙ add-mul-mod_self_left k bytes r ∙ mod-eq_of_lt l
+
+-- ---- which shapes there are
+
+-- The anchor of a standard shape lies in the matrix, in a column of its row's anchors; a corner belongs to its rows and
+-- columns.
+abbrev pub kind_test : ℕ → ℕ → Shape → Bool
+kind_test R C (Standard r c) = (nat_lt r R && nat_lt c C) && nat_eq ((5 * r + c) % 8) 4
+kind_test R C Corner1 = nat_eq (R % 8) 4 && nat_eq (C % 8) 4
+kind_test R C Corner2 = nat_eq (R % 8) 6 && nat_eq (C % 8) 6
+kind_test R C Corner3 = nat_eq (R % 8) 6 && nat_eq (C % 8) 4
+kind_test R C Corner4 = nat_eq (R % 8) 6 && nat_eq (C % 8) 0
+
+-- A shape fits if it is of a kind that the matrix has, and its cells lie in the matrix.
+abbrev pub fits_test : ℕ → ℕ → Shape → Bool
+fits_test R C s = kind_test R C s && inside_test R C (cells_of R C s)
+
+-- ---- a cell of a standard shape in widened rows
+
+-- The cell where a cell of a shape wraps round the upper and the left edge, by the three tests of its wrapping.
+abbrev pub cell_by : ℕ → ℕ → ℕ → ℕ → ℕ → ℕ → Bool → Bool → Bool → Cell
+cell_by R C r c up left t u v =
+    elim t [
+      | true ↦ elim u [
+        | true ↦ At (r + R + 4 - (up + (C + 4) % 8)) (c + 4 + C - (left + (R + 4) % 8))
+        | false ↦ At (r + R - up) (c + 4 - (left + (R + 4) % 8))
+      ]
+      | false ↦ elim v [ true ↦ At (r + 4 - (up + (C + 4) % 8)) (c + C - left) | false ↦ At (r - up) (c - left) ]
+    ]
+
+-- It lies in the row that begins anew.
+pub lowered_row : (R : ℕ) (x : Cell) → (lowered_cell R x).row ≡ round R x.row
+lowered_row R x = by_test (nat_le R x.row)
+  where
+    by_test : (t : Bool) → (elim t as (λ _. Cell) [ true ↦ At (x.row - R) x.column | false ↦ x ]).row ≡
+        elim t as (λ _. ℕ) [ true ↦ x.row - R | false ↦ x.row ]
+    by_test true = refl
+    by_test false = refl
+
+-- It keeps its column.
+pub lowered_column : (R : ℕ) (x : Cell) → (lowered_cell R x).column ≡ x.column
+lowered_column R x = by_test (nat_le R x.row)
+  where
+    by_test : (t : Bool) → (elim t as (λ _. Cell) [ true ↦ At (x.row - R) x.column | false ↦ x ]).column ≡ x.column
+    by_test true = refl
+    by_test false = refl
+
+-- What is seen there is seen in that row and column.
+lowered_at : (look : ℕ → ℕ → Bool) (R : ℕ) (x : Cell) →
+    look (lowered_cell R x).row (lowered_cell R x).column ≡ look (round R x.row) x.column
+lowered_at look R x =
+    ap (λ (i : ℕ). look i (lowered_cell R x).column) (lowered_row R x) ∙ ap (look (round R x.row)) (lowered_column R x)
+
+-- A row of the matrix stays what it is.
+round_same : (R x : ℕ) → x < R → round R x ≡ x
+round_same R x l = ap (λ (t : Bool). elim t [ true ↦ x - R | false ↦ x ]) (lt-leb R x l)
+
+module _ (R C : ℕ) (look : ℕ → ℕ → Bool) (rows : List ℕ) (some : 6 ≤ R) (least : 6 ≤ C)
+    (even_rows : R % 2 ≡ 0) (even_columns : C % 2 ≡ 0) (wide : IsWidened R C look rows) where
+  -- Places whose rows and columns agree look the same.
+  same_look : (f : ℕ → ℕ → Bool) (a b x y : ℕ) → a ≡ x → b ≡ y → f a b ≡ f x y
+  same_look f a b x y p q = ap (λ (i : ℕ). f i b) p ∙ ap (f x) q
+
+  by_tests : (r c up left : ℕ) (t u v : Bool) → r < R → c < C → (5 * r + c) % 8 ≡ 4 → up ≤ 2 → left ≤ 2 →
+      nat_lt r up ≡ t → nat_lt (c + 4) (left + (R + 4) % 8) ≡ u → nat_lt c left ≡ v →
+      (cell_by R C r c up left t u v).column < C →
+      look_in rows (r + 2 - up) (c + 4 - left) ≡
+      look (round R (cell_by R C r c up left t u v).row) (cell_by R C r c up left t u v).column
+  by_tests r c up left false u false lr lc anchor lu ll e f g ic =
+      let a = ltb-false r up e in
+      let b = ltb-false c left g in
+      let ir : r - up < R = omega (arith, lr) in
+      same_look (look_in rows) _ _ (r - up + 2) (c - left + 4) (omega arith) (omega arith)
+      ∙ wide.inside (r - up) (c - left) ir ic
+      ∙ ap (λ (i : ℕ). look i (c - left)) (sym (round_same R (r - up) ir))
+  by_tests r c up left false u true lr lc anchor lu ll e f g ic =
+      let a = ltb-false r up e in
+      let b = ltb-true c left g in
+      let low : 4 ≤ r = omega (arith, anchor, b, ll) in
+      let s : (C + 4) % 8 ≤ 6 = omega (arith, even_columns) in
+      wide.left (r + 2 - up) (c + 4 - left) (omega (arith, a)) (omega (arith, lr)) (omega (arith, b))
+      (omega (arith, low, lu, s))
+      ∙ same_look (λ x. look (round R x)) _ _ _ _ (omega (arith, a)) (omega (arith, b))
+  by_tests r c up left true false v lr lc anchor lu ll e f g ic =
+      let a = ltb-true r up e in
+      let b = ltb-false (c + 4) (left + (R + 4) % 8) f in
+      let ir : r + R - up < R = omega (arith, a) in
+      wide.above (r + 2 - up) (c + 4 - left) (omega (arith, a, lu)) (omega (arith, lc)) (omega (arith, b))
+      (omega (arith, ic, b))
+      ∙ same_look look _ _ (r + R - up) _ (omega (arith, a, lu)) (omega (arith, b))
+      ∙ ap (λ (i : ℕ). look i (c + 4 - (left + (R + 4) % 8))) (sym (round_same R (r + R - up) ir))
+  by_tests r c up left true true v lr lc anchor lu ll e f g ic =
+      let a = ltb-true r up e in
+      let b = ltb-true (c + 4) (left + (R + 4) % 8) f in
+      let s : (R + 4) % 8 ≤ 6 = omega (arith, even_rows) in
+      let d : (C + 4) % 8 ≤ 6 = omega (arith, even_columns) in
+      wide.above_left (r + 2 - up) (c + 4 - left) (omega (arith, a, lu)) (omega (arith, b, ll)) (omega (arith, s, ll))
+      ∙ same_look (λ x. look (round R x)) _ _ _ _ (omega (arith, a, lu, d, some)) (omega (arith, b, ll, s, least))
+
+  -- A cell of a standard shape in widened rows has the colour of the cell where it wraps.
+  wide_at : (r c up left : ℕ) → r < R → c < C → (5 * r + c) % 8 ≡ 4 → up ≤ 2 → left ≤ 2 →
+      (wrapped_cell R C r c up left).column < C →
+      look_in rows (r + 2 - up) (c + 4 - left) ≡
+      look (wrapped_cell R C r c up left).row (wrapped_cell R C r c up left).column
+  wide_at r c up left lr lc anchor lu ll ic =
+      by_tests r c up left (nat_lt r up) (nat_lt (c + 4) (left + (R + 4) % 8)) (nat_lt c left) lr lc anchor lu ll refl
+      refl refl (subst (λ (i : ℕ). i < C) (lowered_column R (wrapped_twice R C r c up left)) ic)
+      ∙ sym (lowered_at look R (wrapped_twice R C r c up left))
+
+  -- ---- a codeword
+
+  -- A digit of a byte is 1 or 0 as its cell is dark or light.
+  digit_of : (y t : ℕ) (b : Bool) → is_dark_bit y t ≡ b → y / 2 ^ t % 2 ≡ digit b
+  digit_of y t b e = sym (digit-has y (2 ^ t)) ∙ ap digit e
+
+  -- A byte with its bits in the opposite order is the number of its eight digits, the lowest first.
+  eight_reversed : (y : ℕ) (b1 b2 b3 b4 b5 b6 b7 b8 : Bool) → is_dark_bit y 0 ≡ b1 → is_dark_bit y 1 ≡ b2 →
+      is_dark_bit y 2 ≡ b3 → is_dark_bit y 3 ≡ b4 → is_dark_bit y 4 ≡ b5 → is_dark_bit y 5 ≡ b6 → is_dark_bit y 6 ≡ b7 →
+      is_dark_bit y 7 ≡ b8 →
+      reversed_bits y ≡ number_of 0 (b1 ∷ b2 ∷ b3 ∷ b4 ∷ b5 ∷ b6 ∷ b7 ∷ b8 ∷ [])
+  eight_reversed y b1 b2 b3 b4 b5 b6 b7 b8 e1 e2 e3 e4 e5 e6 e7 e8 =
+      summed (y % 2) (y / 2 % 2) (y / 4 % 2) (y / 8 % 2) (y / 16 % 2) (y / 32 % 2) (y / 64 % 2) (y / 128 % 2) _ _ _ _ _
+      _ _ _
+      (let z : y / 1 ≡ y = omega arith in ap (λ (i : ℕ). i % 2) (sym z) ∙ digit_of y 0 b1 e1) (digit_of y 1 b2 e2)
+      (digit_of y 2 b3 e3) (digit_of y 3 b4 e4) (digit_of y 4 b5 e5) (digit_of y 5 b6 e6) (digit_of y 6 b7 e7)
+      (digit_of y 7 b8 e8)
+      ∙ sym (sum_of_digits b1 b2 b3 b4 b5 b6 b7 b8)
+    where
+      summed : (x1 x2 x3 x4 x5 x6 x7 x8 d1 d2 d3 d4 d5 d6 d7 d8 : ℕ) → x1 ≡ d1 → x2 ≡ d2 → x3 ≡ d3 → x4 ≡ d4 → x5 ≡ d5 →
+          x6 ≡ d6 → x7 ≡ d7 → x8 ≡ d8 →
+          128 * x1 + 64 * x2 + 32 * x3 + 16 * x4 + 8 * x5 + 4 * x6 + 2 * x7 + x8 ≡
+          128 * d1 + 64 * d2 + 32 * d3 + 16 * d4 + 8 * d5 + 4 * d6 + 2 * d7 + d8
+      summed x1 x2 x3 x4 x5 x6 x7 x8 d1 d2 d3 d4 d5 d6 d7 d8 p1 p2 p3 p4 p5 p6 p7 p8 = omega arith
+
+  -- The byte of an anchor, with its bits in the opposite order, is the codeword of the anchor's standard shape.
+  standard_word : (r c x : ℕ) → r < R → c < C → (5 * r + c) % 8 ≡ 4 → CellsInside R C (standard R C r c) →
+      IsJoined C rows r x →
+      reversed_bits (x / 2 ^ (8 * (c / 8)) % 256) ≡ word_at look (standard R C r c)
+  standard_word r c x lr lc anchor inside slots =
+      let k : ℕ = c / 8 in
+      let lk : 8 * k < C = omega (arith, lc) in
+      let base : first_column r + 8 * k ≡ c + 2 = omega (arith, anchor) in
+      eight_reversed (x / 2 ^ (8 * k) % 256) _ _ _ _ _ _ _ _
+      (slots.first k 0 lk (omega arith) ∙ same_look (look_in rows) _ _ (r + 2 - 2) (c + 4 - 2) (omega arith)
+      (omega (arith, base)) ∙ wide_at r c 2 2 lr lc anchor (omega arith) (omega arith) inside.1)
+      (slots.first k 1 lk (omega arith) ∙ same_look (look_in rows) _ _ (r + 2 - 2) (c + 4 - 1) (omega arith)
+      (omega (arith, base)) ∙ wide_at r c 2 1 lr lc anchor (omega arith) (omega arith) inside.2.1)
+      (slots.second k 0 lk (omega arith) ∙ same_look (look_in rows) _ _ (r + 2 - 1) (c + 4 - 2) (omega arith)
+      (omega (arith, base)) ∙ wide_at r c 1 2 lr lc anchor (omega arith) (omega arith) inside.2.2.1)
+      (slots.second k 1 lk (omega arith) ∙ same_look (look_in rows) _ _ (r + 2 - 1) (c + 4 - 1) (omega arith)
+      (omega (arith, base)) ∙ wide_at r c 1 1 lr lc anchor (omega arith) (omega arith) inside.2.2.2.1)
+      (slots.second k 2 lk (omega arith) ∙ same_look (look_in rows) _ _ (r + 2 - 1) (c + 4 - 0) (omega arith)
+      (omega (arith, base)) ∙ wide_at r c 1 0 lr lc anchor (omega arith) (omega arith) inside.2.2.2.2.1)
+      (slots.third k 0 lk (omega arith) ∙ same_look (look_in rows) _ _ (r + 2 - 0) (c + 4 - 2) (omega arith)
+      (omega (arith, base)) ∙ wide_at r c 0 2 lr lc anchor (omega arith) (omega arith) inside.2.2.2.2.2.1)
+      (slots.third k 1 lk (omega arith) ∙ same_look (look_in rows) _ _ (r + 2 - 0) (c + 4 - 1) (omega arith)
+      (omega (arith, base)) ∙ wide_at r c 0 1 lr lc anchor (omega arith) (omega arith) inside.2.2.2.2.2.2.1)
+      (slots.third k 2 lk (omega arith) ∙ same_look (look_in rows) _ _ (r + 2 - 0) (c + 4 - 0) (omega arith)
+      (omega (arith, base)) ∙ wide_at r c 0 0 lr lc anchor (omega arith) (omega arith) inside.2.2.2.2.2.2.2.1)
+
+  -- Cells that don't wrap have, in widened rows, the bits that they have in the matrix.
+  plain_bits : (a : ℕ) (xs : List Cell) → CellsInside R C xs →
+      bits_in rows a xs ≡ number_of a (map (λ x. look x.row x.column) xs)
+  plain_bits a [] h = refl
+  plain_bits a (x ∷ xs) h =
+      ap (λ (d : ℕ). bits_in rows (2 * a + d) xs) (sym (digit-has (get_or rows (x.row + 2) 0) (2 ^ (x.column + 4)))
+      ∙ ap digit (wide.inside x.row x.column h.0 h.1))
+      ∙ plain_bits (2 * a + digit (look x.row x.column)) xs h.2
+
+  module _ (bytes most : ℕ) (room : C ≤ 8 * bytes) (news : List ℕ) (slots : HasSlots most R C rows news) where
+    -- The byte of an anchor stands in the row of that anchor.
+    in_row : (r k : ℕ) → k < bytes → slot_byte bytes news (bytes * r + k) ≡ get_or news r 0 / 2 ^ (8 * k) % 256
+    in_row r k lk =
+        ap (λ (i : ℕ). get_or news i 0 / 2 ^ (8 * ((bytes * r + k) % bytes)) % 256) (slot_row bytes r k lk)
+        ∙ ap (λ (i : ℕ). get_or news r 0 / 2 ^ (8 * i) % 256) (slot_place bytes r k lk)
+
+    -- The lowest byte of the row behind all others is that of the slot of a corner.
+    corner_row : slot_byte bytes news (bytes * most) ≡ get_or news most 0 % 256
+    corner_row = corner_slot_is bytes most news (omega (arith, room, least))
+
+    -- The codeword of a shape stands in its slot.
+    shape_word : (s : Shape) → fits_test R C s ≡ true →
+        reversed_bits (slot_byte bytes news (slot_of bytes most s)) ≡ word_at look (cells_of R C s)
+    shape_word (Standard r c) fits =
+        let both = and_parts (kind_test R C (Standard r c)) (inside_test R C (cells_of R C (Standard r c))) fits in
+        let kind = and_parts (nat_lt r R && nat_lt c C) (nat_eq ((5 * r + c) % 8) 4) both.0 in
+        let here = and_parts (nat_lt r R) (nat_lt c C) kind.0 in
+        let lr = ltb-true r R here.0 in
+        let lc = ltb-true c C here.1 in
+        ap reversed_bits (in_row r (c / 8) (omega (arith, lc, room)))
+        ∙ standard_word r c (get_or news r 0) lr lc (eqb-true ((5 * r + c) % 8) 4 kind.1)
+        (cells_inside R C (standard R C r c) both.1) (slots.anchors r lr)
+    shape_word Corner1 fits =
+        let both = and_parts (kind_test R C Corner1) (inside_test R C (cells_of R C Corner1)) fits in
+        let kind = and_parts (nat_eq (R % 8) 4) (nat_eq (C % 8) 4) both.0 in
+        ap reversed_bits corner_row ∙ slots.corner1 (eqb-true (R % 8) 4 kind.0) (eqb-true (C % 8) 4 kind.1)
+        ∙ plain_bits 0 (cells_of R C Corner1) (cells_inside R C (cells_of R C Corner1) both.1)
+    shape_word Corner2 fits =
+        let both = and_parts (kind_test R C Corner2) (inside_test R C (cells_of R C Corner2)) fits in
+        let kind = and_parts (nat_eq (R % 8) 6) (nat_eq (C % 8) 6) both.0 in
+        ap reversed_bits corner_row ∙ slots.corner2 (eqb-true (R % 8) 6 kind.0) (eqb-true (C % 8) 6 kind.1)
+        ∙ plain_bits 0 (cells_of R C Corner2) (cells_inside R C (cells_of R C Corner2) both.1)
+    shape_word Corner3 fits =
+        let both = and_parts (kind_test R C Corner3) (inside_test R C (cells_of R C Corner3)) fits in
+        let kind = and_parts (nat_eq (R % 8) 6) (nat_eq (C % 8) 4) both.0 in
+        ap reversed_bits corner_row ∙ slots.corner3 (eqb-true (R % 8) 6 kind.0) (eqb-true (C % 8) 4 kind.1)
+        ∙ plain_bits 0 (cells_of R C Corner3) (cells_inside R C (cells_of R C Corner3) both.1)
+    shape_word Corner4 fits =
+        let both = and_parts (kind_test R C Corner4) (inside_test R C (cells_of R C Corner4)) fits in
+        let kind = and_parts (nat_eq (R % 8) 6) (nat_eq (C % 8) 0) both.0 in
+        ap reversed_bits corner_row ∙ slots.corner4 (eqb-true (R % 8) 6 kind.0) (eqb-true (C % 8) 0 kind.1)
+        ∙ plain_bits 0 (cells_of R C Corner4) (cells_inside R C (cells_of R C Corner4) both.1)
+
+    -- The codewords of all shapes stand in their slots.
+    pub slot_words : (ss : List Shape) → list_all (fits_test R C) ss ≡ true →
+        map (λ x. reversed_bits (slot_byte bytes news x)) (map (slot_of bytes most) ss) ≡
+        map (λ sh. word_at look (cells_of R C sh)) ss
+    slot_words [] fits = refl
+    slot_words (s ∷ ss) fits =
+        let both = and_parts (fits_test R C s) (list_all (fits_test R C) ss) fits in
+        ap (λ (w : ℕ). w ∷ map (λ x. reversed_bits (slot_byte bytes news x)) (map (slot_of bytes most) ss))
+        (shape_word s both.0)
+        ∙ ap (λ (ws : List ℕ). word_at look (cells_of R C s) ∷ ws) (slot_words ss both.1)

@@ -1,0 +1,153 @@
+-- What the computed tests of the slots say of each size.
+use Rattle.std.proofs.Common.{◌≡◌, inl, inr, ℕ, zero, suc, ◌+◌, ◌*◌, ◌/◌, ◌%◌, ◌<◌, ◌≤◌, true, refl, subst, ◌&&◌}
+use Rattle.std.proofs.Common.{nat_eq}
+use Rattle.std.proofs.Common.{nat_lt, nat_le, List, [], ◌∷◌, ◌++◌, map, length, take, set, get_or, ap, sym, ◌∙◌, arith}
+use Rattle.std.specs.List.{list_all}
+use Rattle.std.specs.Cmp.Lexicographic.{pointwise, same_text}
+use Rattle.std.proofs.lemmas.Bool.{and_parts, ltb-true, leb-true}
+use Rattle.std.proofs.lemmas.List.{length-map, take_more, take_more_set, get_or-map}
+use Rattle.dm_layout.specs.symbols.Sizes.{SizeEntry, IsSize, codeword_count, mapping_rows, mapping_columns}
+use Rattle.dm_layout.proofs.symbols.Exported.{placed_size, size_facts}
+use Rattle.dm_place.specs.Placement.{shapes, cells_of}
+use Rattle.dm_place.specs.declared.shape.Shape.{Shape}
+use Rattle.dm_place.specs.declared.shape.Shape.TheVariants.{Standard, Corner1, Corner2, Corner3, Corner4}
+use Rattle.dm_place.proofs.Exported.{few_shapes, inside_test, shapes-few, count_at_sides}
+use Rattle.dm_layout.specs.symbols.inner.Slots.{bytes_of, most_of, order_of, slot_of, HasSlot}
+use Rattle.dm_layout.proofs.symbols.LiftedWords.{fits_test, kind_test, slot_row, slot_place}
+use Rattle.dm_layout.proofs.symbols.Sizes.{passed_at_size, even_product}
+use Rattle.dm_layout.proofs.symbols.TestedSlots as slotted
+use Rattle.dm_layout.proofs.symbols.TestedSlots.{slots_test, room_test}
+
+-- The slots of a matrix are those of its shapes, and the shapes fit.
+pub record IsOrder (bytes most R C : ℕ) : Type 0 where
+  pub slots : order_of R C ≡ map (slot_of bytes most) (shapes R C)
+  pub fits : list_all (fits_test R C) (shapes R C) ≡ true
+
+-- The rows for a mapping matrix, of so many bytes each, have room for its rows and columns.
+pub record HasRoom (R C bytes most : ℕ) : Type 0 where
+  pub rows : R ≤ most
+  pub columns : C ≤ most
+  pub slots : C ≤ 8 * bytes
+  pub least_rows : 6 ≤ R
+  pub least_columns : 6 ≤ C
+  pub even_rows : R % 2 ≡ 0
+  pub even_columns : C % 2 ≡ 0
+
+-- Each size has room in its rows.
+pub room_at_size : (s : SizeEntry) (bytes most : ℕ) → IsSize s → bytes ≡ bytes_of (mapping_columns s) →
+    most ≡ most_of (mapping_columns s) → HasRoom (mapping_rows s) (mapping_columns s) bytes most
+room_at_size s bytes most entry eb em =
+    let R : ℕ = mapping_rows s in
+    let C : ℕ = mapping_columns s in
+    let facts = size_facts s entry in
+    let passed =
+    passed_at_size (λ size. room_test (mapping_rows size) (mapping_columns size)) s slotted.room_tested entry in
+    let both = and_parts (nat_le R (most_of C) && nat_le C (most_of C)) (nat_le C (8 * bytes_of C)) passed in
+    let first = and_parts (nat_le R (most_of C)) (nat_le C (most_of C)) both.0 in
+    record {
+      rows = subst (λ (i : ℕ). R ≤ i) (sym em) (leb-true R (most_of C) first.0);
+      columns = subst (λ (i : ℕ). C ≤ i) (sym em) (leb-true C (most_of C) first.1);
+      slots = subst (λ (i : ℕ). C ≤ 8 * i) (sym eb) (leb-true C (8 * bytes_of C) both.1);
+      least_rows = facts.least_matrix_rows;
+      least_columns = facts.least_matrix_columns;
+      even_rows = even_product s.regions_down s.region_rows facts.even_rows;
+      even_columns = even_product s.regions_across s.region_columns facts.even_columns;
+    }
+
+-- Each size has its slots in the order of its shapes.
+pub order_at_size : (s : SizeEntry) (bytes most : ℕ) → IsSize s → bytes ≡ bytes_of (mapping_columns s) →
+    most ≡ most_of (mapping_columns s) → IsOrder bytes most (mapping_rows s) (mapping_columns s)
+order_at_size s bytes most entry eb em =
+    let R : ℕ = mapping_rows s in
+    let C : ℕ = mapping_columns s in
+    let passed =
+    passed_at_size (λ size. slots_test (mapping_rows size) (mapping_columns size)) s slotted.tested entry in
+    let both =
+    and_parts (pointwise nat_eq (order_of R C) (map (slot_of (bytes_of C) (most_of C)) (few_shapes R C)))
+    (list_all (fits_test R C) (few_shapes R C)) passed in
+    record {
+      slots =
+          same_text (order_of R C) (map (slot_of (bytes_of C) (most_of C)) (few_shapes R C)) (sym both.0)
+          ∙ ap (λ (i : ℕ). map (slot_of i (most_of C)) (few_shapes R C)) (sym eb)
+          ∙ ap (λ (i : ℕ). map (slot_of bytes i) (few_shapes R C)) (sym em)
+          ∙ ap (map (slot_of bytes most)) (sym (shapes-few R C));
+      fits = ap (list_all (fits_test R C)) (shapes-few R C) ∙ both.1;
+    }
+
+-- The slot of a shape that fits lies in the rows.
+slot_fits : (bytes most R C : ℕ) (s : Shape) → HasRoom R C bytes most → fits_test R C s ≡ true →
+    HasSlot bytes most (slot_of bytes most s)
+slot_fits bytes most R C (Standard r c) room fits =
+    let both = and_parts (kind_test R C (Standard r c)) (inside_test R C (cells_of R C (Standard r c))) fits in
+    let kind = and_parts (nat_lt r R && nat_lt c C) (nat_eq ((5 * r + c) % 8) 4) both.0 in
+    let here = and_parts (nat_lt r R) (nat_lt c C) kind.0 in
+    let lr = ltb-true r R here.0 in
+    let lc = ltb-true c C here.1 in
+    let k : c / 8 < bytes = omega (arith, lc, room.slots) in
+    let row = slot_row bytes r (c / 8) k in
+    let place = slot_place bytes r (c / 8) k in
+    inr (omega (arith, row, lr, room.rows), omega (arith, place, lc, room.columns))
+slot_fits bytes most R C Corner1 room fits = inl refl
+slot_fits bytes most R C Corner2 room fits = inl refl
+slot_fits bytes most R C Corner3 room fits = inl refl
+slot_fits bytes most R C Corner4 room fits = inl refl
+
+-- The slots of shapes that fit lie in the rows.
+slots_fit : (bytes most R C i : ℕ) (ss : List Shape) → HasRoom R C bytes most → list_all (fits_test R C) ss ≡ true →
+    i < length (map (slot_of bytes most) ss) → HasSlot bytes most (get_or (map (slot_of bytes most) ss) i 0)
+slots_fit bytes most R C i [] room fits li = absurd (omega arith)
+slots_fit bytes most R C zero (s ∷ ss) room fits li =
+    slot_fits bytes most R C s room (and_parts (fits_test R C s) (list_all (fits_test R C) ss) fits).0
+slots_fit bytes most R C (suc i) (s ∷ ss) room fits li =
+    slots_fit bytes most R C i ss room (and_parts (fits_test R C s) (list_all (fits_test R C) ss) fits).1 (omega arith)
+
+-- What is known of the slots of a size, whose mapping matrix has m rows and k columns.
+pub record AreKnown (s : SizeEntry) (m k bytes most : ℕ) (xs : List ℕ) : Type 0 where
+  pub high : m ≡ mapping_rows s
+  pub wide : k ≡ mapping_columns s
+  pub slots : xs ≡ map (slot_of bytes most) (shapes m k)
+  pub fits : list_all (fits_test m k) (shapes m k) ≡ true
+  pub count : length xs ≡ codeword_count s
+  pub shape_count : length (shapes m k) ≡ codeword_count s
+  pub each : (i : ℕ) → i < length xs → HasSlot bytes most (get_or xs i 0)
+  pub room : HasRoom m k bytes most
+
+-- There are as many slots as codewords, and each lies in the rows.
+pub known : (s : SizeEntry) (m k bytes most : ℕ) (xs : List ℕ) → IsSize s → bytes ≡ bytes_of (mapping_columns s) →
+    most ≡ most_of (mapping_columns s) → m ≡ mapping_rows s → k ≡ mapping_columns s → xs ≡ order_of m k →
+    AreKnown s m k bytes most xs
+known s m k bytes most xs entry eb em er ec e =
+    let order : IsOrder bytes most m k =
+    subst (λ (i : ℕ). IsOrder bytes most i k) (sym er)
+    (subst (λ (i : ℕ). IsOrder bytes most (mapping_rows s) i) (sym ec) (order_at_size s bytes most entry eb em)) in
+    let room : HasRoom m k bytes most =
+    subst (λ (i : ℕ). HasRoom i k bytes most) (sym er)
+    (subst (λ (i : ℕ). HasRoom (mapping_rows s) i bytes most) (sym ec) (room_at_size s bytes most entry eb em)) in
+    let slots : xs ≡ map (slot_of bytes most) (shapes m k) = e ∙ order.slots in
+    let shape_count : length (shapes m k) ≡ codeword_count s =
+    ap (λ (i : ℕ). length (shapes i k)) er ∙ ap (λ (i : ℕ). length (shapes (mapping_rows s) i)) ec
+    ∙ count_at_sides (mapping_rows s) (mapping_columns s) (codeword_count s) (placed_size s entry) in
+    let n = ap length slots in
+    record {
+      high = er;
+      wide = ec;
+      slots = slots;
+      fits = order.fits;
+      count = n ∙ length-map (shapes m k) (slot_of bytes most) ∙ shape_count;
+      shape_count = shape_count;
+      each = λ i l.
+          subst (λ (ys : List ℕ). HasSlot bytes most (get_or ys i 0)) (sym slots)
+          (slots_fit bytes most m k i (shapes m k) room order.fits (omega (arith, n, l)));
+      room = room;
+    }
+
+-- When the codeword of the next slot is read, the first i + 1 codewords are those of the slots.
+pub read_more : (f : ℕ → ℕ) (list slots : List ℕ) (i x : ℕ) → i < length list → i < length slots →
+    x ≡ f (get_or slots i 0) → take i list ≡ take i (map f slots) →
+    take (i + 1) (set list i x) ≡ take (i + 1) (map f slots)
+read_more f list slots i x l k e h =
+    let m = length-map slots f in
+    take_more_set list i x l
+    ∙ ap (λ (ws : List ℕ). ws ++ x ∷ []) h
+    ∙ ap (λ (w : ℕ). take i (map f slots) ++ w ∷ []) (e ∙ sym (get_or-map f slots i 0 0 k))
+    ∙ sym (take_more (map f slots) i 0 (omega (arith, m, k)))

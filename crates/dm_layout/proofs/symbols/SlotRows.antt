@@ -1,0 +1,346 @@
+-- The codewords of a row as the bytes of one number.
+use Rattle.std.proofs.Common.{◌≡◌, ◌≢◌, ◌⊎◌, inl, inr, ℕ, zero, suc, ◌+◌, ◌-◌, ◌*◌, ◌/◌, ◌%◌, ◌^◌, ◌<◌, ◌≤◌, Bool, true}
+use Rattle.std.proofs.Common.{false, ◌&&◌, ◌||◌, nat_eq, nat_le, nat_lt, List, [], ◌∷◌, length, get_or, set, refl, sym}
+use Rattle.std.proofs.Common.{◌∙◌, ap, arith, subst, below_more, get_or-set_same, get_or-set_other}
+use lib.Bits.{bit_and}
+use Rattle.std.proofs.Math.Bool.{or-false}
+use Rattle.std.proofs.Math.Nat.{mul-div_cancel_left, mul-mod_right}
+use Rattle.std.specs.Bool.{beq}
+use Rattle.std.specs.Cmp.{booleans_Decides}
+use Rattle.std.specs.Prelude.{min}
+use Rattle.std.specs.Int.{bit_at}
+use Rattle.std.specs.Int.Bits.{or_zero_l}
+use Rattle.std.specs.Int.RustNames.{bit_or}
+use Rattle.std.specs.List.{list_all, range_with_len}
+use Rattle.std.proofs.lemmas.Bool.{eqb-true, and_parts, lt-ltb, le-ltb, le-leb, lt-leb, cases_lt}
+use Rattle.std.proofs.lemmas.Nat.Bits.{bit_at_and, bit_at-lt}
+use Rattle.dm_layout.specs.symbols.Symbols.{is_dark_bit}
+use Rattle.dm_layout.specs.symbols.inner.Reading.{look_in}
+use Rattle.dm_layout.specs.symbols.inner.Laying.{with_byte}
+use Rattle.dm_layout.specs.symbols.inner.Slots.{is_joined, reversed_bits}
+use Rattle.dm_layout.specs.declared.symbols.slots.TheConstants.{REVERSED}
+use Rattle.dm_layout.specs.declared.symbols.wide_rows.TheConstants.{LOW_TWO_BITS, LOW_THREE_BITS}
+use Rattle.dm_layout.specs.declared.symbols.narrow_rows.TheConstants.{NARROW_LOW_TWO_BITS}
+use Rattle.dm_layout.specs.declared.symbols.narrow_rows.TheConstants.{NARROW_LOW_THREE_BITS}
+use Rattle.dm_place.proofs.Exported.{all_below}
+use Rattle.dm_layout.proofs.symbols.Rows.{or_dark}
+use Rattle.dm_place.specs.Placement.{cells_of}
+use Rattle.dm_place.specs.declared.shape.Shape.TheVariants.{Corner1, Corner2, Corner3, Corner4}
+use Rattle.dm_layout.specs.symbols.inner.Slots.{IsJoined, AreJoined, HasSlots, first_column, slot_byte, word_in}
+use Rattle.dm_layout.proofs.symbols.Rows.{moved_bit}
+use Rattle.dm_layout.proofs.symbols.WidenedRows.{bit_up, none_up, low_bit}
+
+-- ---- bytes with their bits in the opposite order
+
+-- The numbers of the list are those of a function from place n on.
+unfoldable table_test : (ℕ → ℕ) → ℕ → List ℕ → Bool
+table_test f n [] = true
+table_test f n (y ∷ ys) = nat_eq y (f n) && table_test f (suc n) ys
+
+-- Where a list passes the test of its numbers, each place holds its own.
+table_at : (f : ℕ → ℕ) (n i : ℕ) (t : List ℕ) → table_test f n t ≡ true → i < length t → get_or t i 0 ≡ f (n + i)
+unfolding table_test
+table_at f n i [] h l = absurd (omega arith)
+table_at f n zero (y ∷ ys) h l =
+    let z : n ≡ n + 0 = omega arith in
+    eqb-true y (f n) (and_parts (nat_eq y (f n)) (table_test f (suc n) ys) h).0 ∙ ap f z
+table_at f n (suc i) (y ∷ ys) h l =
+    let z : suc n + i ≡ n + suc i = omega arith in
+    table_at f (suc n) i ys (and_parts (nat_eq y (f n)) (table_test f (suc n) ys) h).1 (omega arith) ∙ ap f z
+
+reversed_test : table_test reversed_bits 0 REVERSED ≡ true
+unfolding table_test
+reversed_test = refl
+
+reversed_length : length REVERSED ≡ 256
+reversed_length = refl
+
+-- The table has each byte with its bits in the opposite order.
+pub reversed_in_table : (x : ℕ) → x < 256 → get_or REVERSED x 0 ≡ reversed_bits x
+reversed_in_table x l =
+    let z : 0 + x ≡ x = omega arith in
+    table_at reversed_bits 0 x REVERSED reversed_test (omega (arith, reversed_length, l)) ∙ ap reversed_bits z
+
+-- A test of all bytes, computed by the checker: reversed twice, each is itself again.
+twice_test : list_all (λ x. nat_eq (reversed_bits (reversed_bits x)) x) (range_with_len 0 256) ≡ true
+twice_test = refl
+
+pub reversed_twice : (x : ℕ) → x < 256 → reversed_bits (reversed_bits x) ≡ x
+reversed_twice x l =
+    eqb-true (reversed_bits (reversed_bits x)) x
+    (all_below (λ x. nat_eq (reversed_bits (reversed_bits x)) x) 256 x twice_test l)
+
+-- ---- three rows in one
+
+-- The smaller of two binary digits is 1 exactly if both are.
+min_one : (x y : ℕ) → x < 2 → y < 2 → nat_eq (min x y) 1 ≡ (nat_eq x 1 && nat_eq y 1)
+min_one zero zero lx ly = refl
+min_one zero (suc zero) lx ly = refl
+min_one (suc zero) zero lx ly = refl
+min_one (suc zero) (suc zero) lx ly = refl
+min_one (suc (suc x)) y lx ly = absurd (omega arith)
+min_one zero (suc (suc y)) lx ly = absurd (omega arith)
+min_one (suc zero) (suc (suc y)) lx ly = absurd (omega arith)
+
+-- A cell of a masked row is dark exactly if it is dark in the row and in the mask.
+pub and_dark : (a b c : ℕ) → is_dark_bit (bit_and a b) c ≡ (is_dark_bit a c && is_dark_bit b c)
+and_dark a b c =
+    ap (λ (i : ℕ). nat_eq i 1) (bit_at_and a b c) ∙ min_one (bit_at a c) (bit_at b c) (bit_at-lt a c) (bit_at-lt b c)
+
+-- A test of 128 columns, computed by the checker: the masks have the
+-- lowest two and the lowest three bits of each byte.
+masks : list_all (λ c. beq (is_dark_bit LOW_TWO_BITS c) (nat_lt (c % 8) 2)
+    && beq (is_dark_bit LOW_THREE_BITS c) (nat_lt (c % 8) 3)) (range_with_len 0 128) ≡ true
+masks = refl
+
+-- The masks of sixteen bytes have the lowest two and the lowest three bits of each byte.
+pub masks_at : (c : ℕ) → c < 128 → (is_dark_bit LOW_TWO_BITS c ≡ nat_lt (c % 8) 2)
+    × (is_dark_bit LOW_THREE_BITS c ≡ nat_lt (c % 8) 3)
+masks_at c l =
+    let both =
+    and_parts (beq (is_dark_bit LOW_TWO_BITS c) (nat_lt (c % 8) 2))
+    (beq (is_dark_bit LOW_THREE_BITS c) (nat_lt (c % 8) 3))
+    (all_below (λ c. beq (is_dark_bit LOW_TWO_BITS c) (nat_lt (c % 8) 2)
+    && beq (is_dark_bit LOW_THREE_BITS c) (nat_lt (c % 8) 3)) 128 c masks l) in
+    ((booleans_Decides _ _).0 both.0, (booleans_Decides _ _).0 both.1)
+
+-- A test of 64 columns, computed by the checker: the masks have the
+-- lowest two and the lowest three bits of each byte.
+narrow_masks : list_all (λ c. beq (is_dark_bit NARROW_LOW_TWO_BITS c) (nat_lt (c % 8) 2)
+    && beq (is_dark_bit NARROW_LOW_THREE_BITS c) (nat_lt (c % 8) 3)) (range_with_len 0 64) ≡ true
+narrow_masks = refl
+
+pub narrow_masks_at : (c : ℕ) → c < 64 → (is_dark_bit NARROW_LOW_TWO_BITS c ≡ nat_lt (c % 8) 2)
+    × (is_dark_bit NARROW_LOW_THREE_BITS c ≡ nat_lt (c % 8) 3)
+narrow_masks_at c l =
+    let both =
+    and_parts (beq (is_dark_bit NARROW_LOW_TWO_BITS c) (nat_lt (c % 8) 2))
+    (beq (is_dark_bit NARROW_LOW_THREE_BITS c) (nat_lt (c % 8) 3))
+    (all_below (λ c. beq (is_dark_bit NARROW_LOW_TWO_BITS c) (nat_lt (c % 8) 2)
+    && beq (is_dark_bit NARROW_LOW_THREE_BITS c) (nat_lt (c % 8) 3)) 64 c narrow_masks l) in
+    ((booleans_Decides _ _).0 both.0, (booleans_Decides _ _).0 both.1)
+
+-- A masked row, moved to the left, is dark where the row is at the lowest three bits of a byte.
+pub masked_up : (width mask count b s c : ℕ) → ((i : ℕ) → i < width → is_dark_bit mask i ≡ nat_lt (i % 8) count) →
+    c < width →
+    is_dark_bit (bit_and b mask * 2 ^ s % 2 ^ width) c ≡
+    (nat_le s c && (is_dark_bit b (c - s) && nat_lt ((c - s) % 8) count))
+masked_up width mask count b s c masked l = low_bit (x * 2 ^ s) width c l ∙ by_column (cases_lt c s)
+  where
+    x : ℕ
+    x = bit_and b mask
+
+    by_column : (c < s) ⊎ (s ≤ c) → is_dark_bit (x * 2 ^ s) c ≡
+        (nat_le s c && (is_dark_bit b (c - s) && nat_lt ((c - s) % 8) count))
+    by_column (inl h) =
+        none_up x s c h ∙ ap (λ (t : Bool). t && (is_dark_bit b (c - s) && nat_lt ((c - s) % 8) count))
+        (sym (lt-leb s c h))
+    by_column (inr h) =
+        let e : c ≡ s + (c - s) = omega arith in
+        ap (is_dark_bit (x * 2 ^ s)) e ∙ bit_up x s (c - s) ∙ and_dark b mask (c - s)
+        ∙ ap (λ (t : Bool). is_dark_bit b (c - s) && t) (masked (c - s) (omega arith))
+        ∙ ap (λ (t : Bool). t && (is_dark_bit b (c - s) && nat_lt ((c - s) % 8) count)) (sym (le-leb s c h))
+
+-- What follows is about numbers of some width, with masks of the lowest two and of the lowest three bits of each byte.
+module _ (width two three : ℕ) (masked : (c : ℕ) → c < width →
+    (is_dark_bit two c ≡ nat_lt (c % 8) 2) × (is_dark_bit three c ≡ nat_lt (c % 8) 3)) where
+  -- Three masked rows, each moved to its place in the bytes, are joined in one.
+  pub joined_in : (a b d c : ℕ) → c < width → is_dark_bit
+      (bit_or (bit_or (bit_and a two) (bit_and b three * 4 % 2 ^ width)) (bit_and d three * 32 % 2 ^ width)) c ≡
+      is_joined a b d c
+  joined_in a b d c l =
+      or_dark (bit_or (bit_and a two) (bit_and b three * 4 % 2 ^ width)) (bit_and d three * 32 % 2 ^ width) c
+      ∙ ap (λ (t : Bool). t || is_dark_bit (bit_and d three * 32 % 2 ^ width) c)
+      (or_dark (bit_and a two) (bit_and b three * 4 % 2 ^ width) c)
+      ∙ ap (λ (t : Bool). (t || is_dark_bit (bit_and b three * 4 % 2 ^ width) c)
+      || is_dark_bit (bit_and d three * 32 % 2 ^ width) c)
+      (and_dark a two c ∙ ap (λ (t : Bool). is_dark_bit a c && t) (masked c l).0)
+      ∙ ap (λ (t : Bool). ((is_dark_bit a c && nat_lt (c % 8) 2) || t)
+      || is_dark_bit (bit_and d three * 32 % 2 ^ width) c) (masked_up width three 3 b 2 c (λ i h. (masked i h).1) l)
+      ∙ ap (λ (t : Bool). ((is_dark_bit a c && nat_lt (c % 8) 2)
+      || (nat_le 2 c && (is_dark_bit b (c - 2) && nat_lt ((c - 2) % 8) 3))) || t)
+      (masked_up width three 3 d 5 c (λ i h. (masked i h).1) l)
+
+-- Three masked rows of 128 bits, each moved to its place in the bytes, are joined in one.
+pub joined_bit : (a b d c : ℕ) → c < 128 →
+    is_dark_bit (bit_or (bit_or (bit_and a LOW_TWO_BITS) (bit_and b LOW_THREE_BITS * 4 % 2 ^ 128))
+    (bit_and d LOW_THREE_BITS * 32 % 2 ^ 128)) c ≡ is_joined a b d c
+joined_bit = joined_in 128 LOW_TWO_BITS LOW_THREE_BITS masks_at
+
+-- Three masked rows of 64 bits, each moved to its place in the bytes, are joined in one.
+pub narrow_joined_bit : (a b d c : ℕ) → c < 64 →
+    is_dark_bit (bit_or (bit_or (bit_and a NARROW_LOW_TWO_BITS) (bit_and b NARROW_LOW_THREE_BITS * 4 % 2 ^ 64))
+    (bit_and d NARROW_LOW_THREE_BITS * 32 % 2 ^ 64)) c ≡ is_joined a b d c
+narrow_joined_bit = joined_in 64 NARROW_LOW_TWO_BITS NARROW_LOW_THREE_BITS narrow_masks_at
+
+-- ---- the bytes of a row
+
+-- A part that doesn't reach a bit adds nothing to it.
+other_row : (x : Bool) (c s : ℕ) → (s ≤ c → 3 ≤ (c - s) % 8) → (nat_le s c && (x && nat_lt ((c - s) % 8) 3)) ≡ false
+other_row x c s far = by_column (cases_lt c s)
+  where
+    nothing : (a b : Bool) → (a && (b && false)) ≡ false
+    nothing true true = refl
+    nothing true false = refl
+    nothing false b = refl
+
+    by_column : (c < s) ⊎ (s ≤ c) → (nat_le s c && (x && nat_lt ((c - s) % 8) 3)) ≡ false
+    by_column (inl h) = ap (λ (t : Bool). t && (x && nat_lt ((c - s) % 8) 3)) (lt-leb s c h)
+    by_column (inr h) =
+        ap (λ (t : Bool). nat_le s c && (x && t)) (le-ltb ((c - s) % 8) 3 (far h)) ∙ nothing (nat_le s c) x
+
+-- The part that reaches a bit gives it its own.
+this_row : (x : Bool) (c s : ℕ) → s ≤ c → (c - s) % 8 < 3 → (nat_le s c && (x && nat_lt ((c - s) % 8) 3)) ≡ x
+this_row x c s h l =
+    ap (λ (t : Bool). t && (x && nat_lt ((c - s) % 8) 3)) (le-leb s c h)
+    ∙ ap (λ (t : Bool). x && t) (lt-ltb ((c - s) % 8) 3 l) ∙ alone x
+  where
+    alone : (a : Bool) → (a && true) ≡ a
+    alone true = refl
+    alone false = refl
+
+-- Of three parts, the two that are false add nothing to the first.
+only_first : (x a b : Bool) → a ≡ false → b ≡ false → (((x && true) || a) || b) ≡ x
+only_first true a b e f = refl
+only_first false a b e f = cc
+
+only_second : (x y a b : Bool) → a ≡ false → y ≡ x → b ≡ false → ((a || y) || b) ≡ x
+only_second x y a b e f g = ap (λ (t : Bool). (t || y) || b) e ∙ ap (λ (t : Bool). y || t) g ∙ or-false y ∙ f
+
+only_third : (x y a b : Bool) → a ≡ false → b ≡ false → y ≡ x → ((a || b) || y) ≡ x
+only_third x y a b e f g = ap (λ (t : Bool). (t || b) || y) e ∙ ap (λ (t : Bool). t || y) f ∙ g
+
+-- Where the test of a bit's place fails there is no bit.
+masked_off : (x : Bool) (c : ℕ) → 2 ≤ c % 8 → (x && nat_lt (c % 8) 2) ≡ false
+masked_off x c l = ap (λ (t : Bool). x && t) (le-ltb (c % 8) 2 l) ∙ nothing x
+  where
+    nothing : (a : Bool) → (a && false) ≡ false
+    nothing true = refl
+    nothing false = refl
+
+-- The bytes of three rows that are joined in one are the codewords of the anchors of a row.
+pub are_joined : (n width : ℕ) (rows : List ℕ) (r x : ℕ) → n + 8 ≤ width →
+    ((c : ℕ) → c < width → is_dark_bit x c ≡ is_joined (get_or rows r 0 / 2 ^ first_column r)
+    (get_or rows (r + 1) 0 / 2 ^ first_column r) (get_or rows (r + 2) 0 / 2 ^ first_column r) c) →
+    IsJoined n rows r x
+are_joined n width rows r x wide bits = record {
+  first = λ k t lk lt.
+      let c : ℕ = 8 * k + t in
+      let m : c % 8 < 2 = omega arith in
+      byte k t (omega arith) ∙ bits c (omega arith)
+      ∙ ap (λ (b : Bool). ((is_dark_bit (row r) c && b)
+      || (nat_le 2 c && (is_dark_bit (row (r + 1)) (c - 2) && nat_lt ((c - 2) % 8) 3)))
+      || (nat_le 5 c && (is_dark_bit (row (r + 2)) (c - 5) && nat_lt ((c - 5) % 8) 3))) (lt-ltb (c % 8) 2 m)
+      ∙ only_first (is_dark_bit (row r) c) _ _ (other_row (is_dark_bit (row (r + 1)) (c - 2)) c 2 (λ h. omega arith))
+      (other_row (is_dark_bit (row (r + 2)) (c - 5)) c 5 (λ h. omega arith))
+      ∙ there r c;
+  second = λ k t lk lt.
+      let c : ℕ = 8 * k + (2 + t) in
+      let e : c - 2 ≡ 8 * k + t = omega arith in
+      byte k (2 + t) (omega arith) ∙ bits c (omega arith)
+      ∙ only_second (is_dark_bit (row (r + 1)) (c - 2)) _ _ _ (masked_off (is_dark_bit (row r) c) c (omega arith))
+      (this_row (is_dark_bit (row (r + 1)) (c - 2)) c 2 (omega arith) (omega arith))
+      (other_row (is_dark_bit (row (r + 2)) (c - 5)) c 5 (λ h. omega arith))
+      ∙ ap (is_dark_bit (row (r + 1))) e ∙ there (r + 1) (8 * k + t);
+  third = λ k t lk lt.
+      let c : ℕ = 8 * k + (5 + t) in
+      let e : c - 5 ≡ 8 * k + t = omega arith in
+      byte k (5 + t) (omega arith) ∙ bits c (omega arith)
+      ∙ only_third (is_dark_bit (row (r + 2)) (c - 5)) _ _ _ (masked_off (is_dark_bit (row r) c) c (omega arith))
+      (other_row (is_dark_bit (row (r + 1)) (c - 2)) c 2 (λ h. omega arith))
+      (this_row (is_dark_bit (row (r + 2)) (c - 5)) c 5 (omega arith) (omega arith))
+      ∙ ap (is_dark_bit (row (r + 2))) e ∙ there (r + 2) (8 * k + t);
+}
+  where
+    row : ℕ → ℕ
+    row q = get_or rows q 0 / 2 ^ first_column r
+
+    there : (q c : ℕ) → is_dark_bit (row q) c ≡ look_in rows q (first_column r + c)
+    there q c = ap (λ (d : ℕ). nat_eq d 1) (moved_bit (get_or rows q 0) (first_column r) c)
+
+    byte : (k t : ℕ) → t < 8 → is_dark_bit (x / 2 ^ (8 * k) % 256) t ≡ is_dark_bit x (8 * k + t)
+    byte k t h = low_bit (x / 2 ^ (8 * k)) 8 t h ∙ ap (λ (i : ℕ). nat_eq i 1) (moved_bit x (8 * k) t)
+
+-- When one more row is joined, the rows above the next are joined.
+pub join_more : (n width : ℕ) (rows slots news : List ℕ) (row : ℕ) → n + 8 ≤ width →
+    ((r : ℕ) → r ≢ row → get_or news r 0 ≡ get_or slots r 0) →
+    ((c : ℕ) → c < width → is_dark_bit (get_or news row 0) c ≡ is_joined (get_or rows row 0 / 2 ^ first_column row)
+    (get_or rows (row + 1) 0 / 2 ^ first_column row) (get_or rows (row + 2) 0 / 2 ^ first_column row) c) →
+    ((r : ℕ) → r < row → IsJoined n rows r (get_or slots r 0)) → (r : ℕ) → r < row + 1 →
+    IsJoined n rows r (get_or news r 0)
+join_more n width rows slots news row wide others bits so_far =
+    below_more (λ r. IsJoined n rows r (get_or news r 0)) row before here
+  where
+    before : (r : ℕ) → r < row → IsJoined n rows r (get_or news r 0)
+    before r l =
+        let ne : r ≢ row = omega arith in
+        subst (λ (y : ℕ). IsJoined n rows r y) (sym (others r ne)) (so_far r l)
+
+    here : IsJoined n rows row (get_or news row 0)
+    here = are_joined n width rows row (get_or news row 0) wide bits
+
+-- The slot of a corner has the lowest byte of the row behind all others.
+pub corner_slot_is : (bytes most : ℕ) (rows : List ℕ) → 0 < bytes →
+    slot_byte bytes rows (bytes * most) ≡ get_or rows most 0 % 256
+corner_slot_is bytes most rows some =
+    let one : get_or rows most 0 / 1 ≡ get_or rows most 0 = omega arith in
+    ap (λ (i : ℕ). get_or rows i 0 / 2 ^ (8 * (bytes * most % bytes)) % 256) (mul-div_cancel_left most some)
+    ∙ ap (λ (i : ℕ). get_or rows most 0 / 2 ^ (8 * i) % 256) (mul-mod_right bytes most)
+    ∙ ap (λ (x : ℕ). x % 256) one
+
+-- What is joined for so many columns is so for fewer.
+fewer_joined : (C D : ℕ) (rows : List ℕ) (r x : ℕ) → C ≤ D → IsJoined D rows r x → IsJoined C rows r x
+fewer_joined C D rows r x l joined = record {
+  first = λ k t lk lt. joined.first k t (omega (arith, l, lk)) lt;
+  second = λ k t lk lt. joined.second k t (omega (arith, l, lk)) lt;
+  third = λ k t lk lt. joined.third k t (omega (arith, l, lk)) lt;
+}
+
+-- Joined rows, with the codeword of a corner put behind them, have the slots of all codewords.
+pub corner_beside : (bytes most R C : ℕ) (rows joined news : List ℕ) (b w : ℕ) → 0 < bytes → R ≤ most → C ≤ most →
+    most < length joined → get_or joined most 0 ≡ 0 → news ≡ with_byte bytes joined (bytes * most) b → b < 256 →
+    b ≡ reversed_bits w → w < 256 →
+    AreJoined R most rows joined →
+    (R % 8 ≡ 4 → C % 8 ≡ 4 → w ≡ word_in rows (cells_of R C Corner1)) →
+    (R % 8 ≡ 6 → C % 8 ≡ 6 → w ≡ word_in rows (cells_of R C Corner2)) →
+    (R % 8 ≡ 6 → C % 8 ≡ 4 → w ≡ word_in rows (cells_of R C Corner3)) →
+    (R % 8 ≡ 6 → C % 8 ≡ 0 → w ≡ word_in rows (cells_of R C Corner4)) →
+    HasSlots most R C rows news
+corner_beside bytes most R C rows joined news b w some within fewer room light is fits e small anchors first second
+    third
+    fourth =
+    record {
+      anchors = λ r l.
+          let ne : r ≢ most = omega (arith, l, within) in
+          fewer_joined C most rows r (get_or news r 0) fewer
+          (subst (λ (x : ℕ). IsJoined most rows r x) (sym (ap (λ (xs : List ℕ). get_or xs r 0) put
+          ∙ get_or-set_other joined most r b 0 ne)) (anchors r l));
+      corner1 = λ h k. corner ∙ first h k;
+      corner2 = λ h k. corner ∙ second h k;
+      corner3 = λ h k. corner ∙ third h k;
+      corner4 = λ h k. corner ∙ fourth h k;
+    }
+  where
+    row : bytes * most / bytes ≡ most
+    row = mul-div_cancel_left most some
+
+    place : bytes * most % bytes ≡ 0
+    place = mul-mod_right bytes most
+
+    put : news ≡ set joined most b
+    put =
+        let one : b * 2 ^ 0 ≡ b = omega arith in
+        is
+        ∙ ap (λ (k : ℕ). set joined k (bit_or (get_or joined k 0) (b * 2 ^ (8 * (bytes * most % bytes))))) row
+        ∙ ap (λ (k : ℕ). set joined most (bit_or (get_or joined most 0) (b * 2 ^ (8 * k)))) place
+        ∙ ap (λ (x : ℕ). set joined most (bit_or x (b * 2 ^ 0))) light
+        ∙ ap (λ (x : ℕ). set joined most (bit_or 0 x)) one
+        ∙ ap (λ (x : ℕ). set joined most x) (or_zero_l b)
+
+    corner : reversed_bits (get_or news most 0 % 256) ≡ w
+    corner =
+        let z : b % 256 ≡ b = omega (arith, fits) in
+        ap (λ (xs : List ℕ). reversed_bits (get_or xs most 0 % 256)) put
+        ∙ ap (λ (x : ℕ). reversed_bits (x % 256)) (get_or-set_same joined most b 0 room)
+        ∙ ap reversed_bits (z ∙ e)
+        ∙ reversed_twice w small

@@ -1,0 +1,13 @@
+use Rattle.std.proofs.Common.{◌≡◌, ◌+◌, ◌*◌, length}
+use Rattle.dm_layout.specs.symbols.inner.Keeping.{kept_symbol}
+use Rattle.dm_layout.specs.symbols.inner.Reading.{look_in}
+use Rattle.dm_layout.specs.symbols.inner.RowDrawing.{IsDrawn}
+use Rattle.dm_layout.proofs.symbols.drawing.draw.Given as goal
+
+abbrev pub invariant-loop-region : goal.invariant-loop-region
+invariant-loop-region g l = record {
+  lines : length l.lines ≡ length l.fn.lines;
+  ends : length l.ends ≡ length l.fn.ends;
+  drawn : IsDrawn l.fn.size (λ r c. look_in (g.R.BitRows.numbers l.rows) (r + 2) (c + 4))
+      (l.region * (l.fn.size.region_rows + 2)) (kept_symbol l.fn.size l.lines l.ends);
+}

@@ -1,0 +1,133 @@
+use Rattle.std.proofs.Common.{◌≡◌, ℕ, List, map, length, get_or, ap, sym, subst, arith, ◌∙◌}
+use Rattle.std.proofs.lemmas.List.{length-map, length-set, take_all}
+use Rattle.dm_place.specs.Holding.{HoldsBits}
+use Rattle.dm_place.specs.Placement.{shapes}
+use Rattle.dm_place.proofs.Exported.{words_of, holds_words_of}
+use Rattle.dm_layout.specs.symbols.Border.{mapped_cell}
+use Rattle.dm_layout.specs.symbols.Sizes.{SizeEntry, mapping_rows, mapping_columns}
+use Rattle.dm_layout.specs.symbols.inner.Slots.{order_of, reversed_bits, slot_byte}
+use Rattle.dm_layout.specs.symbols.inner.Widened.{IsWidened}
+use Rattle.dm_layout.proofs.symbols.LiftedWords.{slot_words}
+use Rattle.dm_layout.proofs.symbols.SlotOrder.{known, read_more, room_at_size}
+use Rattle.dm_layout.proofs.symbols.lifting.lift_rows.Goals as goal
+
+-- The codeword in a slot.
+abbrev word_by : ℕ → List ℕ → ℕ → ℕ
+word_by bytes slots x = reversed_bits (slot_byte bytes slots x)
+
+pub widen-requires : goal.widen-requires
+widen-requires g c =
+    let room =
+    room_at_size c.args.symbol.now.size g.R.BitRows.bytes g.R.BitRows.most c.size-size.ensures.modules.size
+    c.requires.slots c.requires.room in
+    record { light = c.light-rows.ensures; high = room.rows; wide = room.columns }
+
+pub join_rows-requires-clause-some : goal.join_rows-requires-clause-some
+join_rows-requires-clause-some g c =
+    let room = (room_at_size c.args.symbol.now.size g.R.BitRows.bytes g.R.BitRows.most
+    c.size-size.ensures.modules.size c.requires.slots
+    c.requires.room) in
+    let e = ap mapping_rows c.size-size.ensures.value in
+    omega (arith, room.least_rows, c.mapping_rows-height.ensures.value, e)
+
+pub join_rows-requires-clause-least : goal.join_rows-requires-clause-least
+join_rows-requires-clause-least g c =
+    let room = (room_at_size c.args.symbol.now.size g.R.BitRows.bytes g.R.BitRows.most
+    c.size-size.ensures.modules.size c.requires.slots
+    c.requires.room) in
+    let e = ap mapping_columns c.size-size.ensures.value in
+    omega (arith, room.least_columns, c.mapping_columns-columns.ensures.value, e)
+
+pub join_rows-requires-clause-high : goal.join_rows-requires-clause-high
+join_rows-requires-clause-high g c =
+    let room = (room_at_size c.args.symbol.now.size g.R.BitRows.bytes g.R.BitRows.most
+    c.size-size.ensures.modules.size c.requires.slots
+    c.requires.room) in
+    let e = ap mapping_rows c.size-size.ensures.value in
+    omega (arith, room.rows, c.mapping_rows-height.ensures.value, e)
+
+pub join_rows-requires-clause-wide : goal.join_rows-requires-clause-wide
+join_rows-requires-clause-wide g c =
+    let room = (room_at_size c.args.symbol.now.size g.R.BitRows.bytes g.R.BitRows.most
+    c.size-size.ensures.modules.size c.requires.slots
+    c.requires.room) in
+    let e = ap mapping_columns c.size-size.ensures.value in
+    omega (arith, room.columns, c.mapping_columns-columns.ensures.value, e)
+
+pub codeword-requires : goal.codeword-requires
+codeword-requires g c =
+    let n =
+    known c.args.symbol.now.size c.mapping_rows-height.result c.mapping_columns-columns.result g.R.BitRows.bytes
+    g.R.BitRows.most c.order-slot-items.result.now c.size-size.ensures.modules.size c.requires.slots c.requires.room
+    (c.mapping_rows-height.ensures.value ∙ ap mapping_rows c.size-size.ensures.value)
+    (c.mapping_columns-columns.ensures.value ∙ ap mapping_columns c.size-size.ensures.value)
+    c.order-slot-items.ensures in
+    n.each c.loop-i.i c.loop-i-test.true
+
+pub bounds-words-i : goal.bounds-words-i
+bounds-words-i g c =
+    let n =
+    known c.args.symbol.now.size c.mapping_rows-height.result c.mapping_columns-columns.result g.R.BitRows.bytes
+    g.R.BitRows.most c.order-slot-items.result.now c.size-size.ensures.modules.size c.requires.slots c.requires.room
+    (c.mapping_rows-height.ensures.value ∙ ap mapping_rows c.size-size.ensures.value)
+    (c.mapping_columns-columns.ensures.value ∙ ap mapping_columns c.size-size.ensures.value)
+    c.order-slot-items.ensures in
+    omega (arith, c.loop-i.invariant.count, n.count, c.loop-i-test.true)
+
+pub loop-i-preserved : goal.loop-i-preserved
+loop-i-preserved g c =
+    let f = word_by g.R.BitRows.bytes (g.R.BitRows.joined c.join_rows.new.slots) in
+    let xs : List ℕ = order_of c.mapping_rows-height.result c.mapping_columns-columns.result in
+    let k = ap length c.order-slot-items.ensures in
+    let n =
+    known c.args.symbol.now.size c.mapping_rows-height.result c.mapping_columns-columns.result g.R.BitRows.bytes
+    g.R.BitRows.most c.order-slot-items.result.now c.size-size.ensures.modules.size c.requires.slots c.requires.room
+    (c.mapping_rows-height.ensures.value ∙ ap mapping_rows c.size-size.ensures.value)
+    (c.mapping_columns-columns.ensures.value ∙ ap mapping_columns c.size-size.ensures.value)
+    c.order-slot-items.ensures in
+    record {
+      count = length-set c.loop-i.words c.loop-i.i c.codeword.result ∙ c.loop-i.invariant.count;
+      so_far =
+          read_more f c.loop-i.words xs c.loop-i.i c.codeword.result
+          (omega (arith, c.loop-i.invariant.count, n.count, c.loop-i-test.true))
+          (omega (arith, k, c.loop-i-test.true))
+          (c.codeword.ensures ∙ ap (λ (ys : List ℕ). f (get_or ys c.loop-i.i 0)) c.order-slot-items.ensures)
+          c.loop-i.invariant.so_far;
+    }
+
+pub returns-clause-holds : goal.returns-clause-holds
+returns-clause-holds g c =
+    let size : SizeEntry = c.args.symbol.now.size in
+    let R : ℕ = mapping_rows size in
+    let C : ℕ = mapping_columns size in
+    let look = mapped_cell c.args.symbol.now in
+    let m : ℕ = c.mapping_rows-height.result in
+    let q : ℕ = c.mapping_columns-columns.result in
+    let bytes : ℕ = g.R.BitRows.bytes in
+    let most : ℕ = g.R.BitRows.most in
+    let n =
+    known c.args.symbol.now.size c.mapping_rows-height.result c.mapping_columns-columns.result g.R.BitRows.bytes
+    g.R.BitRows.most c.order-slot-items.result.now c.size-size.ensures.modules.size c.requires.slots c.requires.room
+    (c.mapping_rows-height.ensures.value ∙ ap mapping_rows c.size-size.ensures.value)
+    (c.mapping_columns-columns.ensures.value ∙ ap mapping_columns c.size-size.ensures.value)
+    c.order-slot-items.ensures in
+    let news = g.R.BitRows.joined c.join_rows.new.slots in
+    let f = word_by bytes news in
+    let rows = g.R.BitRows.numbers c.widen.new.rows in
+    let k = ap length c.order-slot-items.ensures in
+    let l = length-map (order_of m q) f in
+    let widened : IsWidened m q look rows =
+    subst (λ (i : ℕ). IsWidened i q look rows) (sym n.high)
+    (subst (λ (i : ℕ). IsWidened R i look rows) (sym n.wide) c.widen.ensures.widened) in
+    let words =
+    slot_words m q look rows n.room.least_rows n.room.least_columns n.room.even_rows n.room.even_columns
+    widened bytes most n.room.slots news c.join_rows.ensures (shapes m q) n.fits in
+    let all : c.loop-i.words ≡ words_of look m q =
+    sym (take_all c.loop-i.i c.loop-i.words (omega (arith, c.loop-i.invariant.count, n.count, c.loop-i-test.false)))
+    ∙ c.loop-i.invariant.so_far
+    ∙ take_all c.loop-i.i (map f (order_of m q)) (omega (arith, l, k, c.loop-i-test.false))
+    ∙ ap (map f) (sym c.order-slot-items.ensures ∙ n.slots)
+    ∙ words in
+    subst (λ (i : ℕ). HoldsBits i C look c.loop-i.words) n.high
+    (subst (λ (i : ℕ). HoldsBits m i look c.loop-i.words) n.wide
+    (subst (HoldsBits m q look) (sym all) (holds_words_of look m q)))

@@ -1,0 +1,29 @@
+use Rattle.std.proofs.Common.{◌≡◌, ◌∙◌, ◌^◌, ◌*◌, ◌+◌, ◌++◌, ℕ, List, drop, length, take, ap, sym, arith}
+use Rattle.std.proofs.lemmas.List.{length-drop, take-append-drop, take_all}
+use borrow.Rule.Slice.PartMut.{mid_of}
+use Rattle.std.specs.Int.{from_le_bytes, w128}
+use Rattle.dm_layout.specs.symbols.inner.Pairs.{pair}
+use Rattle.dm_layout.specs.symbols.inner.Slots.{in_bytes}
+use Rattle.dm_layout.proofs.symbols.SlotBytes.{in_bytes_append, in_sixteen}
+use Rattle.dm_layout.proofs.symbols.pair.Pair.from_bytes.Goals as goal
+
+-- What follows the first sixteen of 32 bytes are the last sixteen.
+last_half : (xs : List ℕ) → length xs ≡ 32 → mid_of 16 16 xs ≡ drop 16 xs
+last_half xs n = take_all 16 (drop 16 xs) (let k = length-drop 16 xs in omega (arith, k, n))
+
+-- The number of both halves is that of all bytes.
+both_halves : (l h : ℕ) (xs bs cs : List ℕ) → length xs ≡ 32 → l ≡ from_le_bytes w128 bs → h ≡ from_le_bytes w128 cs →
+    bs ≡ take 16 xs → cs ≡ drop 16 xs → length bs ≡ 16 → length cs ≡ 16 → pair l h ≡ in_bytes xs
+both_halves l h xs bs cs n el eh eb ec nb nc =
+    ap (λ (x : ℕ). pair x h) (el ∙ in_sixteen bs nb) ∙ ap (pair (in_bytes bs)) (eh ∙ in_sixteen cs nc)
+    ∙ ap (λ (k : ℕ). in_bytes cs * 2 ^ (8 * k) + in_bytes bs) (sym nb)
+    ∙ sym (in_bytes_append bs cs)
+    ∙ ap (λ (ys : List ℕ). in_bytes (ys ++ cs)) eb ∙ ap (λ (ys : List ℕ). in_bytes (take 16 xs ++ ys)) ec
+    ∙ ap in_bytes (take-append-drop 16 xs)
+
+pub returns : goal.returns
+returns c =
+    both_halves c.from_le_bytes.result c.from_le_bytes-2.result c.args.bytes.now _ _ c.told-bytes
+    c.from_le_bytes.ensures c.from_le_bytes-2.ensures c.copy_from_slice.ensures.after
+    (c.copy_from_slice-2.ensures.after ∙ last_half c.args.bytes.now c.told-bytes)
+    c.copy_from_slice.ensures.len c.copy_from_slice-2.ensures.len

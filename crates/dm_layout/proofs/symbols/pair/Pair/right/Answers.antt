@@ -1,0 +1,12 @@
+use Rattle.std.proofs.Common.{arith}
+use Rattle.dm_layout.proofs.symbols.Pairs.{moved_right, moved_far_right}
+use Rattle.dm_layout.proofs.symbols.pair.Pair.right.Goals as goal
+
+pub returns-then-count-lt128 : goal.returns-then-count-lt128
+returns-then-count-lt128 c =
+    moved_right c.args.self.now.low c.args.self.now.high c.args.count (omega arith) (omega arith) c.if-count-lt128.true
+
+pub returns-else-count-lt128 : goal.returns-else-count-lt128
+returns-else-count-lt128 c =
+    moved_far_right c.args.self.now.low c.args.self.now.high c.args.count (omega arith) (omega arith)
+    c.if-count-lt128.false

@@ -1,0 +1,41 @@
+use Rattle.std.proofs.Common.{◌≡◌, List, ◌∷◌, [], get_or, ◌^◌, ◌*◌, ◌<◌, ◌∙◌, ℕ, ◌+◌, ◌++◌, ap, refl, arith, subst, sym}
+use Rattle.std.proofs.Math.Nat.{mod-eq_of_lt}
+use borrow.Rule.Slice.PartMut.{put_mid}
+use Rattle.std.specs.Int.{to_le_bytes, w128}
+use Rattle.dm_layout.specs.symbols.inner.Pairs.{pair}
+use Rattle.dm_layout.specs.symbols.inner.Slots.{in_bytes}
+use Rattle.dm_layout.proofs.symbols.SlotBytes.{bytes_append, in_bytes_append, low_first_small, sixteen_first, two_put}
+use Rattle.dm_layout.proofs.symbols.pair.Pair.to_bytes.Goals as goal
+
+-- Sixteen zeros.
+abbrev zeros : List ℕ
+zeros = 0 ∷ 0 ∷ 0 ∷ 0 ∷ 0 ∷ 0 ∷ 0 ∷ 0 ∷ 0 ∷ 0 ∷ 0 ∷ 0 ∷ 0 ∷ 0 ∷ 0 ∷ 0 ∷ []
+
+-- The bytes are those of both numbers.
+both_bytes : (l h : ℕ) (bs cs : List ℕ) → bs ≡ to_le_bytes w128 l → cs ≡ to_le_bytes w128 h →
+    put_mid 16 16 (bs ++ zeros) cs ≡ to_le_bytes w128 l ++ to_le_bytes w128 h
+both_bytes l h bs cs eb ec =
+    ap (λ (xs : List ℕ). put_mid 16 16 (xs ++ zeros) cs) eb ∙ ap (put_mid 16 16 (to_le_bytes w128 l ++ zeros)) ec
+    ∙ two_put (to_le_bytes w128 l) (to_le_bytes w128 h) zeros refl refl refl
+
+-- Their number is that of both numbers.
+both_number : (l h : ℕ) → l < 2 ^ 128 → h < 2 ^ 128 → in_bytes (to_le_bytes w128 l ++ to_le_bytes w128 h) ≡ pair l h
+both_number l h ll lh =
+    in_bytes_append (to_le_bytes w128 l) (to_le_bytes w128 h)
+    ∙ ap (λ (x : ℕ). x * 2 ^ 128 + in_bytes (to_le_bytes w128 l)) (sixteen_first h ∙ mod-eq_of_lt lh)
+    ∙ ap (λ (x : ℕ). h * 2 ^ 128 + x) (sixteen_first l ∙ mod-eq_of_lt ll)
+
+pub returns-clause-bytes : goal.returns-clause-bytes
+returns-clause-bytes c = λ i.
+    subst (λ (bs : List ℕ). get_or bs i 0 < 256) (sym (both_bytes c.args.self.now.low c.args.self.now.high _ _
+    (c.copy_from_slice.ensures.after ∙ c.to_le_bytes.ensures)
+    (c.copy_from_slice-2.ensures.after ∙ c.to_le_bytes-2.ensures)))
+    (bytes_append (to_le_bytes w128 c.args.self.now.low) (to_le_bytes w128 c.args.self.now.high)
+    (low_first_small 16 0 c.args.self.now.low) (low_first_small 16 0 c.args.self.now.high) i)
+
+pub returns-clause-number : goal.returns-clause-number
+returns-clause-number c =
+    ap in_bytes (both_bytes c.args.self.now.low c.args.self.now.high _ _
+    (c.copy_from_slice.ensures.after ∙ c.to_le_bytes.ensures)
+    (c.copy_from_slice-2.ensures.after ∙ c.to_le_bytes-2.ensures))
+    ∙ both_number c.args.self.now.low c.args.self.now.high (omega arith) (omega arith)

@@ -1,0 +1,14 @@
+use Rattle.std.proofs.Common.{◌∙◌, ◌≡◌, ◌+◌, ◌*◌, ◌^◌, ◌%◌, ◌<◌, ℕ, ap, arith}
+use Rattle.dm_layout.proofs.symbols.Pairs.{put_is}
+use Rattle.dm_layout.proofs.symbols.pair_rows.PairRowsBitRows.put.Goals as goal
+
+-- A row that is moved to the left loses nothing.
+moved : (inner rest : ℕ) → rest * 2 ^ 128 + inner < 2 ^ 132 →
+    (rest * 2 ^ 128 + inner) * 2 ^ 4 % 2 ^ 256 ≡ (rest * 2 ^ 128 + inner) * 16
+moved inner rest l = omega (arith, l)
+
+pub returns : goal.returns
+returns c =
+    put_is c.args.self.now c.args.row c.left.result _
+    (c.left.ensures ∙ ap (λ (x : ℕ). (x * 2 ^ 128 + c.args.inner) * 2 ^ 4 % 2 ^ 256) c.from.ensures
+    ∙ moved c.args.inner c.args.rest c.requires.inner)

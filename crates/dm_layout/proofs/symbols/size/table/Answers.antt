@@ -1,0 +1,24 @@
+use Rattle.std.proofs.Common.{[], ◌∙◌, sym, arith, lit<}
+use Rattle.std.proofs.lemmas.List.{length-set, same_lists}
+use Rattle.dm_layout.specs.symbols.Sizes.{size_table}
+use Rattle.dm_layout.proofs.symbols.SizeRows.{entry_here, size_count, size_here, size_put}
+use Rattle.dm_layout.proofs.symbols.size.table.Goals as goal
+
+pub size_of-sizes-requires : goal.size_of-sizes-requires
+size_of-sizes-requires c = size_here 0 [] (lit< tt)
+
+pub size_of-requires : goal.size_of-requires
+size_of-requires c = size_here c.loop-i.i _ c.loop-i-test.true
+
+pub loop-i-preserved : goal.loop-i-preserved
+loop-i-preserved c = record {
+  count = length-set c.loop-i.sizes c.loop-i.i _ ∙ c.loop-i.invariant.count;
+  put =
+      size_put c.loop-i.sizes c.loop-i.i _ c.loop-i.invariant.count c.loop-i-test.true c.loop-i.invariant.put
+      (λ e. c.size_of.ensures ∙ entry_here c.loop-i.i _ c.loop-i-test.true e);
+}
+
+pub returns : goal.returns
+returns c =
+    same_lists c.loop-i.sizes size_table (c.loop-i.invariant.count ∙ sym size_count)
+    (λ k d l. c.loop-i.invariant.put k d (omega (arith, l, c.loop-i.invariant.count, c.loop-i-test.false)))

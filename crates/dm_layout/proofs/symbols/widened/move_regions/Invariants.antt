@@ -1,0 +1,12 @@
+use Rattle.std.proofs.Common.{◌≡◌, ◌+◌, ◌≤◌, length}
+use Rattle.dm_layout.specs.symbols.Border.{mapped_cell}
+use Rattle.dm_layout.specs.symbols.Sizes.{mapping_columns}
+use Rattle.dm_layout.specs.symbols.inner.Widened.{IsMoved}
+use Rattle.dm_layout.proofs.symbols.widened.move_regions.Given as goal
+
+abbrev pub invariant-loop-row : goal.invariant-loop-row
+invariant-loop-row g l = record {
+  count : length (g.R.BitRows.numbers l.rows) ≡ g.R.BitRows.most + 6;
+  begun : l.first ≤ l.row;
+  moved : IsMoved (mapping_columns l.symbol.size) l.row (mapped_cell l.symbol) (g.R.BitRows.numbers l.rows);
+}

@@ -1,0 +1,57 @@
+//! The Reed-Solomon blocks into which the codewords of a symbol are dealt: ISO/IEC 16022, error correction.
+
+ghost use Rattle.std.specs.Prelude.{◌≡◌, ◌≢◌, ℕ, ◌<◌, ◌++◌, length, take};
+ghost use Rattle.dm_layout.specs.Sizes.{block_check, block_data, block_length};
+ghost use Rattle.dm_layout.specs.Words.{IsWords, data_of};
+ghost use Rattle.dm_layout.specs.Blocks.{block_of};
+
+use crate::grids::words::Words;
+use crate::symbols::LONGEST_BLOCK;
+use arrayvec::ArrayVec;
+
+/// Gives the codewords of block `b`, counted from 0 and below the number of blocks B: those at the places j of the
+/// symbol with j mod B = b, in order. The block's data codewords come first.
+#[inline]
+pub fn block(words: &Words, b: usize) -> ArrayVec<u8, LONGEST_BLOCK>
+    requires { b < words.now.size.blocks }
+    ensures value { result.items ≡ block_of words.now.size.blocks b words.now.list }
+    ensures length { length result.items ≡ block_length words.now.size }
+    ensures data { take (block_data words.now.size) result.items
+        ≡ block_of words.now.size.blocks b (data_of words.now) }
+{
+    crate::symbols::block(&words.symbol, b)
+}
+
+/// Puts the codewords of `list` at the places of block `b`; the other blocks stay. `b` is below the number
+/// of blocks, and the list is as long as a block.
+#[inline]
+pub fn put_block(words: &mut Words, b: usize, list: &[u8])
+    requires block { b < words.old.size.blocks }
+    requires length { length list.now ≡ block_length words.old.size }
+    ensures size { words.new.size ≡ words.old.size }
+    ensures put { block_of words.old.size.blocks b words.new.list ≡ list.now }
+    ensures others { (a : ℕ) → a < words.old.size.blocks → a ≢ b
+        → block_of words.old.size.blocks a words.new.list
+        ≡ block_of words.old.size.blocks a words.old.list }
+    ensures words { IsWords words.new }
+{
+    crate::symbols::put_block(&mut words.symbol, b, list);
+}
+
+/// Puts the check codewords of block `b` at its last places; its data codewords and the other blocks stay. `b` is below
+/// the number of blocks, and there are as many checks as a block has.
+#[inline]
+pub fn put_block_checks(words: &mut Words, b: usize, checks: &[u8])
+    requires block { b < words.old.size.blocks }
+    requires length { length checks.now ≡ block_check words.old.size }
+    ensures size { words.new.size ≡ words.old.size }
+    ensures put { block_of words.old.size.blocks b words.new.list
+        ≡ take (block_data words.old.size) (block_of words.old.size.blocks b words.old.list)
+        ++ checks.now }
+    ensures others { (a : ℕ) → a < words.old.size.blocks → a ≢ b
+        → block_of words.old.size.blocks a words.new.list
+        ≡ block_of words.old.size.blocks a words.old.list }
+    ensures words { IsWords words.new }
+{
+    crate::symbols::put_block_checks(&mut words.symbol, b, checks);
+}

@@ -1,6 +1,0 @@
-use Rattle.std.proofs.Common.{◌≡◌, ◌+◌, ◌*◌, map, get_or}
-use Rattle.std.specs.List.{range_with_len}
-use Rattle.dm_modules.proofs.blocks.block.Given as goal
-
-abbrev pub invariant-loop-i : goal.invariant-loop-i
-invariant-loop-i g l = l.block.items ≡ map (λ k. get_or l.list (k * l.blocks + l.b) 0) (range_with_len 0 l.i)

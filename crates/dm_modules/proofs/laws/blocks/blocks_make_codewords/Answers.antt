@@ -1,5 +1,0 @@
-use Rattle.dm_modules.proofs.DealtWords.{blocks_make_words}
-use Rattle.dm_modules.proofs.laws.blocks.blocks_make_codewords.Goals as goal
-
-pub returns : goal.returns
-returns c = blocks_make_words

@@ -1,5 +1,0 @@
-use Rattle.dm_modules.proofs.BlockLemmas.{same_data_by_blocks}
-use Rattle.dm_modules.proofs.laws.blocks.blocks_tell_the_data.Goals as goal
-
-pub returns : goal.returns
-returns c = same_data_by_blocks

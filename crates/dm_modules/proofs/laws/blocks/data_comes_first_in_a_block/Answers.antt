@@ -1,5 +1,0 @@
-use Rattle.dm_modules.proofs.BlockLemmas.{data_of_block}
-use Rattle.dm_modules.proofs.laws.blocks.data_comes_first_in_a_block.Goals as goal
-
-pub returns : goal.returns
-returns c = data_of_block

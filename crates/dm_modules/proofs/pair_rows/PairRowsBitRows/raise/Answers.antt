@@ -1,9 +1,0 @@
-use Rattle.std.proofs.Common.{◌∙◌, ap, refl}
-use Rattle.std.specs.Int.RustNames.{bit_or}
-use Rattle.dm_modules.proofs.Pairs.{at_is, over_is}
-use Rattle.dm_modules.proofs.pair_rows.PairRowsBitRows.raise.Goals as goal
-
-pub returns : goal.returns
-returns c =
-    over_is c.args.self.now _ c.args.row c.or.result _ _ refl c.requires.row
-    (c.or.ensures ∙ ap (bit_or _) (at_is c.args.self.now c.args.from _ c.requires.from))

@@ -1,6 +1,0 @@
-use Rattle.std.proofs.Common.{}
-use Rattle.dm_modules.proofs.TableEntries.{size_facts}
-use Rattle.dm_modules.proofs.size.SymbolSize.limit.Goals as goal
-
-pub nonzero_div-result : goal.nonzero_div-result
-nonzero_div-result c = (size_facts _ c.self.invariant).blocks

@@ -1,8 +1,0 @@
-use Rattle.dm_modules.proofs.SlotPlaces.{slots_empty, slots_light}
-use Rattle.dm_modules.proofs.slot_rows.Slots.empty.Goals as goal
-
-pub returns : goal.returns
-returns g c = slots_light g.row.BYTES g.row.ROWS
-
-pub invariant_of-result : goal.invariant_of-result
-invariant_of-result g c = slots_empty g.row.BYTES g.row.ROWS

@@ -1,5 +1,0 @@
-use Rattle.dm_modules.proofs.SlotRows.{reversed_in_table}
-use Rattle.dm_modules.proofs.slots.reverse.Goals as goal
-
-pub returns : goal.returns
-returns c = reversed_in_table c.args.byte c.ranges.byte.fits

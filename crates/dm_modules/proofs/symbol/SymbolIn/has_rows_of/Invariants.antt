@@ -1,7 +1,0 @@
-use Rattle.std.proofs.Common.{◌≡◌, ℕ, ◌<◌}
-use Rattle.dm_modules.specs.Modules.{module_at}
-use Rattle.dm_modules.proofs.symbol.SymbolIn.has_rows_of.Given as goal
-
-abbrev pub invariant-loop-row : goal.invariant-loop-row
-invariant-loop-row g l =
-    (r c : ℕ) → r < l.row → c < l.self.size.columns → module_at l.self r c ≡ module_at l.other r c
