@@ -10,7 +10,7 @@ from tests.library.library import EXAMPLES, compiled, module
 from tests.support import commands, places
 from tests.support.commands import said
 
-STACK = 57_344
+STACK = 45_056
 # How many calls threads.c measures.
 MEASURED = 10
 # The code of each call that written.c makes, and how many bytes of its arrays are written.
