@@ -261,7 +261,8 @@ static void search_thick(struct search *search, const struct sight *sight, struc
     struct limit *limit = search->judge.limit;
     struct sight thick = {.is_inverted = sight->is_inverted, .level = dots.level};
     bool is_made = plane_dots(&sight->levels[dots.level], dots.reach, limit, &thick.picture) &&
-                   thicken(&thick.picture, dots.reach, limit) && make_levels(&thick, limit);
+                   thicken(&thick.picture, dots.reach, limit) &&
+                   plane_smooth(&thick.picture, limit, &thick.levels[0]);
     note_lack(search, is_made);
     if (is_made)
         search_lively(search, &thick, 0);
