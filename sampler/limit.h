@@ -34,19 +34,6 @@ static inline void limit_end_part(struct limit *limit) {
     limit->part = limit->left;
 }
 
-/* Sets half of the work that is left aside, for what comes later; returns how much that is. */
-static inline int64_t limit_set_aside(struct limit *limit) {
-    int64_t aside = limit->left / 2;
-    limit->left -= aside;
-    return aside;
-}
-
-/* Allows what was set aside, and what is left besides. */
-static inline void limit_take_back(struct limit *limit, int64_t aside) {
-    limit->left = (limit->left > 0 ? limit->left : 0) + aside;
-    limit_end_part(limit);
-}
-
 /* Allows as much work once more, after a symbol. */
 static inline void limit_renew(struct limit *limit) {
     limit->left = limit->allowed;

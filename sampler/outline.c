@@ -202,8 +202,8 @@ static bool starts_make(const struct line *pieces, int count, struct starts *out
     return true;
 }
 
-/* The first piece from number k on that begins within reach of a strip, or little beyond it. They are looked at eight at
- * a time. */
+/* The first piece from number k on that begins within reach of a strip, or little beyond it. They are looked at eight
+ * at a time. */
 static int next_near(const struct starts *starts, const struct strip *strip, int k) {
     enum { AT_A_TIME = 8 };
     static const double SLACK = 0.01; /* pixels: more than is lost by rounding */

@@ -283,7 +283,8 @@ static void search_dots(struct search *search, const struct sight *sight) {
 }
 
 /* First by solid borders beside which it looks like a symbol, dark on light and then light on dark, then by lattices,
- * which show both, then by the solid borders of a calm picture, and last by other solid borders. */
+ * which show both, then by the solid borders of a calm picture, and then by other solid borders. What is left of the
+ * limit is for smears, and then for dots, which take more. */
 static void search_picture(struct search *search, const struct plane *picture) {
     struct sight *plain = &search->sights[0], *inverted = &search->sights[1];
     struct limit *limit = search->judge.limit;
@@ -298,13 +299,11 @@ static void search_picture(struct search *search, const struct plane *picture) {
         search_levels(search, plain, search_woven);
         search_levels(search, plain, search_calm);
         search_levels(search, inverted, search_calm);
-        search_dots(search, plain);
-        search_dots(search, inverted);
-        int64_t aside = limit_set_aside(limit);
         search_levels(search, plain, search_still);
         search_levels(search, inverted, search_still);
-        limit_take_back(limit, aside);
         search_smeared(search);
+        search_dots(search, plain);
+        search_dots(search, inverted);
     }
     sight_free(plain);
     sight_free(inverted);

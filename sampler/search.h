@@ -41,7 +41,8 @@ void blank_found(const struct search *search, int level, struct plane *plane);
 bool judge_all(struct search *search, const struct sight *sight, struct placement *placements, int count, double scale);
 
 /* Searches a level of a sight by the lattices that edges lie on, for symbols that are dark on light, and for those that
- * are light on dark by the sight in which these are dark, or NULL if they aren't looked for. */
+ * are light on dark by the sight in which these are dark; or NULL if they aren't looked for, as where dots are thicker
+ * than they are, which is searched at fewer places. */
 void search_lattices(struct search *search, const struct sight *sight, const struct sight *inverted, int level);
 
 #endif

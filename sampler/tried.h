@@ -11,7 +11,7 @@ struct tried {
     struct point corners[4]; /* of the picture that is searched */
 };
 
-enum { MOST_TRIED = 64, MOST_SMEARED_PLACES = 16 };
+enum { MOST_TRIED = 64, MOST_SMEARED_PLACES = 8 };
 
 struct tried_places {
     struct tried items[MOST_TRIED]; /* the latest ones */
