@@ -79,19 +79,47 @@ def metal(look, chance):
 
 # ---- how the mark is made
 
-def peened(grid, pixels, chance):
-    """Discs that don't touch, each a little beside its place, of which some are faint."""
+def peened(grid, pixels, chance, least=0.57, most=0.63):
+    """Discs that don't touch, between `least` and `most` of a module wide, each a little beside its place, of which
+    some are faint."""
     ink = numpy.zeros((grid.shape[0] * pixels, grid.shape[1] * pixels), numpy.float32)
     faint = chance.uniform(0.01, 0.05)
     for y, x in zip(*numpy.nonzero(grid)):
         at = [round((place + 0.5 + chance.gauss(0, 0.03)) * pixels * 16) for place in (x, y)]
         shade = chance.uniform(0.1, 0.35) if chance.random() < faint else 1.0
-        cv2.circle(ink, at, round(chance.uniform(0.57, 0.63) * pixels * 8), shade, -1, cv2.LINE_AA, 4)
+        cv2.circle(ink, at, round(chance.uniform(least, most) * pixels * 8), shade, -1, cv2.LINE_AA, 4)
     return ink
 
 
 def dotted(look, _):
     look.drawn = peened
+
+
+def specks(look, chance):
+    wide = chance.uniform(0.28, 0.47)
+    look.drawn = lambda grid, pixels, chance: peened(grid, pixels, chance, wide - 0.03, wide + 0.03)
+
+
+def cratered(grid, pixels, chance):
+    """Craters of 0.45 to 0.75 of a module, each a little beside its place, in light from one side: one half is dark and
+    the other one as light as the ground, or somewhat lighter."""
+    ink = numpy.zeros((grid.shape[0] * pixels, grid.shape[1] * pixels), numpy.float32)
+    wide, turn, gleam = chance.uniform(0.45, 0.75), chance.uniform(0, 2 * math.pi), chance.uniform(-0.4, 0)
+    down, right = numpy.mgrid[0:ink.shape[0], 0:ink.shape[1]] + 0.5
+    for y, x in zip(*numpy.nonzero(grid)):
+        at = [(place + 0.5 + chance.gauss(0, 0.04)) * pixels for place in (x, y)]
+        rows, columns = (slice(max(place - 1, 0) * pixels, (place + 2) * pixels) for place in (y, x))
+        across, along = right[rows, columns] - at[0], down[rows, columns] - at[1]
+        radius = chance.uniform(0.93, 1.07) * wide * pixels / 2
+        inside = numpy.clip(radius + 0.5 - numpy.hypot(across, along), 0, 1)
+        slope = (math.cos(turn) * across + math.sin(turn) * along) / radius
+        ink[rows, columns] += inside * numpy.clip(0.5 + 1.2 * slope, gleam, 1)
+    return ink
+
+
+def cratered_metal(look, chance):
+    metal(look, chance)
+    look.drawn = cratered
 
 
 def neighbour(wide, high, pixels, chance):

@@ -9,20 +9,41 @@
 enum { WORK_OF_A_WINDOW = 400000, WORK_OF_A_MODULE = 1500 };
 enum { SPOTS = 12, BORDERS = 6, LEAST_EXTENT = 8, CLEAR = 6 };
 
+/* How many places of a level are looked at, and how many lattices at each: the likeliest. */
+struct tries {
+    int spots, lattices;
+};
+static const struct tries USUAL = {SPOTS, 2 * MOST_LATTICES};
+/* Where dots are thicker than they are, which is tried last, what a symbol shows is among the first. */
+static const struct tries OF_DOTS = {2, 2};
+
+/* A level of a sight, and the sight in which what is light in it is dark, or NULL where dots are thicker. */
+struct view {
+    const struct sight *sight, *inverted;
+    int level;
+    struct tries tries;
+};
+
+static const struct plane *grey_of(const struct view *view) {
+    return &view->sight->levels[view->level];
+}
+
 /* Judges the symbols whose borders the lattice's modules show. */
-static void search_field(struct search *search, int level, const struct lattice *lattice, struct field *field) {
+static void search_field(struct search *search, const struct view *view, const struct lattice *lattice,
+                         struct field *field) {
     struct border borders[BORDERS];
     int first_x, first_y;
     limit_spend(search->judge.limit, WORK_OF_A_MODULE * (int64_t)(lattice->part.last_x - lattice->part.first_x) *
                                          (lattice->part.last_y - lattice->part.first_y));
-    sample_field(&search->sights[0].levels[level], lattice, field, &first_x, &first_y);
+    sample_field(grey_of(view), lattice, field, &first_x, &first_y);
     int count = find_borders(field, search->judge.layouts, borders, BORDERS);
     search->judge.has_no_memory |= count < 0;
     for (int k = 0; k < count && !is_over(search); k++) {
         struct placement placement = {.extent = borders[k].extent, .score = borders[k].score};
+        const struct sight *shown_in = borders[k].is_inverted ? view->inverted : view->sight;
         placement.shows_border = borders[k].score >= CLEAR;
-        if (symbol_in(lattice, first_x, first_y, &borders[k], &placement.warp) &&
-            judge_all(search, &search->sights[borders[k].is_inverted], &placement, 1, 1 << level))
+        if (shown_in != NULL && symbol_in(lattice, first_x, first_y, &borders[k], &placement.warp) &&
+            judge_all(search, shown_in, &placement, 1, 1 << view->level))
             return;
     }
 }
@@ -32,34 +53,38 @@ static bool is_large(const struct lattice *lattice) {
            lattice->part.last_y - lattice->part.first_y >= LEAST_EXTENT;
 }
 
-static void search_spot(struct search *search, int level, const struct plane *steep, const struct spot *spot,
-                        struct field *field) {
+static void search_spot(struct search *search, const struct view *view, const struct plane *steep,
+                        const struct spot *spot, struct field *field) {
     struct homography lattices[2 * MOST_LATTICES];
     struct lattice lattice;
-    const struct plane *grey = &search->sights[0].levels[level];
-    struct point middle = point_at((spot->x + WINDOW_SIDE / 2) << level, (spot->y + WINDOW_SIDE / 2) << level);
+    const struct plane *grey = grey_of(view);
+    int of_picture = view->sight->level + view->level;
+    struct point middle =
+        point_at((spot->x + WINDOW_SIDE / 2) << of_picture, (spot->y + WINDOW_SIDE / 2) << of_picture);
     if (is_known_at(&search->known, middle))
         return;
-    /* Edges are seen by what is steep, and dots that don't touch by what is dark. */
+    /* Edges are seen by what is steep, and dots that don't touch by what is dark: thicker ones touch. */
     limit_spend(search->judge.limit, WORK_OF_A_WINDOW);
     int count = find_lattices(steep, spot->x, spot->y, 0.5, lattices);
-    count += find_lattices(grey, spot->x, spot->y, 0, lattices + count);
+    if (view->tries.lattices > MOST_LATTICES)
+        count += find_lattices(grey, spot->x, spot->y, 0, lattices + count);
     size_t before = search->count;
-    for (int k = 0; k < count && !is_over(search) && search->count == before; k++)
+    for (int k = 0; k < count && k < view->tries.lattices && !is_over(search) && search->count == before; k++)
         if (grow_lattice(grey, &lattices[k], search->judge.places, search->judge.limit, &lattice) && is_large(&lattice))
-            search_field(search, level, &lattice, field);
+            search_field(search, view, &lattice, field);
 }
 
-void search_lattices(struct search *search, int level) {
+void search_lattices(struct search *search, const struct sight *sight, const struct sight *inverted, int level) {
+    struct view view = {sight, inverted, level, inverted != NULL ? USUAL : OF_DOTS};
     struct spot spots[SPOTS];
     struct plane steep;
     struct field *field = malloc(sizeof *field);
-    bool is_made = plane_steepen(&search->sights[0].levels[level], search->judge.limit, &steep) && field != NULL;
+    bool is_made = plane_steepen(grey_of(&view), search->judge.limit, &steep) && field != NULL;
     if (is_made)
-        blank_found(search, level, &steep);
-    int count = is_made ? find_spots(&steep, search->judge.limit, spots, SPOTS) : 0;
+        blank_found(search, sight->level + level, &steep);
+    int count = is_made ? find_spots(&steep, search->judge.limit, spots, view.tries.spots) : 0;
     for (int k = 0; k < count && !is_over(search); k++)
-        search_spot(search, level, &steep, &spots[k], field);
+        search_spot(search, &view, &steep, &spots[k], field);
     note_lack(search, is_made && count >= 0);
     free(field);
     plane_free(&steep);

@@ -34,7 +34,7 @@
  * judges each: the reading is what the grid says. A wrong grid gives no reading or, rarely, a wrong message, as damage
  * to a symbol does; `margin` makes that rarer still.
  *
- * Any number of threads may call at once. A call keeps nothing; it allocates about six bytes a pixel, and frees them.
+ * Any number of threads may call at once. A call keeps nothing; it allocates up to nine bytes a pixel, and frees them.
  * Without memory it returns NO_MEMORY. */
 #ifndef ECC200_SAMPLE_H
 #define ECC200_SAMPLE_H

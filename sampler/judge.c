@@ -3,6 +3,7 @@
 #include <string.h>
 
 #include "sampling.h"
+#include "turns.h"
 #include "witness.h"
 
 static const struct rule RULES[] = {
@@ -16,6 +17,8 @@ static const struct rule RULES[] = {
 /* Those by which modules are told apart where some are doubtful. */
 static const struct rule DOUBT_RULES[] = {{0.00, 0.00, false, 0, false}, {0.12, 0.00, true, 0, false},
                                           {0.00, 0.00, false, 3, false}, {0.12, 0.00, false, 0, true}};
+/* That of the first guess where light has run from module to module. */
+static const struct rule SMEAR_RULE = {0.12, 0.00, true, 0, false};
 enum {
     RULE_COUNT = sizeof RULES / sizeof *RULES,
     DOUBT_RULE_COUNT = sizeof DOUBT_RULES / sizeof *DOUBT_RULES
@@ -69,10 +72,10 @@ static bool leaves_margin(const ecc200_sample *trial, int margin) {
 }
 
 /* The corners of the upright symbol, which a mirror that leaves the solid border where it is takes across. */
-static void set_corners(ecc200_sample *sample, const struct warp *warp, struct extent extent) {
+static void set_corners(ecc200_sample *sample, const struct warp *warp, double scale, struct extent extent) {
     for (int k = 0; k < 4; k++) {
         struct point corner = corner_of(extent, sample->mirrored && k % 2 == 0 ? 2 - k : k),
-                     at = warp_point(warp, corner.x, corner.y);
+                     at = scale_by(warp_point(warp, corner.x, corner.y), scale);
         sample->corners[k] = (ecc200_sample_point){at.x, at.y};
     }
 }
@@ -106,14 +109,14 @@ static void keep(struct trials *trials) {
     if (trials->best_cost >= 0 && trials->best_cost <= cost)
         return;
     trials->best_cost = cost;
-    set_corners(trial, trials->warp, trials->layout->extent);
+    set_corners(trial, trials->warp, trials->judge->scale, trials->layout->extent);
     *trials->best = *trial;
 }
 
 /* Hands on a candidate that isn't read. */
 static void hand_on(struct trials *trials, enum ecc200_sample_unread why) {
     ecc200_sample *trial = trials->judge->trial;
-    set_corners(trial, trials->warp, trials->layout->extent);
+    set_corners(trial, trials->warp, trials->judge->scale, trials->layout->extent);
     trial->unread = (uint16_t)why;
     keep_unread(&trials->judge->unread, trial, trials->score);
     trial->unread = ECC200_SAMPLE_READ;
@@ -287,6 +290,18 @@ static void try_bent(struct trials *trials, struct lie *lie, struct brightnesses
     }
 }
 
+/* Lets the reader judge what is seen where a smear was undone, as it is or in a mirror. */
+static void try_undone(struct trials *trials, bool is_mirrored) {
+    ecc200_sample *trial = trials->judge->trial;
+    take_seen(trials, is_mirrored);
+    if (read(trial, NULL, usual_limit(trial)) != ECC200_OK)
+        return;
+    if (leaves_checks(trial, trials->judge->margin))
+        keep(trials);
+    else
+        hand_on_untrusted(trials);
+}
+
 /* Tries the placement as it is once more, without what the picture shows to be damaged: first with what its edges cut,
  * and then without that, too. */
 static void try_known_damage(struct trials *trials, struct lie *lie, struct brightnesses *brightnesses) {
@@ -305,23 +320,10 @@ static void try_known_damage(struct trials *trials, struct lie *lie, struct brig
     memset(judge->trial->doubtful, 0, sizeof judge->trial->doubtful);
 }
 
-/* Whether this placement, but for a quarter of a module, was sampled before. If not, it is from now on. */
-static bool was_tried(struct judge *judge, const struct warp *warp, struct extent extent) {
-    struct tried now = {.extent = extent, .is_inverted = judge->is_inverted};
-    for (int k = 0; k < 4; k++)
-        now.corners[k] = warp_point(warp, corner_of(extent, k).x, corner_of(extent, k).y);
-    double near = 0.25 * length(difference(now.corners[2], now.corners[0])) / mean_side(extent);
-    for (int k = 0; k < judge->tried_count && k < MOST_TRIED; k++) {
-        const struct tried *tried = &judge->tried[k];
-        bool is_same = tried->extent.wide == extent.wide && tried->extent.high == extent.high &&
-                       tried->is_inverted == now.is_inverted;
-        for (int corner = 0; corner < 4 && is_same; corner++)
-            is_same = length(difference(tried->corners[corner], now.corners[corner])) < near;
-        if (is_same)
-            return true;
-    }
-    judge->tried[judge->tried_count++ % MOST_TRIED] = now;
-    return false;
+/* Keeps a placement that wasn't read, if it is one of the picture at its full size. */
+static void keep_for_later(struct judge *judge, const struct smeared *smeared) {
+    if (judge->scale == 1)
+        keep_smeared(&judge->smeared_places, smeared);
 }
 
 bool judge_placement(struct judge *judge, const struct placement *placement, ecc200_sample *out) {
@@ -334,8 +336,13 @@ bool judge_placement(struct judge *judge, const struct placement *placement, ecc
     struct part whole = {0, layout->extent.wide, 0, layout->extent.high};
     spend_on_edges(judge, layout, 4);
     double share = refine(judge->smooth, layout, whole, 0.01, 4, &warp);
-    if (share < (placement->shows_border ? LEAST_SHARE_OF_CLEAR : LEAST_SHARE) ||
-        was_tried(judge, &warp, layout->extent))
+    struct smeared smeared = {.at = tried_at(&warp, layout->extent, judge->scale, judge->is_inverted), .warp = warp};
+    smeared.score = share * length(difference(smeared.at.corners[2], smeared.at.corners[0]));
+    if (share < (placement->shows_border ? LEAST_SHARE_OF_CLEAR : LEAST_SHARE)) {
+        keep_for_later(judge, &smeared);
+        return false;
+    }
+    if (was_tried(&judge->tried, &smeared.at))
         return false;
     struct trials trials = {judge, layout, &warp, out, -1, share};
     struct brightnesses brightnesses;
@@ -348,5 +355,38 @@ bool judge_placement(struct judge *judge, const struct placement *placement, ecc
     try_bent(&trials, &lie, &brightnesses);
     if (trials.best_cost < 0)
         try_known_damage(&trials, &lie, &brightnesses);
+    if (trials.best_cost < 0)
+        keep_for_later(judge, &smeared);
+    return trials.best_cost >= 0;
+}
+
+void size_up_smeared(struct judge *judge) {
+    struct smeared_places *places = &judge->smeared_places;
+    for (int k = 0; k < places->count && !limit_reached(judge->limit); k++) {
+        if (places->items[k].at.is_inverted != judge->is_inverted || !is_square(places->items[k].at.extent))
+            continue;
+        limit_spend(judge->limit, WORK_OF_TURNS);
+        size_up(judge->smooth, judge->layouts, &places->items[k]);
+    }
+}
+
+bool judge_smeared(struct judge *judge, const struct smeared *smeared, ecc200_sample *out) {
+    const struct layout *layout = layout_of(judge->layouts, smeared->at.extent);
+    if (layout == NULL)
+        judge->has_no_memory = true;
+    if (layout == NULL || shorter_side(smeared->at.extent) < judge->least_side)
+        return false;
+    struct trials trials = {judge, layout, &smeared->warp, out, -1, smeared->score};
+    struct lie lie = {.region = smeared->at.extent, .warps = {smeared->warp}};
+    struct brightnesses brightnesses;
+    spend(judge, layout, WORK_OF_SAMPLING + WORK_OF_A_RULE + 2 * WORK_OF_READING);
+    limit_spend(judge->limit, work_of_smear(smeared->at.extent));
+    sample_modules(judge->picture, layout, &lie, &brightnesses);
+    if (!tell_apart(&brightnesses, layout->colour, SMEAR_RULE, judge->seen) ||
+        !undo_smear(judge->picture, layout, &smeared->warp, &judge->smear, judge->seen))
+        return false;
+    try_undone(&trials, layout->is_mirrored);
+    if (is_square(smeared->at.extent))
+        try_undone(&trials, true);
     return trials.best_cost >= 0;
 }

@@ -3,17 +3,10 @@
 #define JUDGE_H
 
 #include "doubt.h"
+#include "smear.h"
 #include "track.h"
+#include "tried.h"
 #include "unread.h"
-
-/* A placement that was sampled before. */
-struct tried {
-    struct extent extent;
-    bool is_inverted;
-    struct point corners[4];
-};
-
-enum { MOST_TRIED = 64 };
 
 struct judge {
     const struct plane *picture, *smooth;   /* as it is, and smoothed */
@@ -23,16 +16,25 @@ struct judge {
     struct limit *limit;                    /* when to stop */
     bool has_no_memory;                     /* whether memory was wanted that isn't there */
     bool is_inverted;                       /* whether `picture` is the picture inverted */
+    double scale;                           /* how many pixels of the picture that is searched one of `picture` is */
     ecc200_sample *trial;                   /* room for a candidate */
     uint8_t seen[MOST_MODULES];             /* its modules as the picture shows them, in a mirror perhaps */
     uint8_t doubtful[MOST_MODULES];         /* those of them that tell nothing, while these are given to the reader */
     struct looks looks;
+    struct smear smear;
     struct unread unread;                   /* those that have a border and aren't read */
-    struct tried tried[MOST_TRIED];         /* the latest ones */
-    int tried_count;
+    struct tried_places tried;
+    struct smeared_places smeared_places;
 };
 
 /* Whether the placement, or one near it, is read; then `out` is the candidate with the fewest corrections. */
 bool judge_placement(struct judge *judge, const struct placement *placement, ecc200_sample *out);
+
+/* Tells the sides of those squares among the smeared placements that are inverted as the picture is, by how evenly
+ * their borders turn. */
+void size_up_smeared(struct judge *judge);
+
+/* Whether a placement is read as light that has run from module to module shows it; then `out` is what it says. */
+bool judge_smeared(struct judge *judge, const struct smeared *smeared, ecc200_sample *out);
 
 #endif

@@ -185,11 +185,50 @@ static bool continues(const struct strip *strip, const struct line *piece) {
            fabs(cross(strip->unit, behind)) < strip->apart && last > -0.5 * strip->whole && first < 1.5 * strip->whole;
 }
 
+/* Where pieces begin. */
+struct starts {
+    float *x, *y;
+    int count;
+};
+
+/* Room for so many, and where these pieces begin. False if there is no memory. */
+static bool starts_make(const struct line *pieces, int count, struct starts *out) {
+    *out = (struct starts){malloc(2 * (size_t)count * sizeof *out->x), NULL, count};
+    if (out->x == NULL)
+        return false;
+    out->y = out->x + count;
+    for (int k = 0; k < count; k++)
+        out->x[k] = (float)pieces[k].from.x, out->y[k] = (float)pieces[k].from.y;
+    return true;
+}
+
+/* The first piece from number k on that begins within reach of a strip, or little beyond it. They are looked at eight
+ * at a time. */
+static int next_near(const struct starts *starts, const struct strip *strip, int k) {
+    enum { AT_A_TIME = 8 };
+    static const double SLACK = 0.01; /* pixels: more than is lost by rounding */
+    float x = (float)strip->from.x, y = (float)strip->from.y, right = (float)(strip->reach.x + SLACK),
+          down = (float)(strip->reach.y + SLACK);
+    for (; k + AT_A_TIME <= starts->count; k += AT_A_TIME) {
+        const float *xs = starts->x + k, *ys = starts->y + k;
+        int is_near = 0, are_near[AT_A_TIME];
+        for (int j = 0; j < AT_A_TIME; j++)
+            are_near[j] = fabsf(xs[j] - x) <= right ? fabsf(ys[j] - y) <= down : 0;
+        for (int j = 0; j < AT_A_TIME; j++)
+            is_near |= are_near[j];
+        if (is_near)
+            break;
+    }
+    while (k < starts->count && !(fabsf(starts->x[k] - x) <= right && fabsf(starts->y[k] - y) <= down))
+        k++;
+    return k;
+}
+
 /* The line that one and the pieces behind it which continue it make up. */
-static struct line joined_from(const struct lines *lines, int at, int count) {
+static struct line joined_from(const struct lines *lines, const struct starts *starts, int at) {
     struct line joined = lines->items[at];
     struct strip strip = strip_along(&joined);
-    for (int k = at + 1; k < count; k++) {
+    for (int k = next_near(starts, &strip, at + 1); k < starts->count; k = next_near(starts, &strip, k + 1)) {
         const struct line *piece = &lines->items[k];
         if (!continues(&strip, piece))
             continue;
@@ -212,14 +251,16 @@ static bool join(struct lines *lines, struct limit *limit) {
         return true;
     qsort(lines->items, (size_t)lines->count, sizeof *lines->items, by_length);
     int count = lines->count < MOST_LINES / 2 ? lines->count : MOST_LINES / 2;
-    bool enough = true;
+    struct starts starts;
+    bool enough = starts_make(lines->items, count, &starts);
     lines->count = count;
     for (int k = 0; k < count && enough && !limit_reached(limit); k++) {
-        struct line joined = joined_from(lines, k, count);
+        struct line joined = joined_from(lines, &starts, k);
         limit_spend(limit, count);
         if (extent(&joined) > extent(&lines->items[k]) + 1)
             enough = keep(lines, joined);
     }
+    free(starts.x);
     qsort(lines->items, (size_t)lines->count, sizeof *lines->items, by_length);
     return enough;
 }

@@ -142,7 +142,7 @@ bool plane_smooth(const struct plane *from, struct limit *limit, struct plane *o
     return is_made(is_whole, out);
 }
 
-/* ---- The median of nine */
+/* ---- The median and the darkest of nine */
 
 static inline uint8_t least_of(uint8_t a, uint8_t b) {
     return a < b ? a : b;
@@ -172,15 +172,136 @@ static void calm_row(const uint8_t *row, ptrdiff_t stride, int width, uint8_t *c
                           least_of(least_of(most[x], most[x + 1]), most[x + 2]));
 }
 
-bool plane_calm(const struct plane *from, struct limit *limit, struct plane *out) {
+/* The darkest of nine is that of the darkest of three columns. */
+static void thicken_row(const uint8_t *row, ptrdiff_t stride, int width, uint8_t *columns, uint8_t *to) {
+    for (int x = 0; x < width + 2; x++)
+        columns[x] = least_of(least_of(row[x - 1 - stride], row[x - 1]), row[x - 1 + stride]);
+    for (int x = 0; x < width; x++)
+        to[x] = least_of(least_of(columns[x], columns[x + 1]), columns[x + 2]);
+}
+
+/* What comes of the rows of a plane with a frame, each with those above and below. `row_of` has room for three rows of
+ * columns. */
+static bool by_rows(const struct plane *from, struct limit *limit,
+                    void (*row_of)(const uint8_t *, ptrdiff_t, int, uint8_t *, uint8_t *), struct plane *out) {
     uint8_t *first = plane_make(from->width, from->height, 1, out), *columns = malloc(3 * ((size_t)from->width + 2)),
             *to = first;
     bool has_room = first != NULL && columns != NULL;
     int y = 0;
     for (; has_room && y < from->height && leaves(limit, y, from->width); y++, to += out->stride)
-        calm_row(pixel_of(from, 0, y), (ptrdiff_t)from->stride, from->width, columns, to);
+        row_of(pixel_of(from, 0, y), (ptrdiff_t)from->stride, from->width, columns, to);
     bool is_whole = has_room && y == from->height;
     free(columns);
+    if (is_whole)
+        frame_plane(first, out);
+    return is_made(is_whole, out);
+}
+
+bool plane_calm(const struct plane *from, struct limit *limit, struct plane *out) {
+    return by_rows(from, limit, calm_row, out);
+}
+
+bool plane_thicken(const struct plane *from, struct limit *limit, struct plane *out) {
+    return by_rows(from, limit, thicken_row, out);
+}
+
+/* ---- Dots: what is filled when all lines through it are closed, each by the lightest and then the darkest of it */
+
+enum { STRIP = 64, DIRECTIONS = 4, GAIN = 3 };
+
+/* Some rows of a plane, with a rim of the nearest pixels, and room for what comes of them. */
+struct strip {
+    int wide, rim, rows;
+    size_t count;              /* pixels, the rim included */
+    uint8_t *kept, *lines[2];
+};
+
+static bool strip_make(int width, int rim, struct strip *out) {
+    size_t wide = (size_t)width + 2 * (size_t)rim, count = wide * (STRIP + 2 * (size_t)rim);
+    uint8_t *room = malloc(3 * count);
+    *out = (struct strip){(int)wide, rim, STRIP, count, room, {room + count, room + 2 * count}};
+    return room != NULL;
+}
+
+/* Takes the rows from `first` on. */
+static void fill_strip(const struct plane *from, int first, struct strip *strip) {
+    uint8_t *to = strip->kept;
+    for (int y = first - strip->rim; y < first + strip->rows + strip->rim; y++, to += strip->wide) {
+        const uint8_t *row = pixel_of(from, 0, nearest_pixel(y, from->height, 0));
+        memset(to, row[0], (size_t)strip->rim);
+        memcpy(to + strip->rim, row, (size_t)from->width);
+        memset(to + strip->rim + from->width, row[from->width - 1], (size_t)strip->rim);
+    }
+}
+
+/* The lighter of each pixel and the one so far after it. */
+static void lighten(const uint8_t *restrict from, size_t count, size_t away, uint8_t *restrict to) {
+    for (size_t k = 0; k < count - away; k++)
+        to[k] = most_of(from[k], from[k + away]);
+    memcpy(to + count - away, from + count - away, away);
+}
+
+/* The darker of each pixel and the one so far before it. */
+static void deepen(const uint8_t *restrict from, size_t count, size_t away, uint8_t *restrict to) {
+    memcpy(to, from, away);
+    for (size_t k = away; k < count; k++)
+        to[k] = least_of(from[k], from[k - away]);
+}
+
+/* Closes all lines of so many pixels, each `step` after the one before. Returns where that is. */
+static const uint8_t *close_lines(struct strip *strip, size_t step, size_t pixels) {
+    const uint8_t *from = strip->kept;
+    int next = 0;
+    for (int is_second = 0; is_second < 2; is_second++)
+        for (size_t span = 1; span < pixels; next = 1 - next) {
+            size_t more = span < pixels - span ? span : pixels - span;
+            (is_second ? deepen : lighten)(from, strip->count, more * step, strip->lines[next]);
+            from = strip->lines[next], span += more;
+        }
+    return from;
+}
+
+/* Darkens a row by what its closed lines fill: in `to`, by the least of what all directions fill. */
+static void take_filled(const uint8_t *restrict kept, const uint8_t *restrict closed, int width, uint8_t *restrict to) {
+    for (int x = 0; x < width; x++)
+        to[x] = least_of(to[x], (uint8_t)(closed[x] - kept[x]));
+}
+
+static void draw_dots(uint8_t *row, int width) {
+    for (int x = 0; x < width; x++)
+        row[x] = row[x] < 255 / GAIN ? (uint8_t)(255 - GAIN * row[x]) : 0;
+}
+
+/* Makes the dots of a strip, from row `first` on. */
+static void find_dots(struct strip *strip, int reach, int width, int rows, uint8_t *to, size_t stride) {
+    size_t wide = (size_t)strip->wide, steps[DIRECTIONS] = {1, wide - 1, wide, wide + 1};
+    size_t first = (size_t)strip->rim * (wide + 1);
+    for (int y = 0; y < rows; y++)
+        memset(to + (size_t)y * stride, 255, (size_t)width);
+    for (int k = 0; k < DIRECTIONS; k++) {
+        const uint8_t *closed = close_lines(strip, steps[k], 2 * (size_t)reach + 1);
+        for (int y = 0; y < rows; y++)
+            take_filled(strip->kept + first + (size_t)y * wide, closed + first + (size_t)y * wide, width,
+                        to + (size_t)y * stride);
+    }
+    for (int y = 0; y < rows; y++)
+        draw_dots(to + (size_t)y * stride, width);
+}
+
+bool plane_dots(const struct plane *from, int reach, struct limit *limit, struct plane *out) {
+    enum { WORK_OF_A_PIXEL = 4 };
+    struct strip strip;
+    uint8_t *first = plane_make(from->width, from->height, 1, out);
+    bool has_room = strip_make(from->width, 2 * reach, &strip) && first != NULL;
+    int y = 0;
+    for (; has_room && y < from->height && !limit_reached(limit); y += STRIP) {
+        int rows = from->height - y < STRIP ? from->height - y : STRIP;
+        limit_spend(limit, (int64_t)WORK_OF_A_PIXEL * rows * from->width);
+        fill_strip(from, y, &strip);
+        find_dots(&strip, reach, from->width, rows, first + (size_t)y * out->stride, out->stride);
+    }
+    bool is_whole = has_room && y >= from->height;
+    free(strip.kept);
     if (is_whole)
         frame_plane(first, out);
     return is_made(is_whole, out);

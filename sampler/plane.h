@@ -28,6 +28,13 @@ bool plane_smooth(const struct plane *from, struct limit *limit, struct plane *o
 /* The median of each pixel of a plane with a frame, and of the eight around it; framed as the smooth one is. */
 bool plane_calm(const struct plane *from, struct limit *limit, struct plane *out);
 
+/* The darkest of each pixel of a plane with a frame, and of the eight around it; framed as the smooth one is. */
+bool plane_thicken(const struct plane *from, struct limit *limit, struct plane *out);
+
+/* What is darker than its surroundings on all lines through it, each as long as `reach` pixels to both sides: dots, and
+ * neither streaks nor edges. They are dark on white; framed as the smooth one is. */
+bool plane_dots(const struct plane *from, int reach, struct limit *limit, struct plane *out);
+
 /* How much each four pixels differ along the diagonals between them; kept as the upper left one's. */
 bool plane_steepen(const struct plane *from, struct limit *limit, struct plane *out);
 

@@ -13,6 +13,11 @@
 enum { CALM_LEVELS = 3, LATTICE_LEVELS = 4, LEAST_LEVEL = 24, AROUND = 2, CLOSE_AROUND = 1 };
 static const double LEAST_LINE = 10; /* pixels of a level */
 
+/* At which level dots are looked for that have at most so many pixels to both sides of each of theirs. */
+struct dots {
+    int level, reach;
+};
+
 uint16_t ecc200_sample_abi(void) {
     return ECC200_SAMPLE_ABI;
 }
@@ -61,19 +66,28 @@ void note_lack(struct search *search, bool is_made) {
     search->judge.has_no_memory |= !is_made && !limit_reached(search->judge.limit);
 }
 
+static void judge_by(struct search *search, const struct sight *sight) {
+    search->judge.picture = &sight->picture, search->judge.smooth = &sight->levels[0],
+    search->judge.is_inverted = sight->is_inverted, search->judge.scale = 1 << sight->level;
+}
+
+/* Takes note of a symbol that has been read. */
+static void add_found(struct search *search) {
+    add_known(&search->known, &search->found[search->count++]);
+    limit_renew(search->judge.limit);
+}
+
 bool judge_all(struct search *search, const struct sight *sight, struct placement *placements, int count,
                double scale) {
-    search->judge.picture = &sight->picture, search->judge.smooth = &sight->levels[0],
-    search->judge.is_inverted = sight->is_inverted;
+    judge_by(search, sight);
     for (int k = 0; k < count && !is_over(search); k++) {
         struct placement *placement = &placements[k];
         for (int column = 0; column < 3; column++)
             placement->warp.to_picture.m[0][column] *= scale, placement->warp.to_picture.m[1][column] *= scale;
         struct point middle = warp_point(&placement->warp, placement->extent.wide / 2.0, placement->extent.high / 2.0);
-        if (!is_known_at(&search->known, middle) &&
+        if (!is_known_at(&search->known, scale_by(middle, search->judge.scale)) &&
             judge_placement(&search->judge, placement, &search->found[search->count])) {
-            add_known(&search->known, &search->found[search->count++]);
-            limit_renew(search->judge.limit);
+            add_found(search);
             return true;
         }
     }
@@ -90,14 +104,14 @@ static void search_elbows(struct search *search, const struct sight *sight, int 
     for (; elbows->tried < last && !is_over(search); elbows->tried++) {
         const struct elbow *elbow = &elbows->items[elbows->tried];
         const struct layouts *shapes = search->judge.layouts;
-        if (!embrace_known(&search->known, scale, elbow->corner, elbow->top, elbow->right) &&
+        if (!embrace_known(&search->known, scale * (1 << sight->level), elbow->corner, elbow->top, elbow->right) &&
             !judge_all(search, sight, placements, placements_of(&scene, shapes, elbow, placements), scale) &&
             elbow->is_lively && even_placement_of(&scene, shapes, elbow, placements))
             judge_all(search, sight, placements, 1, scale);
     }
 }
 
-/* Finds the elbows of a level. False if there is no memory. */
+/* Finds the elbows of a level of the picture. False if there is no memory. */
 static bool find_all_elbows(struct search *search, int level, const struct plane *dark, struct elbows *out) {
     struct sought in = {dark, &search->lines, &search->known, 1 << level};
     return find_lines(dark, LEAST_LINE, search->judge.limit, &search->lines) &&
@@ -111,7 +125,9 @@ static void search_lively(struct search *search, struct sight *sight, int level)
     const struct plane *grey = &sight->levels[level];
     size_t before = search->count;
     struct plane dark;
-    bool is_made = darken(search, grey, level, AROUND, &dark) && find_all_elbows(search, level, &dark, elbows);
+    int of_picture = sight->level + level;
+    bool is_made =
+        darken(search, grey, of_picture, AROUND, &dark) && find_all_elbows(search, of_picture, &dark, elbows);
     struct scene scene = {grey, &dark, search->judge.limit};
     if (is_made)
         search_elbows(search, sight, level, scene, elbows, elbows->whole);
@@ -163,9 +179,8 @@ static void search_calm(struct search *search, struct sight *sight, int level) {
 
 /* Looks for lattices in a level. */
 static void search_woven(struct search *search, struct sight *sight, int level) {
-    (void)sight;
     if (level < LATTICE_LEVELS)
-        search_lattices(search, level);
+        search_lattices(search, sight, &search->sights[1], level);
 }
 
 /* Searches all levels in one of these ways, each within a part of the limit. */
@@ -208,8 +223,68 @@ static void sight_free(struct sight *sight) {
     plane_free(&sight->picture);
 }
 
+/* Tries the likeliest placements that weren't read once more, as where light has run from module to module. That is for
+ * pictures in which nothing else has been found. */
+static void search_smeared(struct search *search) {
+    struct judge *judge = &search->judge;
+    struct smeared_places *places = &judge->smeared_places;
+    limit_begin_part(judge->limit);
+    for (int k = 0; k < 2 && search->count == 0 && !is_over(search); k++) {
+        judge_by(search, &search->sights[k]);
+        size_up_smeared(judge);
+    }
+    sort_smeared(places);
+    for (int k = 0; k < places->count && search->count == 0 && !is_over(search); k++) {
+        judge_by(search, &search->sights[places->items[k].at.is_inverted]);
+        if (judge_smeared(judge, &places->items[k], &search->found[search->count]))
+            add_found(search);
+    }
+    limit_end_part(judge->limit);
+}
+
+/* ---- By dots */
+
+/* Makes what is dark thicker, by so many pixels all around. False if there was no memory, or the limit was reached. */
+static bool thicken(struct plane *plane, int pixels, struct limit *limit) {
+    bool is_made = true;
+    for (int k = 0; k < pixels && is_made; k++) {
+        struct plane thicker;
+        is_made = plane_thicken(plane, limit, &thicker);
+        plane_free(plane);
+        *plane = thicker;
+    }
+    return is_made;
+}
+
+/* Looks for symbols of dots that don't touch in a level of a sight: they do if they are thicker. */
+static void search_thick(struct search *search, const struct sight *sight, struct dots dots) {
+    struct limit *limit = search->judge.limit;
+    struct sight thick = {.is_inverted = sight->is_inverted, .level = dots.level};
+    bool is_made = plane_dots(&sight->levels[dots.level], dots.reach, limit, &thick.picture) &&
+                   thicken(&thick.picture, dots.reach, limit) &&
+                   plane_smooth(&thick.picture, limit, &thick.levels[0]);
+    note_lack(search, is_made);
+    if (is_made)
+        search_lively(search, &thick, 0);
+    if (is_made && !is_over(search))
+        search_lattices(search, &thick, NULL, 0);
+    sight_free(&thick);
+}
+
+/* Looks for symbols of dots. That is for pictures in which nothing else has been found. */
+static void search_dots(struct search *search, const struct sight *sight) {
+    static const struct dots order[] = {{0, 2}, {0, 1}, {1, 2}, {2, 2}, {3, 2}};
+    for (size_t k = 0; k < sizeof order / sizeof *order && search->count == 0 && !is_over(search); k++) {
+        limit_begin_part(search->judge.limit);
+        if (order[k].level < sight->level_count)
+            search_thick(search, sight, order[k]);
+        limit_end_part(search->judge.limit);
+    }
+}
+
 /* First by solid borders beside which it looks like a symbol, dark on light and then light on dark, then by lattices,
- * which show both, then by the solid borders of a calm picture, and last by other solid borders. */
+ * which show both, then by the solid borders of a calm picture, and then by other solid borders. What is left of the
+ * limit is for smears, and then for dots, which take more. */
 static void search_picture(struct search *search, const struct plane *picture) {
     struct sight *plain = &search->sights[0], *inverted = &search->sights[1];
     struct limit *limit = search->judge.limit;
@@ -226,6 +301,9 @@ static void search_picture(struct search *search, const struct plane *picture) {
         search_levels(search, inverted, search_calm);
         search_levels(search, plain, search_still);
         search_levels(search, inverted, search_still);
+        search_smeared(search);
+        search_dots(search, plain);
+        search_dots(search, inverted);
     }
     sight_free(plain);
     sight_free(inverted);

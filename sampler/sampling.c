@@ -1,7 +1,6 @@
 #include "sampling.h"
 
 #include <math.h>
-#include <stdlib.h>
 
 enum { POINTS = 4 };
 static const double FIRST = -0.27, APART = 0.18; /* modules: where the points of a module are */
@@ -158,9 +157,11 @@ struct division {
     float middle, share, contrast;
 };
 
-static int by_brightness(const void *one, const void *other) {
-    float a = *(const float *)one, b = *(const float *)other;
-    return a < b ? -1 : a > b;
+/* Puts a number among those before it, which are sorted. */
+static void insert(float *sorted, int count, float here) {
+    for (; count > 0 && sorted[count - 1] > here; count--)
+        sorted[count] = sorted[count - 1];
+    sorted[count] = here;
 }
 
 static struct division division_of(const float *of, int wide) {
@@ -168,9 +169,9 @@ static struct division division_of(const float *of, int wide) {
     float sorted[MODULES], total = 0, squares = 0, below = 0;
     for (int k = 0; k < MODULES; k++) {
         float here = of[k / SQUARE * wide + k % SQUARE];
-        sorted[k] = here, total += here, squares += here * here;
+        insert(sorted, k, here);
+        total += here, squares += here * here;
     }
-    qsort(sorted, MODULES, sizeof *sorted, by_brightness);
     float variance = squares - total * total / MODULES;
     for (int k = 1; k < MODULES; k++) {
         below += sorted[k - 1];

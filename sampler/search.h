@@ -11,6 +11,7 @@ struct sight {
     struct plane picture;
     struct plane levels[LEVELS]; /* the picture smoothed, and each after it half as large */
     int level_count;
+    int level;                   /* of the picture that is searched: which of its levels `picture` is */
     struct elbows elbows[LEVELS]; /* of each level that was searched */
     bool is_inverted;
 };
@@ -35,11 +36,13 @@ void note_lack(struct search *search, bool is_made);
 /* Makes 0, in what a level shows as dark or steep, the symbols that have been found, so that they cost no more time. */
 void blank_found(const struct search *search, int level, struct plane *plane);
 
-/* Judges placements from the likeliest on, until one is read. They are of a level of which each pixel is `scale` pixels
- * of the picture. */
+/* Judges placements from the likeliest on, until one is read. They are of a level of the sight of which each pixel is
+ * `scale` pixels of its picture. */
 bool judge_all(struct search *search, const struct sight *sight, struct placement *placements, int count, double scale);
 
-/* Searches a level of both sights by the lattices that edges lie on. */
-void search_lattices(struct search *search, int level);
+/* Searches a level of a sight by the lattices that edges lie on, for symbols that are dark on light, and for those that
+ * are light on dark by the sight in which these are dark; or NULL if they aren't looked for, as where dots are thicker
+ * than they are, which is searched at fewer places. */
+void search_lattices(struct search *search, const struct sight *sight, const struct sight *inverted, int level);
 
 #endif

@@ -83,9 +83,19 @@ def drawn(wide, high, level):
 
 def dots(sampler):
     """Dots of three fifths of a module, which don't touch, turned a little, with some so faint that they are lost."""
+    of_dots(sampler, sizes()[:9], (6,), 0.3, 200)
+
+
+def small_dots(sampler):
+    """The same with dots of two fifths of a module, dark and light ones."""
+    for ground in (200, 50):
+        of_dots(sampler, sizes()[1:9], (4, 7, 11), 0.2, ground)
+
+
+def of_dots(sampler, of_sizes, scales, radius, ground):
     chance = random.Random(13)
-    for side, count, _ in sizes()[:9]:
-        grid, message, scale = grid_of(message_of(count)), message_of(count), 6
+    for at, (side, count, _) in enumerate(of_sizes):
+        grid, message, scale = grid_of(message_of(count)), message_of(count), scales[at % len(scales)]
         faint = {(row, column) for row in range(side) for column in range(side) if chance.random() < 0.02}
         wide, turn = int((side + 8) * scale * 1.15), 0.1 * (side % 5)
 
@@ -95,12 +105,13 @@ def dots(sampler):
             along = math.cos(turn) * down - math.sin(turn) * right + side / 2
             row, column = math.floor(along), math.floor(across)
             if not (0 <= row < side and 0 <= column < side and grid[row][column]):
-                return 200
-            away = math.hypot(across - column - 0.5, along - row - 0.5) - 0.3
-            depth = 30 if (row, column) in faint else 150
-            return 200 - depth * min(1, max(0, 0.5 - away * scale))
+                return ground
+            away = math.hypot(across - column - 0.5, along - row - 0.5) - radius
+            depth = (30 if (row, column) in faint else 150) * (1 if ground > 127 else -1)
+            return ground - depth * min(1, max(0, 0.5 - away * scale))
         done = run([sampler, "--json", "--time=30000"], pgm(drawn(wide, wide, level)))
-        check(f"dots of side {side}", json.loads(done.stdout or b"{}").get("message"), message)
+        check(f"dots of side {side}, a radius of {radius} and {scale} pixels a module on {ground}",
+              json.loads(done.stdout or b"{}").get("message"), message)
 
 
 def bent(sampler):
@@ -133,3 +144,43 @@ def bands(sampler):
                for y, row in enumerate(rows)]
         done = run([sampler, "--time=30000"], pgm(lit))
         check(f"side {side} in bands of {period} pixels", (done.returncode, done.stdout.decode()), (0, record(grid)))
+
+
+def moved_along(rows, path):
+    """The rows of a picture as a camera sees them that goes along a path, of steps right and down."""
+    high, wide = len(rows), len(rows[0])
+    return [[sum(rows[min(max(y + down, 0), high - 1)][min(max(x + right, 0), wide - 1)] for right, down in path)
+             // len(path) for x in range(wide)] for y in range(high)]
+
+
+def motion(sampler):
+    """A camera that moves by 2.4 modules while it takes a picture, so that no threshold tells the modules apart."""
+    scale, turn, reach = 5, 0.1 + math.pi / 4, 12
+    path = [(round(math.cos(turn) * (step - reach / 2)), round(math.sin(turn) * (step - reach / 2)))
+            for step in range(reach + 1)]
+    for side, count, _ in (sizes()[at] for at in (3, 4, 6, 7, 8)):
+        done = run([sampler, "--json"], pgm(moved_along(pixels_of(grid_of(message_of(count)), scale, 4), path)))
+        check(f"side {side} by a camera that moves", json.loads(done.stdout or b"{}").get("message"), message_of(count))
+
+
+def craters(sampler):
+    """Craters in streaked metal that is lit from one side, so that one half of each is dark."""
+    chance = random.Random(14)
+    for at, (side, count, _) in enumerate(sizes()[2:10]):
+        grid, message, scale = grid_of(message_of(count)), message_of(count), (6, 7)[at % 2]
+        wide, turn = int((side + 8) * scale * 1.15), 0.15 + 0.2 * at
+        noise = [chance.gauss(0, 18) for _ in range(wide + 4)]
+        streaks = [sum(noise[y:y + 4]) / 2 for y in range(wide)]
+
+        def level(x, y):
+            right, down = (x - wide / 2) / scale, (y - wide / 2) / scale
+            across = math.cos(turn) * right + math.sin(turn) * down + side / 2
+            along = math.cos(turn) * down - math.sin(turn) * right + side / 2
+            row, column, shade = math.floor(along), math.floor(across), 0
+            if 0 <= row < side and 0 <= column < side and grid[row][column]:
+                beside, below = across - column - 0.5, along - row - 0.5
+                inside = min(1, max(0, 0.5 - (math.hypot(beside, below) - 0.32) * scale))
+                shade = 90 * inside * min(1, max(-0.3, 0.5 + 3 * beside))
+            return max(0, min(255, 140 + streaks[int(y)] - shade))
+        done = run([sampler, "--json"], pgm(drawn(wide, wide, level)))
+        check(f"craters of side {side}", json.loads(done.stdout or b"{}").get("message"), message)

@@ -125,6 +125,15 @@ class Sampler(Case):
     def test_dots(self):
         self.told(hard.dots, self.sampler)
 
+    def test_small_dots(self):
+        self.told(hard.small_dots, self.sampler)
+
+    def test_craters(self):
+        self.told(hard.craters, self.sampler)
+
+    def test_motion(self):
+        self.told(hard.motion, self.sampler)
+
     def test_bent(self):
         self.told(hard.bent, self.sampler)
 
