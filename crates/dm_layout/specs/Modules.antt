@@ -1,4 +1,4 @@
--- What single modules of a symbol are, by row and column: ISO/IEC 16022, symbol structure and module placement.
+-- What single modules of a square are, by row and column: ISO/IEC 16022, symbol structure and module placement.
 use Rattle.std.specs.Prelude.{◌≡◌, ℕ, ◌<◌, Bool, true, Option}
 use Rattle.dm_layout.specs.symbols.Border as symbols
 use Rattle.dm_layout.specs.Sizes.{SizeRow, IsRow, symbol_size}
@@ -33,7 +33,7 @@ IsOfKind size row column (Bit word bit) =
 
 -- ---- laws
 
--- Each module of a symbol is of exactly one kind.
+-- Each module of a square is of exactly one kind.
 abbrev pub EachModuleHasOneKind : Type 0
 EachModuleHasOneKind =
     (size : SizeRow) (row column : ℕ) → IsRow size → row < size.side → column < size.side →

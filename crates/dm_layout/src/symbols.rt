@@ -5,12 +5,12 @@
 //! finds one by its rows and columns, and [`SymbolSize::for_words()`] the smallest of a [`SizeChoice`] that holds so
 //! many data codewords.
 //!
-//! A [`Symbol`] has the dark and light modules of a symbol of any size, a row as a number. It is put row by row
-//! ([`SymbolIn::put_row()`]), or module by module ([`SymbolIn::put()`]), and read so ([`SymbolIn::row()`],
-//! [`SymbolIn::is_dark()`]). [`SymbolWords`] are the codewords of a symbol, given all at once
-//! ([`SymbolWordsIn::new()`]), or the data codewords first ([`SymbolWordsIn::put_data()`]) and the check codewords
-//! later ([`SymbolWordsIn::put_checks()`]). Both have room for the largest size; [`SymbolIn`] and [`SymbolWordsIn`]
-//! have as much as a caller wants, so that a small symbol needs no room for the largest.
+//! A [`Symbol`] has the dark and light modules of a symbol of any size, a row as a number, or as two where it has more
+//! than 128. It is put row by row ([`SymbolIn::put_row()`]), or module by module ([`SymbolIn::put()`]), and read so
+//! ([`SymbolIn::row()`] with [`SymbolIn::end()`], [`SymbolIn::is_dark()`]). [`SymbolWords`] are the codewords of a
+//! symbol, given all at once ([`SymbolWordsIn::new()`]), or the data codewords first ([`SymbolWordsIn::put_data()`])
+//! and the check codewords later ([`SymbolWordsIn::put_checks()`]). Both have room for the largest size; [`SymbolIn`]
+//! and [`SymbolWordsIn`] have as much as a caller wants, so that a small symbol needs no room for the largest.
 //!
 //! [`lay()`] gives the only symbol with correct borders and the fixed square that holds given codewords, and [`lift()`]
 //! the codewords that a symbol holds, whatever stands in its borders and its fixed square. [`lay_to()`] and

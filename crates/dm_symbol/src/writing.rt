@@ -39,7 +39,7 @@ pub fn write_to(profile: Profile, message: &Message, grid: &mut Grid) -> Result<
     ensures written { IsWritten profile message.now (outcome result grid.new) }
     ensures same { OnErr result (grid.new ≡ grid.old) }
 {
-    // Room for the codewords of any size. It is made before the first return, so that it is cleared only once.
+    // Room for the codewords of any square. It is made before the first return, so that it is cleared only once.
     let mut words = SymbolWordsIn::<MOST_GRID_CODEWORDS>::zeros(grid.size().symbol());
     let mut list = ArrayVec::<u8, MOST_GRID_DATA>::new();
     match normal_words_in(profile, message, &mut list) {

@@ -36,7 +36,7 @@ abbrev pub marks_number : List Mark → ℕ
 marks_number [] = 0
 marks_number (mark ∷ marks) = 3
 
--- The codewords, which say this letter, have an identifier with this number.
+-- Where the codewords say this letter, their identifier has this number.
 pub record IsIdentifier (words : List ℕ) (letter : LetterView) (number : ℕ) : Type 0 where
   pub fnc1 : ℕ
   pub is_fnc1 : IsFnc1Number words (length (head_words letter.head)) fnc1

@@ -1,4 +1,4 @@
--- Modules of rows that are written as numbers, put sixteen at a time.
+-- What is left of a row that is taken off sixteen modules at a time.
 use Rattle.std.proofs.Common.{◌≡◌, ◌∙◌, ℕ, ◌+◌, ◌/◌, ◌^◌}
 use Rattle.std.proofs.Common.{sym, ap}
 use Rattle.std.proofs.Math.Nat.{div-div-eq-div-mul}

@@ -1,4 +1,4 @@
--- Widened rows that are folded back into the matrix.
+-- Rows laid over one another, which folds widened rows step by step.
 use Rattle.std.proofs.Common.{◌≡◌, ◌≢◌, ◌⊎◌, inl, inr, ℕ, ◌+◌, ◌-◌, ◌*◌, ◌/◌, ◌%◌, ◌^◌, ◌<◌, ◌≤◌, Bool, true, false}
 use Rattle.std.proofs.Common.{◌&&◌, ◌||◌, nat_eq, nat_le, nat_lt, List, length, get_or, set, refl, sym, ◌∙◌, ap, arith}
 use Rattle.std.proofs.Common.{get_or-set_other, eq-eqb, subst}

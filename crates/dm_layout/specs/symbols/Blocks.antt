@@ -25,7 +25,7 @@ AreBlocks size = AreLists size.blocks (block_length size)
 abbrev pub HasBlocks : WordsView → (ℕ → List ℕ) → Type 0
 HasBlocks words blocks = (b : ℕ) → b < words.size.blocks → block_of words.size.blocks b words.list ≡ blocks b
 
--- Each block of the codewords begins with as many codewords as `count` says of it, as that of other codewords does.
+-- The first codewords of each block, as many as `count` says of it, are the same in both lists of codewords.
 abbrev pub BeginAlike : (ℕ → ℕ) → WordsView → WordsView → Type 0
 BeginAlike count v w =
     (b : ℕ) → b < v.size.blocks →

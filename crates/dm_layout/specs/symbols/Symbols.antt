@@ -9,8 +9,8 @@ pub record SymbolView : Type 0 where
   pub size : SizeEntry
   pub rows : List (List Bool)
 
--- Modules are well formed if their size stands in the table and they have as many rows as the size has, each of as many
--- modules as the size has columns.
+-- A symbol is well formed if its size stands in the table and it has as many rows of modules as the size has, each of
+-- as many modules as the size has columns.
 pub record IsSymbol (modules : SymbolView) : Type 0 where
   pub size : IsSize modules.size
   pub height : length modules.rows ≡ modules.size.rows

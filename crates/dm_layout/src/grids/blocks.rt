@@ -1,4 +1,4 @@
-//! The Reed-Solomon blocks into which the codewords of a symbol are dealt: ISO/IEC 16022, error correction.
+//! The Reed-Solomon blocks into which the codewords of a square are dealt: ISO/IEC 16022, error correction.
 
 ghost use Rattle.std.specs.Prelude.{◌≡◌, ◌≢◌, ℕ, ◌<◌, ◌++◌, length, take};
 ghost use Rattle.dm_layout.specs.Sizes.{block_check, block_data, block_length};

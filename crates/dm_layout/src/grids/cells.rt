@@ -1,4 +1,4 @@
-//! All bits of the codewords of a symbol, and where they lie.
+//! All bits of the codewords of a square, and where they lie.
 
 ghost use Rattle.std.specs.Prelude.{◌≡◌, List};
 ghost use Rattle.std.specs.Iterator.{YieldsFirst, item_count};

@@ -11,19 +11,19 @@ ghost use Rattle.dm_layout.specs.Sizes.{longest_block};
 use crate::symbols::{SizeChoice, SymbolSize};
 use std::marker::Model;
 
-/// How many sizes there are.
+/// How many sizes of squares there are.
 pub const GRID_SIZE_COUNT: usize = 21;
 
-/// The largest side of a size of the table, in cells.
+/// The largest side of a size of the table of squares, in cells.
 pub const LARGEST_SIDE: usize = 104;
 
-/// The most data codewords of a size of the table.
+/// The most data codewords of a size of the table of squares.
 pub const MOST_GRID_DATA: usize = 816;
 
-/// The most codewords of a size of the table, data and check together.
+/// The most codewords of a size of the table of squares, data and check together.
 pub const MOST_GRID_CODEWORDS: usize = 1152;
 
-/// The most blocks of a size of the table.
+/// The most blocks of a size of the table of squares.
 pub const MOST_GRID_BLOCKS: usize = 6;
 
 /// A size of a square symbol: a row of the standard's table of sizes and capacities. In contracts it is a `SizeRow` of

@@ -1,4 +1,4 @@
-//! The codewords of a symbol.
+//! The codewords of a square.
 
 ghost use Rattle.std.specs.Prelude.{◌≡◌, ◌≤◌, ◌++◌, drop, length, replicate};
 ghost use Rattle.dm_layout.specs.Sizes.{codeword_count};

@@ -8,7 +8,7 @@ pub fn each_grid_holds_codewords()
     ensures one { HeldWordsAreOne }
 {}
 
-/// The codewords of a symbol are laid in exactly one grid.
+/// The codewords of a square are laid in exactly one grid.
 pub fn codewords_are_laid_in_a_grid()
     ensures some { WordsAreLaid }
     ensures one { LaidGridIsOne }

@@ -26,7 +26,7 @@ pub fn places_come_in_order()
     ensures { (n : ℕ) → IsPlaceList n (places_in_order n) }
 {}
 
-/// Each module of a symbol is exactly one of these: a module of a border, a module of the fixed square, or one bit of
+/// Each module of a square is exactly one of these: a module of a border, a module of the fixed square, or one bit of
 /// one codeword.
 pub fn each_module_has_one_kind()
     ensures { EachModuleHasOneKind }

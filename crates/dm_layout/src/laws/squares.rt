@@ -1,5 +1,4 @@
-//! Squares are symbols whose rows and columns are alike: what is said of squares is what is said of such
-//! symbols.
+//! Squares are symbols whose rows and columns are alike: what is said of squares is what is said of such symbols.
 
 ghost use Rattle.dm_layout.specs.Sizes.{TableIsOfSquares};
 ghost use Rattle.dm_layout.specs.Squares.{SizesAreSquares, GridsAreModules, WordsAreCodewords, HeldAlike, LaidAlike};

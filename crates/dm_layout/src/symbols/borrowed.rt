@@ -7,7 +7,7 @@ use crate::symbols::size::SymbolSize;
 use std::marker::Model;
 
 /// The modules of a symbol, borrowed from one that has room for any number of rows: what works on this is compiled
-/// once, and not for each room. In contracts it is a `SymbolView` of `specs/Modules.antt`.
+/// once, and not for each room. In contracts it is a `SymbolView` of `specs/symbols/Symbols.antt`.
 #[derive(Drop)]
 pub(crate) struct BorrowedSymbol<'a> {
     pub(crate) size: SymbolSize,

@@ -1,4 +1,4 @@
-//! Laws of the definitions in `specs/`. Each function has an empty body: its contract is the law.
+//! Laws of the definitions in `specs/symbols/`. Each function has an empty body: its contract is the law.
 
 pub mod blocks;
 pub mod holding;

@@ -55,7 +55,7 @@ pub enum SizeChoice {
 }
 
 /// A size of a symbol: an entry of the standards' tables of sizes and capacities. In contracts it is a `SizeEntry` of
-/// `specs/Sizes.antt`.
+/// `specs/symbols/Sizes.antt`.
 #[derive(Clone, Copy, Debug, PartialEq, Eq)]
 pub struct SymbolSize {
     rows: u16,

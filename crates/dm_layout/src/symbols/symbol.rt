@@ -23,7 +23,7 @@ pub(crate) const FIRST_COLUMNS: u16 = 128;
 /// the left, is the bit of weight 2^c of the first number, and from column 128 on, which three sizes have, the bit of
 /// weight 2^(c - 128) of the second. The bits from the columns on, and the rows behind those of the size, mean nothing.
 ///
-/// In contracts it is a `SymbolView` of `specs/Modules.antt`.
+/// In contracts it is a `SymbolView` of `specs/symbols/Symbols.antt`.
 #[derive(Clone, Debug, Drop)]
 pub struct SymbolIn<const ROWS: usize> {
     size: SymbolSize,

@@ -14,7 +14,7 @@ use std::marker::Model;
 
 /// The codewords of a symbol of some [`SymbolSize`], at most `ROOM`: exactly its data codewords and then its check
 /// codewords, in the order in which they are placed. They stand at the start of an array; what stands behind them means
-/// nothing. In contracts it is a `WordsView` of `specs/Words.antt`.
+/// nothing. In contracts it is a `WordsView` of `specs/symbols/Words.antt`.
 #[derive(Clone, Debug, Drop)]
 pub struct SymbolWordsIn<const ROOM: usize> {
     size: SymbolSize,
