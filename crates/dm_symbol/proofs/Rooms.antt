@@ -37,12 +37,3 @@ pub room_for_most : (choice : SizeChoice) (form : List ℕ) (rows words : ℕ) �
 room_for_most choice form rows words high long =
     room_for_each choice form rows words (λ size taken.
     let f = size_facts size taken.0 in (omega (arith, f.rows_fit, high), omega (arith, f.codewords, long)))
-
--- Where there is room for the symbol in which data codewords are written, there is room for a symbol of the size that
--- is chosen.
-pub room_for_chosen : (choice : SizeChoice) (form : List ℕ) (rows words : ℕ)
-    (size : SizeEntry) → HaveRoom choice form rows words
-    → entry_for choice (length form) ≡ Some size
-    → (size.rows ≤ rows) × (codeword_count size ≤ words)
-room_for_chosen choice form rows words size room chosen =
-    subst (λ o. IfSome o (λ s. (s.rows ≤ rows) × (codeword_count s ≤ words))) chosen room
