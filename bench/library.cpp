@@ -46,8 +46,9 @@ static int rounds = 30;
 
 // Writes the text of a mark in a symbol of its size, and reads one of its size.
 static uint16_t write(const Mark &mark) {
-    const ecc200_how how = {ECC200_ASCII, ECC200_ONE, mark.rows, mark.columns};
-    return ecc200_write(mark.items.data(), mark.items.size(), &how, &symbol);
+    ecc200_how how = {};
+    how.shape = ECC200_ONE, how.rows = mark.rows, how.columns = mark.columns;
+    return ecc200_write(mark.items.data(), mark.items.size(), nullptr, 0, &how, &symbol);
 }
 
 static uint16_t read(const std::vector<uint8_t> &modules, const Mark &mark, uint16_t border_limit) {
@@ -57,8 +58,8 @@ static uint16_t read(const std::vector<uint8_t> &modules, const Mark &mark, uint
 
 // Whether the smallest square that holds the text of a mark is its own size, so that its symbol is the normal grid.
 static bool is_normal(const Mark &mark) {
-    const ecc200_how how = {ECC200_ASCII, ECC200_SQUARE, 0, 0};
-    return !ecc200_write(mark.items.data(), mark.items.size(), &how, &symbol) && symbol.rows == mark.rows &&
+    const ecc200_how how = {};
+    return !ecc200_write(mark.items.data(), mark.items.size(), nullptr, 0, &how, &symbol) && symbol.rows == mark.rows &&
            symbol.columns == mark.columns;
 }
 

@@ -2,8 +2,8 @@
  * rectangles of ISO/IEC 21471 (rectangular extension, DMRE).
  *
  *     ecc200_read           what a symbol says, and how much of it was wrong
- *     ecc200_write          the symbol of a message, in a size of the caller's choice
- *     ecc200_write_bytes    the same for a message of bytes alone
+ *     ecc200_write          the symbol of what is to be said, in a size of the caller's choice
+ *     ecc200_write_bytes    the same for bytes alone
  *     ecc200_normal         the normal grid of what a symbol says
  *     ecc200_inspect        the codewords that a symbol holds, and what they are corrected to
  *     ecc200_places         what each module of a symbol is: the bit of a codeword, border, or fixed square
@@ -22,8 +22,8 @@
  *         static ecc200_symbol symbol;
  *         static ecc200_reading reading;
  *         const uint16_t items[] = {'1', '2', '3', '4', '5', '6'};
- *         const ecc200_how how = {ECC200_ASCII, ECC200_SQUARE, 0, 0};
- *         if (ecc200_write(items, 6, &how, &symbol) != ECC200_OK)
+ *         const ecc200_how how = {.form = ECC200_SMALLEST, .shape = ECC200_SQUARE, .extent = ECC200_WIDE};
+ *         if (ecc200_write(items, 6, NULL, 0, &how, &symbol) != ECC200_OK)
  *             return 1;
  *         for (int row = 0; row < symbol.rows; row++, puts(""))
  *             for (int column = 0; column < symbol.columns; column++)
@@ -50,12 +50,27 @@
  * GS1 message has ECC200_FNC1 first and another, or more rarely the byte 0x1D, between its fields. ecc200_text and
  * ecc200_items, below, turn items into bytes and back.
  *
- * A PROFILE chooses the normal form of a message, and so its normal grid, the one by which it is compared: under
- * ECC200_ASCII its codewords are those of ASCII encodation; under ECC200_SHORTER they are those of one Base 256 segment
- * where the message has no FNC1 and the segment is shorter, which serves binary messages. Either way they stand in the
- * smallest square that holds them, followed by pads; a message that no square holds in this form has no normal grid.
- * Symbols that have normal grids under one profile say the same exactly if these are equal, byte by byte; and a
- * normal grid is its own normal grid.
+ * MARKS say how the items behind them are meant: a mark is the number of an ECI assignment, 0 to 999999 (26 is UTF-8,
+ * for example), at a place, which is how many items stand before it. Marks come in order, and several may stand at one
+ * place. None is interpreted.
+ *
+ * A HEAD says that a symbol is one part of what several say together (structured append), or that it programs the
+ * reader (reader programming). What a symbol says is its head or none, its items, and its marks. Without head and marks
+ * it is a message. Heads and marks are read and written in the extent ECC200_WIDE alone: ECC200_USUAL refuses them.
+ *
+ * A PROFILE chooses the normal form of what a symbol says, and so its normal grid, the one by which it is compared.
+ * Under ECC200_ASCII the codewords are those of ASCII encodation: of the head, then of the items, with each mark at its
+ * place. Under ECC200_SHORTER they are those of one Base 256 segment where there is no head, mark or FNC1 and the
+ * segment is shorter, which serves binary messages. Either way they stand in the smallest square that holds them,
+ * followed by pads; what no square holds in this form has no normal grid. Symbols that have normal grids under one
+ * profile say the same exactly if these are equal, byte by byte; and a normal grid is its own normal grid, in an extent
+ * that can say it.
+ *
+ * THE IDENTIFIER of a reading is the symbology identifier of ISO/IEC 15424: ]d and a digit. 1 is the usual one; 2 says
+ * that the first codeword behind the head is FNC1, as in GS1 symbols, 3 that the second one is; 4, 5 and 6 are the same
+ * where there are marks. It belongs to the codewords that were printed, and equal normal grids say nothing of it: a GS1
+ * symbol and one that says the same items with another identifier have equal normal grids, and so compare as equal.
+ * Where that matters compare the identifiers too.
  *
  * EACH CALL returns, whatever it is given, and touches only what it was given. It allocates nothing and uses less than
  * ECC200_STACK bytes of stack, keeps nothing, waits for nothing, and calls nothing but memcpy, memmove and memset: any
@@ -116,7 +131,7 @@ extern "C" {
 
 /* The version of this interface. It changes when a program that was built with this file would no longer work with the
  * library. */
-#define ECC200_ABI 3
+#define ECC200_ABI 4
 
 /* The version of the library's interface, to be compared with ECC200_ABI if the library is loaded at run time. */
 uint16_t ecc200_abi(void);
@@ -132,28 +147,40 @@ enum {
     ECC200_MOST_COLUMNS = 144,
     ECC200_MOST_MODULES = 20736,
     ECC200_MOST_ITEMS = 3123,     /* no symbol says more items */
+    ECC200_MOST_MARKS = 779,      /* nor more marks */
     ECC200_MOST_CODEWORDS = 2178, /* data and check codewords together */
     ECC200_MOST_BLOCKS = 10,
     ECC200_SIZE_COUNT = 48,
     ECC200_FNC1 = 256,            /* an item */
     ECC200_ANY_LIMIT = 65535,     /* a border limit that refuses nothing */
     ECC200_BEYOND = 255,          /* in ecc200_inspection.corrected: this block is beyond correction */
-    ECC200_STACK = 45056          /* bytes */
+    ECC200_STACK = 98304          /* bytes */
 };
 
-/* What is read. USUAL: ASCII, C40, Text, X12 and Base 256, as the program reads. WIDE: these, and EDIFACT (240); a
- * macro 05 (236) or 06 (237) as the first codeword, which stands for the header [)> RS 0 5 GS or [)> RS 0 6 GS and the
- * trailer RS EOT; and runs of C40 and Text in which an Upper Shift waits where they end. What USUAL reads WIDE reads as
- * the same, with the same corrections. */
+/* What is read. USUAL: ASCII, C40, Text, X12 and Base 256, as the program reads. WIDE: these, and
+ *  - EDIFACT (240);
+ *  - a macro 05 (236) or 06 (237) as the first codeword, or behind nothing but empty runs of C40, Text or X12, which
+ *    stands for the header [)> RS 0 5 GS or [)> RS 0 6 GS and the trailer RS EOT; the places of marks count the header;
+ *  - runs of C40 and Text in which an Upper Shift waits where they end;
+ *  - marks: ECI (241) and its designator, in ASCII encodation;
+ *  - heads: structured append (233) or reader programming (234) as the first codeword; with a head there is no macro;
+ *  - the other dealing of 144 x 144, in which many encoders deal the check codewords anew from the first block, where a
+ *    block is beyond correction by the standard's, and none by that one.
+ * What USUAL reads WIDE reads as the same, with the same corrections. */
 enum ECC200_SMALL ecc200_extent {
     ECC200_USUAL = 0,
     ECC200_WIDE = 1
 };
 
-/* The normal form of a message. */
+/* The normal form of what is said. */
 enum ECC200_SMALL ecc200_profile {
     ECC200_ASCII = 0,
     ECC200_SHORTER = 1
+};
+
+/* The form in which something is written: a profile, or this. */
+enum ECC200_SMALL ecc200_form {
+    ECC200_SMALLEST = 2 /* in the encodations that take the smallest size that may be taken */
 };
 
 /* The sizes among which a symbol that is written may have the smallest that holds it: the one with the fewest modules
@@ -181,10 +208,9 @@ enum ECC200_SMALL ecc200_code {
                                value: how many have */
     ECC200_BLOCK = 6,       /* a block is damaged beyond correction; place: the first such block, from 0 */
     ECC200_RESERVED = 7,    /* a codeword that ASCII encodation doesn't use: 0, or 242 to 255; place: where it stands */
-    ECC200_LEFT_OUT = 8,    /* value: a codeword that begins something that isn't read: structured append (233), reader
-                               programming (234) or ECI (241); USUAL: macro 05 (236), macro 06 (237) or EDIFACT (240)
-                               too; WIDE: a macro that isn't the first codeword of the symbol too; place: where it
-                               stands */
+    ECC200_LEFT_OUT = 8,    /* value: a codeword that begins something that isn't read; place: where it stands. USUAL:
+                               structured append (233), reader programming (234), macro 05 (236), macro 06 (237),
+                               EDIFACT (240) or ECI (241). WIDE: 233, 234, 236 or 237 where none of them is read */
     ECC200_UPPER_SHIFT = 9, /* something other than a character follows an Upper Shift; place: that of the Upper Shift,
                                or, in a run of C40 or Text, that of the pair that holds it */
     ECC200_TRIPLET = 10,    /* two codewords of C40, Text or X12 that don't stand for three values; place: that of the
@@ -199,10 +225,20 @@ enum ECC200_SMALL ecc200_code {
     ECC200_ITEM = 15,     /* an item above 256; value: the item; place: its index from 0, or 65535 if that is larger */
 
     /* An argument stands for nothing. */
-    ECC200_PROFILE = 16, /* a profile above 1; value: the profile */
+    ECC200_PROFILE = 16, /* a profile above 1, or a form above 2; value: the profile, or the form */
     ECC200_EXTENT = 17,  /* an extent above 1; value: the extent */
     ECC200_CHOICE = 18,  /* a shape above 4; value: the shape */
-    ECC200_DOUBT = 19    /* doubtful_count is neither 0 nor rows * columns */
+    ECC200_DOUBT = 19,   /* doubtful_count is neither 0 nor rows * columns */
+
+    /* WIDE: the symbol isn't read. */
+    ECC200_DESIGNATOR = 20, /* what follows ECI (241) is no designator of a number; place: where the 241 stands */
+    ECC200_APPEND = 21,     /* what follows structured append (233) as the first codeword is no part of a file; place:
+                               1 */
+
+    /* What stands beside the items isn't written. */
+    ECC200_MARK = 22, /* a mark with a number above 999999, with a place below that of the mark before it, or above
+                         the number of items; place: its index from 0, or 65535 if that is larger */
+    ECC200_HEAD = 23  /* a head of no kind that there is, or with numbers that its kind doesn't have */
 };
 
 typedef struct ecc200_fault {
@@ -213,20 +249,45 @@ typedef struct ecc200_fault {
 
 /* ---- Reading */
 
+/* What a head is. */
+enum ECC200_SMALL ecc200_head_kind {
+    ECC200_NO_HEAD = 0,
+    ECC200_PART = 1,       /* one part of what several symbols say together (structured append) */
+    ECC200_PROGRAMMING = 2 /* it programs the reader (reader programming) */
+};
+
+typedef struct ecc200_head {
+    uint16_t kind;   /* an ecc200_head_kind; all else is 0 but for ECC200_PART */
+    uint16_t part;   /* which part it is, 1 to `parts` */
+    uint16_t parts;  /* how many there are, 2 to 16 */
+    uint8_t file[2]; /* what all parts have in common, 1 to 254 each: the file identification */
+} ecc200_head;
+
+typedef struct ecc200_mark {
+    uint32_t number; /* of an ECI assignment, 0 to 999999 */
+    uint32_t place;  /* how many items stand before it */
+} ecc200_mark;
+
 typedef struct ecc200_reading {
     ecc200_fault fault;
     uint16_t rows;
     uint16_t columns;
     uint16_t border_faults;                /* how many border modules that aren't doubtful have the wrong colour */
-    uint16_t block_count;                  /* 1 to ECC200_MOST_BLOCKS: the first block_count elements of each of these
-                                              three count */
+    uint16_t block_count;                  /* 1 to ECC200_MOST_BLOCKS: the first block_count elements of `corrected`,
+                                              `erased` and `left` count */
     uint16_t item_count;                   /* 0 to ECC200_MOST_ITEMS */
+    uint16_t mark_count;                   /* 0 to ECC200_MOST_MARKS */
+    uint16_t identifier;                   /* 1 to 6: the symbology identifier is ]d and this digit */
+    uint16_t dealing;                      /* 0: the codewords are dealt into blocks as the standard has it; 1: by the
+                                              other dealing of 144 x 144 */
+    ecc200_head head;
     uint8_t corrected[ECC200_MOST_BLOCKS]; /* for each block, how many of its codewords were corrected, those not
                                               counted that are erased */
     uint8_t erased[ECC200_MOST_BLOCKS];    /* for each block, how many of its codewords are erased */
     uint8_t left[ECC200_MOST_BLOCKS];      /* for each block, how many of its check codewords neither have used, of
                                               which a correction uses two and an erasure one */
-    uint16_t items[ECC200_MOST_ITEMS];     /* the message: the first item_count count */
+    ecc200_mark marks[ECC200_MOST_MARKS];  /* the first mark_count count */
+    uint16_t items[ECC200_MOST_ITEMS];     /* the first item_count count */
 } ecc200_reading;
 
 /* Reads a symbol, as far as the extent goes. `border_limit`: how many border modules may have the wrong colour, usually
@@ -236,7 +297,8 @@ typedef struct ecc200_reading {
  * A symbol with more damage than that is refused, unless it has come near the codewords of another message, and is then
  * read as that message. If a wrong message is worse than none, refuse a symbol in which little of a block is `left`:
  * where codewords are erased and nothing is left, a block is read whatever it held.
- * Returns the first fault that applies: EXTENT, SHAPE, SIZE, DOUBT, BORDER, BLOCK, RESERVED to UNFINISHED. */
+ * Returns the first fault that applies: EXTENT, SHAPE, SIZE, DOUBT, BORDER, BLOCK, the one of APPEND, RESERVED to
+ * UNFINISHED and DESIGNATOR whose codewords come first. */
 uint16_t ecc200_read(const uint8_t *ECC200_RESTRICT modules, size_t count, const uint8_t *ECC200_RESTRICT doubtful,
                      size_t doubtful_count, uint16_t rows, uint16_t columns, uint16_t border_limit, uint16_t extent,
                      ecc200_reading *ECC200_RESTRICT out);
@@ -246,12 +308,14 @@ uint16_t ecc200_usual_limit(uint16_t rows, uint16_t columns);
 
 /* ---- Writing and normalising */
 
-/* How a message is written. All 0: in ASCII encodation, in the smallest square. */
+/* How something is written. All 0: in ASCII encodation, in the smallest square, without a head. */
 typedef struct ecc200_how {
-    uint16_t form;    /* an ecc200_profile: which codewords are chosen for the message */
+    uint16_t form;    /* an ecc200_profile, or ECC200_SMALLEST: which codewords are chosen */
     uint16_t shape;   /* an ecc200_shape: which sizes may be taken */
     uint16_t rows;    /* for ECC200_ONE, the rows of the size; else of no account */
     uint16_t columns; /* for ECC200_ONE, the columns of the size; else of no account */
+    uint16_t extent;  /* for ECC200_SMALLEST, an ecc200_extent: what its readers read; else of no account */
+    ecc200_head head;
 } ecc200_how;
 
 typedef struct ecc200_symbol {
@@ -261,16 +325,23 @@ typedef struct ecc200_symbol {
     uint8_t modules[ECC200_MOST_MODULES]; /* the first rows * columns count */
 } ecc200_symbol;
 
-/* Writes a message: in the codewords of its form, followed by pads, in the smallest size that may be taken and holds
- * them. ecc200_read reads it as that message, with nothing corrected. In ECC200_SQUARE it is the normal grid of the
- * message under the profile that `form` is.
- * Returns the first fault that applies: PROFILE, CHOICE, ITEM, TOO_LONG. Where no size has the rows and columns of
- * ECC200_ONE, the fault is TOO_LONG too. */
-uint16_t ecc200_write(const uint16_t *ECC200_RESTRICT items, size_t count, const ecc200_how *ECC200_RESTRICT how,
-                      ecc200_symbol *ECC200_RESTRICT out);
+/* Writes items with marks and the head in `how`: in the codewords of the form, followed by pads, in the smallest size
+ * that may be taken and holds them. ecc200_read reads it as that, with nothing corrected, in ECC200_WIDE, and a message
+ * that isn't in ECC200_SMALLEST for readers of ECC200_WIDE also in ECC200_USUAL.
+ *
+ * Where the form is a profile, and ECC200_SQUARE the shape, it is the normal grid. In ECC200_SMALLEST no codewords that
+ * the extent has say the same in a smaller size of those that may be taken. Of those that do in this size, it is those
+ * of ASCII encodation where these are enough; else some that ECC200_USUAL reads, where there are any; so the symbol
+ * depends on nothing but the arguments. A head or a mark can't be said to readers of ECC200_USUAL, so for them it is
+ * TOO_LONG.
+ *
+ * Returns the first fault that applies: PROFILE, EXTENT, CHOICE, HEAD, ITEM, MARK, TOO_LONG. Where no size has the rows
+ * and columns of ECC200_ONE, the fault is TOO_LONG too. */
+uint16_t ecc200_write(const uint16_t *ECC200_RESTRICT items, size_t count, const ecc200_mark *ECC200_RESTRICT marks,
+                      size_t mark_count, const ecc200_how *ECC200_RESTRICT how, ecc200_symbol *ECC200_RESTRICT out);
 
-/* Writes a message of bytes, each of which is an item: what ecc200_write does for the same numbers.
- * Returns the first fault that applies: PROFILE, CHOICE, TOO_LONG. */
+/* Writes bytes, each of which is an item, without marks: what ecc200_write does for the same numbers.
+ * Returns the first fault that applies: PROFILE, EXTENT, CHOICE, HEAD, TOO_LONG. */
 uint16_t ecc200_write_bytes(const uint8_t *ECC200_RESTRICT bytes, size_t count, const ecc200_how *ECC200_RESTRICT how,
                             ecc200_symbol *ECC200_RESTRICT out);
 
@@ -291,6 +362,8 @@ typedef struct ecc200_inspection {
     uint16_t block_count;                  /* 1 to ECC200_MOST_BLOCKS */
     uint16_t codeword_count;               /* of the whole symbol, 8 to ECC200_MOST_CODEWORDS: data codewords and then
                                               check codewords */
+    uint16_t dealing;                      /* as ecc200_reading has it: that by which no block is beyond correction, or
+                                              else 0 */
     uint8_t corrected[ECC200_MOST_BLOCKS]; /* for each block, what ecc200_reading has, or ECC200_BEYOND */
     uint8_t erased[ECC200_MOST_BLOCKS];    /* the same, or 0 where the block is beyond correction */
     uint8_t left[ECC200_MOST_BLOCKS];      /* the same, or 0 where the block is beyond correction */
@@ -404,6 +477,10 @@ static inline const char *ecc200_words(uint16_t code) {
     case ECC200_EXTENT: return "no such extent";
     case ECC200_CHOICE: return "no such shape";
     case ECC200_DOUBT: return "the doubtful modules aren't as many as the modules";
+    case ECC200_DESIGNATOR: return "an ECI without the designator of a number";
+    case ECC200_APPEND: return "a structured append that is no part of a file";
+    case ECC200_MARK: return "a mark out of order, behind the items, or with a number above 999999";
+    case ECC200_HEAD: return "no such head";
     default: return "not a code of this library";
     }
 }
@@ -417,28 +494,43 @@ ECC200_ASSERT(sizeof(ecc200_fault) == 6);
 ECC200_ASSERT(offsetof(ecc200_fault, code) == 0 && ECC200_SIZE_OF(ecc200_fault, code) == 2);
 ECC200_ASSERT(offsetof(ecc200_fault, value) == 2 && ECC200_SIZE_OF(ecc200_fault, value) == 2);
 ECC200_ASSERT(offsetof(ecc200_fault, place) == 4 && ECC200_SIZE_OF(ecc200_fault, place) == 2);
-ECC200_ASSERT(sizeof(ecc200_reading) == 6292);
+ECC200_ASSERT(sizeof(ecc200_head) == 8);
+ECC200_ASSERT(offsetof(ecc200_head, kind) == 0 && ECC200_SIZE_OF(ecc200_head, kind) == 2);
+ECC200_ASSERT(offsetof(ecc200_head, part) == 2 && ECC200_SIZE_OF(ecc200_head, part) == 2);
+ECC200_ASSERT(offsetof(ecc200_head, parts) == 4 && ECC200_SIZE_OF(ecc200_head, parts) == 2);
+ECC200_ASSERT(offsetof(ecc200_head, file) == 6 && ECC200_SIZE_OF(ecc200_head, file) == 2);
+ECC200_ASSERT(sizeof(ecc200_mark) == 8);
+ECC200_ASSERT(offsetof(ecc200_mark, number) == 0 && ECC200_SIZE_OF(ecc200_mark, number) == 4);
+ECC200_ASSERT(offsetof(ecc200_mark, place) == 4 && ECC200_SIZE_OF(ecc200_mark, place) == 4);
+ECC200_ASSERT(sizeof(ecc200_reading) == 12540);
 ECC200_ASSERT(offsetof(ecc200_reading, fault) == 0 && ECC200_SIZE_OF(ecc200_reading, fault) == 6);
 ECC200_ASSERT(offsetof(ecc200_reading, rows) == 6 && ECC200_SIZE_OF(ecc200_reading, rows) == 2);
 ECC200_ASSERT(offsetof(ecc200_reading, columns) == 8 && ECC200_SIZE_OF(ecc200_reading, columns) == 2);
 ECC200_ASSERT(offsetof(ecc200_reading, border_faults) == 10 && ECC200_SIZE_OF(ecc200_reading, border_faults) == 2);
 ECC200_ASSERT(offsetof(ecc200_reading, block_count) == 12 && ECC200_SIZE_OF(ecc200_reading, block_count) == 2);
 ECC200_ASSERT(offsetof(ecc200_reading, item_count) == 14 && ECC200_SIZE_OF(ecc200_reading, item_count) == 2);
-ECC200_ASSERT(offsetof(ecc200_reading, corrected) == 16 && ECC200_SIZE_OF(ecc200_reading, corrected) == 10);
-ECC200_ASSERT(offsetof(ecc200_reading, erased) == 26 && ECC200_SIZE_OF(ecc200_reading, erased) == 10);
-ECC200_ASSERT(offsetof(ecc200_reading, left) == 36 && ECC200_SIZE_OF(ecc200_reading, left) == 10);
-ECC200_ASSERT(offsetof(ecc200_reading, items) == 46 && ECC200_SIZE_OF(ecc200_reading, items) == 6246);
-ECC200_ASSERT(sizeof(ecc200_how) == 8);
+ECC200_ASSERT(offsetof(ecc200_reading, mark_count) == 16 && ECC200_SIZE_OF(ecc200_reading, mark_count) == 2);
+ECC200_ASSERT(offsetof(ecc200_reading, identifier) == 18 && ECC200_SIZE_OF(ecc200_reading, identifier) == 2);
+ECC200_ASSERT(offsetof(ecc200_reading, dealing) == 20 && ECC200_SIZE_OF(ecc200_reading, dealing) == 2);
+ECC200_ASSERT(offsetof(ecc200_reading, head) == 22 && ECC200_SIZE_OF(ecc200_reading, head) == 8);
+ECC200_ASSERT(offsetof(ecc200_reading, corrected) == 30 && ECC200_SIZE_OF(ecc200_reading, corrected) == 10);
+ECC200_ASSERT(offsetof(ecc200_reading, erased) == 40 && ECC200_SIZE_OF(ecc200_reading, erased) == 10);
+ECC200_ASSERT(offsetof(ecc200_reading, left) == 50 && ECC200_SIZE_OF(ecc200_reading, left) == 10);
+ECC200_ASSERT(offsetof(ecc200_reading, marks) == 60 && ECC200_SIZE_OF(ecc200_reading, marks) == 6232);
+ECC200_ASSERT(offsetof(ecc200_reading, items) == 6292 && ECC200_SIZE_OF(ecc200_reading, items) == 6246);
+ECC200_ASSERT(sizeof(ecc200_how) == 18);
 ECC200_ASSERT(offsetof(ecc200_how, form) == 0 && ECC200_SIZE_OF(ecc200_how, form) == 2);
 ECC200_ASSERT(offsetof(ecc200_how, shape) == 2 && ECC200_SIZE_OF(ecc200_how, shape) == 2);
 ECC200_ASSERT(offsetof(ecc200_how, rows) == 4 && ECC200_SIZE_OF(ecc200_how, rows) == 2);
 ECC200_ASSERT(offsetof(ecc200_how, columns) == 6 && ECC200_SIZE_OF(ecc200_how, columns) == 2);
+ECC200_ASSERT(offsetof(ecc200_how, extent) == 8 && ECC200_SIZE_OF(ecc200_how, extent) == 2);
+ECC200_ASSERT(offsetof(ecc200_how, head) == 10 && ECC200_SIZE_OF(ecc200_how, head) == 8);
 ECC200_ASSERT(sizeof(ecc200_symbol) == 20746);
 ECC200_ASSERT(offsetof(ecc200_symbol, fault) == 0 && ECC200_SIZE_OF(ecc200_symbol, fault) == 6);
 ECC200_ASSERT(offsetof(ecc200_symbol, rows) == 6 && ECC200_SIZE_OF(ecc200_symbol, rows) == 2);
 ECC200_ASSERT(offsetof(ecc200_symbol, columns) == 8 && ECC200_SIZE_OF(ecc200_symbol, columns) == 2);
 ECC200_ASSERT(offsetof(ecc200_symbol, modules) == 10 && ECC200_SIZE_OF(ecc200_symbol, modules) == 20736);
-ECC200_ASSERT(sizeof(ecc200_inspection) == 4402);
+ECC200_ASSERT(sizeof(ecc200_inspection) == 4404);
 ECC200_ASSERT(offsetof(ecc200_inspection, fault) == 0 && ECC200_SIZE_OF(ecc200_inspection, fault) == 6);
 ECC200_ASSERT(offsetof(ecc200_inspection, rows) == 6 && ECC200_SIZE_OF(ecc200_inspection, rows) == 2);
 ECC200_ASSERT(offsetof(ecc200_inspection, columns) == 8 && ECC200_SIZE_OF(ecc200_inspection, columns) == 2);
@@ -447,11 +539,12 @@ ECC200_ASSERT(offsetof(ecc200_inspection, border_faults) == 10 &&
 ECC200_ASSERT(offsetof(ecc200_inspection, block_count) == 12 && ECC200_SIZE_OF(ecc200_inspection, block_count) == 2);
 ECC200_ASSERT(offsetof(ecc200_inspection, codeword_count) == 14 &&
               ECC200_SIZE_OF(ecc200_inspection, codeword_count) == 2);
-ECC200_ASSERT(offsetof(ecc200_inspection, corrected) == 16 && ECC200_SIZE_OF(ecc200_inspection, corrected) == 10);
-ECC200_ASSERT(offsetof(ecc200_inspection, erased) == 26 && ECC200_SIZE_OF(ecc200_inspection, erased) == 10);
-ECC200_ASSERT(offsetof(ecc200_inspection, left) == 36 && ECC200_SIZE_OF(ecc200_inspection, left) == 10);
-ECC200_ASSERT(offsetof(ecc200_inspection, held) == 46 && ECC200_SIZE_OF(ecc200_inspection, held) == 2178);
-ECC200_ASSERT(offsetof(ecc200_inspection, mended) == 2224 && ECC200_SIZE_OF(ecc200_inspection, mended) == 2178);
+ECC200_ASSERT(offsetof(ecc200_inspection, dealing) == 16 && ECC200_SIZE_OF(ecc200_inspection, dealing) == 2);
+ECC200_ASSERT(offsetof(ecc200_inspection, corrected) == 18 && ECC200_SIZE_OF(ecc200_inspection, corrected) == 10);
+ECC200_ASSERT(offsetof(ecc200_inspection, erased) == 28 && ECC200_SIZE_OF(ecc200_inspection, erased) == 10);
+ECC200_ASSERT(offsetof(ecc200_inspection, left) == 38 && ECC200_SIZE_OF(ecc200_inspection, left) == 10);
+ECC200_ASSERT(offsetof(ecc200_inspection, held) == 48 && ECC200_SIZE_OF(ecc200_inspection, held) == 2178);
+ECC200_ASSERT(offsetof(ecc200_inspection, mended) == 2226 && ECC200_SIZE_OF(ecc200_inspection, mended) == 2178);
 ECC200_ASSERT(sizeof(ecc200_place) == 4);
 ECC200_ASSERT(offsetof(ecc200_place, codeword) == 0 && ECC200_SIZE_OF(ecc200_place, codeword) == 2);
 ECC200_ASSERT(offsetof(ecc200_place, bit) == 2 && ECC200_SIZE_OF(ecc200_place, bit) == 1);

@@ -21,17 +21,19 @@ pub const ANY_LIMIT: u16 = 65535;
 // ecc200.h: end
 
 // ecc200.h: constants
-const ABI: u16 = 3;
+const ABI: u16 = 4;
 const MOST_MODULES: usize = 20736;
 const MOST_ITEMS: usize = 3123;
+const MOST_MARKS: usize = 779;
 const MOST_CODEWORDS: usize = 2178;
 const MOST_BLOCKS: usize = 10;
 const SIZE_COUNT: usize = 48;
 const BEYOND: u8 = 255;
 // ecc200.h: end
 
-/// What is read: ASCII, C40, Text, X12 and Base 256; or these, EDIFACT, a macro 05 or 06 in front, and an Upper Shift
-/// that waits at the end of a run. What `Usual` reads `Wide` reads as the same.
+/// What is read: ASCII, C40, Text, X12 and Base 256; or these, EDIFACT, a macro 05 or 06 in front, an Upper Shift that
+/// waits at the end of a run, marks, heads, and the other dealing of 144 x 144. What `Usual` reads `Wide` reads as the
+/// same.
 #[derive(Clone, Copy, Debug, Default, PartialEq, Eq)]
 pub enum Extent {
     // ecc200.h: extents
@@ -41,7 +43,8 @@ pub enum Extent {
     // ecc200.h: end
 }
 
-/// The normal form of a message: ASCII encodation, or one Base 256 segment where that is shorter.
+/// The normal form of what a symbol says: ASCII encodation, or one Base 256 segment where there is neither head nor
+/// mark and that is shorter.
 #[derive(Clone, Copy, Debug, PartialEq, Eq)]
 pub enum Profile {
     // ecc200.h: profiles
@@ -50,13 +53,53 @@ pub enum Profile {
     // ecc200.h: end
 }
 
-// ecc200.h: shapes
+// ecc200.h: numbers
+const SMALLEST: u16 = 2;
 const SQUARE: u16 = 0;
 const RECTANGLE: u16 = 1;
 const EXTENDED: u16 = 2;
 const ANY: u16 = 3;
 const ONE: u16 = 4;
+const NO_HEAD: u16 = 0;
+const PART: u16 = 1;
+const PROGRAMMING: u16 = 2;
 // ecc200.h: end
+
+/// The form in which something is written: as a profile has it; or in the encodations by which it fits the smallest
+/// size, of those that the readers of an extent read.
+#[derive(Clone, Copy, Debug, PartialEq, Eq)]
+pub enum Form {
+    Normal(Profile),
+    Smallest(Extent),
+}
+
+impl Default for Form {
+    /// ASCII encodation.
+    fn default() -> Self {
+        Form::Normal(Profile::Ascii)
+    }
+}
+
+/// How the items from a place on are meant: the number of an ECI assignment, 0 to 999999, and how many items stand
+/// before it. Marks come in order.
+// ecc200.h: mark
+#[repr(C)]
+#[derive(Clone, Copy, Debug, Default, PartialEq, Eq)]
+pub struct Mark {
+    pub number: u32,
+    pub place: u32,
+}
+// ecc200.h: end
+
+/// What stands in front of all that a symbol says.
+#[derive(Clone, Copy, Debug, PartialEq, Eq)]
+pub enum Head {
+    /// The symbol is a part, from 1 on, of what so many symbols say together, 2 to 16, which have these two numbers of
+    /// their file in common, 1 to 254 each (structured append).
+    Part { part: u16, parts: u16, file: [u8; 2] },
+    /// The symbol programs the reader (reader programming).
+    Programming,
+}
 
 /// What `Fault::code` may be; `ecc200.h` explains `value` and `place` for each.
 pub mod code {
@@ -97,6 +140,14 @@ pub mod code {
     pub const CHOICE: u16 = 18;
     /// The doubtful modules aren't as many as the modules.
     pub const DOUBT: u16 = 19;
+    /// An ECI without the designator of a number.
+    pub const DESIGNATOR: u16 = 20;
+    /// A structured append that is no part of a file.
+    pub const APPEND: u16 = 21;
+    /// A mark out of order, behind the items, or with a number above 999999.
+    pub const MARK: u16 = 22;
+    /// No such head.
+    pub const HEAD: u16 = 23;
     // ecc200.h: end
 }
 
@@ -133,6 +184,10 @@ impl fmt::Display for Fault {
             code::EXTENT => "no such extent",
             code::CHOICE => "no such shape",
             code::DOUBT => "the doubtful modules aren't as many as the modules",
+            code::DESIGNATOR => "an ECI without the designator of a number",
+            code::APPEND => "a structured append that is no part of a file",
+            code::MARK => "a mark out of order, behind the items, or with a number above 999999",
+            code::HEAD => "no such head",
             // ecc200.h: end
             _ => "not a code of this library",
         })
@@ -179,7 +234,7 @@ impl<'a> Grid<'a> {
 }
 
 /// The sizes that a symbol that is written may have: of the squares, of the rectangles of ISO/IEC 16022, of these and
-/// those of ISO/IEC 21471, or of all, the smallest that holds the message; or the one with these rows and columns.
+/// those of ISO/IEC 21471, or of all, the smallest that holds what is said; or the one with these rows and columns.
 #[derive(Clone, Copy, Debug, Default, PartialEq, Eq)]
 pub enum Shape {
     #[default]
@@ -193,11 +248,26 @@ pub enum Shape {
     },
 }
 
+/// How something is written; by default in ASCII encodation, in the smallest square, without a head.
+#[derive(Clone, Copy, Debug, Default, PartialEq, Eq)]
+pub struct How {
+    pub form: Form,
+    pub shape: Shape,
+    pub head: Option<Head>,
+}
+
 /// What a symbol says, and how much of it was wrong.
-#[derive(Clone, Debug, PartialEq, Eq)]
+#[derive(Clone, Debug, Default, PartialEq, Eq)]
 pub struct Reading {
+    pub head: Option<Head>,
     /// The message: 0 to 255, or [`FNC1`].
     pub items: Vec<u16>,
+    pub marks: Vec<Mark>,
+    /// 1 to 6: the symbology identifier of ISO/IEC 15424 is `]d` and this digit. It belongs to the codewords that were
+    /// printed: symbols that say the same may have others.
+    pub identifier: u16,
+    /// Whether the codewords are dealt into blocks by the other dealing of 144 x 144.
+    pub is_dealt_anew: bool,
     /// For each block, how many of its codewords were corrected, those not counted that are erased.
     pub corrected: Vec<u8>,
     /// For each block, how many of its codewords are erased, since a module of theirs is doubtful.
@@ -273,6 +343,15 @@ mod sys {
 
     // ecc200.h: structs
     #[repr(C)]
+    #[derive(Clone, Copy)]
+    pub struct HeadNumbers {
+        pub kind: u16,
+        pub part: u16,
+        pub parts: u16,
+        pub file: [u8; 2],
+    }
+
+    #[repr(C)]
     pub struct ReadingOut {
         pub fault: Fault,
         pub rows: u16,
@@ -280,18 +359,25 @@ mod sys {
         pub border_faults: u16,
         pub block_count: u16,
         pub item_count: u16,
+        pub mark_count: u16,
+        pub identifier: u16,
+        pub dealing: u16,
+        pub head: HeadNumbers,
         pub corrected: [u8; MOST_BLOCKS],
         pub erased: [u8; MOST_BLOCKS],
         pub left: [u8; MOST_BLOCKS],
+        pub marks: [Mark; MOST_MARKS],
         pub items: [u16; MOST_ITEMS],
     }
 
     #[repr(C)]
-    pub struct How {
+    pub struct HowIn {
         pub form: u16,
         pub shape: u16,
         pub rows: u16,
         pub columns: u16,
+        pub extent: u16,
+        pub head: HeadNumbers,
     }
 
     #[repr(C)]
@@ -310,6 +396,7 @@ mod sys {
         pub border_faults: u16,
         pub block_count: u16,
         pub codeword_count: u16,
+        pub dealing: u16,
         pub corrected: [u8; MOST_BLOCKS],
         pub erased: [u8; MOST_BLOCKS],
         pub left: [u8; MOST_BLOCKS],
@@ -354,8 +441,15 @@ mod sys {
             out: *mut ReadingOut,
         ) -> u16;
         pub safe fn ecc200_version() -> *const c_char;
-        pub fn ecc200_write_bytes(bytes: *const u8, count: usize, how: *const How, out: *mut SymbolOut) -> u16;
-        pub fn ecc200_write(items: *const u16, count: usize, how: *const How, out: *mut SymbolOut) -> u16;
+        pub fn ecc200_write_bytes(bytes: *const u8, count: usize, how: *const HowIn, out: *mut SymbolOut) -> u16;
+        pub fn ecc200_write(
+            items: *const u16,
+            count: usize,
+            marks: *const Mark,
+            mark_count: usize,
+            how: *const HowIn,
+            out: *mut SymbolOut,
+        ) -> u16;
         pub fn ecc200_normal(
             modules: *const u8,
             count: usize,
@@ -386,39 +480,55 @@ mod sys {
     const _: () = assert!(offset_of!(Fault, code) == 0);
     const _: () = assert!(offset_of!(Fault, value) == 2);
     const _: () = assert!(offset_of!(Fault, place) == 4);
-    const _: () = assert!(size_of::<ReadingOut>() == 6292);
+    const _: () = assert!(size_of::<HeadNumbers>() == 8);
+    const _: () = assert!(offset_of!(HeadNumbers, kind) == 0);
+    const _: () = assert!(offset_of!(HeadNumbers, part) == 2);
+    const _: () = assert!(offset_of!(HeadNumbers, parts) == 4);
+    const _: () = assert!(offset_of!(HeadNumbers, file) == 6);
+    const _: () = assert!(size_of::<Mark>() == 8);
+    const _: () = assert!(offset_of!(Mark, number) == 0);
+    const _: () = assert!(offset_of!(Mark, place) == 4);
+    const _: () = assert!(size_of::<ReadingOut>() == 12540);
     const _: () = assert!(offset_of!(ReadingOut, fault) == 0);
     const _: () = assert!(offset_of!(ReadingOut, rows) == 6);
     const _: () = assert!(offset_of!(ReadingOut, columns) == 8);
     const _: () = assert!(offset_of!(ReadingOut, border_faults) == 10);
     const _: () = assert!(offset_of!(ReadingOut, block_count) == 12);
     const _: () = assert!(offset_of!(ReadingOut, item_count) == 14);
-    const _: () = assert!(offset_of!(ReadingOut, corrected) == 16);
-    const _: () = assert!(offset_of!(ReadingOut, erased) == 26);
-    const _: () = assert!(offset_of!(ReadingOut, left) == 36);
-    const _: () = assert!(offset_of!(ReadingOut, items) == 46);
-    const _: () = assert!(size_of::<How>() == 8);
-    const _: () = assert!(offset_of!(How, form) == 0);
-    const _: () = assert!(offset_of!(How, shape) == 2);
-    const _: () = assert!(offset_of!(How, rows) == 4);
-    const _: () = assert!(offset_of!(How, columns) == 6);
+    const _: () = assert!(offset_of!(ReadingOut, mark_count) == 16);
+    const _: () = assert!(offset_of!(ReadingOut, identifier) == 18);
+    const _: () = assert!(offset_of!(ReadingOut, dealing) == 20);
+    const _: () = assert!(offset_of!(ReadingOut, head) == 22);
+    const _: () = assert!(offset_of!(ReadingOut, corrected) == 30);
+    const _: () = assert!(offset_of!(ReadingOut, erased) == 40);
+    const _: () = assert!(offset_of!(ReadingOut, left) == 50);
+    const _: () = assert!(offset_of!(ReadingOut, marks) == 60);
+    const _: () = assert!(offset_of!(ReadingOut, items) == 6292);
+    const _: () = assert!(size_of::<HowIn>() == 18);
+    const _: () = assert!(offset_of!(HowIn, form) == 0);
+    const _: () = assert!(offset_of!(HowIn, shape) == 2);
+    const _: () = assert!(offset_of!(HowIn, rows) == 4);
+    const _: () = assert!(offset_of!(HowIn, columns) == 6);
+    const _: () = assert!(offset_of!(HowIn, extent) == 8);
+    const _: () = assert!(offset_of!(HowIn, head) == 10);
     const _: () = assert!(size_of::<SymbolOut>() == 20746);
     const _: () = assert!(offset_of!(SymbolOut, fault) == 0);
     const _: () = assert!(offset_of!(SymbolOut, rows) == 6);
     const _: () = assert!(offset_of!(SymbolOut, columns) == 8);
     const _: () = assert!(offset_of!(SymbolOut, modules) == 10);
-    const _: () = assert!(size_of::<InspectionOut>() == 4402);
+    const _: () = assert!(size_of::<InspectionOut>() == 4404);
     const _: () = assert!(offset_of!(InspectionOut, fault) == 0);
     const _: () = assert!(offset_of!(InspectionOut, rows) == 6);
     const _: () = assert!(offset_of!(InspectionOut, columns) == 8);
     const _: () = assert!(offset_of!(InspectionOut, border_faults) == 10);
     const _: () = assert!(offset_of!(InspectionOut, block_count) == 12);
     const _: () = assert!(offset_of!(InspectionOut, codeword_count) == 14);
-    const _: () = assert!(offset_of!(InspectionOut, corrected) == 16);
-    const _: () = assert!(offset_of!(InspectionOut, erased) == 26);
-    const _: () = assert!(offset_of!(InspectionOut, left) == 36);
-    const _: () = assert!(offset_of!(InspectionOut, held) == 46);
-    const _: () = assert!(offset_of!(InspectionOut, mended) == 2224);
+    const _: () = assert!(offset_of!(InspectionOut, dealing) == 16);
+    const _: () = assert!(offset_of!(InspectionOut, corrected) == 18);
+    const _: () = assert!(offset_of!(InspectionOut, erased) == 28);
+    const _: () = assert!(offset_of!(InspectionOut, left) == 38);
+    const _: () = assert!(offset_of!(InspectionOut, held) == 48);
+    const _: () = assert!(offset_of!(InspectionOut, mended) == 2226);
     const _: () = assert!(size_of::<PlaceOut>() == 4);
     const _: () = assert!(offset_of!(PlaceOut, codeword) == 0);
     const _: () = assert!(offset_of!(PlaceOut, bit) == 2);
@@ -500,13 +610,25 @@ pub fn read_as(extent: Extent, grid: Grid<'_>, border_limit: u16) -> Result<Read
     let blocks = usize::from(out.block_count);
     match code {
         0 => Ok(Reading {
+            head: head(&out.head),
             items: out.items[..usize::from(out.item_count)].to_vec(),
+            marks: out.marks[..usize::from(out.mark_count)].to_vec(),
+            identifier: out.identifier,
+            is_dealt_anew: out.dealing != 0,
             corrected: out.corrected[..blocks].to_vec(),
             erased: out.erased[..blocks].to_vec(),
             left: out.left[..blocks].to_vec(),
             border_faults: out.border_faults,
         }),
         _ => Err(out.fault),
+    }
+}
+
+fn head(of: &sys::HeadNumbers) -> Option<Head> {
+    match of.kind {
+        PART => Some(Head::Part { part: of.part, parts: of.parts, file: of.file }),
+        PROGRAMMING => Some(Head::Programming),
+        _ => None,
     }
 }
 
@@ -518,28 +640,43 @@ fn symbol(code: u16, out: &sys::SymbolOut) -> Result<Symbol, Fault> {
     }
 }
 
-fn how(profile: Profile, shape: Shape) -> sys::How {
-    let (shape, rows, columns) = match shape {
+fn numbers(head: Option<Head>) -> sys::HeadNumbers {
+    match head {
+        Some(Head::Part { part, parts, file }) => sys::HeadNumbers { kind: PART, part, parts, file },
+        Some(Head::Programming) => sys::HeadNumbers { kind: PROGRAMMING, part: 0, parts: 0, file: [0; 2] },
+        None => sys::HeadNumbers { kind: NO_HEAD, part: 0, parts: 0, file: [0; 2] },
+    }
+}
+
+fn given(how: How) -> sys::HowIn {
+    let (shape, rows, columns) = match how.shape {
         Shape::Square => (SQUARE, 0, 0),
         Shape::Rectangle => (RECTANGLE, 0, 0),
         Shape::Extended => (EXTENDED, 0, 0),
         Shape::Any => (ANY, 0, 0),
         Shape::One { rows, columns } => (ONE, rows, columns),
     };
-    sys::How { form: profile as u16, shape, rows, columns }
+    let (form, extent) = match how.form {
+        Form::Normal(profile) => (profile as u16, 0),
+        Form::Smallest(extent) => (SMALLEST, extent as u16),
+    };
+    sys::HowIn { form, shape, rows, columns, extent, head: numbers(how.head) }
 }
 
-/// The symbol of a message; in `Shape::Square` its normal grid.
-pub fn write(items: &[u16], profile: Profile, shape: Shape) -> Result<Symbol, Fault> {
+/// The symbol that says these items and marks, and the head of `how`; by default its normal grid.
+pub fn write(items: &[u16], marks: &[Mark], how: How) -> Result<Symbol, Fault> {
     let mut out = unsafe { zeros::<sys::SymbolOut>() };
-    let code = unsafe { sys::ecc200_write(items.as_ptr(), items.len(), &how(profile, shape), &mut *out) };
+    let how = given(how);
+    let code = unsafe {
+        sys::ecc200_write(items.as_ptr(), items.len(), marks.as_ptr(), marks.len(), &how, &mut *out)
+    };
     symbol(code, &out)
 }
 
-/// The symbol of bytes, each of which is an item.
-pub fn write_bytes(bytes: &[u8], profile: Profile, shape: Shape) -> Result<Symbol, Fault> {
+/// The symbol of bytes, each of which is an item, without marks.
+pub fn write_bytes(bytes: &[u8], how: How) -> Result<Symbol, Fault> {
     let mut out = unsafe { zeros::<sys::SymbolOut>() };
-    let code = unsafe { sys::ecc200_write_bytes(bytes.as_ptr(), bytes.len(), &how(profile, shape), &mut *out) };
+    let code = unsafe { sys::ecc200_write_bytes(bytes.as_ptr(), bytes.len(), &given(how), &mut *out) };
     symbol(code, &out)
 }
 

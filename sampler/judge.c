@@ -24,6 +24,8 @@ enum {
     DOUBT_RULE_COUNT = sizeof DOUBT_RULES / sizeof *DOUBT_RULES
 };
 enum { CHECKS_OF_A_CORRECTION = 2 };
+/* Checks that tell a symbol with doubtful modules from chance, which meets each of them one time in 256. */
+enum { LEAST_EVIDENCE = 3 };
 static const double LEAST_SHARE = 0.4, LEAST_SHARE_OF_CLEAR = 0.25, LEAST_BENT = 0.6;
 static const double LEAST_NEAR = 0.6; /* of the edges of a border that is bent: by chance, a third */
 
@@ -42,11 +44,18 @@ static int usual_limit(const ecc200_sample *trial) {
     return ecc200_usual_limit(trial->rows, trial->columns);
 }
 
-/* Reads the candidate. `doubtful`: which of its modules are, or NULL if none is. */
-static uint16_t read(ecc200_sample *trial, const uint8_t *doubtful, int limit) {
+static uint16_t read_within(ecc200_sample *trial, const uint8_t *doubtful, int limit, uint16_t extent) {
     size_t count = (size_t)trial->rows * (size_t)trial->columns;
-    uint16_t code = ecc200_read(trial->modules, count, doubtful, doubtful != NULL ? count : 0, trial->rows,
-                                trial->columns, (uint16_t)limit, ECC200_WIDE, &trial->reading);
+    return ecc200_read(trial->modules, count, doubtful, doubtful != NULL ? count : 0, trial->rows, trial->columns,
+                       (uint16_t)limit, extent, &trial->reading);
+}
+
+/* Reads the candidate. `doubtful`: which of its modules are, or NULL if none is. What has a head or marks beside its
+ * items is refused, as the usual extent refuses it. */
+static uint16_t read(ecc200_sample *trial, const uint8_t *doubtful, int limit) {
+    uint16_t code = read_within(trial, doubtful, limit, ECC200_WIDE);
+    if (code == ECC200_OK && (trial->reading.head.kind != ECC200_NO_HEAD || trial->reading.mark_count > 0))
+        code = read_within(trial, doubtful, limit, ECC200_USUAL);
     bool is_usual = code == ECC200_OK && trial->reading.border_faults <= usual_limit(trial);
     trial->border_limit = (uint16_t)(is_usual ? usual_limit(trial) : limit);
     return code;
@@ -189,13 +198,23 @@ static bool try_rules(struct trials *trials, const struct brightnesses *brightne
 
 /* ---- Known damage */
 
-/* Whether a reading with doubtful modules is to be trusted: two checks of each block are unused at least. */
+/* Whether two checks of each block are unused at least. */
 static bool leaves_checks(const ecc200_sample *trial, int margin) {
     margin = margin > 1 ? margin : 1;
     for (int block = 0; block < trial->reading.block_count; block++)
         if (trial->reading.left[block] < CHECKS_OF_A_CORRECTION * margin)
             return false;
     return true;
+}
+
+/* Whether a reading with doubtful modules is to be trusted: what erased codewords haven't taken of the checks is
+ * enough. Of the two that a correction takes one says where the wrong codeword is, and so as little as an erasure, and
+ * the other one is as good as unused. A border without a fault tells as much as a check does. */
+static bool leaves_evidence(const ecc200_sample *trial, int margin) {
+    int checks = trial->reading.border_faults == 0;
+    for (int block = 0; block < trial->reading.block_count; block++)
+        checks += trial->reading.left[block] + trial->reading.corrected[block];
+    return checks >= LEAST_EVIDENCE && leaves_checks(trial, margin);
 }
 
 static bool says_the_same(const ecc200_reading *one, const ecc200_reading *other) {
@@ -217,7 +236,7 @@ static bool try_doubtful(struct trials *trials, bool is_mirrored) {
         memcpy(trial->doubtful, judge->doubtful, count);
     if (read(trial, trial->doubtful, usual_limit(trial)) != ECC200_OK)
         return true;
-    if (!leaves_checks(trial, judge->margin))
+    if (!leaves_evidence(trial, judge->margin))
         hand_on_untrusted(trials);
     else if (trials->best_cost >= 0 && !says_the_same(&trials->best->reading, &trial->reading))
         return false;
@@ -353,7 +372,7 @@ bool judge_placement(struct judge *judge, const struct placement *placement, ecc
         return false;
     try_regions(&trials, &lie, &brightnesses);
     try_bent(&trials, &lie, &brightnesses);
-    if (trials.best_cost < 0)
+    if (trials.best_cost < 0 && !judge->is_thick)
         try_known_damage(&trials, &lie, &brightnesses);
     if (trials.best_cost < 0)
         keep_for_later(judge, &smeared);

@@ -5,7 +5,7 @@
 #include <string.h>
 
 enum { LEAST_STEPS = 40, MOST_STEPS = 1 << 20, MOST_PENDING = 64 };
-enum { WORK_OF_A_STEP = 10 }; /* along an outline */
+enum { WORK_OF_A_STEP = 10, PIECES_AT_A_UNIT = 3 }; /* along an outline; of those that are passed over, to be joined */
 static const double BEND = 1.4; /* pixels by which a straight piece may leave its chord */
 
 struct corner {
@@ -185,9 +185,9 @@ static bool continues(const struct strip *strip, const struct line *piece) {
            fabs(cross(strip->unit, behind)) < strip->apart && last > -0.5 * strip->whole && first < 1.5 * strip->whole;
 }
 
-/* Where pieces begin. */
+/* The pixels in which pieces begin. */
 struct starts {
-    float *x, *y;
+    uint16_t *x, *y;
     int count;
 };
 
@@ -198,28 +198,43 @@ static bool starts_make(const struct line *pieces, int count, struct starts *out
         return false;
     out->y = out->x + count;
     for (int k = 0; k < count; k++)
-        out->x[k] = (float)pieces[k].from.x, out->y[k] = (float)pieces[k].from.y;
+        out->x[k] = (uint16_t)fmax(pieces[k].from.x, 0), out->y[k] = (uint16_t)fmax(pieces[k].from.y, 0);
     return true;
 }
 
-/* The first piece from number k on that begins within reach of a strip, or little beyond it. They are looked at eight
+/* The pixels from one on, so many. What lies before the first is beyond the last, as numbers without a sign have it. */
+struct range {
+    uint16_t first, span;
+};
+
+/* Those within reach of a place, and somewhat more. */
+static struct range range_around(double middle, double reach) {
+    enum { SLACK = 2, MOST_REACH = 16000 };
+    struct range all = {0, UINT16_MAX / 2};
+    return reach < MOST_REACH ? (struct range){(uint16_t)((int)(middle - reach) - SLACK),
+                                               (uint16_t)(2 * ((int)reach + SLACK) + 1)}
+                              : all;
+}
+
+static int is_within(struct range range, uint16_t at) {
+    return (uint16_t)(at - range.first) <= range.span;
+}
+
+/* The first piece from number k on that begins within reach of a strip, or little beyond it. They are looked at many
  * at a time. */
 static int next_near(const struct starts *starts, const struct strip *strip, int k) {
-    enum { AT_A_TIME = 8 };
-    static const double SLACK = 0.01; /* pixels: more than is lost by rounding */
-    float x = (float)strip->from.x, y = (float)strip->from.y, right = (float)(strip->reach.x + SLACK),
-          down = (float)(strip->reach.y + SLACK);
+    enum { AT_A_TIME = 32 };
+    struct range across = range_around(strip->from.x, strip->reach.x),
+                 down = range_around(strip->from.y, strip->reach.y);
     for (; k + AT_A_TIME <= starts->count; k += AT_A_TIME) {
-        const float *xs = starts->x + k, *ys = starts->y + k;
-        int is_near = 0, are_near[AT_A_TIME];
+        const uint16_t *xs = starts->x + k, *ys = starts->y + k;
+        uint16_t are_near = 0;
         for (int j = 0; j < AT_A_TIME; j++)
-            are_near[j] = fabsf(xs[j] - x) <= right ? fabsf(ys[j] - y) <= down : 0;
-        for (int j = 0; j < AT_A_TIME; j++)
-            is_near |= are_near[j];
-        if (is_near)
+            are_near |= is_within(across, xs[j]) & is_within(down, ys[j]);
+        if (are_near)
             break;
     }
-    while (k < starts->count && !(fabsf(starts->x[k] - x) <= right && fabsf(starts->y[k] - y) <= down))
+    while (k < starts->count && !(is_within(across, starts->x[k]) && is_within(down, starts->y[k])))
         k++;
     return k;
 }
@@ -256,7 +271,7 @@ static bool join(struct lines *lines, struct limit *limit) {
     lines->count = count;
     for (int k = 0; k < count && enough && !limit_reached(limit); k++) {
         struct line joined = joined_from(lines, &starts, k);
-        limit_spend(limit, count);
+        limit_spend(limit, count / PIECES_AT_A_UNIT);
         if (extent(&joined) > extent(&lines->items[k]) + 1)
             enough = keep(lines, joined);
     }

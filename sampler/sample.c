@@ -68,7 +68,8 @@ void note_lack(struct search *search, bool is_made) {
 
 static void judge_by(struct search *search, const struct sight *sight) {
     search->judge.picture = &sight->picture, search->judge.smooth = &sight->levels[0],
-    search->judge.is_inverted = sight->is_inverted, search->judge.scale = 1 << sight->level;
+    search->judge.is_inverted = sight->is_inverted, search->judge.is_thick = sight->is_thick,
+    search->judge.scale = 1 << sight->level;
 }
 
 /* Takes note of a symbol that has been read. */
@@ -259,7 +260,7 @@ static bool thicken(struct plane *plane, int pixels, struct limit *limit) {
 /* Looks for symbols of dots that don't touch in a level of a sight: they do if they are thicker. */
 static void search_thick(struct search *search, const struct sight *sight, struct dots dots) {
     struct limit *limit = search->judge.limit;
-    struct sight thick = {.is_inverted = sight->is_inverted, .level = dots.level};
+    struct sight thick = {.is_inverted = sight->is_inverted, .is_thick = true, .level = dots.level};
     bool is_made = plane_dots(&sight->levels[dots.level], dots.reach, limit, &thick.picture) &&
                    thicken(&thick.picture, dots.reach, limit) &&
                    plane_smooth(&thick.picture, limit, &thick.levels[0]);
@@ -292,10 +293,12 @@ static void search_picture(struct search *search, const struct plane *picture) {
     note_lack(search, make_levels(plain, limit));
     search_levels(search, plain, search_lively);
     search_levels(search, plain, search_joined);
+    search_rows(search);
     if (!is_over(search)) {
         note_lack(search, plane_invert(picture, limit, &inverted->picture) && make_levels(inverted, limit));
         search_levels(search, inverted, search_lively);
         search_levels(search, inverted, search_joined);
+        search_rows(search);
         search_levels(search, plain, search_woven);
         search_levels(search, plain, search_calm);
         search_levels(search, inverted, search_calm);

@@ -14,6 +14,7 @@ struct sight {
     int level;                   /* of the picture that is searched: which of its levels `picture` is */
     struct elbows elbows[LEVELS]; /* of each level that was searched */
     bool is_inverted;
+    bool is_thick;               /* whether the picture is of dots made thicker: between them all is flat */
 };
 
 struct search {
@@ -44,5 +45,8 @@ bool judge_all(struct search *search, const struct sight *sight, struct placemen
  * are light on dark by the sight in which these are dark; or NULL if they aren't looked for, as where dots are thicker
  * than they are, which is searched at fewer places. */
 void search_lattices(struct search *search, const struct sight *sight, const struct sight *inverted, int level);
+
+/* Looks where a symbol should stand, as the neighbours of those that were found do. */
+void search_rows(struct search *search);
 
 #endif

@@ -32,10 +32,9 @@ struct rhythm {
     double bad;
 };
 
-/* Whether the track has ended before `way`, or hasn't begun: nothing turned for too many modules. */
-static bool is_still(const struct rhythm *rhythm, double way, double module) {
-    return rhythm->turns > 4 ? way - rhythm->last > STILL_BETWEEN * rhythm->mean
-                             : way - rhythm->last > STILL_BEFORE * module;
+/* Where the track has ended, or hasn't begun, unless something turns before: that would be too many modules. */
+static double still_from(const struct rhythm *rhythm, double module) {
+    return rhythm->last + (rhythm->turns > 4 ? STILL_BETWEEN * rhythm->mean : STILL_BEFORE * module);
 }
 
 /* Takes a turn into account. False where the track has ended: nothing turns for too long. */
@@ -56,27 +55,25 @@ static bool add_turn(struct rhythm *rhythm, double place) {
 }
 
 /* Follows the turns of brightness along the track, of at least `least` in brightness, and counts those that come
- * evenly. Returns how many steps it went. */
+ * evenly. Where a light module is sought, brightness is taken below 0. Returns how many steps it went. */
 static int follow(const struct plane *grey, struct track *track, double module, double longest, int least) {
     struct rhythm rhythm = {0};
-    double step = fmax(module / 7, 0.5);
-    bool seeks_dark = true;
-    int extreme = 255, steps = 0;
-    double place = 0;
-    track->darks = 0;
+    double step = fmax(module / 7, 0.5), place = 0, still = still_from(&rhythm, module);
+    int sign = 1, extreme = 255, steps = 0;
     struct point at = track->from, move = scale_by(track->along, step);
     bool is_inside = shows(grey, at) && shows(grey, sum(at, scale_by(track->along, longest + step)));
-    for (double way = 0; way < longest && rhythm.bad < rhythm.good + 4 && !is_still(&rhythm, way, module);
-         way += step, at = sum(at, move), steps++) {
-        int here = is_inside ? *pixel_of(grey, (int)at.x, (int)at.y) : grey_at(grey, at);
-        if (seeks_dark ? here < extreme : here > extreme) {
+    track->darks = 0;
+    for (double way = 0; way < longest && way <= still; way += step, at = sum(at, move), steps++) {
+        int here = sign * (is_inside ? *pixel_of(grey, (int)at.x, (int)at.y) : grey_at(grey, at));
+        if (here < extreme)
             extreme = here, place = way;
-        } else if (seeks_dark ? here >= extreme + least : here <= extreme - least) {
-            if (!add_turn(&rhythm, place))
-                break;
-            track->darks += seeks_dark;
-            seeks_dark = !seeks_dark, extreme = here, place = way;
-        }
+        if (here < extreme + least)
+            continue;
+        if (!add_turn(&rhythm, place))
+            break;
+        track->darks += sign > 0;
+        sign = -sign, extreme = -here, place = way;
+        still = rhythm.bad < rhythm.good + 4 ? still_from(&rhythm, module) : way;
     }
     track->score = rhythm.good - 1.3 * rhythm.bad;
     return steps;

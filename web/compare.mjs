@@ -5,7 +5,7 @@ import { bound, broughtBy, textOfFile } from "./dropping.mjs";
 import { C40, DAMAGED_GRID } from "./examples.mjs";
 import { desks } from "./flow.mjs";
 import { gridText, isGrid } from "./grids.mjs";
-import { itemsOf, readable, whyNot } from "./gs1.mjs";
+import { itemsTyped, readable, whyNot } from "./gs1.mjs";
 import { tooMuch } from "./messages.mjs";
 import { brokenWords, isBroken, settled } from "./order.mjs";
 import { lookAt } from "./source.mjs";
@@ -69,12 +69,12 @@ class Slot {
     this.area.value = tooMuch(text) ? "" : text;
     if (tooMuch(text)) this.settle({ why: "can’t be taken", words: tooMuch(text) }); else this.enterText();
   }
-  async enterFile(file, note) {
-    const own = this.wait(), { text, why } = await textOfFile(file);
+  async enterFile(file, others) {
+    const own = this.wait(), { text, note, why } = await textOfFile(file);
     if (this.asked !== own) return;
     if (why) { this.settle({ why: "can’t be taken", words: why }); return; }
     this.area.value = text;
-    this.enterText(note);
+    this.enterText(`${note}${others}`);
   }
   // From here on there is no verdict, until an answer to this very question has come.
   wait() {
@@ -107,7 +107,7 @@ class Slot {
       return;
     }
     if (!text.trim()) { this.settle({ why: "is empty" }); return; }
-    const isRows = isGrid(text), read = isRows ? null : itemsOf(text.replace(/\n+$/, ""));
+    const isRows = isGrid(text), read = isRows ? null : itemsTyped(text.replace(/\n+$/, ""));
     if (read && !read.items) { this.settle({ why: "can’t be taken", words: whyNot(read) }); return; }
     const question = isRows ? { grid: text } : { items: read.items };
     const judged = await desks.quick.ask("judge", question, `judge ${this.name}`);

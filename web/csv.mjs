@@ -11,6 +11,9 @@ import { isIdentifier } from "./gs1.mjs";
 /** @typedef {{ isData: boolean, roles: string[] }} Meaning whether the first row has data, and what the columns are */
 const SEPARATORS = [";", "\t", ","];
 export const ELEMENT = "element", MESSAGE = "message", TEXT = "text", COPIES = "copies", UNUSED = "left out";
+// The headings of a list of what was found that the page saved: what was read is the message.
+export const FOUND = ["number", "message", "modules", "not read"];
+const FOUND_ROLES = [UNUSED, MESSAGE, UNUSED, UNUSED];
 /** @type {Record<string, string>} */
 const ROLES = { message: MESSAGE, text: TEXT, qty: COPIES, quantity: COPIES, copies: COPIES };
 
@@ -41,17 +44,19 @@ function identifierOf(heading) {
   const digits = DIGITS.test(heading) ? heading : IN_BRACKETS.test(heading) ? heading.slice(1, -1) : "";
   return isIdentifier(digits) ? digits : "";
 }
+/** @type {(heading: string) => string | null} */
+const roleOf = (heading) => (identifierOf(heading) ? ELEMENT : ROLES[heading.toLowerCase()] ?? null);
+const isOfFound = (headings) => headings.join() === FOUND.join();
 const columnOf = (rows, k) => rows.map((row) => (row[k] ?? "").trim());
 // The columns by their headings. What comes a second time isn't known, nor a message beside identifiers.
 /** @type {(headings: string[], rows: string[][]) => Column[]} */
 function columnsOf(headings, rows) {
-  const identifiers = headings.map(identifierOf), roles = headings.map((heading, k) =>
-    (identifiers[k] ? ELEMENT : ROLES[heading.toLowerCase()] ?? null));
+  const identifiers = headings.map(identifierOf), roles = isOfFound(headings) ? FOUND_ROLES : headings.map(roleOf);
   const isKnown = (k) => (roles[k] === ELEMENT ? identifiers.indexOf(identifiers[k]) === k
     : roles.indexOf(roles[k]) === k && !(roles[k] === MESSAGE && roles.includes(ELEMENT)));
   return headings.map((heading, k) => {
-    const example = columnOf(rows, k).find(Boolean) ?? "", isEmpty = !heading && !example;
-    return { heading, identifier: identifiers[k], example, role: isEmpty ? UNUSED : isKnown(k) ? roles[k] : null };
+    const example = columnOf(rows, k).find(Boolean) ?? "", isUnused = roles[k] === UNUSED || (!heading && !example);
+    return { heading, identifier: identifiers[k], example, role: isUnused ? UNUSED : isKnown(k) ? roles[k] : null };
   });
 }
 // Whether the first row may as well have data: none of its words is a heading for sure, and a number is none for sure
@@ -65,7 +70,8 @@ function mayBeData(columns, rows) {
 
 /** @type {(text: string) => Table} */
 export function tableOf(text) {
-  const rows = rowsOf(text), [first = [], ...others] = rows;
+  const all = rowsOf(text), isMeant = isOfFound(all[0] ?? []) ? (row) => Boolean(row[1]) : () => true;
+  const rows = all.filter(isMeant), [first = [], ...others] = rows;
   const count = rows.reduce((most, row) => Math.max(most, row.length), 0);
   const headings = Array.from({ length: count }, (_, k) => (first[k] ?? "").trim());
   const columns = columnsOf(headings, others);

@@ -1,5 +1,6 @@
 // Pasting and dropping: pictures, files of text, and text. What is too much for a field isn't let into it, since even
 // to lay it out takes long.
+import { decoded } from "./coding.mjs";
 import { MOST_OF_SHEET, MOST_TEXT } from "./common.mjs";
 import { $, field, fieldOf, folded, hint } from "./dom.mjs";
 import { desks, showTask } from "./flow.mjs";
@@ -19,6 +20,7 @@ const BYTES = 4; // of a character, at most
 const MOST_BYTES_OF_SAVED = 5e7; // of a file that the page saved, and that is opened again
 const isPicture = ({ type }) => type.startsWith("image/");
 const isText = ({ type, name }) => type.startsWith("text/") || (!type && /\.(txt|csv|grid)$/i.test(name));
+const isCsvFile = ({ name }) => /\.csv$/i.test(name);
 const isTextOrSaved = (file) => isText(file) || mayBeSaved(file.name);
 
 // What is dropped or pasted: the first picture, or else the first file of text, or else the text; and a note on what
@@ -33,13 +35,14 @@ export function broughtBy(list, isTaken = isText) {
   if (!text && files.length) return { why: `${files[0].name} is neither a picture nor a text.` };
   return { text };
 }
-// The text of a file, or why it isn't taken.
-/** @type {(file: File, most?: number) => Promise<{ text?: string, why?: string }>} */
+// The text of a file, with a note on how it is read; or why it isn't taken.
+/** @type {(file: File, most?: number) => Promise<{ text?: string, note?: string, why?: string }>} */
 export async function textOfFile(file, most = MOST_TEXT) {
   const bytes = file.size.toLocaleString("en"), what = most === MOST_TEXT ? "a message or a grid" : "a sheet";
   if (file.size > BYTES * most) return { why: `${file.name} has ${bytes} bytes, which are too many for ${what}.` };
-  const text = (await file.text()).replace(/\r?\n$/, ""), much = tooMuch(text, most);
-  return much ? { why: `${file.name}: ${much}` } : { text };
+  const { text: all, note } = decoded(new Uint8Array(await file.arrayBuffer()));
+  const text = all.replace(/\r?\n$/, ""), much = tooMuch(text, most);
+  return much ? { why: `${file.name}: ${much}` } : { text, note };
 }
 
 // Lets no more into a field than it takes, where that comes from outside; `refuse` says so.
@@ -84,19 +87,23 @@ function refuseBrought(why) {
 }
 // What is entered now: another text as soon as something else is.
 const entered = () => [panes.write.entered, panes.read.entered, field("messages").value].join();
-/** @type {(file: File, note: string, isSheet?: boolean) => Promise<void>} */
-async function takeFile(file, note, isSheet = false) {
+// A file of CSV goes on the sheet, wherever it is dropped or opened.
+/** @type {(file: File, others: string, isOnSheet?: boolean) => Promise<void>} */
+async function takeFile(file, others, isOnSheet = false) {
+  const isSheet = isOnSheet || isCsvFile(file);
   const before = entered(), { labels = null, sights = null, grid = "" } = await heldBy(file);
   const most = isSheet ? MOST_OF_SHEET : MOST_TEXT;
-  const { text, why } = labels || sights || grid ? { text: "", why: "" } : await textAlone(file, most);
+  const { text, why, note: coding = "" } = labels || sights || grid ? { text: "", why: "" }
+    : await textAlone(file, most);
+  const note = `${coding}${others}`;
   if (entered() !== before) toast(`${file.name} was given up, since something else was entered meanwhile.`);
   else if (labels) openLabels(file.name, labels, note);
   else if (sights) takeSights(file.name, sights, note);
   else if (grid) takeGridText(grid);
-  else if (isSheet) takeLines(file.name, text, why, note);
+  else if (isSheet) takeLines(file, text, why, note);
   else if (why) refuseBrought(why);
   else takeText(text);
-  if (note && !isSheet && !why) hint("picture-hint", `${file.name}:${note}`);
+  if (note && !isSheet && !why) toast(`${file.name}:${note}`);
 }
 // What a file holds that the page saved: a list of labels, one of what was found, or the grid of one symbol.
 /** @type {(file: File) => Promise<{ labels?: import("./labelfile.mjs").Labels, sights?: any, grid?: string }>} */
@@ -108,7 +115,7 @@ async function heldBy(file) {
     sights: sights?.symbols ? sights : null };
 }
 // The text of a file that has no list of labels, or why it isn't taken.
-/** @type {(file: File, most: number) => Promise<{ text?: string, why?: string }>} */
+/** @type {(file: File, most: number) => Promise<{ text?: string, note?: string, why?: string }>} */
 const textAlone = async (file, most) =>
   (hasLabelsAlone(file.name) ? { why: `${file.name} holds no labels of this page.` } : textOfFile(file, most));
 // The list that a file holds takes the place of the one on the sheet, with how its labels look.
@@ -121,11 +128,13 @@ function openLabels(name, labels, note) {
   hint("sheet-hint", `The labels of ${name}.${note}`, false, "messages");
 }
 // The lines of a file take the place of those that stand on the sheet.
-/** @type {(name: string, text: string, why: string, note: string) => void} */
-function takeLines(name, text, why, note) {
+/** @type {(file: { name: string }, text: string, why: string, note: string) => void} */
+function takeLines({ name }, text, why, note) {
+  showTask("make");
+  folded("sheet").open = true;
   if (!why) {
     field("messages").value = text;
-    field("lines-as").value = /\.csv$/i.test(name) ? "csv" : "messages";
+    field("lines-as").value = isCsvFile({ name }) ? "csv" : "messages";
     listChanged();
   }
   hint("sheet-hint", why || `The lines of ${name}.${note}`, Boolean(why), "messages");

@@ -101,9 +101,9 @@ export class Ecc200 {
     return { ...answer, ...messageIn(answer.items) };
   }
   // The normal symbol of what an upright grid says.
-  /** @type {(grid: Grid, more?: { limit?: number, form?: string }) => Grid} */
-  normal(grid, { limit = this.library.usualLimit(grid), form = "ascii" } = {}) {
-    const { fault, ...symbol } = this.library.normal(grid, limit, FORMS[form]);
+  /** @type {(grid: Grid, more?: { limit?: number, doubtful?: Uint8Array | null, form?: string }) => Grid} */
+  normal(grid, { limit = this.library.usualLimit(grid), doubtful = null, form = "ascii" } = {}) {
+    const { fault, ...symbol } = this.library.normal(grid, limit, FORMS[form], doubtful);
     if (fault) throw new Refused(fault);
     return /** @type {Grid} */ (symbol);
   }

@@ -9,10 +9,10 @@ import { panes } from "./state.mjs";
 import { copyText, save } from "./taking.mjs";
 
 /** @typedef {import("./listed.mjs").Sighted} Sighted */
-/** @typedef {{ symbols: Sighted[], unread: Sighted[], isComplete: boolean, width: number, height: number,
-    view?: ImageBitmap }} Sights */
-/** @type {{ list: Sighted[], isComplete: boolean, chosen: Sighted | null }} */
-const scene = { list: [], isComplete: true, chosen: null };
+/** @typedef {{ symbols: Sighted[], unread: Sighted[], isComplete: boolean, hasQrCode?: boolean, width: number,
+    height: number, view?: ImageBitmap }} Sights */
+/** @type {{ list: Sighted[], isComplete: boolean, hasQrCode: boolean, chosen: Sighted | null }} */
+const scene = { list: [], isComplete: true, hasQrCode: false, chosen: null };
 let isOwn = false; // whether what is entered is chosen here
 
 // ---- Drawing
@@ -40,15 +40,27 @@ function entryOf(symbol) {
   button.addEventListener("click", () => choose(symbol));
   return made("li", {}, button);
 }
+// Scrolls the list to the one that is chosen; the focus is there, if it was in the list.
+/** @type {(hadFocus: boolean) => void} */
+function showChosen(hadFocus) {
+  const list = $("found-are"), own = /** @type {HTMLElement} */ (list.querySelector("[aria-pressed=true]"));
+  if (!own) return;
+  const { top, bottom } = own.getBoundingClientRect(), frame = list.getBoundingClientRect();
+  list.scrollTop += Math.min(0, top - frame.top) || Math.max(0, bottom - frame.bottom);
+  if (hadFocus) own.focus({ preventScroll: true });
+}
 function drawList() {
-  const { list, isComplete, chosen } = scene, read = list.filter(({ isRead }) => isRead).length;
-  $("found").hidden = list.length - read === 0 && read < 2 && isComplete;
+  const { list, isComplete, hasQrCode, chosen } = scene, read = list.filter(({ isRead }) => isRead).length;
+  $("found").hidden = list.length - read === 0 && read < 2 && isComplete && !hasQrCode;
   setUsable("found-copy", read > 0);
   $("found-title").textContent = plural(read, "symbol is read", "symbols are read");
   const unread = list.length - read, more = isComplete ? "" : "There may be more: the time for a picture was over.";
   const not = unread ? `${plural(unread, "is", "are")} seen and not read.` : "";
-  hint("found-hint", [not, more].filter(Boolean).join(" "));
+  const other = hasQrCode ? "There is a QR code too, which isn’t a Data Matrix symbol." : "";
+  hint("found-hint", [not, other, more].filter(Boolean).join(" "));
+  const hadFocus = $("found-are").contains(document.activeElement);
   $("found-are").replaceChildren(...list.map(entryOf));
+  showChosen(hadFocus);
   const size = { width: Number($("outlines").dataset.width) || 1, height: Number($("outlines").dataset.height) || 1 };
   drawOutlines($("outlines"), list, size, chosen, choose);
 }
@@ -65,9 +77,9 @@ function drawView(view, { width, height }) {
 
 // Shows what stands in a picture; `chosen` is at hand.
 /** @type {(sights: Sights, chosen?: Sighted | null) => void} */
-export function showSights({ symbols, unread, isComplete, width, height, view }, chosen = null) {
+export function showSights({ symbols, unread, isComplete, hasQrCode = false, width, height, view }, chosen = null) {
   if (view) drawView(view, { width, height });
-  Object.assign(scene, { list: [...symbols, ...unread], isComplete, chosen });
+  Object.assign(scene, { list: [...symbols, ...unread], isComplete, hasQrCode, chosen });
   drawList();
 }
 // Adds to the list what the camera sees for the first time; returns that.
@@ -82,7 +94,7 @@ export function addSights(symbols) {
   return fresh;
 }
 export function clearSights() {
-  Object.assign(scene, { list: [], isComplete: true, chosen: null });
+  Object.assign(scene, { list: [], isComplete: true, hasQrCode: false, chosen: null });
   $("scene").hidden = true;
   drawList();
 }

@@ -5,12 +5,15 @@
 export const LAYOUT = {
 // ecc200.h: layouts
   fault: { size: 6, code: 0, value: 2, place: 4 },
-  reading: { size: 6292, fault: 0, rows: 6, columns: 8, border_faults: 10, block_count: 12, item_count: 14,
-    corrected: 16, erased: 26, left: 36, items: 46 },
-  how: { size: 8, form: 0, shape: 2, rows: 4, columns: 6 },
+  head: { size: 8, kind: 0, part: 2, parts: 4, file: 6 },
+  mark: { size: 8, number: 0, place: 4 },
+  reading: { size: 12540, fault: 0, rows: 6, columns: 8, border_faults: 10, block_count: 12, item_count: 14,
+    mark_count: 16, identifier: 18, dealing: 20, head: 22, corrected: 30, erased: 40, left: 50, marks: 60,
+    items: 6292 },
+  how: { size: 18, form: 0, shape: 2, rows: 4, columns: 6, extent: 8, head: 10 },
   symbol: { size: 20746, fault: 0, rows: 6, columns: 8, modules: 10 },
-  inspection: { size: 4402, fault: 0, rows: 6, columns: 8, border_faults: 10, block_count: 12, codeword_count: 14,
-    corrected: 16, erased: 26, left: 36, held: 46, mended: 2224 },
+  inspection: { size: 4404, fault: 0, rows: 6, columns: 8, border_faults: 10, block_count: 12, codeword_count: 14,
+    dealing: 16, corrected: 18, erased: 28, left: 38, held: 48, mended: 2226 },
   place: { size: 4, codeword: 0, bit: 2, kind: 3 },
   place_table: { size: 82954, fault: 0, rows: 6, columns: 8, places: 10 },
   size: { size: 26, rows: 0, columns: 2, region_rows: 4, region_columns: 6, regions_down: 8, regions_across: 10,
@@ -19,15 +22,15 @@ export const LAYOUT = {
   size_table: { size: 1248, sizes: 0 },
   sample_options: { size: 12, milliseconds: 0, least_side: 4, margin: 6, keep_unread: 8 },
   sample_point: { size: 16, x: 0, y: 8 },
-  sample: { size: 47840, corners: 0, rows: 64, columns: 66, inverted: 68, mirrored: 69, modules: 70, doubtful: 20806,
-    reading: 41542, border_limit: 47834, unread: 47836 },
+  sample: { size: 54088, corners: 0, rows: 64, columns: 66, inverted: 68, mirrored: 69, modules: 70, doubtful: 20806,
+    reading: 41544, border_limit: 54084, unread: 54086 },
   sample_search: { size: 36, milliseconds: 0, least_side: 4, margin: 6, symbols: 8, room: 12, count: 16, unread: 20,
     unread_room: 24, unread_count: 28, ended: 32, effort: 34 },
 // ecc200.h: end
 };
 export const SAMPLER = {
 // ecc200.h: sampler
-  ABI: 2,
+  ABI: 3,
   MOST_SIDE: 32767,
   USUAL_TIME: 1000,
   OK: 0,
@@ -63,5 +66,9 @@ export const CODE_WORDS = {
   17: "no such extent",
   18: "no such shape",
   19: "the doubtful modules aren't as many as the modules",
+  20: "an ECI without the designator of a number",
+  21: "a structured append that is no part of a file",
+  22: "a mark out of order, behind the items, or with a number above 999999",
+  23: "no such head",
 // ecc200.h: end
 };

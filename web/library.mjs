@@ -1,7 +1,7 @@
 // The proved library, lowered from 64-bit memory to 32 bits, whose interface is that of library/ecc200.h. Addresses and
 // lengths stay 64 bits wide, so they are BigInts; pages of its memory are counted in ordinary numbers. For everything
 // about Data Matrix symbols (sizes, places, codewords, correction, messages, borders, normal forms) the page asks it.
-import { ABI, BIT, MOST_COLUMNS, MOST_ITEMS, MOST_ROWS, SIZE_COUNT, WIDE } from "./common.mjs";
+import { ABI, BIT, MOST_COLUMNS, MOST_ITEMS, MOST_ROWS, SIZE_COUNT, USUAL, WIDE } from "./common.mjs";
 import { LAYOUT } from "./layouts.mjs";
 
 /** @typedef {import("./common.mjs").Shape} Shape */
@@ -21,7 +21,8 @@ import { LAYOUT } from "./layouts.mjs";
 // In the memory that the caller adds: after the modules of a symbol come its doubtful ones, how a message is written,
 // items, one more than a message has, and then what a call writes, of which a table of places is the largest.
 const MOST_MODULES = MOST_ROWS * MOST_COLUMNS, DOUBTFUL = MOST_MODULES, HOW = 2 * MOST_MODULES;
-const ITEMS = HOW + LAYOUT.how.size, OUT = ITEMS + 2 * (MOST_ITEMS + 1), PAGE = 65536;
+const ITEMS = HOW + LAYOUT.how.size, WORD = 4, PAGE = 65536;
+const OUT = Math.ceil((ITEMS + 2 * (MOST_ITEMS + 1)) / WORD) * WORD;
 const PAGES = Math.ceil((OUT + LAYOUT.place_table.size) / PAGE);
 
 /** @type {(shape: Shape) => string} */
@@ -84,10 +85,14 @@ export class Library {
   sizeOf(shape) { return this.sizes.get(keyOf(shape)); }
   /** @type {(shape: Shape) => number} */
   usualLimit({ rows, columns }) { return this.c.ecc200_usual_limit(rows, columns); }
+  // What has a head or marks beside its items isn't shown, and so refused, as the usual extent refuses it.
   /** @type {(grid: Grid, limit: number, doubtful?: Uint8Array | null) => Answer} */
   read(grid, limit, doubtful = null) {
-    if (this.c.ecc200_read(...this.given(grid, doubtful), limit, WIDE, this.out)) return this.fault();
-    const { reading } = LAYOUT, [border, blocks, count] = this.numbers(this.outAt + reading.border_faults, 3);
+    const given = this.given(grid, doubtful);
+    if (this.c.ecc200_read(...given, limit, WIDE, this.out)) return this.fault();
+    const { reading, head } = LAYOUT, [kind] = this.numbers(this.outAt + reading.head + head.kind, 1);
+    const [border, blocks, count, marks] = this.numbers(this.outAt + reading.border_faults, 4);
+    if ((kind || marks) && this.c.ecc200_read(...given, limit, USUAL, this.out)) return this.fault();
     const items = Array.from(this.numbers(this.outAt + reading.items, count));
     return { border, items, ...this.blockCounts(reading, blocks) };
   }
@@ -96,7 +101,7 @@ export class Library {
     const some = items.slice(0, MOST_ITEMS + 1); // one item too many has the same effect as all of them
     this.numbers(this.itemsAt, some.length).set(some);
     this.numbers(this.howAt, 4).set([form, shape, rows, columns]);
-    const given = [BigInt(this.itemsAt), BigInt(some.length), BigInt(this.howAt), this.out];
+    const given = [BigInt(this.itemsAt), BigInt(some.length), 0n, 0n, BigInt(this.howAt), this.out]; // without marks
     return this.c.ecc200_write(...given) ? this.fault() : this.symbol();
   }
   /** @type {(grid: Grid, limit: number, profile: number, doubtful?: Uint8Array | null) =>

@@ -1,6 +1,7 @@
 // What is told of the symbols that were found: in words, and in files of their list. CSV is for tables; JSON has all
 // that is known of them, and can be opened again.
 import { limitIn, shapeWords } from "./common.mjs";
+import { FOUND } from "./csv.mjs";
 import { gridText } from "./grids.mjs";
 import { typed } from "./gs1.mjs";
 import { borne, refusal } from "./words.mjs";
@@ -27,7 +28,7 @@ const quoted = (field) => (/[",\n]/.test(field) ? `"${field.replace(/"/g, '""')}
 export function csvOf(list) {
   const rows = list.map((symbol, k) => [String(k + 1), symbol.isRead ? saidBy(symbol) : "", shapeWords(symbol),
     symbol.isRead ? "" : whyUnread(symbol)]);
-  const all = [["number", "message", "modules", "not read"], ...rows];
+  const all = [FOUND, ...rows];
   return all.map((row) => `${row.map(quoted).join(",")}\n`).join("");
 }
 /** @type {(symbol: Sighted) => object} */

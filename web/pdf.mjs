@@ -21,7 +21,14 @@ function symbolDrawn({ grid, x, y, module }, height) {
   });
   return `${lines.join("\n")}\nf\n`;
 }
-const escaped = (text) => text.replace(/[\\()]/g, "\\$&").replace(/[^ -~\u00a1-\u00ff]/g, "?");
+// The character of each byte in the font's encoding.
+const CHARACTERS = new TextDecoder("windows-1252").decode(Uint8Array.from({ length: 256 }, (_, byte) => byte));
+const hasLetter = (character) => !/\p{C}/u.test(character) && CHARACTERS.includes(character);
+// Whether the font has each character of a text; those that it lacks are drawn as question marks.
+/** @type {(text: string) => boolean} */
+export const isDrawable = (text) => Array.from(text).every(hasLetter);
+const byteOf = (character) => String.fromCharCode(CHARACTERS.indexOf(hasLetter(character) ? character : "?"));
+const escaped = (text) => Array.from(text, byteOf).join("").replace(/[\\()]/g, "\\$&");
 // A text that is to be so many millimetres wide at most: smaller, and then cut, where it is too wide; the height and
 // the width that it then has.
 /** @type {(text: string, width: number) => { cut: string, size: number, length: number }} */

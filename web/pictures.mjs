@@ -4,7 +4,7 @@ import { luminanceOf } from "./ecc200.mjs";
 import { found, hasBorder, hasShape } from "./grids.mjs";
 import { SAMPLER } from "./layouts.mjs";
 import { extent, gridsOfPixels } from "./pixels.mjs";
-import { hasQrCode } from "./qr.mjs";
+import { qrCodeIn } from "./qr.mjs";
 
 /** @typedef {import("./ecc200.mjs").Ecc200} Ecc200 */
 /** @typedef {import("./common.mjs").Grid} Grid */
@@ -17,8 +17,9 @@ import { hasQrCode } from "./qr.mjs";
 /** @typedef {{ grey: Uint8Array, width: number, height: number, scale: number, contrast: number,
     between: [number, number], isOneColour: boolean, view: ImageBitmap }} Look at a picture: `scale` of its pixels each
     way make one; by how much its greys differed, and between which they are now */
-/** @typedef {{ why?: string, symbols: Sighted[], unread: Sighted[], isComplete: boolean, notes: string, left: number,
-    width: number, height: number, view?: ImageBitmap }} Sights in a picture; how much of its time is left */
+/** @typedef {{ why?: string, symbols: Sighted[], unread: Sighted[], hasQrCode?: boolean, isComplete: boolean,
+    notes: string, left: number, width: number, height: number, view?: ImageBitmap }} Sights in a picture; how much of
+    its time is left */
 const MOST_PIXELS = 4e7, MOST_SAMPLED = 1.6e7; // of a picture, and of what is looked at
 const SHOWN_LENGTH = 1024, LENGTH_OF_CODES = 1400; // pixels of the longer side: shown, and searched for other codes
 const MOST_TIME = 3000, TIME_OF_CODES = 200; // milliseconds for a picture, of which for other codes at least
@@ -128,7 +129,24 @@ function smaller({ grey, width, height }) {
   const step = Math.ceil(Math.max(width, height) / LENGTH_OF_CODES), across = Math.floor(width / step);
   const down = Math.floor(height / step);
   const at = (k) => Math.floor(k / across) * step * width + (k % across) * step;
-  return { grey: Uint8Array.from({ length: across * down }, (_, k) => grey[at(k)]), width: across, height: down };
+  return { grey: Uint8Array.from({ length: across * down }, (_, k) => grey[at(k)]), width: across, height: down, step };
+}
+// Whether a place is inside of a convex shape of these corners.
+/** @type {(corners: import("./sampler.mjs").Point[], at: { x: number, y: number }) => boolean} */
+function isInside(corners, { x, y }) {
+  const sides = corners.map((from, k) => {
+    const to = corners[(k + 1) % corners.length];
+    return (to.x - from.x) * (y - from.y) > (to.y - from.y) * (x - from.x);
+  });
+  return sides.every((side) => side === sides[0]);
+}
+// Whether there is a QR code, and of what isn't read what isn't a part of it: what looks like a symbol there is none.
+/** @type {(look: Look, unread: Sighted[], end: number) => { hasQrCode: boolean, unread: Sighted[] }} */
+function besideQrCode(look, unread, end) {
+  const small = smaller(look), corners = qrCodeIn(small, end), each = 1 / (small.step * look.scale);
+  const middle = ({ corners: at }) => ({ x: ((at[0].x + at[2].x) / 2) * each, y: ((at[0].y + at[2].y) / 2) * each });
+  return { hasQrCode: corners !== null,
+    unread: unread.filter((symbol) => !corners || !isInside(corners, middle(symbol))) };
 }
 
 // ---- Questions
@@ -161,22 +179,24 @@ export async function firstInPicture(ecc200, { file, bitmap: given, most = 1, ti
   kept = { look, sights, end };
   return { ...sights, ...(sights.symbols.length ? {} : remarked(look, sights, end)), view: look.view };
 }
-// What is said of a picture in which nothing is read. What looks like a symbol there, in a QR code, is none.
+// What is said of a picture in which nothing is read.
 /** @type {(look: Look, sights: Sights, end: number) => Partial<Sights>} */
-function remarked(look, { unread, why }, end) {
-  const isQr = hasQrCode(smaller(look), end), { contrast } = look;
-  const other = isQr ? " It shows a QR code, which isn’t a Data Matrix symbol." : "";
+function remarked(look, { unread: all, why }, end) {
+  const { hasQrCode, unread } = besideQrCode(look, all, end), { contrast } = look;
+  const other = hasQrCode ? " It shows a QR code, which isn’t a Data Matrix symbol." : "";
   const notes = contrast < LITTLE_CONTRAST ? ` Its contrast is low: its greys differ by ${contrast} of 255.` : "";
-  return { notes, unread: isQr ? [] : unread, why: why || `${NONE_FOUND}${other}${notes}` };
+  return { notes, unread, why: why || `${NONE_FOUND}${other}${notes}` };
 }
-// All symbols in the picture that was looked at last, in what is left of its time; null if it is another one by now.
+// All symbols in the picture that was looked at last, in what is left of its time, and whether it has a QR code; null
+// if it is another one by now.
 /** @type {(ecc200: Ecc200) => Sights | null} */
 export function restOfPicture(ecc200) {
   if (!kept) return null;
   const { look, sights, end } = kept;
   kept = null;
   if (sights.isComplete) return sights;
-  const rest = sampled(ecc200, look, MOST_SYMBOLS, end);
+  const rest = sampled(ecc200, look, MOST_SYMBOLS, end - TIME_OF_CODES);
   const isThere = ({ corners }) => rest.symbols.some((other) => isNear(corners[0], other.corners[0]));
-  return { ...rest, symbols: [...sights.symbols.filter((symbol) => !isThere(symbol)), ...rest.symbols] };
+  return { ...rest, ...besideQrCode(look, rest.unread, end),
+    symbols: [...sights.symbols.filter((symbol) => !isThere(symbol)), ...rest.symbols] };
 }

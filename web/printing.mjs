@@ -8,7 +8,7 @@ import { labelsFile, labelsText } from "./labelfile.mjs";
 import { laidOut, stockNow } from "./labels.mjs";
 import { versionNow } from "./lines.mjs";
 import { paperNow, setPage, setPageSize, tooWide } from "./paper.mjs";
-import { fittedText, pdfOf } from "./pdf.mjs";
+import { fittedText, isDrawable, pdfOf } from "./pdf.mjs";
 import { profileNow } from "./source.mjs";
 import { VALID, WORKING, mark } from "./state.mjs";
 import { QUIET } from "./symbol.mjs";
@@ -112,15 +112,21 @@ function givenWords(count, none, where, profile) {
   const left = none ? ` ${plural(none, "row wants", "rows want")} 0 copies.` : "";
   return `${plural(count, "symbol is", "symbols are")} ${where}${how}.${left}`;
 }
+// That texts aren't in the PDF as they stand, in words, or "".
+/** @type {(entries: Entry[]) => string} */
+function lacking(entries) {
+  const count = entries.filter(({ text }) => !isDrawable(text)).length;
+  return count ? ` Below ${plural(count, "symbol", "symbols")} ? stands for letters that the PDF’s font lacks.` : "";
+}
 // Does something with all symbols and their pages, and says how many there are, or why not; unless the list is another
 // one by then.
 /** @type {(act: (entries: Entry[], pages: import("./pdf.mjs").Page[] | null) => any, where: string,
-    hasCopies?: boolean) => any} */
-const withAll = (act, where, hasCopies = true) => async () => {
+    how?: { hasCopies?: boolean, noteOn?: (entries: Entry[]) => string }) => any} */
+const withAll = (act, where, { hasCopies = true, noteOn = () => "" } = {}) => async () => {
   const own = versionNow(), profile = profileNow(), { why, entries: lines = [] } = await entriesNow();
   const wanted = lines.filter(({ copies }) => copies), entries = hasCopies ? copied(wanted) : wanted;
   const laid = why ? { why } : pagesNow(entries), fault = laid.why || await act(entries, laid.pages);
-  const said = fault || givenWords(entries.length, lines.length - wanted.length, where, profile);
+  const said = fault || givenWords(entries.length, lines.length - wanted.length, where, profile) + noteOn(entries);
   if (own === versionNow()) hint("sheet-hint", said, Boolean(fault), "messages");
   return !fault;
 };
@@ -139,10 +145,10 @@ const zipping = (ending, bytesOf) => withAll(async (entries) => {
   for (const entry of entries)
     files.push({ name: fileName(entry, ending), bytes: await bytesOf(entry.grid, entry.text) });
   save(zipOf([...files, labelsFile()]), `symbols-${ending}.zip`);
-}, "in the archive", false);
+}, "in the archive", { hasCopies: false });
 const savePdf = withAll((entries, pages) => {
   save(pdfOf(pages ?? entries.map(({ grid, text }) => pageOf(grid, text)), { Labels: labelsText() }), "symbols.pdf");
-}, "in the PDF");
+}, "in the PDF", { noteOn: lacking });
 export function wirePrinting() {
   addEventListener("beforeprint", fillPaper);
   addEventListener("afterprint", () => { isSheet = false; });

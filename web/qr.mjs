@@ -3,7 +3,8 @@
 // them, stand at the corners of a square (ISO/IEC 18004).
 
 /** @typedef {{ grey: Uint8Array, width: number, height: number }} Picture */
-/** @typedef {{ x: number, y: number, module: number }} Pattern by its middle, in pixels, and the width of a module */
+/** @typedef {import("./sampler.mjs").Point} Point */
+/** @typedef {Point & { module: number }} Pattern by its middle, in pixels, and the width of a module */
 const RATIOS = [1, 1, 3, 1, 1], MODULES = 7, LEAST_MODULE = 2; // of a pattern; pixels
 const ARM = [1.5, 1, 1], ARM_LENGTH = 3.5, ARMS = 16, LEAST_ARMS = 13; // from the middle outwards, in all directions
 const AROUND = 0.6; // of a module: light that is behind an arm, at least
@@ -98,10 +99,24 @@ function areCorners(corner, a, b) {
   const side = Math.max(long, wide) / module + MODULES;
   return Math.abs(cosine) < 0.4 && Math.min(long, wide) > 0.6 * Math.max(long, wide) && side > 17 && side < 200;
 }
-// Looks until the time `end` at most.
-/** @type {(picture: Picture, end: number) => boolean} */
-export function hasQrCode(picture, end) {
+// The corners of a code of which the middles of three patterns are known: half a pattern further out.
+/** @type {(corner: Pattern, a: Pattern, b: Pattern) => Point[]} */
+function cornersOf(corner, a, b) {
+  const half = (to) => (corner.module * MODULES) / 2 / Math.hypot(to.x - corner.x, to.y - corner.y);
+  const at = (along, down) => ({ x: corner.x + along * (a.x - corner.x) + down * (b.x - corner.x),
+    y: corner.y + along * (a.y - corner.y) + down * (b.y - corner.y) });
+  const [p, q] = [half(a), half(b)];
+  return [at(-p, -q), at(1 + p, -q), at(1 + p, 1 + q), at(-p, 1 + q)];
+}
+// The corners of a QR code, or null. Looks until the time `end` at most.
+/** @type {(picture: Picture, end: number) => Point[] | null} */
+export function qrCodeIn(picture, end) {
   const patterns = patternsIn(picture, end);
-  return patterns.some((corner) => patterns.some((a, k) => a !== corner
-    && patterns.slice(k + 1).some((b) => b !== corner && areCorners(corner, a, b))));
+  for (const corner of patterns)
+    for (const [k, a] of patterns.entries()) {
+      const b = a === corner ? undefined
+        : patterns.slice(k + 1).find((other) => other !== corner && areCorners(corner, a, other));
+      if (b) return cornersOf(corner, a, b);
+    }
+  return null;
 }

@@ -1,4 +1,4 @@
-/* One printed symbol, one damaged symbol, one refusal.
+/* One printed symbol, one damaged symbol, one refusal, one text with its charset.
  *
  *     cc -std=c11 example.c $(pkg-config --cflags --libs ecc200) && ./a.out */
 #include <ecc200.h>
@@ -33,8 +33,8 @@ int main(void) {
 
     /* a printed symbol */
     size_t count = ecc200_items((const uint8_t *)text, strlen(text), 0, items, ECC200_MOST_ITEMS);
-    const ecc200_how how = {ECC200_ASCII, ECC200_SQUARE, 0, 0};
-    if (ecc200_write(items, count, &how, &symbol) != ECC200_OK)
+    const ecc200_how how = {.form = ECC200_ASCII, .shape = ECC200_SQUARE};
+    if (ecc200_write(items, count, NULL, 0, &how, &symbol) != ECC200_OK)
         return 1;
     print(&symbol);
 
@@ -53,5 +53,15 @@ int main(void) {
     if (read(&symbol, &reading) == ECC200_OK)
         return 3;
     printf("refused with %d: %s (%d)\n", reading.fault.code, ecc200_words(reading.fault.code), reading.fault.value);
+
+    /* a text with its charset: ECI 26 is UTF-8 */
+    const char *word = "caf\xC3\xA9";
+    const ecc200_mark mark = {26, 0};
+    const ecc200_how smallest = {.form = ECC200_SMALLEST, .shape = ECC200_ANY, .extent = ECC200_WIDE};
+    count = ecc200_items((const uint8_t *)word, strlen(word), 0, items, ECC200_MOST_ITEMS);
+    if (ecc200_write(items, count, &mark, 1, &smallest, &symbol) != ECC200_OK || read(&symbol, &reading) != ECC200_OK)
+        return 4;
+    printf("%d x %d: ]d%d, %d bytes, ECI %lu at %lu\n", symbol.rows, symbol.columns, reading.identifier,
+           reading.item_count, (unsigned long)reading.marks[0].number, (unsigned long)reading.marks[0].place);
     return 0;
 }

@@ -1,4 +1,4 @@
-// One printed symbol, one damaged symbol, one refusal.
+// One printed symbol, one damaged symbol, one refusal, one text with its charset.
 //
 //     c++ -std=c++17 example.cpp $(pkg-config --cflags --libs ecc200) && ./a.out
 #include <ecc200.h>
@@ -18,12 +18,12 @@ struct Refused : std::runtime_error {
 using Symbol = std::unique_ptr<ecc200_symbol>;
 using Reading = std::unique_ptr<ecc200_reading>;
 
-static Symbol write(std::string_view text) {
+static Symbol write(std::string_view text, const ecc200_how &how = {}, const std::vector<ecc200_mark> &marks = {}) {
     std::vector<uint16_t> items;
     for (unsigned char byte : text) items.push_back(byte);
     auto symbol = std::make_unique<ecc200_symbol>();
-    const ecc200_how how = {ECC200_ASCII, ECC200_SQUARE, 0, 0};
-    if (ecc200_write(items.data(), items.size(), &how, symbol.get()) != ECC200_OK) throw Refused(symbol->fault);
+    if (ecc200_write(items.data(), items.size(), marks.data(), marks.size(), &how, symbol.get()) != ECC200_OK)
+        throw Refused(symbol->fault);
     return symbol;
 }
 
@@ -72,4 +72,13 @@ int main() {
     } catch (const Refused &why) {
         std::cout << "refused with " << why.fault.code << ": " << why.what() << " (" << why.fault.value << ")\n";
     }
+
+    // a text with its charset: ECI 26 is UTF-8
+    ecc200_how smallest = {};
+    smallest.form = ECC200_SMALLEST, smallest.shape = ECC200_ANY, smallest.extent = ECC200_WIDE;
+    symbol = write("caf\xC3\xA9", smallest, {{26, 0}});
+    reading = read(*symbol);
+    std::cout << symbol->rows << " x " << symbol->columns << ": ]d" << reading->identifier << ", "
+              << reading->item_count << " bytes, ECI " << reading->marks[0].number << " at " << reading->marks[0].place
+              << '\n';
 }

@@ -1,4 +1,4 @@
-"""One printed symbol, one damaged symbol, one refusal.
+"""One printed symbol, one damaged symbol, one refusal, one text with its charset.
 
     PYTHONPATH=library/python ECC200_LIBRARY=library/out/libecc200.so python3 library/examples/example.py
 """
@@ -30,3 +30,9 @@ try:
     ecc200.read(grid)
 except ecc200.Refused as why:
     print(f"refused with {why.code.value}: {str(why).split(' (')[0]} ({why.value})")
+
+# a text with its charset: ECI 26 is UTF-8
+rows = ecc200.write("caf\xe9".encode("utf-8"), marks=[(0, 26)], form=ecc200.Form.SMALLEST, shape=ecc200.Shape.ANY)
+reading = ecc200.read(rows)
+(place, number), = reading.marks
+print(f"{reading.rows} x {reading.columns}: {reading.symbology}, {len(reading.items)} bytes, ECI {number} at {place}")

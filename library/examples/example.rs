@@ -1,10 +1,10 @@
-//! One printed symbol, one damaged symbol, one refusal.
+//! One printed symbol, one damaged symbol, one refusal, one text with its charset.
 //!
 //!     rustc --edition 2021 -O library/examples/example.rs -L native=library/out -l static=ecc200
 #[path = "../ecc200.rs"]
 mod ecc200;
 
-use ecc200::{Fault, Profile, Shape, Symbol};
+use ecc200::{Extent, Fault, Form, How, Mark, Shape, Symbol};
 
 /// A symbol with a quiet zone of one module on all sides.
 fn print(symbol: &Symbol) {
@@ -19,7 +19,7 @@ fn print(symbol: &Symbol) {
 fn main() -> Result<(), Fault> {
     // a printed symbol
     let items: Vec<u16> = "Mitsubadoor".bytes().map(u16::from).collect();
-    let mut symbol = ecc200::write(&items, Profile::Ascii, Shape::Square)?;
+    let mut symbol = ecc200::write(&items, &[], How::default())?;
     print(&symbol);
 
     // a damaged symbol: four modules in one corner
@@ -42,5 +42,14 @@ fn main() -> Result<(), Fault> {
     if let Err(why) = ecc200::read(symbol.grid(), limit) {
         println!("refused with {}: {why} ({})", why.code, why.value);
     }
+
+    // a text with its charset: ECI 26 is UTF-8
+    let items: Vec<u16> = "caf\u{E9}".bytes().map(u16::from).collect();
+    let smallest = How { form: Form::Smallest(Extent::Wide), shape: Shape::Any, head: None };
+    let symbol = ecc200::write(&items, &[Mark { number: 26, place: 0 }], smallest)?;
+    let reading = ecc200::read(symbol.grid(), 0)?;
+    let Mark { number, place } = reading.marks[0];
+    let (size, count) = (format!("{} x {}", symbol.rows, symbol.columns), reading.items.len());
+    println!("{size}: ]d{}, {count} bytes, ECI {number} at {place}", reading.identifier);
     Ok(())
 }

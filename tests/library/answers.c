@@ -15,14 +15,14 @@
 #define LAID(type, member)                                                                                             \
     printf("%s.%s=%zu+%zu ", #type, #member, offsetof(ecc200_##type, member), sizeof(((ecc200_##type *)0)->member))
 
-enum { AREA = 1 << 19, LINE = 1 << 19, BEFORE = 1 << 14 };
+enum { AREA = 1 << 20, LINE = 1 << 19, BEFORE = 1 << 14 };
 
 /* an area that ends at an inaccessible page */
 typedef struct {
     uint8_t *end;
 } area;
 
-static area modules_area, doubt_area, items_area, bytes_area, out_area;
+static area modules_area, doubt_area, items_area, marks_area, bytes_area, out_area;
 
 static void die(const char *what) {
     printf("%s\n", what);
@@ -84,6 +84,33 @@ static const uint16_t *items_of(size_t *count) {
     for (size_t i = 0; i < *count; i++, text++)
         items[i] = (uint16_t)strtoul(text, &text, 10);
     return items;
+}
+
+/* marks that are written as a number, @ and a place, with commas between them, or none as -; none is given as NULL */
+static const ecc200_mark *marks_of(size_t *count) {
+    char *text = word(), *at;
+    *count = *text != '-';
+    for (at = text; *at; at++)
+        *count += *at == ',';
+    ecc200_mark *marks = (ecc200_mark *)(void *)place_of(marks_area, sizeof *marks * *count);
+    for (size_t i = 0; i < *count; i++, text++) {
+        marks[i].number = (uint32_t)strtoul(text, &text, 10);
+        text++;
+        marks[i].place = (uint32_t)strtoul(text, &text, 10);
+    }
+    return *count ? marks : NULL;
+}
+
+/* a head that is written as five numbers with colons between them */
+static ecc200_head head_given(void) {
+    ecc200_head head;
+    unsigned number[5];
+    char *text = word();
+    for (int i = 0; i < 5; i++, text++)
+        number[i] = (unsigned)strtoul(text, &text, 10);
+    head.kind = (uint16_t)number[0], head.part = (uint16_t)number[1], head.parts = (uint16_t)number[2];
+    head.file[0] = (uint8_t)number[3], head.file[1] = (uint8_t)number[4];
+    return head;
 }
 
 /* ---- Answers */
@@ -162,6 +189,17 @@ static void print_blocks(const uint8_t *corrected, const uint8_t *erased, const 
     }
 }
 
+/* items, marks and head */
+static void print_said(const ecc200_reading *said) {
+    printf("items ");
+    print_items(said->items, said->item_count);
+    printf(" marks ");
+    for (int i = 0; i < said->mark_count; i++)
+        printf("%s%lu@%lu", i ? "," : "", (unsigned long)said->marks[i].number, (unsigned long)said->marks[i].place);
+    printf("%s head %d:%d:%d:%d:%d", said->mark_count ? "" : "-", said->head.kind, said->head.part, said->head.parts,
+           said->head.file[0], said->head.file[1]);
+}
+
 static void answer_read(void) {
     uint16_t extent = number(), limit = number();
     grid given = grid_given();
@@ -172,9 +210,10 @@ static void answer_read(void) {
         return;
     printf("rows %d columns %d border %d blocks %d ", out->rows, out->columns, out->border_faults, out->block_count);
     print_blocks(out->corrected, out->erased, out->left, out->block_count);
-    printf("items ");
-    print_items(out->items, out->item_count);
+    print_said(out);
     check_rest(out->items + out->item_count, out->items + ECC200_MOST_ITEMS);
+    check_rest(out->marks + out->mark_count, out->marks + ECC200_MOST_MARKS);
+    printf(" identifier %d dealing %d", out->identifier, out->dealing);
 }
 
 static void print_symbol(uint16_t code, const ecc200_symbol *out) {
@@ -200,15 +239,41 @@ static void answer_normal(void) {
 static ecc200_how how_given(void) {
     ecc200_how how;
     how.form = number(), how.shape = number(), how.rows = number(), how.columns = number();
+    how.extent = number(), how.head = head_given();
     return how;
 }
 
 static void answer_write(void) {
-    size_t count;
+    size_t count, mark_count;
     ecc200_how how = how_given();
+    const ecc200_mark *marks = marks_of(&mark_count);
     const uint16_t *items = items_of(&count);
     ecc200_symbol *out = symbol_place();
-    print_symbol(ecc200_write(items, count, &how, out), out);
+    print_symbol(ecc200_write(items, count, marks, mark_count, &how, out), out);
+}
+
+/* the size of the smallest symbol, whether the usual extent reads it, and what it says */
+static void answer_smallest(void) {
+    static ecc200_symbol symbol;
+    size_t count, mark_count;
+    ecc200_how how;
+    how.form = ECC200_SMALLEST, how.extent = number();
+    how.shape = number(), how.rows = number(), how.columns = number(), how.head = head_given();
+    const ecc200_mark *marks = marks_of(&mark_count);
+    const uint16_t *items = items_of(&count);
+    ecc200_reading *out = (ecc200_reading *)(void *)place_of(out_area, sizeof *out);
+    if (ecc200_write(items, count, marks, mark_count, &how, &symbol)) {
+        printf("no %d %d %d", symbol.fault.code, symbol.fault.value, symbol.fault.place);
+        return;
+    }
+    uint16_t rows = symbol.rows, columns = symbol.columns;
+    size_t all = (size_t)rows * columns;
+    int is_usual = !ecc200_read(symbol.modules, all, NULL, 0, rows, columns, 0, ECC200_USUAL, out);
+    printf("rows %d columns %d usual %d ", rows, columns, is_usual);
+    if (ecc200_read(symbol.modules, all, NULL, 0, rows, columns, 0, how.extent, out))
+        printf("not read: %d", out->fault.code);
+    else
+        print_said(out);
 }
 
 static void answer_write_bytes(void) {
@@ -295,29 +360,35 @@ static void answer_items(void) {
 }
 
 static void answer_constants(void) {
-    NAMED(ABI), NAMED(MOST_ROWS), NAMED(MOST_COLUMNS), NAMED(MOST_MODULES), NAMED(MOST_ITEMS), NAMED(MOST_CODEWORDS),
-        NAMED(MOST_BLOCKS), NAMED(SIZE_COUNT);
+    NAMED(ABI), NAMED(MOST_ROWS), NAMED(MOST_COLUMNS), NAMED(MOST_MODULES), NAMED(MOST_ITEMS), NAMED(MOST_MARKS),
+        NAMED(MOST_CODEWORDS), NAMED(MOST_BLOCKS), NAMED(SIZE_COUNT);
     NAMED(FNC1), NAMED(ANY_LIMIT), NAMED(BEYOND), NAMED(STACK);
     NAMED(USUAL), NAMED(WIDE);
-    NAMED(ASCII), NAMED(SHORTER);
+    NAMED(ASCII), NAMED(SHORTER), NAMED(SMALLEST);
     NAMED(SQUARE), NAMED(RECTANGLE), NAMED(EXTENDED), NAMED(ANY), NAMED(ONE);
     NAMED(OK), NAMED(SHAPE), NAMED(SIZE), NAMED(BORDER), NAMED(BLOCK), NAMED(RESERVED), NAMED(LEFT_OUT),
         NAMED(UPPER_SHIFT), NAMED(TRIPLET);
     NAMED(VALUE), NAMED(LENGTH), NAMED(UNFINISHED), NAMED(TOO_LONG), NAMED(ITEM), NAMED(PROFILE);
-    NAMED(EXTENT), NAMED(CHOICE), NAMED(DOUBT);
+    NAMED(EXTENT), NAMED(CHOICE), NAMED(DOUBT), NAMED(DESIGNATOR), NAMED(APPEND), NAMED(MARK), NAMED(HEAD);
+    NAMED(NO_HEAD), NAMED(PART), NAMED(PROGRAMMING);
     NAMED(NO_MODULE), NAMED(BIT), NAMED(BORDER_LIGHT), NAMED(BORDER_DARK), NAMED(FIXED_LIGHT), NAMED(FIXED_DARK);
 }
 
 /* where each member of a struct stands, and how many bytes it has */
 static void answer_layout(void) {
     SIZED(fault), LAID(fault, code), LAID(fault, value), LAID(fault, place);
+    SIZED(head), LAID(head, kind), LAID(head, part), LAID(head, parts), LAID(head, file);
+    SIZED(mark), LAID(mark, number), LAID(mark, place);
     SIZED(reading), LAID(reading, fault), LAID(reading, rows), LAID(reading, columns), LAID(reading, border_faults);
-    LAID(reading, block_count), LAID(reading, item_count), LAID(reading, corrected), LAID(reading, erased);
-    LAID(reading, left), LAID(reading, items);
-    SIZED(how), LAID(how, form), LAID(how, shape), LAID(how, rows), LAID(how, columns);
+    LAID(reading, block_count), LAID(reading, item_count), LAID(reading, mark_count), LAID(reading, identifier);
+    LAID(reading, dealing), LAID(reading, head), LAID(reading, corrected), LAID(reading, erased);
+    LAID(reading, left), LAID(reading, marks), LAID(reading, items);
+    SIZED(how), LAID(how, form), LAID(how, shape), LAID(how, rows), LAID(how, columns), LAID(how, extent);
+    LAID(how, head);
     SIZED(symbol), LAID(symbol, fault), LAID(symbol, rows), LAID(symbol, columns), LAID(symbol, modules);
     SIZED(inspection), LAID(inspection, fault), LAID(inspection, rows), LAID(inspection, columns),
         LAID(inspection, border_faults), LAID(inspection, block_count), LAID(inspection, codeword_count);
+    LAID(inspection, dealing);
     LAID(inspection, corrected), LAID(inspection, erased), LAID(inspection, left), LAID(inspection, held),
         LAID(inspection, mended);
     SIZED(place), LAID(place, codeword), LAID(place, bit), LAID(place, kind);
@@ -348,6 +419,7 @@ static const request requests[] = {
     {"read", answer_read},
     {"normal", answer_normal},
     {"write", answer_write},
+    {"smallest", answer_smallest},
     {"inspect", answer_inspect},
     {"places", answer_places},
     {"sizes", answer_sizes},
@@ -366,7 +438,7 @@ static const request requests[] = {
 int main(void) {
     static char line[LINE];
     modules_area = new_area(), doubt_area = new_area(), items_area = new_area(), bytes_area = new_area();
-    out_area = new_area();
+    marks_area = new_area(), out_area = new_area();
     while (fgets(line, sizeof line, stdin)) {
         const char *name = strtok_r(line, " \n", &rest);
         size_t i = 0;

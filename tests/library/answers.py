@@ -1,5 +1,5 @@
 """Answers the requests of cases.py by the functions of the Python module."""
-from tests.library.cases import no, numbers
+from tests.library.cases import heading, marking, no, numbers
 from tests.library.model import ONE, SIZE_OF
 
 
@@ -11,12 +11,36 @@ def items_of(text):
     return [int(item) for item in text.split(",") if item != "-"]
 
 
+def marks_of(text):
+    """Marks as `write` takes them, the place first."""
+    return [tuple(map(int, mark.split("@")))[::-1] for mark in text.split(",") if mark != "-"]
+
+
+def head_of(text):
+    """A head as `write` takes it, or a TypeError where it takes none that is so."""
+    kind, *others = map(int, text.split(":"))
+    known = {0: None, 2: "programming"}
+    if kind == 1 or any(others) or kind not in known:
+        return tuple(others) if kind == 1 else NOT_SAID
+    return known[kind]
+
+
+NOT_SAID = object()
+
+
+def said(got):
+    """Items, marks and head."""
+    head = got.head if isinstance(got.head, str) or got.head is None else (1, *got.head)
+    return (f"items {numbers(got.items)} marks {marking((number, place) for place, number in got.marks)} "
+            f"head {heading(head)}")
+
+
 def symbol(rows):
     modules = "".join(str(module) for row in rows for module in row)
     return f"rows {len(rows)} columns {len(rows[0])} modules {modules}"
 
 
-def head_of(rows, columns, got):
+def counts_of(rows, columns, got):
     """What an answer of reading and one of inspecting have in common."""
     corrected = ["beyond" if count is None else count for count in got.corrected]
     counts = f"corrected {numbers(corrected)} erased {numbers(got.erased)} left {numbers(got.left)}"
@@ -40,6 +64,8 @@ class Answers:
         if name in ("read", "inspect", "normal") and not self.is_grid(*words[-4:-1]):
             return None
         if name in ("write", "write_bytes") and not self.is_choice(*words[1:4]):
+            return None
+        if name in ("write", "write_bytes") and head_of(words[5]) is NOT_SAID:
             return None
         try:
             return getattr(self, f"to_{name}")(*words)
@@ -66,22 +92,32 @@ class Answers:
     def to_read(self, extent, limit, *given):
         grid, doubt = self.grid(*given)
         got = self.ecc200.read(grid, int(limit), int(extent), **doubt)
-        return f"{head_of(got.rows, got.columns, got)} items {numbers(got.items)}"
+        number = {f"]d{digit}": digit for digit in range(1, 7)}[got.symbology]
+        return f"{counts_of(got.rows, got.columns, got)} {said(got)} identifier {number} dealing {got.dealing}"
 
     def to_normal(self, extent, profile, limit, *given):
         grid, doubt = self.grid(*given)
         return symbol(self.ecc200.normal(grid, int(limit), int(profile), int(extent), **doubt))
 
-    def to_write(self, profile, shape, rows, columns, items):
-        return symbol(self.ecc200.write(items_of(items), profile=int(profile), **chosen(shape, rows, columns)))
+    def to_write(self, form, shape, rows, columns, extent, head, marks, items):
+        return symbol(self.ecc200.write(items_of(items), form=int(form), extent=int(extent), head=head_of(head),
+                                        marks=marks_of(marks), **chosen(shape, rows, columns)))
 
-    def to_write_bytes(self, profile, shape, rows, columns, data):
-        return symbol(self.ecc200.write(bytes_of(data), profile=int(profile), **chosen(shape, rows, columns)))
+    def to_write_bytes(self, form, shape, rows, columns, extent, head, data):
+        return symbol(self.ecc200.write(bytes_of(data), form=int(form), extent=int(extent), head=head_of(head),
+                                        **chosen(shape, rows, columns)))
+
+    def to_smallest(self, extent, shape, rows, columns, head, marks, items):
+        made = self.ecc200.write(items_of(items), form=self.ecc200.Form.SMALLEST, extent=int(extent),
+                                 head=head_of(head), marks=marks_of(marks), **chosen(shape, rows, columns))
+        got = self.ecc200.read(made, 0, int(extent))
+        is_usual = isinstance(self.ecc200.read_many([made], 0, self.ecc200.Extent.USUAL)[0], self.ecc200.Reading)
+        return f"rows {got.rows} columns {got.columns} usual {int(is_usual)} {said(got)}"
 
     def to_inspect(self, *given):
         grid, doubt = self.grid(*given)
         got = self.ecc200.inspect(grid, **doubt)
-        return f"{head_of(*given[:2], got)} held {numbers(got.held)} mended {numbers(got.mended)}"
+        return f"{counts_of(*given[:2], got)} held {numbers(got.held)} mended {numbers(got.mended)}"
 
     def to_places(self, rows, columns):
         table = self.ecc200.places(int(rows), int(columns))

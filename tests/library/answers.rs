@@ -2,7 +2,7 @@
 //! each. `tests/library/cases.py` has the requests and the answers that are wanted.
 mod ecc200;
 
-use ecc200::{Extent, Fault, Grid, Inspection, Place, Profile, Reading, Shape, Size, Symbol};
+use ecc200::{Extent, Fault, Form, Grid, Head, How, Inspection, Mark, Place, Profile, Reading, Shape, Size, Symbol};
 use std::error::Error;
 use std::io::{self, BufRead, Write};
 
@@ -51,6 +51,37 @@ impl Words<'_> {
         }
     }
 
+    /// Marks that are written as a number, @ and a place, with commas between them, or none as -.
+    fn marks(&mut self) -> Vec<Mark> {
+        let text = self.word().trim_matches('-');
+        let mark = |text: &str| {
+            let (number, place) = text.split_once('@').expect("a mark");
+            Mark { number: number.parse().expect("a number"), place: place.parse().expect("a place") }
+        };
+        text.split(',').filter(|mark| !mark.is_empty()).map(mark).collect()
+    }
+
+    /// A head that is written as five numbers with colons between them.
+    fn head(&mut self) -> Option<Head> {
+        let each: Vec<u16> = self.word().split(':').map(|number| number.parse().expect("a number")).collect();
+        match each[0] {
+            0 => None,
+            1 => Some(Head::Part { part: each[1], parts: each[2], file: [each[3] as u8, each[4] as u8] }),
+            _ => Some(Head::Programming),
+        }
+    }
+
+    /// A form, a shape or a size, an extent, which is of no account without the form that has one, and a head.
+    fn how(&mut self) -> How {
+        let (form, shape, extent) = (self.number(), self.shape(), self.extent());
+        let form = match form {
+            0 => Form::Normal(Profile::Ascii),
+            1 => Form::Normal(Profile::Shorter),
+            _ => Form::Smallest(extent),
+        };
+        How { form, shape, head: self.head() }
+    }
+
     /// A profile that exists.
     fn profile(&mut self) -> Profile {
         match self.number() {
@@ -77,15 +108,39 @@ fn blocks(corrected: &[String], erased: &[u8], left: &[u8]) -> String {
     format!("blocks {} {counts}", corrected.len())
 }
 
+/// Items, marks and head.
+fn said(got: &Reading) -> String {
+    let marks: Vec<_> = got.marks.iter().map(|mark| format!("{}@{}", mark.number, mark.place)).collect();
+    let head = match got.head {
+        None => "0:0:0:0:0".to_string(),
+        Some(Head::Part { part, parts, file: [a, b] }) => format!("1:{part}:{parts}:{a}:{b}"),
+        Some(Head::Programming) => "2:0:0:0:0".to_string(),
+    };
+    format!("items {} marks {} head {head}", numbers(&got.items), numbers(&marks))
+}
+
 fn reading(rows: u16, columns: u16, got: Result<Reading, Fault>) -> String {
     match got {
-        Ok(Reading { items, corrected, erased, left, border_faults }) => {
-            let counted: Vec<_> = corrected.iter().map(u8::to_string).collect();
-            let counts = blocks(&counted, &erased, &left);
-            format!("rows {rows} columns {columns} border {border_faults} {counts} items {}", numbers(&items))
+        Ok(got) => {
+            let counted: Vec<_> = got.corrected.iter().map(u8::to_string).collect();
+            let counts = blocks(&counted, &got.erased, &got.left);
+            let dealing = u8::from(got.is_dealt_anew);
+            let found = format!("rows {rows} columns {columns} border {} {counts}", got.border_faults);
+            format!("{found} {} identifier {} dealing {dealing}", said(&got), got.identifier)
         }
         Err(why) => refused(why),
     }
+}
+
+/// The size of the smallest symbol, whether the usual extent reads it, and what it says.
+fn smallest(words: &mut Words) -> Result<String, Fault> {
+    let (extent, shape, head) = (words.extent(), words.shape(), words.head());
+    let marks = words.marks();
+    let how = How { form: Form::Smallest(extent), shape, head };
+    let symbol = ecc200::write(&words.items(), &marks, how)?;
+    let usual = u8::from(ecc200::read_as(Extent::Usual, symbol.grid(), 0).is_ok());
+    let got = ecc200::read_as(extent, symbol.grid(), 0)?;
+    Ok(format!("rows {} columns {} usual {usual} {}", symbol.rows, symbol.columns, said(&got)))
 }
 
 fn symbol(got: Result<Symbol, Fault>) -> String {
@@ -136,13 +191,14 @@ fn constants() -> String {
     shown.extend(profiles.map(|(name, profile)| format!("{name}={} ", profile as u16)));
     shown += &format!("OK={OK} SHAPE={SHAPE} SIZE={SIZE} BORDER={BORDER} BLOCK={BLOCK} RESERVED={RESERVED} ");
     shown += &format!("LEFT_OUT={LEFT_OUT} UPPER_SHIFT={UPPER_SHIFT} TRIPLET={TRIPLET} VALUE={VALUE} ");
-    shown += &format!("LENGTH={LENGTH} UNFINISHED={UNFINISHED} ");
-    shown + &format!("TOO_LONG={TOO_LONG} ITEM={ITEM} PROFILE={PROFILE} EXTENT={EXTENT} CHOICE={CHOICE} DOUBT={DOUBT} ")
+    shown += &format!("LENGTH={LENGTH} UNFINISHED={UNFINISHED} TOO_LONG={TOO_LONG} ITEM={ITEM} PROFILE={PROFILE} ");
+    shown += &format!("EXTENT={EXTENT} CHOICE={CHOICE} DOUBT={DOUBT} DESIGNATOR={DESIGNATOR} APPEND={APPEND} ");
+    shown + &format!("MARK={MARK} HEAD={HEAD} ")
 }
 
 /// The bytes of items as a reading gives them, and whether FNC1 stands in front.
 fn text(items: Vec<u16>) -> String {
-    let (bytes, gs1) = Reading { items, corrected: vec![0], erased: vec![0], left: vec![0], border_faults: 0 }.text();
+    let (bytes, gs1) = Reading { items, ..Reading::default() }.text();
     format!("{} gs1 {} bytes {}", bytes.len(), u8::from(gs1), numbers(&bytes))
 }
 
@@ -206,14 +262,16 @@ fn answer(line: &str) -> String {
         "read" => answer_read(&mut words),
         "normal" => answer_normal(&mut words),
         "write" => {
-            let (profile, shape) = (words.profile(), words.shape());
-            assert_eq!(Shape::default(), Shape::Square);
-            symbol(ecc200::write(&words.items(), profile, shape))
+            let (how, marks) = (words.how(), words.marks());
+            let usual = How { form: Form::Normal(Profile::Ascii), shape: Shape::Square, head: None };
+            assert_eq!(How::default(), usual);
+            symbol(ecc200::write(&words.items(), &marks, how))
         }
         "write_bytes" => {
-            let (profile, shape) = (words.profile(), words.shape());
-            symbol(ecc200::write_bytes(&words.bytes(), profile, shape))
+            let how = words.how();
+            symbol(ecc200::write_bytes(&words.bytes(), how))
         }
+        "smallest" => smallest(&mut words).unwrap_or_else(refused),
         "inspect" => {
             let given = Given::of(&mut words);
             inspection(given.rows, given.columns, ecc200::inspect(given.grid()))

@@ -1,13 +1,12 @@
 """Requests to the library, each with the answer that is wanted: what model.py knows by itself, or what stands here as
 it was worked out by hand. answers.c, answers.rs and answers.py answer such requests by the callers of the library, a
 line for each."""
-import functools
-
-from tests.library.model import (ANY, BIT, EXTENDED, FIELD, FNC1, NO_MODULE, ONE, PLACES, RECTANGLE, SIZE_OF, SIZES,
+from tests.library.letters import USUAL, WIDE, letter_of, letter_words, said_by, symbol_of
+from tests.library.model import (ANY, BIT, EXTENDED, FIELD, FNC1, ONE, PLACES, RECTANGLE, SIZE_OF, SIZES,
                                  SQUARE, UPPER_SHIFT, ascii_words, base_256_words, codewords, modules_of, padded,
-                                 randomised, symbol_of, triple)
+                                 randomised, triple)
 
-USUAL, WIDE = 0, 1
+SMALLEST = 2  # a form that is no profile
 LARGEST = SIZES[-1]
 MOST_DATA, MOST_CODEWORDS, MOST_MODULES = LARGEST.data, LARGEST.data + LARGEST.check, LARGEST.rows * LARGEST.columns
 WORDS = {
@@ -19,6 +18,8 @@ WORDS = {
     12: "a wrong Base 256 length", 13: "the run or the symbol ends before the character of an Upper Shift",
     14: "the message is too long for any size that may be taken", 15: "an item above 256", 16: "no such profile",
     17: "no such extent", 18: "no such shape", 19: "the doubtful modules aren't as many as the modules",
+    20: "an ECI without the designator of a number", 21: "a structured append that is no part of a file",
+    22: "a mark out of order, behind the items, or with a number above 999999", 23: "no such head",
 }
 
 
@@ -67,12 +68,28 @@ def inspect(grid, named=None, doubt=()):
     return f"inspect {shown(grid, named, doubt)}"
 
 
-def write(items, profile=0, shape=SQUARE, named=(0, 0)):
-    return f"write {profile} {shape} {named[0]} {named[1]} {numbers(items)}"
+def heading(head):
+    """A head as its kind and its numbers; five numbers are taken as they are."""
+    if head is None or head == "programming":
+        return "2:0:0:0:0" if head else "0:0:0:0:0"
+    return ":".join(map(str, head if len(head) == 5 else (1, *head)))
 
 
-def write_bytes(items, profile=0, shape=SQUARE, named=(0, 0)):
-    return f"write_bytes {profile} {shape} {named[0]} {named[1]} {hexadecimal(items)}"
+def marking(marks):
+    return ",".join(f"{number}@{place}" for number, place in marks) or "-"
+
+
+def how(form, shape, named, extent, head):
+    return f"{form} {shape} {named[0]} {named[1]} {extent} {heading(head)}"
+
+
+def write(said, form=0, shape=SQUARE, named=(0, 0), extent=USUAL):
+    said = letter_of(said)
+    return f"write {how(form, shape, named, extent, said.head)} {marking(said.marks)} {numbers(said.items)}"
+
+
+def write_bytes(items, form=0, shape=SQUARE, named=(0, 0), extent=USUAL, head=None):
+    return f"write_bytes {how(form, shape, named, extent, head)} {hexadecimal(items)}"
 
 
 def no(code, value=0, place=0):
@@ -87,15 +104,24 @@ def counted(size, corrected, erased=None):
     return f"corrected {numbers(corrected)} erased {numbers(erased)} left {numbers(left)}"
 
 
-def reading(named, items, corrected=None, border=0, erased=None):
+def saying(said):
+    """What is said, as answers have it."""
+    said = letter_of(said)
+    return f"items {numbers(said.items)} marks {marking(said.marks)} head {heading(said.head)}"
+
+
+def reading(named, said, corrected=None, border=0, erased=None, identifier=None, dealing=0):
+    """The answer to a reading; the identifier is that of the normal form, unless it's given."""
     size = SIZE_OF[named]
     counts = counted(size, corrected or [0] * size.blocks, erased)
-    return f"rows {named[0]} columns {named[1]} border {border} blocks {size.blocks} {counts} items {numbers(items)}"
+    known = identifier or said_by(letter_words(letter_of(said)))[1]
+    return (f"rows {named[0]} columns {named[1]} border {border} blocks {size.blocks} {counts} {saying(said)} "
+            f"identifier {known} dealing {dealing}")
 
 
-def symbol(items, profile=0, shape=SQUARE, named=(0, 0)):
-    """The answer that has the symbol of these items."""
-    made = symbol_of(items, profile, shape, named)
+def symbol(said, profile=0, shape=SQUARE, named=(0, 0)):
+    """The answer that has the symbol of these items, or of this letter."""
+    made = symbol_of(said, profile, shape, named)
     if not made:
         return no(14)
     return f"rows {made[0].rows} columns {made[0].columns} modules {''.join(map(str, made[1]))}"
@@ -161,8 +187,8 @@ TEN, TWELVE = (10, 10), (12, 12)
 # Data codewords of a symbol of side 12 that are refused, in both extents, and how.
 REFUSED = [
     ((0, 66, 66, 66, 66), 7, 0, 1), ((66, 250, 129, 66, 66), 7, 0, 2), ((66, 66, 66, 66, 255), 7, 0, 5),
-    ((66, 242, 66, 66, 66), 7, 0, 2), ((233, 66, 66, 66, 66), 8, 233, 1), ((66, 234, 66, 66, 66), 8, 234, 2),
-    ((66, 66, 236, 66, 66), 8, 236, 3), ((66, 66, 66, 237, 66), 8, 237, 4), ((66, 66, 66, 66, 241), 8, 241, 5),
+    ((66, 242, 66, 66, 66), 7, 0, 2), ((66, 233, 66, 66, 66), 8, 233, 2), ((66, 234, 66, 66, 66), 8, 234, 2),
+    ((66, 66, 236, 66, 66), 8, 236, 3), ((66, 66, 66, 237, 66), 8, 237, 4),
     ((66, UPPER_SHIFT, UPPER_SHIFT, 66, 66), 9, 0, 2), ((66, 66, 66, UPPER_SHIFT, 129), 9, 0, 4),
     ((230, 0, 0, 66, 66), 10, 0, 2), ((66, 66, 239, 255, 255), 10, 0, 4), ((230, *triple(1, 39, 0), 66, 66), 11, 0, 2),
     ((239, *triple(4, 4, 4), *triple(1, 33, 0)), 11, 0, 4), ((231, randomised(60, 2), 1, 2, 3), 12, 0, 1),
@@ -216,9 +242,9 @@ def faults():
         yield read(light, limit=27, extent=extent), no(7, 0, 1)
         yield normal(good, 2, extent=extent), no(16, 2)
         yield normal([], 65535, extent=extent, named=(7, 7)), no(16, 65535)
-    yield write([65], 2), no(16, 2)
+    yield write([65], 3), no(16, 3)
     yield write([999], 65535), no(16, 65535)
-    yield write([999], 2, 9), no(16, 2)
+    yield write([999], 3, 9), no(16, 3)
     yield write([999], 0, 5), no(18, 5)
     yield write([999], 1, 65535), no(18, 65535)
     yield write_bytes(b"A", 0, 5), no(18, 5)
@@ -294,7 +320,7 @@ def messages():
         yield normal(other_way, 1, extent=extent), symbol([*b"123456", FNC1, 65], 1)
         c40 = grid_of((8, 32), 230, *triple(14, 15, 16), *triple(0, 30, 1), *triple(27, 3, 4), 254)
         yield read(c40, extent=extent), reading((8, 32), [65, 66, 67, 30, FNC1, 32, 48])
-    yield write_bytes(b"A", 2), no(16, 2)
+    yield write_bytes(b"A", 3), no(16, 3)
     yield write_bytes(b"A" * (MOST_DATA + 1)), no(14)
     yield write_bytes(b"7" * 70_000, 1), no(14)
 
@@ -430,121 +456,6 @@ def limits():
     for rows, columns in [*(size.named for size in SIZES), (0, 7), (0, 8), (7, 0), (8, 0), (3, 4), (0, 65535),
                           (65535, 1)]:
         yield f"limit {rows} {columns}", str((rows + columns) // 8)
-
-
-# ---- The constants and the layout
-
-CONSTANTS = {
-    "MOST_ROWS": 144, "MOST_COLUMNS": 144, "MOST_MODULES": MOST_MODULES, "MOST_ITEMS": 2 * MOST_DATA + 7,
-    "MOST_CODEWORDS": MOST_CODEWORDS, "MOST_BLOCKS": max(size.blocks for size in SIZES), "SIZE_COUNT": len(SIZES),
-    "FNC1": 256, "ANY_LIMIT": 65535, "BEYOND": 255, "STACK": 45056,
-}
-EXTENTS = {"USUAL": USUAL, "WIDE": WIDE}
-PROFILES = {"ASCII": 0, "SHORTER": 1}
-SHAPES = {"SQUARE": SQUARE, "RECTANGLE": RECTANGLE, "EXTENDED": EXTENDED, "ANY": ANY, "ONE": ONE}
-CODES = {
-    "OK": 0, "SHAPE": 3, "SIZE": 4, "BORDER": 5, "BLOCK": 6, "RESERVED": 7, "LEFT_OUT": 8, "UPPER_SHIFT": 9,
-    "TRIPLET": 10, "VALUE": 11, "LENGTH": 12, "UNFINISHED": 13, "TOO_LONG": 14, "ITEM": 15, "PROFILE": 16, "EXTENT": 17,
-    "CHOICE": 18, "DOUBT": 19,
-}
-KINDS = {"NO_MODULE": NO_MODULE, "BIT": BIT, "BORDER_LIGHT": 2, "BORDER_DARK": 3, "FIXED_LIGHT": 4, "FIXED_DARK": 5}
-BLOCKS, ITEMS = CONSTANTS["MOST_BLOCKS"], CONSTANTS["MOST_ITEMS"]
-
-
-def laid(*members):
-    """A struct: how many bytes it has, and where its members stand, each behind the one before."""
-    at, places = 0, {}
-    for name, length in members:
-        places[name] = at, length
-        at += length
-    return at, places
-
-
-LAYOUT = {
-    "fault": laid(("code", 2), ("value", 2), ("place", 2)),
-    "reading": laid(("fault", 6), ("rows", 2), ("columns", 2), ("border_faults", 2), ("block_count", 2),
-                    ("item_count", 2), ("corrected", BLOCKS), ("erased", BLOCKS), ("left", BLOCKS),
-                    ("items", 2 * ITEMS)),
-    "how": laid(("form", 2), ("shape", 2), ("rows", 2), ("columns", 2)),
-    "symbol": laid(("fault", 6), ("rows", 2), ("columns", 2), ("modules", MOST_MODULES)),
-    "inspection": laid(("fault", 6), ("rows", 2), ("columns", 2), ("border_faults", 2), ("block_count", 2),
-                       ("codeword_count", 2), ("corrected", BLOCKS), ("erased", BLOCKS), ("left", BLOCKS),
-                       ("held", MOST_CODEWORDS), ("mended", MOST_CODEWORDS)),
-    "place": laid(("codeword", 2), ("bit", 1), ("kind", 1)),
-    "place_table": laid(("fault", 6), ("rows", 2), ("columns", 2), ("places", 4 * MOST_MODULES)),
-    "size": laid(*((name, 2) for name in ("rows", "columns", "region_rows", "region_columns", "regions_down",
-                                          "regions_across", "mapping_rows", "mapping_columns", "data_codewords",
-                                          "check_codewords", "blocks", "limit", "extension"))),
-    "size_table": laid(("sizes", 26 * len(SIZES))),
-}
-
-
-class Interface:
-    """The interface, and the library's own version."""
-    abi = 3
-    codes, constants, layout, extent_names = CODES, CONSTANTS, LAYOUT, EXTENTS
-
-    def __init__(self, version):
-        self.version = version
-
-    def shown_constants(self):
-        """As answers.c prints them."""
-        every = {"ABI": self.abi, **CONSTANTS, **EXTENTS, **PROFILES, **SHAPES, **CODES, **KINDS}
-        return "".join(f"{name}={value} " for name, value in every.items())
-
-    @staticmethod
-    def shown_layout():
-        """As answers.c prints it."""
-        return "".join(f"{name}={size} "
-                       + "".join(f"{name}.{member}={at}+{length} " for member, (at, length) in members.items())
-                       for name, (size, members) in LAYOUT.items())
-
-    @functools.cache
-    def calls(self):
-        """Requests that every caller answers."""
-        return list(self.new_calls())
-
-    @staticmethod
-    def new_calls():
-        yield from faults()
-        yield from wide()
-        yield from messages()
-        yield from choices()
-        yield from sizes()
-        yield from modules()
-        yield from limits()
-        yield from words(set(CODES.values()))
-        yield "compatible", "1"
-
-    def of_the_header(self):
-        """Requests for the header alone."""
-        yield "constants", self.shown_constants()
-        yield "layout", self.shown_layout()
-        yield "version", f"{self.version} {self.version}"
-        for request, wanted in words(set(CODES.values())):
-            yield f"code_{request}", wanted
-        yield from conveniences()
-
-    def of_rust(self):
-        """Requests for ecc200.rs, whose profiles, extents and shapes are types that have no others."""
-        kinds = {"read": [EXTENTS], "normal": [EXTENTS, PROFILES], "write": [PROFILES, SHAPES],
-                 "write_bytes": [PROFILES, SHAPES]}
-        for request, wanted in self.calls():
-            name, *given = request.split()
-            if all(int(word) in kind.values() for word, kind in zip(given, kinds.get(name, []))):
-                yield request, wanted
-        names = ["FNC1", "ANY_LIMIT", *EXTENTS, *PROFILES, *CODES]
-        every = {**CONSTANTS, **EXTENTS, **PROFILES, **CODES}
-        yield "constants", "".join(f"{name}={every[name]} " for name in names)
-        yield "version", self.version
-        for items, said, gs1 in TEXTS:
-            yield f"text {numbers(items)}", f"{len(said)} gs1 {gs1} bytes {numbers(said)}"
-
-
-# Items, their bytes, and whether FNC1 stands in front.
-TEXTS = [([], b"", 0), ([FNC1], b"", 1), ([65], b"A", 0), ([FNC1, 65, 66], b"AB", 1), ([65, FNC1, 66], b"A\x1dB", 0),
-         ([65, 66, FNC1], b"AB\x1d", 0), ([FNC1, FNC1, 29, 30, FNC1], b"\x1d\x1d\x1e\x1d", 1),
-         ([0, 29, 30, 128, 255], b"\x00\x1d\x1e\x80\xff", 0)]
 
 
 def check_codewords_are_known():

@@ -10,14 +10,18 @@ from tests.library.library import EXAMPLES, compiled, module
 from tests.support import commands, places
 from tests.support.commands import said
 
-STACK = 45_056
+STACK = 98_304
 # How many calls threads.c measures.
-MEASURED = 10
+MEASURED = 16
 # The code of each call that written.c makes, and how many bytes of its arrays are written.
-WRITTEN = {"read": (0, 3 + 2 * 6), "read, refused": (5, 0), "inspect": (0, 3 + 2 * 8), "inspect, refused": (3, 0),
-           "write": (0, 100), "write, refused": (15, 0), "write_bytes": (0, 144), "write_bytes, refused": (16, 0),
-           "normal": (0, 100), "normal, refused": (17, 0), "places": (0, 4 * 8 * 32), "places, refused": (4, 0),
-           "sizes": (0, 48 * 26)}
+# A part of a file, two marks and an A are 11 codewords.
+WRITTEN = {"read": (0, 3 + 2 * 6), "read, refused": (5, 0), "read, marks and a head": (0, 3 + 2 * 8 + 2),
+           "read, marks and a head, refused": (8, 0), "inspect": (0, 3 + 2 * 8), "inspect, refused": (3, 0),
+           "write": (0, 100), "write, refused": (15, 0), "write, marks": (0, 196), "write, smallest": (0, 256),
+           "write, wrong marks": (22, 0), "write, no extent": (17, 0), "write, no head": (23, 0),
+           "write_bytes": (0, 144), "write_bytes, refused": (16, 0), "write_bytes, no head": (23, 0),
+           "normal": (0, 100), "normal, refused": (17, 0), "normal, marks and a head": (0, 256),
+           "places": (0, 4 * 8 * 32), "places, refused": (4, 0), "sizes": (0, 48 * 26)}
 EXPORTS = sorted(f"ecc200_{name}" for name in ("abi", "code_words", "inspect", "normal", "places", "read", "sizes",
                                                "usual_limit", "version", "write", "write_bytes"))
 # All that the library calls; under Windows also what touches a large frame page by page.
@@ -110,7 +114,7 @@ def exports(system):
 
 @functools.cache
 def shown():
-    """What each example prints: the symbol, what a damaged one says, and a refusal."""
+    """What each example prints: the symbol, what a damaged one says, a refusal, and what is said of a text."""
     ecc200 = module()
     rows = ecc200.write(b"Mitsubadoor")
     side = len(rows)
@@ -119,7 +123,8 @@ def shown():
     wrong = {at.codeword for row, line in enumerate(ecc200.places(side)[:5]) for at in line[row:row + 1] if row}
     read = f"Mitsubadoor: {len(wrong)} codewords corrected, 0 border modules wrong\n"
     refused = f"refused with 5: too many border modules have the wrong colour ({side})\n"
-    return "\n".join(picture) + f"\n{read}{refused}"
+    text = "16 x 16: ]d4, 5 bytes, ECI 26 at 0\n"  # nine codewords: 8 x 32 has as many modules, and more columns
+    return "\n".join(picture) + f"\n{read}{refused}{text}"
 
 
 def shows(system, words):

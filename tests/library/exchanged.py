@@ -28,7 +28,8 @@ def wrong_headers(text, interface):
         yield f"ABI is {interface.abi + step}", re.sub(r"(?<=define ECC200_ABI )\d+", str(interface.abi + step), text)
         for name, value in interface.constants.items():
             yield f"{name} is {value + step}", re.sub(rf"(?<=ECC200_{name} = )\d+", str(value + step), text)
-    for names in (interface.extents, interface.profiles, interface.shapes, interface.codes, interface.kinds):
+    for names in (interface.extents, {**interface.profiles, **interface.forms}, interface.shapes, interface.codes,
+                  interface.head_kinds, interface.kinds):
         for pair in itertools.pairwise(names):
             yield f"{pair[0]} and {pair[1]} are exchanged", exchanged(text, "ECC200_", pair, " = ")
     for pair in itertools.pairwise(interface.words):

@@ -19,8 +19,8 @@ static const dimensions others[] = {{0, 0},   {1, 1},    {11, 11},   {28, 28},  
                                     {8, 0},   {0, 8},    {145, 145}, {160, 160}, {65535, 65535}, {65535, 0},
                                     {144, 8}, {26, 640}, {16, 50}};
 static uint16_t extent;
-static long reads, both, doubts;
-static uint8_t *area, *doubt_area;
+static long reads, both, doubts, letters;
+static uint8_t *area, *doubt_area, *marks_area;
 static ecc200_reading *reading;
 static ecc200_symbol *symbol, *again;
 static ecc200_inspection *inspection;
@@ -52,16 +52,62 @@ static uint8_t *noise(dimensions size, size_t *count) {
     return modules;
 }
 
-/* the modules of a written symbol, damaged or not; or noise if the items can't be written */
+/* a head or, mostly, none; now and then one that is wrong */
+static ecc200_head any_head(void) {
+    ecc200_head head = {0, 0, 0, {0, 0}};
+    int way = chance() % 12;
+    head.kind = (uint16_t)(way < 8 ? ECC200_NO_HEAD : way == 8 ? ECC200_PROGRAMMING : way == 11 ? chance() % 4 : 1);
+    if (way > 8) {
+        head.parts = (uint16_t)(2 + chance() % 15 + (way == 11)), head.part = (uint16_t)(1 + chance() % head.parts);
+        head.file[0] = (uint8_t)(1 + chance() % 254), head.file[1] = (uint8_t)(1 + chance() % (254 + (way == 11)));
+    }
+    return head;
+}
+
+/* marks in order, or mostly so, or none */
+static const ecc200_mark *any_marks(size_t items_count, size_t *mark_count) {
+    static const uint32_t most[] = {130, 17000, 1000000, 1000003};
+    *mark_count = chance() % 3 ? 0 : (size_t)(chance() % (chance() % 4 ? 5 : 900));
+    ecc200_mark *marks = (ecc200_mark *)(void *)(marks_area + AREA) - *mark_count;
+    uint32_t place = 0, left = (uint32_t)items_count;
+    for (size_t i = 0; i < *mark_count; i++) {
+        uint32_t step = (uint32_t)chance() % (uint32_t)(2 + left / (*mark_count - i));
+        place += step, left -= step < left ? step : left;
+        marks[i].number = (uint32_t)chance() % most[chance() % 4], marks[i].place = place;
+    }
+    return *mark_count ? marks : NULL;
+}
+
+/* what was written is read as it, and nothing else */
+static int is_read_back(const uint16_t *items, size_t count, const ecc200_mark *marks, size_t mark_count,
+                        const ecc200_how *how) {
+    static ecc200_reading got;
+    uint16_t wanted = how->form == ECC200_SMALLEST ? how->extent : ECC200_WIDE;
+    if (ecc200_read(symbol->modules, (size_t)symbol->rows * symbol->columns, NULL, 0, symbol->rows, symbol->columns, 0,
+                    wanted, &got))
+        return 0;
+    return got.item_count == count && !memcmp(got.items, items, 2 * count) && got.mark_count == mark_count &&
+           (!mark_count || !memcmp(got.marks, marks, mark_count * sizeof *marks)) &&
+           !memcmp(&got.head, &how->head, sizeof got.head) && got.identifier >= 1 &&
+           got.identifier <= (mark_count ? 6 : 3) && got.dealing == 0;
+}
+
+/* the modules of a written symbol, damaged or not; or noise if what is given can't be written; NULL if something is
+ * wrong */
 static uint8_t *written(dimensions *size, size_t *count) {
-    size_t items_count = (size_t)(chance() % 2 ? chance() % 3200 : chance() % 40);
-    ecc200_how how = {(uint16_t)(chance() % 3), (uint16_t)(chance() % 6), size->rows, size->columns};
+    size_t items_count = (size_t)(chance() % 2 ? chance() % 3200 : chance() % 40), mark_count;
+    ecc200_how how = {(uint16_t)(chance() % 4), (uint16_t)(chance() % 6), size->rows, size->columns,
+                      (uint16_t)(chance() % 10 ? ECC200_WIDE : chance() % 3), any_head()};
     uint16_t *items = (uint16_t *)(void *)(area + AREA) - items_count;
+    const ecc200_mark *marks = any_marks(items_count, &mark_count);
+    int often = chance() % 3 ? 257 : 128;
     for (size_t i = 0; i < items_count; i++)
-        items[i] = (uint16_t)(chance() % (chance() % 500 ? 257 : 300));
+        items[i] = (uint16_t)(chance() % (chance() % 500 ? often : 300));
     memset(symbol, 0xEE, sizeof *symbol);
-    if (ecc200_write(items, items_count, &how, symbol))
+    if (ecc200_write(items, items_count, marks, mark_count, &how, symbol))
         return noise(*size, count);
+    if (!is_read_back(items, items_count, marks, mark_count, &how))
+        return NULL;
     size->rows = symbol->rows, size->columns = symbol->columns;
     *count = (size_t)size->rows * size->columns;
     uint8_t *modules = area + AREA - *count;
@@ -106,7 +152,8 @@ static void add_checks(uint8_t *words, const ecc200_size *size) {
 /* a symbol whose data codewords are random, but often begin or end something: an encodation, a shift, a macro, the
  * message */
 static uint8_t *spelled(dimensions *named, size_t *count) {
-    static const uint8_t turns[] = {129, 230, 231, 232, 233, 234, 235, 236, 237, 238, 239, 240, 241, 254, 0, 124, 31};
+    static const uint8_t turns[] = {129, 230, 231, 232, 233, 234, 235, 236, 237, 238, 239, 240, 241, 241, 254, 0, 124,
+                                    31};
     const ecc200_size *size = &sizes.sizes[(size_t)chance() % (chance() % 2 ? 8 : ECC200_SIZE_COUNT)];
     uint8_t words[ECC200_MOST_CODEWORDS];
     int often = 2 + chance() % 40;
@@ -137,12 +184,19 @@ static const uint8_t *doubt(size_t count, size_t *doubtful_count) {
     return *doubtful_count ? marks : NULL;
 }
 
+/* two readings say the same, whatever their symbols */
+static int say_the_same(const ecc200_reading *one, const ecc200_reading *other) {
+    return one->item_count == other->item_count && !memcmp(one->items, other->items, 2 * (size_t)one->item_count) &&
+           one->mark_count == other->mark_count &&
+           !memcmp(one->marks, other->marks, one->mark_count * sizeof *one->marks) &&
+           !memcmp(&one->head, &other->head, sizeof one->head);
+}
+
 /* the symbol that is written is its own normal one, and says what was read */
 static int check_normal(uint16_t profile) {
-    static uint16_t items[ECC200_MOST_ITEMS];
+    static ecc200_reading first;
     size_t count = (size_t)symbol->rows * symbol->columns;
-    uint16_t item_count = reading->item_count;
-    memcpy(items, reading->items, sizeof items);
+    first = *reading;
     memset(again, 0xEE, sizeof *again);
     if (symbol->rows != symbol->columns)
         return fail("a normal symbol is no square");
@@ -151,7 +205,7 @@ static int check_normal(uint16_t profile) {
         return fail("normalising twice isn't once");
     uint16_t code =
         ecc200_read(symbol->modules, count, NULL, 0, symbol->rows, symbol->columns, 0, extent, reading);
-    if (code || reading->item_count != item_count || memcmp(reading->items, items, 2 * (size_t)item_count))
+    if (code || !say_the_same(reading, &first) || reading->dealing)
         return fail("the normal symbol says something else");
     return 0;
 }
@@ -187,6 +241,8 @@ static int round_of(void) {
     size_t count, marked;
     int way = chance() % 4;
     uint8_t *modules = way == 0 ? noise(size, &count) : way == 1 ? written(&size, &count) : spelled(&size, &count);
+    if (!modules)
+        return fail("what was written is read as something else");
     const uint8_t *marks = doubt(count, &marked);
     uint16_t rows = size.rows, columns = size.columns;
     uint16_t limit = chance() % 2 ? ECC200_ANY_LIMIT : ecc200_usual_limit(rows, columns);
@@ -200,6 +256,7 @@ static int round_of(void) {
                                  extent == ECC200_WIDE ? ECC200_USUAL : ECC200_WIDE, &second);
     reads += code == ECC200_OK, both += code == ECC200_OK && other == ECC200_OK;
     doubts += code == ECC200_OK && marked > 0;
+    letters += code == ECC200_OK && (reading->mark_count || reading->head.kind);
     if ((extent == ECC200_WIDE ? other : code) == ECC200_OK && memcmp(reading, &second, sizeof second))
         return fail("what the usual extent reads the wide one reads otherwise");
     memset(inspection, 0xEE, sizeof *inspection);
@@ -221,12 +278,12 @@ static int round_of(void) {
 int main(int argc, char **argv) {
     long rounds = argc > 1 ? atol(argv[1]) : 20000;
     extent = argc > 2 ? (uint16_t)atoi(argv[2]) : ECC200_WIDE;
-    area = guarded(AREA), doubt_area = guarded(AREA), reading = guarded(sizeof *reading);
+    area = guarded(AREA), doubt_area = guarded(AREA), marks_area = guarded(AREA), reading = guarded(sizeof *reading);
     symbol = guarded(sizeof *symbol), again = guarded(sizeof *again);
     inspection = guarded(sizeof *inspection), table = guarded(sizeof *table);
-    ecc200_how how = {ECC200_ASCII, ECC200_SQUARE, 0, 0};
-    memset(symbol, 0xEE, sizeof *symbol), memset(again, 0xEE, sizeof *again);
-    if (ecc200_write(NULL, 0, &how, symbol) || symbol->rows != 10 || symbol->columns != 10)
+    ecc200_how how;
+    memset(&how, 0, sizeof how), memset(symbol, 0xEE, sizeof *symbol), memset(again, 0xEE, sizeof *again);
+    if (ecc200_write(NULL, 0, NULL, 0, &how, symbol) || symbol->rows != 10 || symbol->columns != 10)
         return fail("the empty message isn't written");
     if (ecc200_read(NULL, 0, NULL, 0, 0, 0, 0, extent, reading) != ECC200_SIZE ||
         ecc200_read(NULL, 0, NULL, 0, 10, 10, 0, extent, reading) != ECC200_SHAPE)
@@ -239,7 +296,7 @@ int main(int argc, char **argv) {
     for (long i = 0; i < rounds; i++)
         if (round_of())
             return 1;
-    printf("%ld of %ld symbols are read, %ld in both extents, %ld with doubtful modules\n", reads, rounds, both,
-           doubts);
+    printf("%ld of %ld symbols are read, %ld in both extents, %ld with doubtful modules, %ld with marks or a head\n",
+           reads, rounds, both, doubts, letters);
     return 0;
 }

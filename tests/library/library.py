@@ -6,8 +6,8 @@ import os
 import re
 from unittest import mock
 
-from tests.library.cases import Interface
 from tests.library.callers import WARNINGS
+from tests.library.interface import Interface
 from tests.library.systems import HERE as THIS
 from tests.support import commands, places
 from tests.support.places import LIBRARY

@@ -274,22 +274,3 @@ def base_256_words(items):
     """One Base 256 segment from the first codeword on."""
     length = [len(items)] if len(items) < 250 else [249 + len(items) // 250, len(items) % 250]
     return [LATCH_BASE_256] + [randomised(value, place) for place, value in enumerate(length + list(items), 2)]
-
-
-def normal_words(items, profile):
-    """The codewords of the normal form of a message."""
-    words = ascii_words(items)
-    if profile == 1 and FNC1 not in list(items) and len(items) < 1556:
-        segment = base_256_words(items)
-        return segment if len(segment) < len(words) else words
-    return words
-
-
-def symbol_of(items, profile=0, shape=SQUARE, named=(0, 0)):
-    """The size and the modules of the smallest symbol of a shape, or of the one that is named, that holds a message;
-    None if there is none."""
-    words = normal_words(items, profile)
-    for size in SIZES:
-        if size.is_of(shape, named) and len(words) <= size.data:
-            return size, modules_of(size, codewords(size, padded(words, size.data)))
-    return None

@@ -13,9 +13,11 @@ import sys
 import tempfile
 
 from tests.library.answers import Answers
-from tests.library.cases import (FNC1, LARGEST, MOST_DATA, NO_SIZES, REFUSED, TEN, TEXTS, TWELVE, WIDENED, WORDS,
-                                 Interface, Symbol, grid_of, hurt, with_bad_border)
-from tests.library.model import ONE, PLACES, SIZES, symbol_of
+from tests.library.cases import (FNC1, LARGEST, MOST_DATA, NO_SIZES, REFUSED, TEN, TWELVE, WIDENED, WORDS, Symbol,
+                                 grid_of, hurt, with_bad_border)
+from tests.library.interface import TEXTS, Interface
+from tests.library.letters import symbol_of
+from tests.library.model import ONE, PLACES, SIZES
 
 MODULE = os.path.abspath(sys.argv[1])
 
@@ -72,22 +74,23 @@ def requests():
 
 def names():
     """What is public, and the numbers."""
-    public = {"ABI", "Code", "Extent", "FNC1", "Found", "Inspection", "Kind", "MOST_ITEMS", "Place", "Profile",
-              "Reading", "Refused",
-              "SamplerMissing", "Shape", "Size", "decode", "find", "inspect", "normal", "places", "read", "sizes",
-              "usual_limit", "write"}
+    public = {"ABI", "Code", "Extent", "FNC1", "Form", "Found", "Head", "Inspection", "Kind", "MOST_ITEMS", "Mark",
+              "Place", "Profile", "Reading", "Refused", "SamplerMissing", "Shape", "Size", "decode", "find", "inspect",
+              "normal", "places", "read", "sizes", "usual_limit", "write"}
     yield "public names", public - set(ecc200.__all__), set()
     yield "names that are there", [name for name in ecc200.__all__ if not hasattr(ecc200, name)], []
     yield "numbers", (ecc200.ABI, ecc200.FNC1, ecc200.MOST_ITEMS), (INTERFACE.abi, FNC1,
                                                                     INTERFACE.constants["MOST_ITEMS"])
     for kind, wanted in ((ecc200.Code, {name: code for name, code in INTERFACE.codes.items() if code}),
                          (ecc200.Profile, {"ASCII": 0, "SHORTER": 1}),
+                         (ecc200.Form, {"ASCII": 0, "SHORTER": 1, "SMALLEST": 2}),
                          (ecc200.Shape, {"SQUARE": 0, "RECTANGLE": 1, "EXTENDED": 2, "ANY": 3}),
                          (ecc200.Extent, INTERFACE.extent_names),
                          (ecc200.Kind,
                           {"BIT": 1, "BORDER_LIGHT": 2, "BORDER_DARK": 3, "FIXED_LIGHT": 4, "FIXED_DARK": 5})):
         yield f"numbers of {kind.__name__}", {it.name: int(it) for it in kind}, wanted
-    for kind, wanted in ((ecc200.Reading, "data gs1 items corrected border_faults rows columns erased left corners"),
+    for kind, wanted in ((ecc200.Reading, "data gs1 items corrected border_faults rows columns erased left corners "
+                          "marks head symbology dealing"),
                          (ecc200.Inspection, "held mended corrected border_faults erased left"),
                          (ecc200.Place, "kind codeword bit"),
                          (ecc200.Size, "rows columns region_rows region_columns regions_down regions_across "
@@ -97,9 +100,9 @@ def names():
 
 def layout():
     """Where the members of the structs stand."""
-    structs = {"fault": "_Fault", "reading": "_ReadingOut", "how": "_How", "symbol": "_SymbolOut",
-               "inspection": "_InspectionOut", "place": "_PlaceOut", "place_table": "_PlacesOut", "size": "_SizeOut",
-               "size_table": "_SizesOut"}
+    structs = {"fault": "_Fault", "head": "_Head", "mark": "_Mark", "reading": "_ReadingOut", "how": "_How",
+               "symbol": "_SymbolOut", "inspection": "_InspectionOut", "place": "_PlaceOut",
+               "place_table": "_PlacesOut", "size": "_SizeOut", "size_table": "_SizesOut"}
     yield "structs", set(structs), set(INTERFACE.layout)
     for name, struct in structs.items():
         kind, (size, members) = getattr(ecc200, struct), INTERFACE.layout[name]
@@ -117,7 +120,7 @@ def exceptions():
             got = isinstance(why, ValueError), int(why.code), why.value, why.place, str(why)
             yield f"code {code}", got, (True, code, 7, 9, shown)
             yield f"code {code} by itself", (ecc200.Refused(code).value, ecc200.Refused(code).place), (0, 0)
-    for code in (0, 1, 2, 20, -1):
+    for code in (0, 1, 2, 24, -1):
         yield f"no code {code}", said_by(lambda: ecc200.Refused(code)), "ValueError"
 
 
@@ -127,7 +130,7 @@ def texts():
         got = ecc200.read(ecc200.write(items))
         yield f"the text of {items}", (got.data, got.gs1, got.items), (data, bool(gs1), tuple(items))
         yield f"types for {items}", [type(part) for part in got], [bytes, bool, tuple, tuple, int, int, int, tuple,
-                                                                   tuple, type(None)]
+                                                                   tuple, type(None), tuple, type(None), str, int]
     for data, items in ((b"", [FNC1]), (b"A", [FNC1, 65]), (b"A\x1dB\x1d", [FNC1, 65, FNC1, 66, FNC1]),
                         (b"\x1d", [FNC1, FNC1])):
         wanted = ecc200.write(items)
@@ -138,6 +141,74 @@ def texts():
         yield f"not GS1 {data}", ecc200.read(ecc200.write(data)).items, tuple(data)
     for given in (bytearray(b"AB"), [65, 66], (65, 66), iter([65, 66]), memoryview(b"AB"), range(65, 67)):
         yield f"a message as {type(given).__name__}", ecc200.write(given), ecc200.write(b"AB")
+
+
+# What is written beside a message that is or isn't marks or a head, with what is read of it or how it is refused.
+BESIDE = [
+    *((f"marks of {name}", {"marks": given}, ((1, 26), (2, 999_999)), None)
+      for name, given in (("tuples", ((1, 26), (2, 999_999))), ("lists", [[1, 26], [2, 999_999]]),
+                          ("an iterator", iter([(1, 26), (2, 999_999)])))),
+    ("no marks", {"marks": []}, (), None), ("no head", {"head": None}, (), None),
+    ("a head", {"head": "programming"}, (), "programming"), ("a part", {"head": (2, 5, 1, 254)}, (), (2, 5, 1, 254)),
+    ("a list of a part", {"head": [16, 16, 254, 1], "marks": [(0, 3)]}, ((0, 3),), (16, 16, 254, 1)),
+    *((f"the mark {mark}", {"marks": [(0, 1), mark]}, refused("MARK", 0, 1), None)
+      for mark in ((0, -1), (-1, 26), (0, 1_000_000), (3, 26), (0, 10 ** 20), (10 ** 20, 26), (0, 2 ** 32),
+                   (2 ** 32, 1), (2 ** 32 - 1, 1), (0, -2 ** 32))),
+    *((f"the marks {marks}", {"marks": marks}, "TypeError", None)
+      for marks in (26, [26], [(0,)], [(0, 26, 1)], [(0, "26")], [(0, 2.5)], "ab", [None], {0: 26})),
+    *((f"the head {head}", {"head": head}, refused("HEAD"), None)
+      for head in ((0, 2, 1, 1), (3, 2, 1, 1), (1, 1, 1, 1), (1, 17, 1, 1), (1, 2, 0, 1), (1, 2, 1, 255),
+                   (1, 2, 256, 1), (1, 2, 1, 257), (-1, 2, 1, 1), (65537, 2, 1, 1), (1, 65538, 1, 1), (1, 2, -255, 1),
+                   (10 ** 20,) * 4)),
+    *((f"the head {head!r}", {"head": head}, "TypeError", None)
+      for head in ("program", "", (), (1, 2), (1, 2, 1), (1, 2, 1, 1, 1), 5, (1, 2, "1", 1), True, "part", "abcd")),
+    *((f"the form {form}", {"form": form}, refused("PROFILE", form), None) for form in (3, -1, 65535, 65536, 65538)),
+    *((f"the extent {extent}", {"form": 2, "extent": extent}, refused("EXTENT", extent), None)
+      for extent in (2, -1, 65535, 65536, 65537)),
+    ("a form of a text", {"form": "smallest"}, "TypeError", None),
+    ("an extent of a text", {"form": 2, "extent": "wide"}, "TypeError", None),
+    ("marks for the usual extent", {"form": 2, "extent": 0, "marks": [(0, 26)]}, refused("TOO_LONG"), None),
+    ("a head for the usual extent", {"form": 2, "extent": 0, "head": "programming"}, refused("TOO_LONG"), None),
+    ("the smallest", {"form": 2, "marks": [(1, 26)], "head": (1, 2, 3, 4)}, ((1, 26),), (1, 2, 3, 4)),
+]
+
+
+def letters():
+    """Marks and heads as they are given and as they are read; the smallest symbol."""
+    for name, given, marks, head in BESIDE:
+        for message in (b"AB", [65, 66], bytearray(b"AB")):
+            given = {**given, "marks": list(given["marks"])} if name == "marks of an iterator" else given
+            got = said_by(lambda: ecc200.read(ecc200.write(message, **given)))
+            wanted = (b"AB", marks, head) if isinstance(got, ecc200.Reading) else marks
+            yield name, (got.data, got.marks, got.head) if isinstance(got, ecc200.Reading) else got, wanted
+    given = iter([(1, 26)])
+    yield "marks of an iterator, once", ecc200.read(ecc200.write(b"AB", marks=given)).marks, ((1, 26),)
+    got = ecc200.read(ecc200.write(b"A\x1dB", gs1=True, marks=[(0, 3), (1, 4), (4, 5)]))
+    yield "marks of a GS1 message", (got.items, got.marks), ((FNC1, 65, FNC1, 66), ((0, 3), (1, 4), (4, 5)))
+    for given, wanted in (({}, "]d1"), ({"gs1": True}, "]d2"), ({"marks": [(0, 3)]}, "]d4"),
+                          ({"gs1": True, "marks": [(1, 3)]}, "]d5"), ({"gs1": True, "head": (1, 2, 1, 1)}, "]d2")):
+        yield f"the identifier of {given}", ecc200.read(ecc200.write(b"A", **given)).symbology, wanted
+    one, other = rows(grid_of(TEN, 230, 10, 121)), rows(grid_of(TEN, 232))
+    yield "identifiers", [ecc200.read(grid).symbology for grid in (one, other)], ["]d1", "]d2"]
+    yield "their normal grids", ecc200.normal(one), ecc200.normal(other)
+    both = [ecc200.write(b"ABC", marks=[(place, 26)]) for place in (1, 2)]
+    yield "other places", ecc200.normal(both[0]) == ecc200.normal(both[1]), False
+    refusal = said_by(lambda: ecc200.read(both[0], extent=ecc200.Extent.USUAL))
+    yield "the usual extent", refusal, refused("LEFT_OUT", 241, 2)
+    capitals = b"ABCDEFGHIJKLMNOPQRSTUVWXY"
+    small = ecc200.write(capitals, form=ecc200.Form.SMALLEST)
+    yield "the smallest square", (len(small), ecc200.read(small).data), (18, capitals)
+    yield "not the smallest", len(ecc200.write(capitals)), 22
+    any_shape = ecc200.write(capitals, form=ecc200.Form.SMALLEST, shape=ecc200.Shape.ANY)
+    yield "the smallest of all", (len(any_shape), len(any_shape[0])), (18, 18)
+    signs = b"-./-./-./-./-./-./-."
+    for extent, side in ((ecc200.Extent.USUAL, 20), (ecc200.Extent.WIDE, 18)):
+        made = ecc200.write(signs, form=ecc200.Form.SMALLEST, extent=extent)
+        yield f"the smallest for {extent.name}", (len(made), ecc200.read(made, extent=extent).data), (side, signs)
+    yield "for whom it isn't said", len(ecc200.write(signs, form=ecc200.Form.SMALLEST)), 18
+    yield "a form before a profile", ecc200.write(b"\x80" * 3, profile=1, form=0), ecc200.write(b"\x80" * 3)
+    yield "the form of a profile", ecc200.write(b"\x80" * 3, form=ecc200.Form.SHORTER), ecc200.write(b"\x80" * 3,
+                                                                                                    profile=1)
 
 
 def defaults():
@@ -465,7 +536,7 @@ def loading_under_windows():
 
 def tried():
     """Each test's name, and what is wrong or None."""
-    for part in (names, layout, requests, exceptions, texts, defaults, limits, grids, doubts, numbers, results,
+    for part in (names, layout, requests, exceptions, texts, letters, defaults, limits, grids, doubts, numbers, results,
                  pictures, loading, loading_under_windows):
         try:
             for name, got, wanted in part():

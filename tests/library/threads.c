@@ -28,7 +28,7 @@ typedef struct {
     ecc200_inspection inspection;
 } job;
 
-static example examples[CASES], largest;
+static example examples[CASES], largest, marked; /* the largest symbols, of bytes and of marks */
 static unsigned rounds;
 static uint16_t items[ECC200_MOST_ITEMS];
 static uint8_t many[ECC200_MOST_ITEMS];
@@ -59,12 +59,15 @@ static void *work(void *at) {
 /* a symbol of random items, with some modules turned over, and some of them known to be */
 static void make(example *e, size_t count, int turns) {
     static ecc200_symbol symbol;
-    ecc200_how how = {ECC200_ASCII, (uint16_t)(count < 50 ? rand() % 4 : ECC200_ANY), 0, 0};
+    ecc200_how how = {(uint16_t)(rand() % 2 ? ECC200_SMALLEST : ECC200_ASCII), ECC200_ANY, 0, 0, ECC200_WIDE,
+                      {(uint16_t)(rand() % 4 ? ECC200_NO_HEAD : ECC200_PROGRAMMING), 0, 0, {0, 0}}};
+    const ecc200_mark marks[] = {{26, 0}, {999999, (uint32_t)count / 2}};
     for (size_t i = 0; i < count; i++)
         items[i] = (uint16_t)(rand() % 257);
-    if (ecc200_write(items, count, &how, &symbol)) {
+    how.shape = (uint16_t)(count < 50 ? rand() % 4 : ECC200_ANY);
+    if (ecc200_write(items, count, marks, rand() % 3, &how, &symbol)) {
         how.shape = ECC200_SQUARE;
-        if (ecc200_write(items, count, &how, &symbol))
+        if (ecc200_write(items, count, marks, 2, &how, &symbol))
             exit(2);
     }
     e->rows = symbol.rows, e->columns = symbol.columns;
@@ -110,15 +113,40 @@ static void normal_of_largest(uint16_t profile) {
     ecc200_normal(largest.modules, ECC200_MOST_MODULES, largest.doubtful, ECC200_MOST_MODULES, ECC200_MOST_ROWS,
                   ECC200_MOST_COLUMNS, ECC200_ANY_LIMIT, ECC200_WIDE, profile, &largest.normal);
 }
-static const ecc200_how in_ascii = {ECC200_ASCII, ECC200_ANY, 0, 0}, shorter = {ECC200_SHORTER, ECC200_SQUARE, 0, 0};
+static const ecc200_how in_ascii = {.form = ECC200_ASCII, .shape = ECC200_ANY};
+static const ecc200_how shorter = {.form = ECC200_SHORTER, .shape = ECC200_SQUARE};
+static const ecc200_how smallest = {.form = ECC200_SMALLEST, .shape = ECC200_ANY, .extent = ECC200_WIDE};
+static ecc200_mark marks[ECC200_MOST_MARKS];
 static void *do_normal(void *at) { return normal_of_largest(ECC200_ASCII), at; }
 static void *do_normal_shorter(void *at) { return normal_of_largest(ECC200_SHORTER), at; }
-static void *do_write(void *at) { return ecc200_write(items, 2 * most_data, &in_ascii, &largest.normal), at; }
+static void *do_write(void *at) { return ecc200_write(items, 2 * most_data, NULL, 0, &in_ascii, &largest.normal), at; }
 static void *do_write_shorter(void *at) {
-    return ecc200_write(items, most_data - 3, &shorter, &largest.normal), at;
+    return ecc200_write(items, most_data - 3, NULL, 0, &shorter, &largest.normal), at;
+}
+static void *do_write_smallest(void *at) {
+    return ecc200_write(items, most_data - 3, NULL, 0, &smallest, &largest.normal), at;
+}
+static void *do_write_smallest_digits(void *at) {
+    return ecc200_write(items, 2 * most_data, NULL, 0, &smallest, &largest.normal), at;
+}
+static void *do_write_marks(void *at) {
+    return ecc200_write(items, 0, marks, ECC200_MOST_MARKS, &in_ascii, &largest.normal), at;
+}
+static void *do_write_smallest_marks(void *at) {
+    return ecc200_write(items, 9, marks, ECC200_MOST_MARKS - 9, &smallest, &largest.normal), at;
 }
 static void *do_write_bytes(void *at) {
     return ecc200_write_bytes(many, most_data - 3, &shorter, &largest.normal), at;
+}
+static void *do_read_marks(void *at) {
+    return ecc200_read(marked.modules, ECC200_MOST_MODULES, marked.doubtful, ECC200_MOST_MODULES, ECC200_MOST_ROWS,
+                       ECC200_MOST_COLUMNS, ECC200_ANY_LIMIT, ECC200_WIDE, &marked.reading),
+           at;
+}
+static void *do_normal_marks(void *at) {
+    return ecc200_normal(marked.modules, ECC200_MOST_MODULES, marked.doubtful, ECC200_MOST_MODULES, ECC200_MOST_ROWS,
+                         ECC200_MOST_COLUMNS, ECC200_ANY_LIMIT, ECC200_WIDE, ECC200_SHORTER, &marked.normal),
+           at;
 }
 static void *do_places(void *at) {
     static ecc200_place_table table;
@@ -156,9 +184,14 @@ int main(int argc, char **argv) {
     most_data = sizes.sizes[ECC200_SIZE_COUNT - 1].data_codewords;
     for (size_t i = 0; i < most_data; i++)
         items[i] = 255;
-    if (ecc200_write(items, most_data - 3, &shorter, &largest.normal) || largest.normal.rows != ECC200_MOST_ROWS)
+    if (ecc200_write(items, most_data - 3, NULL, 0, &shorter, &largest.normal) ||
+        largest.normal.rows != ECC200_MOST_ROWS)
         return puts("no symbol of the largest side"), 1;
     memcpy(largest.modules, largest.normal.modules, sizeof largest.modules);
+    if (ecc200_write(items, 0, marks, ECC200_MOST_MARKS, &in_ascii, &marked.normal) ||
+        marked.normal.rows != ECC200_MOST_ROWS)
+        return puts("no symbol of as many marks as there can be"), 1;
+    memcpy(marked.modules, marked.normal.modules, sizeof marked.modules);
     for (int turns = 60; turns > 0; turns--) {
         int at = rand() % ECC200_MOST_MODULES;
         largest.modules[at] ^= 1, largest.doubtful[at] = turns % 2;
@@ -169,11 +202,17 @@ int main(int argc, char **argv) {
     } calls[] = {
         {"ecc200_read", do_read},
         {"ecc200_read, doubtful modules", do_read_doubtful},
+        {"ecc200_read, marks", do_read_marks},
         {"ecc200_inspect", do_inspect},
         {"ecc200_normal", do_normal},
         {"ecc200_normal, shorter", do_normal_shorter},
+        {"ecc200_normal, marks", do_normal_marks},
         {"ecc200_write", do_write},
         {"ecc200_write, shorter", do_write_shorter},
+        {"ecc200_write, smallest", do_write_smallest},
+        {"ecc200_write, smallest, digits", do_write_smallest_digits},
+        {"ecc200_write, marks", do_write_marks},
+        {"ecc200_write, smallest, marks", do_write_smallest_marks},
         {"ecc200_write_bytes", do_write_bytes},
         {"ecc200_places", do_places},
         {"ecc200_sizes", do_sizes},
@@ -181,7 +220,9 @@ int main(int argc, char **argv) {
     size_t alone = touched(do_nothing);
     for (size_t i = 0; i < sizeof calls / sizeof *calls; i++) {
         for (size_t k = 0; k < ECC200_MOST_ITEMS; k++)
-            items[k] = calls[i].call == do_write ? (uint16_t)('0' + k % 10) : 255;
+            items[k] = calls[i].call == do_write || calls[i].call == do_write_smallest_digits
+                           ? (uint16_t)('0' + k % 10)
+                           : 255;
         printf("%s %zu\n", calls[i].name, touched(calls[i].call) - alone);
     }
     return 0;

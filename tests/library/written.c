@@ -14,7 +14,10 @@ static const char *worked = "101010101011001011011100000100110001110111000010001
                             "011101001111111111";
 static uint8_t grid[ALL], light[ALL];
 static const uint16_t usual_items[] = {65}, wrong_items[] = {65, 300};
-static const ecc200_how usual = {0, 0, 0, 0}, small = {1, 4, 8, 18}, none = {7, 0, 0, 0};
+static const ecc200_how usual = {0}, small = {.form = 1, .shape = 4, .rows = 8, .columns = 18}, none = {.form = 7};
+static const ecc200_how smallest = {.form = 2, .extent = 1, .head = {1, 2, 5, {1, 2}}};
+static const ecc200_how no_extent = {.form = 2, .extent = 2}, no_head = {.head = {.kind = 3}};
+static const ecc200_mark marks[] = {{26, 0}, {999999, 1}}, wrong_marks[] = {{26, 1}, {26, 0}};
 
 /* the numbers stand in front of the arrays, the fault in front of the other numbers */
 static void tell(const char *name, uint16_t (*call)(void *), size_t size, size_t numbers) {
@@ -49,8 +52,26 @@ static uint16_t do_read(void *out) { return ecc200_read(grid, ALL, NULL, 0, SIDE
 static uint16_t read_light(void *out) { return ecc200_read(light, ALL, NULL, 0, SIDE, SIDE, 2, 0, out); }
 static uint16_t do_inspect(void *out) { return ecc200_inspect(grid, ALL, NULL, 0, SIDE, SIDE, out); }
 static uint16_t inspect_less(void *out) { return ecc200_inspect(grid, ALL - 1, NULL, 0, SIDE, SIDE, out); }
-static uint16_t do_write(void *out) { return ecc200_write(usual_items, 1, &usual, out); }
-static uint16_t write_wrong(void *out) { return ecc200_write(wrong_items, 2, &small, out); }
+static uint8_t letter[ECC200_MOST_MODULES];
+static uint16_t letter_rows, letter_columns;
+static uint16_t read_letter(void *out) {
+    return ecc200_read(letter, (size_t)letter_rows * letter_columns, NULL, 0, letter_rows, letter_columns, 0, 1, out);
+}
+static uint16_t read_letter_usual(void *out) {
+    return ecc200_read(letter, (size_t)letter_rows * letter_columns, NULL, 0, letter_rows, letter_columns, 0, 0, out);
+}
+static uint16_t normal_letter(void *out) {
+    return ecc200_normal(letter, (size_t)letter_rows * letter_columns, NULL, 0, letter_rows, letter_columns, 0, 1, 1,
+                         out);
+}
+static uint16_t do_write(void *out) { return ecc200_write(usual_items, 1, NULL, 0, &usual, out); }
+static uint16_t write_wrong(void *out) { return ecc200_write(wrong_items, 2, NULL, 0, &small, out); }
+static uint16_t write_marks(void *out) { return ecc200_write(usual_items, 1, marks, 2, &usual, out); }
+static uint16_t write_smallest(void *out) { return ecc200_write(usual_items, 1, marks, 2, &smallest, out); }
+static uint16_t write_wrong_marks(void *out) { return ecc200_write(usual_items, 1, wrong_marks, 2, &usual, out); }
+static uint16_t write_no_extent(void *out) { return ecc200_write(usual_items, 1, marks, 2, &no_extent, out); }
+static uint16_t write_no_head(void *out) { return ecc200_write(usual_items, 1, marks, 2, &no_head, out); }
+static uint16_t write_bytes_no_head(void *out) { return ecc200_write_bytes((const uint8_t *)"AB", 2, &no_head, out); }
 static uint16_t do_write_bytes(void *out) { return ecc200_write_bytes((const uint8_t *)"AB", 2, &small, out); }
 static uint16_t write_bytes_no_profile(void *out) {
     return ecc200_write_bytes((const uint8_t *)"AB", 2, &none, out);
@@ -70,6 +91,20 @@ int main(void) {
         grid[i] = (uint8_t)(worked[i] - '0');
     tell("read", do_read, reading, arrays);
     tell("read, refused", read_light, reading, arrays);
+    ecc200_symbol *made = (ecc200_symbol *)malloc(symbol);
+    if (!made || ecc200_write(usual_items, 1, marks, 2, &smallest, made))
+        exit(2);
+    letter_rows = made->rows, letter_columns = made->columns;
+    memcpy(letter, made->modules, (size_t)made->rows * made->columns);
+    tell("read, marks and a head", read_letter, reading, arrays);
+    tell("read, marks and a head, refused", read_letter_usual, reading, arrays);
+    tell("normal, marks and a head", normal_letter, symbol, modules);
+    tell("write, marks", write_marks, symbol, modules);
+    tell("write, smallest", write_smallest, symbol, modules);
+    tell("write, wrong marks", write_wrong_marks, symbol, modules);
+    tell("write, no extent", write_no_extent, symbol, modules);
+    tell("write, no head", write_no_head, symbol, modules);
+    tell("write_bytes, no head", write_bytes_no_head, symbol, modules);
     tell("inspect", do_inspect, inspection, counts);
     tell("inspect, refused", inspect_less, inspection, counts);
     tell("write", do_write, symbol, modules);

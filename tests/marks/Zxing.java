@@ -1,6 +1,7 @@
 // Writes and reads marks by ZXing, one a line of standard input. With `write`, a line is a side and the bytes of a
-// message in hexadecimal digits, and the answer the rows of the mark in that size, joined by commas, or `-`. With
-// `read`, a line is such rows, and the answer the bytes in hexadecimal digits, or `-`.
+// message in hexadecimal digits, and the answer the rows of the mark in that size, joined by commas, or `-`; with
+// side 0 in the smallest square that ZXing finds. With `read`, a line is such rows, and the answer the bytes in
+// hexadecimal digits, or `-`.
 import com.google.zxing.BarcodeFormat;
 import com.google.zxing.Dimension;
 import com.google.zxing.EncodeHintType;
@@ -24,8 +25,10 @@ public class Zxing {
         }
         Map<EncodeHintType, Object> hints = new HashMap<>();
         hints.put(EncodeHintType.DATA_MATRIX_SHAPE, SymbolShapeHint.FORCE_SQUARE);
-        hints.put(EncodeHintType.MIN_SIZE, new Dimension(side, side));
-        hints.put(EncodeHintType.MAX_SIZE, new Dimension(side, side));
+        if (side > 0) {
+            hints.put(EncodeHintType.MIN_SIZE, new Dimension(side, side));
+            hints.put(EncodeHintType.MAX_SIZE, new Dimension(side, side));
+        }
         BitMatrix matrix = new DataMatrixWriter().encode(text.toString(), BarcodeFormat.DATA_MATRIX, 0, 0, hints);
         StringBuilder rows = new StringBuilder();
         for (int row = 0; row < matrix.getHeight(); row++) {

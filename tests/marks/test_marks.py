@@ -77,4 +77,4 @@ class Wide(Case):
         self.all_sound(wide.marks(lines_of("wide_made.txt"), text("wide_grids.txt").split("\n\n"), message_of))
 
     def test_codewords_at_random(self):
-        self.all_sound(wide.lists(wide.Library(), LISTS))
+        self.all_sound(wide.lists(LISTS))

@@ -3,129 +3,42 @@ of reading.
 
 Mark N of wide_made.txt is record N of wide_grids.txt. In the wide extent the library has to say what was printed; where
 a line names another text behind it, the encoder has written that one, and ZXing reads it too. In the usual extent it
-has to answer what model.py, a plain reader of codewords, says. The lists of codewords are laid in symbols with check
-codewords that are computed here."""
-import ctypes
+has to answer what tests/library/letters.py, a plain reader of codewords, says. The lists of codewords are laid in
+symbols with check codewords that are computed by tests/library/model.py."""
 import random
 
-from tests.marks import model
-from tests.support import header, places
+from tests.library.letters import USUAL, WIDE, Letter, Refusal, said_by
+from tests.library.library import module
+from tests.library.model import SIZE_OF, SIZES, codewords, modules_of
 
-EXTENTS = {"usual": 0, "wide": 1}
-ANY_LIMIT, BIT = 65535, 1
-MOST_ITEMS, MOST_MODULES, MOST_CODEWORDS, MOST_BLOCKS, SIZE_COUNT = (
-    header.interface().constants[name]
-    for name in ("MOST_ITEMS", "MOST_MODULES", "MOST_CODEWORDS", "MOST_BLOCKS", "SIZE_COUNT"))
-u8, u16 = ctypes.c_uint8, ctypes.c_uint16
+EXTENTS = {"usual": USUAL, "wide": WIDE}
+ANY_LIMIT = 65535
 
 
-def struct_of(*fields):
-    return type("Out", (ctypes.Structure,), {"_fields_": list(fields)})
-
-
-FAULT = [("code", u16), ("value", u16), ("place", u16)]
-NUMBERS = [*FAULT, ("rows", u16), ("columns", u16)]
-COUNTS = [(name, u8 * MOST_BLOCKS) for name in ("corrected", "erased", "left")]
-READING = struct_of(*NUMBERS, ("border_faults", u16), ("block_count", u16), ("item_count", u16), *COUNTS,
-                    ("items", u16 * MOST_ITEMS))
-INSPECTION = struct_of(*NUMBERS, ("border_faults", u16), ("block_count", u16), ("codeword_count", u16), *COUNTS,
-                       ("held", u8 * MOST_CODEWORDS), ("mended", u8 * MOST_CODEWORDS))
-PLACE = struct_of(("codeword", u16), ("bit", u8), ("kind", u8))
-PLACES = struct_of(*NUMBERS, ("places", PLACE * MOST_MODULES))
-SIZE = struct_of(*((name, u16) for name in "rows columns region_rows region_columns down across mapping_rows "
-                   "mapping_columns data checks blocks limit extension".split()))
-
-
-class Library:
-    """The calls that are tried here, and the table of sizes."""
-
-    def __init__(self):
-        self.calls = ctypes.CDLL(places.SHARED)
-        table = (SIZE * SIZE_COUNT)()
-        self.calls.ecc200_sizes(table)
-        self.sizes = {(size.rows, size.columns): size for size in table}
-
-    @staticmethod
-    def symbol(modules, size):
-        """Modules of which none is doubtful, with their rows and columns, as the calls take them."""
-        return modules, ctypes.c_size_t(len(modules)), None, ctypes.c_size_t(0), u16(size[0]), u16(size[1])
-
-    def read(self, modules, size, extent):
-        """The items of a symbol, or the fault: code, value and place."""
-        out = READING()
-        code = self.calls.ecc200_read(*self.symbol(modules, size), u16(ANY_LIMIT), u16(EXTENTS[extent]),
-                                      ctypes.byref(out))
-        return (out.code, out.value, out.place) if code else list(out.items[:out.item_count])
-
-    def data_codewords(self, modules, size):
-        out = INSPECTION()
-        self.calls.ecc200_inspect(*self.symbol(modules, size), ctypes.byref(out))
-        return list(out.mended[:self.sizes[size].data])
-
-    def places(self, size):
-        """For each module, the index of its codeword and the weight of its bit, or None; and the modules without
-        any."""
-        out = PLACES()
-        self.calls.ecc200_places(u16(size[0]), u16(size[1]), ctypes.byref(out))
-        at = out.places[:size[0] * size[1]]
-        return [(it.codeword, 8 - it.bit) if it.kind == BIT else None
-                for it in at], bytes(it.kind in (3, 5) for it in at)
-
-
-def powers():
-    found = [1]
-    for _ in range(254):
-        found.append(found[-1] << 1 if found[-1] < 128 else found[-1] << 1 ^ 301)
-    return found
-
-
-POWERS = powers()
-LOGARITHMS = {value: exponent for exponent, value in enumerate(POWERS)}
-
-
-def generator_of(count):
-    """The logarithms of the generator polynomial's coefficients behind the first."""
-    found = [1]
-    for root in range(1, count + 1):
-        scaled = [POWERS[(LOGARITHMS[x] + root) % 255] if x else 0 for x in found]
-        found = [a ^ b for a, b in zip(found + [0], [0] + scaled)]
-    return [LOGARITHMS[x] for x in found[1:]]
-
-
-def checks_of(words, generator):
-    """The check codewords of a block: the remainder of its division by the generator polynomial."""
-    rest = [0] * len(generator)
-    for word in words:
-        factor, rest = word ^ rest[0], rest[1:] + [0]
-        if factor:
-            by = LOGARITHMS[factor]
-            rest = [x ^ POWERS[(by + y) % 255] for x, y in zip(rest, generator)]
-    return rest
-
-
-class Printer:
-    """Lays data codewords in a symbol of one size."""
-
-    def __init__(self, library, size):
-        self.size = library.sizes[size]
-        self.bits, self.others = library.places(size)
-        self.generator = generator_of(self.size.checks // self.size.blocks)
-
-    def modules(self, words):
-        blocks = self.size.blocks
-        # (the block behind that of the last data codeword has the first check codeword)
-        order = [(self.size.data + block) % blocks for block in range(blocks)]
-        dealt = [checks_of(words[block::blocks], self.generator) for block in order]
-        whole = words + [check for row in zip(*dealt) for check in row]
-        return bytes(other if bit is None else whole[bit[0]] >> bit[1] & 1
-                     for bit, other in zip(self.bits, self.others))
+def read(modules, named, extent):
+    """What a symbol says, and its identifier; or the fault: code, value and place."""
+    rows, columns = named
+    ecc200, given = module(), bytes(modules)
+    try:
+        got = ecc200.read([given[at:at + columns] for at in range(0, rows * columns, columns)], ANY_LIMIT, extent)
+    except ecc200.Refused as why:
+        return why.code.value, why.value, why.place
+    return Letter(got.items, tuple((number, place) for place, number in got.marks), got.head), got.symbology
 
 
 def wanted_of(words, extent):
     try:
-        return model.message_of(words, extent == "wide")
-    except model.Refused as refusal:
-        return refusal.fault
+        letter, identifier = said_by(words, extent)
+    except Refusal as why:
+        return why.args
+    return letter, f"]d{identifier}"
+
+
+def data_codewords(modules, named):
+    """The data codewords of a symbol, corrected."""
+    rows, columns = named
+    grid = [modules[at:at + columns] for at in range(0, rows * columns, columns)]
+    return list(module().inspect(grid).mended[:SIZE_OF[named].data])
 
 
 def group(values):
@@ -135,7 +48,7 @@ def group(values):
 
 def some_words(chance, left):
     """Some codewords that mean something together, or nothing at all, where so many are left."""
-    kind = chance.randrange(12)
+    kind = chance.randrange(13)
     if kind == 0:
         return [chance.choice([230, 239, 238])] + [word for _ in range(chance.randrange(4))
                                                    for word in pair(chance)] + [254] * chance.randrange(2)
@@ -152,6 +65,9 @@ def some_words(chance, left):
         return [chance.choice([124, 240, 254, 66, 129, 31, 235]) for _ in range(left)]
     if kind == 8:
         return [chance.randrange(256) for _ in range(chance.randrange(4))]
+    if kind == 9:
+        return [241, chance.choice([chance.randrange(1, 128), 127, 128, 191, 192, 207, chance.randrange(256)]),
+                *(chance.choice([1, 63, 129, 254, chance.randrange(1, 255)]) for _ in range(2))]
     return [chance.randrange(1, 230) for _ in range(chance.randrange(1, 5))]
 
 
@@ -160,44 +76,53 @@ def pair(chance):
     return list((1600 * values[0] + 40 * values[1] + values[2] + 1).to_bytes(2, "big"))
 
 
+def some_front(chance):
+    """A macro, behind empty runs or none, a head, or something like it."""
+    kind = chance.randrange(4)
+    if kind < 2:
+        return [word for _ in range(chance.randrange(3) * kind)
+                for word in (chance.choice([230, 239, 238]), 254)] + [chance.choice([236, 237])]
+    part = [chance.choice([chance.randrange(256), 28, 241]), chance.randrange(256), chance.randrange(1, 255)]
+    return [234] if kind == 2 else [233, *part]
+
+
 def some_list(chance, count):
-    """As many data codewords, some of them with a macro in front."""
-    words = [chance.choice([236, 237])] if chance.randrange(6) == 0 else []
+    """As many data codewords, some of them with a macro or a head in front."""
+    words = some_front(chance) if chance.randrange(4) == 0 else []
     while len(words) < count:
         words += some_words(chance, count - len(words))
     return words[:count]
 
 
-def lists(library, count):
+def lists(count):
     """Codewords at random, in symbols of all sizes, most of them small."""
     chance = random.Random(240)
-    printers = {size: Printer(library, size) for size in library.sizes}
-    sizes = sorted(printers, key=lambda size: size[0] * size[1])
-    wrong, read = [], 0
+    wrong, letters, messages = [], 0, 0
     for _ in range(count):
-        size = sizes[min(chance.randrange(len(sizes)) for _ in range(4))]
-        words = some_list(chance, printers[size].size.data)
-        modules = printers[size].modules(words)
-        for extent in EXTENTS:
-            given, wanted = library.read(modules, size, extent), wanted_of(words, extent)
-            read += isinstance(given, list) and extent == "wide"
+        size = SIZES[min(chance.randrange(len(SIZES)) for _ in range(4))]
+        words = some_list(chance, size.data)
+        modules = modules_of(size, codewords(size, words))
+        for extent, number in EXTENTS.items():
+            given, wanted = read(modules, size.named, number), wanted_of(words, number)
+            if extent == "wide" and isinstance(given[0], Letter):
+                is_letter = given[0].marks or given[0].head
+                letters, messages = letters + bool(is_letter), messages + (not is_letter)
             if given != wanted:
                 wrong.append(f"{words} in the {extent} extent: {given}, and not {wanted}")
     yield f"{count} lists of codewords", "\n".join(wrong[:5]) or None
-    is_mixed = count / 10 < read < count
-    yield "some of them are read, and some refused", None if is_mixed else f"{read} of {count} are read"
+    is_mixed = min(letters, messages) > count / 20 and letters + messages < count
+    yield "some of them are read, and some refused", None if is_mixed else f"{letters} letters, {messages} messages"
 
 
 def marks(made, records, message_of):
     """Each mark of another encoder in both extents. `made` has lines, `records` grids, and `message_of` takes a line's
     text to bytes."""
-    library = Library()
     for line, record in zip(made, records):
         encoder, side, *texts = line.split("\t")
-        modules, size = bytes(cell == "1" for cell in record.replace("\n", "")), (int(side), int(side))
+        modules, named = bytes(cell == "1" for cell in record.replace("\n", "")), (int(side), int(side))
         name = f"{encoder}, side {side}"
-        said, wanted = library.read(modules, size, "wide"), list(message_of(texts[-1]))
+        said, wanted = read(modules, named, WIDE)[0], Letter(tuple(message_of(texts[-1])))
         yield f"{name}, wide", None if said == wanted else f"{said}, and not {wanted}"
-        said, wanted = library.read(modules, size, "usual"), wanted_of(library.data_codewords(modules, size), "usual")
-        is_left_out = isinstance(wanted, tuple) and wanted[:2] in ((8, 236), (8, 237), (8, 240))
+        said, wanted = read(modules, named, USUAL), wanted_of(data_codewords(modules, named), USUAL)
+        is_left_out = wanted[:2] in ((8, 236), (8, 237), (8, 240))
         yield f"{name}, usual", None if said == wanted and is_left_out else f"{said}, and not {wanted}"

@@ -10,9 +10,9 @@ uint16_t in_extent(const uint8_t *modules, uint16_t rows, uint16_t columns, enum
                    ecc200_reading *out);
 
 uint16_t in_profile(const uint16_t *items, size_t count, enum ecc200_profile profile, ecc200_symbol *out) {
-    ecc200_how how = {ECC200_ASCII, ECC200_SQUARE, 0, 0};
+    ecc200_how how = {ECC200_ASCII, ECC200_SQUARE, 0, 0, ECC200_USUAL, {ECC200_NO_HEAD, 0, 0, {0, 0}}};
     how.form = profile;
-    return ecc200_write(items, count, &how, out);
+    return ecc200_write(items, count, NULL, 0, &how, out);
 }
 
 const char *said(enum ecc200_code code) {

@@ -1,10 +1,11 @@
 """Tries the bugs of bugs.txt on the page, one at a time: with each, the test has to fail. Or takes pictures of the page
-for docs/PAGE.md.
+for docs/PAGE.md; or measures it, beside dm_sample, which `make sampler` leaves.
 
     python3 -m tests.page [WORD]
     python3 -m tests.page --pictures FOLDER
+    python3 -m tests.page --measure
 
-Only the bugs whose name contains WORD are tried, if it is given."""
+Only the bugs whose name contains WORD are tried, or those whose part is WORD, if it is given."""
 import argparse
 import base64
 import pathlib
@@ -16,6 +17,7 @@ import time
 
 from tests.page import browser
 from tests.page.javascript import uses
+from tests.page.measures import measured
 from tests.page.parts import PARTS, fault_of, load
 from tests.page.stage import (
     By,
@@ -73,7 +75,7 @@ def planted(library, sampler, word):
     sound, passed, failed = {**pack.sources(), **beside}, 0, 0
     for block in places.text_of("tests", "page", "bugs.txt").split("\n\n"):
         lines = [line for line in block.split("\n") if line and not line.startswith("#")]
-        if not lines or word not in lines[0]:
+        if not lines or not (word in lines[0] or lines[1] == f"part: {word}"):
             continue
         name, first, spoilt = lines[0], lines[1].removeprefix("part: "), dict(sound)
         for old, new in zip(lines[2::2], lines[3::2]):
@@ -133,6 +135,7 @@ def main():
     options = argparse.ArgumentParser(prog="python3 -m tests.page", description=__doc__.split("\n\n", maxsplit=1)[0])
     options.add_argument("word", metavar="WORD", nargs="?", default="")
     options.add_argument("--pictures", metavar="FOLDER", type=pathlib.Path)
+    options.add_argument("--measure", action="store_true")
     given = options.parse_args()
     if problem := needs.lacking("chromium", "chromedriver", "node", *needs.PAGE) or (
         "" if webdriver else "selenium isn't installed"
@@ -141,13 +144,16 @@ def main():
     if problem := needs.made("page"):
         sys.exit(problem)
     on.program, on.shots, on.folder = places.PROGRAM, given.pictures, pathlib.Path(tempfile.mkdtemp())
-    count.stops = not given.pictures
+    count.stops = not (given.pictures or given.measure)
     try:
         browser.start()
         if given.pictures:
             given.pictures.mkdir(parents=True, exist_ok=True)
             load(places.path("web", "out", "mitsubadoor.html"))
             in_pictures()
+            return 0
+        if given.measure:
+            measured()
             return 0
         code = [pathlib.Path(places.path("web", "out", name)) for name in ("lowered.wasm", "sampler.wasm")]
         passed, failed = planted(*code, given.word)

@@ -287,6 +287,10 @@ def many_files():
     count.expect_soon(
         "a grid in a file", lambda: (find("pane-read").is_displayed(), shown()["says"]), (True, "a grid in a file")
     )
+    push("kind-typed")
+    drop("body", [("western.txt", "text/plain", "Größe".encode("cp1252"))])
+    count.expect_soon("a message that isn't UTF-8", lambda: (shown()["says"], text_of("toast")),
+                      ("Größe", "western.txt: It isn’t UTF-8, and is read as Windows-1252."))
     drop("body", [("message.txt", "text/plain", b"a message in a file\n")])
     count.expect_soon(
         "a message in a file",
@@ -301,10 +305,13 @@ def many_files():
 
 
 SLOW = """
-    const text = Blob.prototype.text;
+    const { arrayBuffer } = Blob.prototype;
     globalThis.gates = [];
-    Blob.prototype.text = async function () { await new Promise((open) => gates.push(open)); return text.call(this); };
-    globalThis.usual = () => { Blob.prototype.text = text; };"""
+    Blob.prototype.arrayBuffer = async function () {
+        await new Promise((open) => gates.push(open));
+        return arrayBuffer.call(this);
+    };
+    globalThis.usual = () => { Blob.prototype.arrayBuffer = arrayBuffer; };"""
 
 
 def dropped_on_the_sheet():

@@ -49,6 +49,7 @@ def uses():
         "corrected": said("corrected", corrected=1),
         "doubtful": [1],
         "normal": symbol("normal"),
+        "normal of a blot": symbol("a blot on it"),
         "picture": [["one", {"x": 10, "y": 10}], ["two", {"x": 80, "y": 10}]],
         "one of two": [1, False],
         "inverted": [["dark", True]],
@@ -60,7 +61,8 @@ def uses():
     count.expect("shapes", [[came(name)["rows"], came(name)["columns"]] for name in ("rectangle", "a size")],
                  [[8, 18], [16, 48]])
     count.expect("sizes", [came("sizes")[0], came("sizes")[1]["rows"], came("sizes")[1]["data"]], [48, 10, 3])
-    for name, code in (("too long", TOO_LONG), ("too small a size", TOO_LONG), ("no size", NO_SIZE)):
+    for name, code in (("too long", TOO_LONG), ("too small a size", TOO_LONG), ("no size", NO_SIZE),
+                       ("normal of a blot that isn't told", BLOCK)):
         count.expect(name, [answers[name].get(each) for each in ("thrown", "isRefused", "code")],
                      ["Refused", True, code])
     for name, kind in (("of no pixels", "RangeError"), ("of other pixels", "TypeError")):

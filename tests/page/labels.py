@@ -20,6 +20,7 @@ from tests.page.stage import (
     run,
     settle,
     shown,
+    spelled,
     task,
     text_of,
     unfold,
@@ -584,5 +585,38 @@ def in_archives():
     paper_is("a4", "0.5")
 
 
+CODINGS = {"utf-8": "", "utf-8-sig": "", "utf-16": " It is UTF-16.",
+           "cp1252": " It isn’t UTF-8, and is read as Windows-1252."}
+
+
+def other_letters():
+    """Text is taken as it is written, in a file too, which may have another encoding: that is said. Below a symbol in a
+    PDF stand the letters that its font has; those that it lacks are said to be missing."""
+    write("123456")
+    push("kind-typed")
+    unfold("sheet")
+    chosen("stock", "50x30")
+    paper_is("a4", "0.4")
+    message, text, file = "Größe 5 µm", "Maß – 5 €", on.folder / "other.csv"
+    texts_in = lambda: [each.encode("latin-1").decode("cp1252") for *_, some in
+                        pages_of(saved("symbols.pdf", "many-pdf")) for each in some]
+    for coding, note in CODINGS.items():
+        file.write_bytes(f"message;text\n{message};{text}\n".encode(coding))
+        put("messages", "")
+        find("lines").send_keys(str(file))
+        count.expect_soon(f"a file in {coding}", lambda: (find("messages").get_attribute("value"),
+                          text_of("sheet-hint")), (f"message;text\n{message};{text}", f"The lines of other.csv.{note}"))
+        count.expect(f"its text, in {coding}", texts_in(), [text])
+        symbols = [rows for _, some, _ in pages_of(saved("symbols.pdf", "many-pdf")) for *_, rows in some]
+        count.expect(f"its symbol, in {coding}", symbols, [written(spelled(message.encode()))])
+    chosen("lines-as", "messages")
+    put("messages", "plain\na → b\n→")
+    count.expect("letters that a PDF lacks", (texts_in(), text_of("sheet-hint")), (["plain", "a ? b", "?"],
+                 "3 symbols are in the PDF. Below 2 symbols ? stands for letters that the PDF’s font lacks."))
+    chosen("stock", "none")
+    paper_is("a4", "0.5")
+    put("messages", "")
+
+
 PARTS = [on_labels, labels_printed, by_columns, asked_about_columns, labels_shown, serial_numbers, opened_again,
-         in_archives]
+         in_archives, other_letters]

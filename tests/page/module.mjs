@@ -4,7 +4,8 @@
 // there were, or the first that differs, with status 1.
 import { readFileSync, readSync } from "node:fs";
 
-const HEAD = 76, NAME = 20, PAGE = 65536, PAGES = 6, FIRST = 4096, FILLED = 0xee;
+const NAME = 20, INPUTS = 3, HEAD = NAME + 4 * (3 * INPUTS + 8);
+const PAGE = 65536, PAGES = 6, FIRST = 4096, FILLED = 0xee;
 const STDIN = 0, BLOCK = 1 << 20;
 let block = Buffer.alloc(0); // what is read and not taken yet
 
@@ -32,9 +33,9 @@ function nextCall() {
   if (!head) return null;
   const name = head.toString("latin1", 0, NAME).replace(/\0.*/s, "");
   const told = Array.from({ length: (HEAD - NAME) / 4 }, (_, k) => head.readUInt32LE(NAME + 4 * k));
-  const numbers = told.slice(7, 7 + told[6]), [answer, size] = told.slice(-2);
-  const inputs = [0, 1].map((k) => {
-    const [width, count, isCounted] = [told[k], told[2 + k], told[4 + k]];
+  const first = 3 * INPUTS + 1, numbers = told.slice(first, first + told[first - 1]), [answer, size] = told.slice(-2);
+  const inputs = Array.from({ length: INPUTS }, (_, k) => {
+    const [width, count, isCounted] = [told[k], told[INPUTS + k], told[2 * INPUTS + k]];
     return { width, count, isCounted, bytes: taken(width * count) };
   });
   return { name, numbers, answer, inputs: inputs.filter(({ width }) => width), output: taken(size) };

@@ -7,7 +7,7 @@
 #include <stdlib.h>
 #include <string.h>
 
-#define FILLED 0xee
+enum { FILLED = 0xee, INPUTS = 3 };
 
 typedef struct input {
     const void *at;
@@ -17,9 +17,9 @@ typedef struct input {
 
 typedef struct head {
     char name[20];           /* of the call */
-    uint32_t widths[2];      /* of the inputs */
-    uint32_t counts[2];
-    uint32_t is_counted[2];  /* whether the call is given the count */
+    uint32_t widths[INPUTS];     /* of the inputs */
+    uint32_t counts[INPUTS];
+    uint32_t is_counted[INPUTS]; /* whether the call is given the count */
     uint32_t number_count;
     uint32_t numbers[5];     /* the call's other arguments, but for the output */
     uint32_t answer;
@@ -31,19 +31,23 @@ static void put(const void *bytes, size_t size) {
         exit(2);
 }
 
-static void record(head made, input first, input second, const void *output) {
-    const input both[2] = {first, second};
-    for (int k = 0; k < 2; k++) {
-        made.widths[k] = (uint32_t)both[k].width;
-        made.counts[k] = (uint32_t)both[k].count;
+static void record_three(head made, input first, input second, input third, const void *output) {
+    const input each[INPUTS] = {first, second, third};
+    for (int k = 0; k < INPUTS; k++) {
+        made.widths[k] = (uint32_t)each[k].width;
+        made.counts[k] = (uint32_t)each[k].count;
     }
     put(&made, sizeof made);
-    put(first.at, first.width * first.count);
-    put(second.at, second.width * second.count);
+    for (int k = 0; k < INPUTS; k++)
+        put(each[k].at, each[k].width * each[k].count);
     put(output, made.output_size);
 }
 
 static const input NONE = {NULL, 0, 0};
+
+static void record(head made, input first, input second, const void *output) {
+    record_three(made, first, second, NONE, output);
+}
 
 static uint16_t recorded_read(const uint8_t *modules, size_t count, const uint8_t *doubtful, size_t doubtful_count,
                               uint16_t rows, uint16_t columns, uint16_t limit, uint16_t extent, ecc200_reading *out) {
@@ -73,11 +77,13 @@ static uint16_t recorded_inspect(const uint8_t *modules, size_t count, const uin
     return code;
 }
 
-static uint16_t recorded_write(const uint16_t *items, size_t count, const ecc200_how *how, ecc200_symbol *out) {
+static uint16_t recorded_write(const uint16_t *items, size_t count, const ecc200_mark *marks, size_t mark_count,
+                               const ecc200_how *how, ecc200_symbol *out) {
     memset(out, FILLED, sizeof *out);
-    uint16_t code = ecc200_write(items, count, how, out);
-    head made = {"ecc200_write", {0}, {0}, {1, 0}, 0, {0}, code, sizeof *out};
-    record(made, (input){items, 2, count}, (input){how, sizeof *how, 1}, out);
+    uint16_t code = ecc200_write(items, count, marks, mark_count, how, out);
+    head made = {"ecc200_write", {0}, {0}, {1, 1, 0}, 0, {0}, code, sizeof *out};
+    record_three(made, (input){items, 2, count}, (input){marks, sizeof *marks, mark_count},
+                 (input){how, sizeof *how, 1}, out);
     return code;
 }
 

@@ -5,9 +5,11 @@ import json
 import random
 
 from tests.page.conduct import linked, started
-from tests.page.pictures import LIKEST, chunks, opened, png
+from tests.page.pictures import LIKEST, QR, chunks, opened, png
 from tests.page.stage import (
     Keys,
+    acting,
+    choose,
     click,
     count,
     find,
@@ -122,6 +124,12 @@ OUTLINED = """
         [it.getAttribute("class"), it.getAttribute("points").split(" ").map((at) => at.split(",").map(Number))]);"""
 
 
+IN_SIGHT = """
+    const list = document.getElementById('found-are').getBoundingClientRect();
+    const { top, bottom } = document.querySelector('#found-are [aria-pressed=true]').getBoundingClientRect();
+    return top >= list.top - 1 && bottom <= list.bottom + 1;"""
+
+
 def all_symbols():
     """Every symbol of a picture is outlined on it and listed in reading order, also where the picture is turned; one of
     them is at hand; what isn't read is listed with its reason."""
@@ -151,6 +159,11 @@ def all_symbols():
     run("document.querySelectorAll('#outlines polygon')[4].dispatchEvent(new MouseEvent('click', { bubbles: true }))")
     settle()
     count.expect("number 5, on the picture", (shown()["says"], len(run(LISTED))), (messages[4], 6))
+    count.expect("is in sight in the list", run(IN_SIGHT), True)
+    run("document.querySelectorAll('#found-are button')[2].focus({ preventScroll: true })")
+    acting().send_keys(Keys.ENTER, Keys.TAB, Keys.ENTER).perform()
+    settle()
+    count.expect("by keys, one after the other", (shown()["says"], run(IN_SIGHT)), (messages[3], True))
     given_away(messages)
     put("grid", written("typed"))
     count.expect("what is typed takes the place of the picture",
@@ -198,6 +211,9 @@ def pasted():
     return text
 
 
+LABELLED = "return [...document.querySelectorAll('#labels-are p')].map((it) => it.textContent)"
+
+
 def list_opened_again():
     """A list that was saved as JSON gives the same list again: what was read, as it was read, and what wasn't."""
     push("tab-read")
@@ -207,9 +223,10 @@ def list_opened_again():
     opened("three.png", scene(380, 190, list(zip(grids, places))))
     count.expect_soon("what is listed", lambda: len(run(LISTED)), 3)
     before, saved = run(LISTED), on.folder / "found.json"
-    saved.unlink(missing_ok=True)
-    push("found-json")
-    wait_for(lambda: saved.exists() and saved.stat().st_size)
+    for file in (saved, saved.with_suffix(".csv")):
+        file.unlink(missing_ok=True)
+    push("found-json", "found-csv")
+    wait_for(lambda: saved.exists() and saved.stat().st_size and saved.with_suffix(".csv").exists())
     told = json.loads(saved.read_text())
     count.expect("the grids in it", [each["modules"] for each in told["symbols"]], grids)
     put("grid", written("meanwhile"))
@@ -226,7 +243,14 @@ def list_opened_again():
     (on.folder / "odd.json").write_text(saved.read_text().replace('"1', '"none', 1))
     find("saved").send_keys(str(on.folder / "odd.json"))
     count.expect_soon("a list with what is no grid", task, "make")
-    push("tab-make")
+    push("tab-read")
+    find("saved").send_keys(str(saved.with_suffix(".csv")))
+    count.expect_soon("a list in CSV", lambda: (task(), text_of("sheet-hint")), ("make", "The lines of found.csv."))
+    labels = ("whole", "A border that is damaged")
+    count.expect_soon("what it gives, without questions", lambda: (find("columns").is_displayed(), run(LABELLED)),
+                      (False, [f"{k}: {says}" for k, says in enumerate(labels, 1)]))
+    put("messages", "")
+    choose("lines-as", "messages")
     write("123456")
 
 
@@ -248,6 +272,21 @@ def unread():
     count.expect("alone", (text_of("picture-hint"), shown()["state"], [name for name, _ in run(OUTLINED)][:1],
                            [says for says, _, _ in run(LISTED)], usable("found-copy")),
                  (f"alone.png: {none}", "Nothing is read", ["unread"], [f"Not read. {why}"], False))
+    push("tab-make")
+    write("123456")
+
+
+def beside_other_codes():
+    """Beside a QR code a symbol is read, and the code is called one; no part of it is listed as a symbol."""
+    push("tab-read")
+    code, rows = [f"{int(row, 16):024b}"[:21] for row in QR.split()], written("beside it").split("\n")
+    told = "There is a QR code too, which isn’t a Data Matrix symbol."
+    for name, turn in (("upright", (1.0, 0.0)), ("turned", (0.9848, 0.1736))):
+        opened(f"{name}.png", scene(330, 190, [(rows, (40, 40)), (code, (170, 40))], turn))
+        count.expect_soon(f"{name}: what is said", lambda: text_of("found-hint"), told)
+        count.expect(f"{name}: what is listed", [says for says, _, _ in run(LISTED)], ["beside it"])
+    opened("alone.png", scene(330, 190, [(rows, (40, 40))]))
+    count.expect("without one", find("found").is_displayed(), False)
     push("tab-make")
     write("123456")
 
@@ -320,4 +359,4 @@ def in_time():
     write("123456")
 
 
-PARTS = [handed_on, all_symbols, list_opened_again, unread, in_time, large]
+PARTS = [handed_on, all_symbols, list_opened_again, unread, beside_other_codes, in_time, large]

@@ -290,12 +290,16 @@ def compared():
     count.expect("no grid", head(), ["No answer", "Symbol B isn’t a grid."])
     fill("b", "another")
     count.expect("a message", head(), ["Yes, they say the same.", "Both have this one normal grid:"])
-    fill("b", "caf\u00e9")
+    fill("b", "(05)12")
     count.expect(
         "no message",
-        (head(), "Column 4 is \u00e9" in text_of("slot-b")),
+        (head(), "Column 1 begins (05), which is no identifier" in text_of("slot-b")),
         (["No answer", "Symbol B can’t be taken."], True),
     )
+    for slot in "ab":
+        fill(slot, "Größe \\F")
+    count.expect("as it is typed", (head()[0], "Größe \\F" in text_of("slot-a")), ("Yes, they say the same.", True))
+    take("a")
     take("b")
     count.expect("alike", head(), ["Yes, they say the same.", "Both have this one normal grid:"])
     fill("b", turned(written("another"), 1, False, True))

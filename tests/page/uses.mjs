@@ -27,6 +27,12 @@ const spoilt = (grid, count) => {
   for (let k = 0; k < count; k++) modules[(k + 2) * grid.columns + 3] ^= 1;
   return { ...grid, modules };
 };
+// A symbol with a blot on it, and which modules that covers.
+function blotted(grid) {
+  const isCovered = (k) => k % grid.columns > 1 && k % grid.columns < 8 && k > 2 * grid.columns && k < 8 * grid.columns;
+  const doubtful = grid.modules.map((_, k) => (isCovered(k) ? 1 : 0));
+  return { grid: { ...grid, modules: grid.modules.map((module, k) => (doubtful[k] ? 1 : module)) }, doubtful };
+}
 const two = () => [write("one"), write("two", { shape: "rectangle" })];
 const TASKS = {
   exports: () => Object.keys(module).sort(),
@@ -43,6 +49,11 @@ const TASKS = {
     return readGrid(grid, { doubtful }).erased;
   },
   normal: () => plain(normal(write("normal", { rows: 32, columns: 32 }))),
+  "normal of a blot": () => {
+    const { grid, doubtful } = blotted(write("a blot on it"));
+    return plain(normal(grid, { doubtful }));
+  },
+  "normal of a blot that isn't told": () => normal(blotted(write("a blot on it")).grid),
   "too long": () => write("7".repeat(4000)),
   "too small a size": () => write("Hello, world, once more", { rows: 10, columns: 10 }),
   "no size": () => readGrid({ rows: 11, columns: 11, modules: new Uint8Array(121) }),

@@ -9,7 +9,7 @@ from tests.python.batches import made, saved
 from tests.python.common import PYTHON, has, has_sampler, holds, raises, run, same, wanted_module
 from tests.python.drawings import pixels
 from tests.python.labels import of_blocks
-from tests.python.sizes import KINDS, LEFT_OUT, SIZES, changed, every_size, filling, marked, outcome, wanted
+from tests.python.sizes import KINDS, SIZES, changed, every_size, filling, marked, outcome, wanted
 from tests.python.surface import WORDS, ecc, environment, says, text, turned
 
 import ecc200
@@ -33,23 +33,18 @@ def cells_of(size, bit=1):
 
 
 def read_by_command():
-    """The marks of zint through the command: what they say, or what is left out."""
+    """The marks of zint through the command: what they say."""
     marks = list(every_size())
     grids = "".join("\n".join(rows) + "\n\n" for _, rows, *_ in marks)
     status, output, errors = ecc("read", "--escapes", given=grids)
-    said = [said for _, _, said, _ in marks if isinstance(wanted(said), str)]
-    yield same("marks of every size", (status, output.splitlines()), (1, said))
-    words = {"\\E": "an ECI", "\\A": "structured append", "\\P": "reader programming"}
-    told = [line for line in errors.splitlines() if "codeword 1 begins" in line]
-    yield same("those that are left out", [next((it for it in words.values() if it in line), line) for line in told],
-               [words[said[:2]] for _, _, said, _ in marks if said[:2] in LEFT_OUT])
+    said = [wanted(said) for _, _, said, _ in marks]
+    yield same("marks of every size", (status, output.splitlines(), errors), (0, said, ""))
     lines = [json.loads(line) for line in ecc("read", "--json", given=grids)[1].splitlines()]
     got = [(line.get("message"), line.get("rows"), line.get("columns")) for line in lines]
-    yield same("the same in JSON", got, [(said, len(rows), len(rows[0])) if isinstance(wanted(said), str)
-                                         else (None, None, None) for _, rows, said, _ in marks])
+    yield same("the same in JSON", got, [(wanted(said), len(rows), len(rows[0])) for _, rows, said, _ in marks])
     checked = ecc("check", given=grids)[1].splitlines()
     yield same("check", [line.split(",")[0] for line in checked],
-               [f"{len(rows)}x{len(rows[0])}" for _, rows, said, _ in marks if isinstance(wanted(said), str)])
+               [f"{len(rows)}x{len(rows[0])}" for _, rows, *_ in marks])
     normal = ecc("normal", given=grids)
     again = ecc("read", "--escapes", given=normal[1])
     held = [text for text in said if isinstance(outcome(ecc200.write, of_spelling(text, "ascii")), list)]

@@ -3,6 +3,7 @@ back, by others too, choices of size, and doubtful modules."""
 import array
 import os
 import pickle
+import re
 import subprocess
 
 from tests.python.common import MARKS, has, holds, raises, run, same, wanted_module
@@ -14,8 +15,8 @@ from ecc200.spelling import spelled
 
 SIZES = [(size.rows, size.columns) for size in ecc200.sizes()]
 EXTENSION = {(size.rows, size.columns) for size in ecc200.sizes() if size.extension}
-# What isn't read yet of what the marks say, and the codeword with which it begins the symbol.
-LEFT_OUT = {"\\E": 241, "\\A": 233, "\\P": 234}
+# What the line of a mark has beside items: an ECI, a part of a file, reader programming.
+BESIDE = re.compile(r"(\\\\)|\\E\{(?P<number>\d+)\}|\\A\{(?P<part>[^}]*)\}|(?P<programming>\\P)")
 # Which sizes a shape has.
 KINDS = {Shape.SQUARE: lambda size: size.rows == size.columns,
          Shape.RECTANGLE: lambda size: size.rows != size.columns and not size.extension,
@@ -46,8 +47,16 @@ def answer(grid, **more):
 
 
 def wanted(said):
-    """The answer to a mark that says this."""
-    return (Code.LEFT_OUT, LEFT_OUT[said[:2]], 1) if said[:2] in LEFT_OUT else said
+    """The items, spelled, of a mark that says this."""
+    return BESIDE.sub(lambda found: found[1] or "", said)
+
+
+def said_beside(said):
+    """The marks, which stand in front, and the head of a mark of zint that says this."""
+    found = [each for each in BESIDE.finditer(said) if not each[1]]
+    part = next((tuple(map(int, re.split("[/ ]", each["part"]))) for each in found if each["part"]), None)
+    programming = "programming" if any(each["programming"] for each in found) else None
+    return tuple((0, int(each["number"])) for each in found if each["number"]), part or programming
 
 
 def filling(size):
@@ -88,17 +97,16 @@ def printed():
             yield same(f"mark {head} as {name}", answer(grid), wanted(said))
         seen = ecc200.inspect(lines)
         yield same(f"codewords of mark {head}", (seen.held[:len(data)], seen.mended), (data, seen.held))
-        if not isinstance(wanted(said), str):
-            continue
         reading = ecc200.read(lines)
+        yield same(f"what mark {head} says beside items", (reading.marks, reading.head), said_beside(said))
         yield same(f"the size of mark {head}", (reading.rows, reading.columns, reading.size),
                    (len(rows), len(rows[0]), (len(rows), len(rows[0]))))
         yield same(f"damage of mark {head}", (reading.border_faults, set(reading.corrected), set(reading.erased)),
                    (0, {0}, {0}))
-        written = outcome(ecc200.write, reading.items)
+        written = outcome(ecc200.write, reading.items, marks=reading.marks, head=reading.head)
         yield same(f"the normal grid of mark {head}", outcome(ecc200.normal, lines), written)
         if isinstance(written, list):
-            yield same(f"it says the same, {head}", answer(written), said)
+            yield same(f"it says the same, {head}", answer(written), wanted(said))
         else:
             yield same(f"no square holds it in ASCII, {head}", (written[0], len(reading.data) > 779),
                        (Code.TOO_LONG, True))

@@ -129,6 +129,22 @@ def spotted(grid):
             for y, row in enumerate(rows)]
 
 
+def evidence(sampler):
+    """Where doubtful modules leave no more than two checks alone, a symbol is read if its border has no fault, and only
+    then: else what lies beside a symbol may be taken for the rest of a smaller one."""
+    for message, down, right in (("ABC", 6, 6), ("ABCDE", 4, 7), ("ABCDEFGH", 5, 9)):
+        for faults in ((), ((0, 3),)):
+            grid = grid_of(message)
+            for row, column in faults:
+                grid[row][column] ^= 1
+            rows = pixels_of(grid, SCALE, QUIET)
+            for row in rows[(QUIET + down) * SCALE:(QUIET + len(grid) + 2) * SCALE]:
+                row[(QUIET + right) * SCALE:(QUIET + len(grid) + 2) * SCALE] = [120] * ((len(grid) + 2 - right) * SCALE)
+            said = asked(sampler, rows)
+            check(f"side {len(grid)} without a corner, {len(faults)} faults",
+                  (said.get("message"), said.get("left")), (None, None) if faults else (message, [2]))
+
+
 def margin(sampler):
     """A margin counts where modules are doubtful, too."""
     message = message_of(62)

@@ -205,11 +205,14 @@ def memory(folder, sampler):
 
 
 def parts(folder):
-    """Points far outside of a picture."""
+    """Points far outside of a picture, the usual work, and straight pieces that are joined."""
     made = os.path.join(folder, "parts.out")
     words = ["cc", "-std=c17", "-Wall", "-Wextra", "-Werror", *CAREFUL]
     headers = [f"-I{places.path('sampler')}", f"-I{places.path('library')}"]
-    done = run([*words, *headers, places.path("tests", "sampler", "parts.c"), "-o", made, "-lm"])
+    sources = [places.path("tests", "sampler", "parts.c"),
+               *(places.path("sampler", f"{name}.c") for name in ("geometry", "limit", "outline"))]
+    done = run([*words, *headers, "-D_POSIX_C_SOURCE=200809L", *sources, "-o", made, "-lm"])
     check("parts.c compiles", done.stderr.decode(), "")
     done = run([made])
-    check("points far away", (done.returncode, done.stdout, done.stderr.decode()[:600]), (0, b"", ""))
+    check("points far away, the work and pieces", (done.returncode, done.stdout, done.stderr.decode()[:600]),
+          (0, b"", ""))

@@ -1,9 +1,12 @@
-/* Tries what the sampler does with points far outside of a picture, as a projection may give them;
- * for tests/sampler. */
+/* Tries what the sampler does with points far outside of a picture, as a projection may give them, how much work it
+ * allows itself, and how it joins straight pieces; for tests/sampler. */
+#include "limit.h"
+#include "outline.h"
 #include "plane.h"
 
 #include <math.h>
 #include <stdio.h>
+#include <stdlib.h>
 
 /* The place of a number among those that are tried: left of the picture, in it, or to its right. What isn't a number
  * counts as left. */
@@ -21,6 +24,40 @@ static int is_right(const struct plane *plane, struct point at, int pixel, int i
            grey_at(plane, at) == pixel && fabs(brightness(plane, at) - pixel) < 1e-9;
 }
 
+static int64_t work_for(int64_t megapixels, uint16_t effort) {
+    return limit_from_now(ECC200_SAMPLE_ANY_TIME, effort, megapixels * 1000000).allowed;
+}
+
+/* A large picture, which takes long to open, is allowed less than a small one, as long as that is enough to look at all
+ * of it. */
+static int is_work_right(void) {
+    return work_for(12, 0) < work_for(1, 0) - 50000000 && work_for(12, 0) + 12 * 8000000 < 400000000 &&
+           work_for(50, 0) >= 50 * 8000000 && work_for(12, 200) == 2 * work_for(12, 100) &&
+           work_for(12, 0) == work_for(12, 100) && work_for(1, ECC200_SAMPLE_ANY_EFFORT) > INT64_MAX / 4;
+}
+
+/* Whether pieces in a row, so far from the upper left of the picture and among other ones, are joined to one line. */
+static int are_joined(int right, int down) {
+    enum { WIDE = 1400, HIGH = 300, STRIDE = WIDE + 2, PIECES = 4, PIECE = 40, APART = 12 };
+    static uint8_t pixels[STRIDE * (HIGH + 2)];
+    struct plane dark = {WIDE, HIGH, 1, STRIDE, pixels + STRIDE + 1, NULL};
+    struct limit limit = limit_from_now(ECC200_SAMPLE_ANY_TIME, ECC200_SAMPLE_ANY_EFFORT, 1);
+    struct lines lines = {0};
+    int is_whole = 0;
+    for (int y = 0; y < HIGH; y++)
+        for (int x = 0; x < WIDE; x++) {
+            int is_in_row = y >= down && y < down + 6 && x >= right && (x - right) % (PIECE + APART) < PIECE &&
+                            x < right + PIECES * (PIECE + APART);
+            pixels[(y + 1) * STRIDE + x + 1] = is_in_row || (y % 30 < 5 && abs(y - down) > 60 && x % 50 < 20);
+        }
+    if (find_lines(&dark, 10, &limit, &lines))
+        for (int k = 0; k < lines.count; k++)
+            is_whole |= lines.items[k].is_joined && fabs(lines.items[k].from.y - down) < 8 &&
+                        fabs(lines.items[k].to.x - lines.items[k].from.x) > PIECES * PIECE + APART;
+    lines_free(&lines);
+    return is_whole;
+}
+
 int main(void) {
     static const uint8_t pixels[] = {11, 12, 13, 14, 15, 16, 17, 18, 19};
     const struct plane plain = {.width = 3, .height = 3, .stride = 3, .pixels = pixels};
@@ -34,5 +71,7 @@ int main(void) {
                 return 1;
             }
         }
-    return 0;
+    int is_joined = are_joined(3, 4) && are_joined(1100, 250) && are_joined(600, 150);
+    printf("%s%s", is_work_right() ? "" : "work", is_joined ? "" : "joined");
+    return !is_work_right() || !is_joined;
 }

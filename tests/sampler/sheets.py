@@ -32,9 +32,9 @@ def sheet_of(grids, across, gap, pixels):
 
 
 def told(sampler, rows, *words):
-    """What is said of all symbols, in its order, and the milliseconds of processor time."""
+    """What is said of all symbols in the usual work, in its order, and the milliseconds of processor time."""
     before = resource.getrusage(resource.RUSAGE_CHILDREN).ru_utime
-    done = run([sampler, "--all", "--json", "--time=100000", *words], pgm(rows) if rows else b"")
+    done = run([sampler, "--all", "--json", *words], pgm(rows) if rows else b"")
     took = 1000 * (resource.getrusage(resource.RUSAGE_CHILDREN).ru_utime - before)
     return [json.loads(line)["message"] for line in done.stdout.splitlines()], took, (done.returncode, done.stderr)
 
@@ -74,6 +74,18 @@ def trays(sampler):
     check("a tray", (got, ended), (messages, (0, b"")))
 
 
+def noisy_sheets(sampler):
+    """Of sheets that are turned and full of noise, whose symbols nearly touch, those are read too whose borders the
+    noise hides from who doesn't know where its neighbours are."""
+    chance = random.Random(32)
+    for angle, noise in ((3.03, 22), (2.32, 16), (4.21, 10), (4.04, 16)):
+        messages, grids = labels(64, chance)
+        rows = [[max(0, min(255, level + round(chance.gauss(0, noise)))) for level in row]
+                for row in tilted(sheet_of(grids, 8, 1, 4), angle)]
+        got, _, ended = told(sampler, rows)
+        check(f"noise of {noise}, turned by {angle}", (sorted(got), ended), (sorted(messages), (0, b"")))
+
+
 def our_own(folder, sampler):
     """The sheets that the command draws, with their usual quiet zone, are read whole, in their order."""
     env = {**os.environ, "PYTHONPATH": places.PACKAGE, "ECC200_LIBRARY": places.SHARED}
@@ -90,6 +102,7 @@ def our_own(folder, sampler):
 def most(sampler):
     """More symbols than are looked for: those that are found are read, and it is said that there may be more."""
     _, grids = labels(25, random.Random(24))
-    got, _, (status, said) = told(sampler, sheet_of([grids[k % 25] for k in range(1050)], 35, 2, 3))
+    rows = sheet_of([grids[k % 25] for k in range(1050)], 35, 2, 3)
+    got, _, (status, said) = told(sampler, rows, "--time=100000")
     check("more than are looked for", (len(got), status, said),
           (1024, 4, b"dm_sample: -: the search ended early, with 1024 symbols: there may be more\n"))

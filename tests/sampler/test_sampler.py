@@ -83,6 +83,9 @@ class Sampler(Case):
     def test_turned_sheets(self):
         self.told(sheets.turned_sheets, self.sampler)
 
+    def test_noisy_sheets(self):
+        self.told(sheets.noisy_sheets, self.sampler)
+
     def test_trays(self):
         self.told(sheets.trays, self.sampler)
 
@@ -97,6 +100,9 @@ class Sampler(Case):
 
     def test_known_glare(self):
         self.told(damage.glare, self.sampler)
+
+    def test_evidence(self):
+        self.told(damage.evidence, self.sampler)
 
     def test_weak(self):
         self.told(damage.weak, self.sampler)
@@ -187,6 +193,9 @@ class Sampler(Case):
 
     def test_work(self):
         self.told(timing.work, self.sampler)
+
+    def test_large_photographs(self):
+        self.told(timing.photographs, self.sampler)
 
     def test_shares(self):
         self.told(timing.shares, self.sampler)

@@ -105,6 +105,21 @@ def work(sampler):
     check("within the time of a second or two", took < 2 or took, True)
 
 
+def photographs(sampler):
+    """A picture of twelve megapixels with a small symbol in it, and one without, take at most the time of a second,
+    which is twice what they take alone."""
+    wide, high = 4000, 3000
+    for message in ("SMALL", None):
+        rows = cluttered(wide, high, random.Random(9), 40)
+        if message:
+            draw(rows, pixels_of(grid_of(message), 7), 1900, 2300)
+        before = resource.getrusage(resource.RUSAGE_CHILDREN).ru_utime
+        done = run([sampler, "--json"], f"P5 {wide} {high} 255\n".encode() + b"".join(rows))
+        took = resource.getrusage(resource.RUSAGE_CHILDREN).ru_utime - before
+        check(f"twelve megapixels: {message}", json.loads(done.stdout or b"{}").get("message"), message)
+        check(f"twelve megapixels: the time, {message}", took < 1 or took, True)
+
+
 def shares(sampler):
     """However much is tried by the first ways to search, enough is left of the usual work for those behind them: a
     symbol that is light on dark, among much else."""

@@ -36,7 +36,7 @@ export interface Found extends Grid, Reading {
   isInverted: boolean;
   /** Whether the picture shows it as in a mirror. */
   isMirrored: boolean;
-  /** With this border limit and with `doubtful`, `readGrid` says the same again. */
+  /** With this border limit and with `doubtful`, `readGrid` says the same again, and `normal` gives its normal symbol. */
   limit: number;
   /** Why it isn't read; null if it is. */
   fault: Fault | null;
@@ -82,7 +82,8 @@ export function write(message: string | ArrayLike<number>, form?: Form): Grid;
 /** What an upright grid says. Throws Refused. */
 export function readGrid(grid: Grid, more?: { limit?: number; doubtful?: Uint8Array | null }): Message & Reading;
 /** The normal symbol of what an upright grid says: symbols that say the same have the same one. Throws Refused. */
-export function normal(grid: Grid, more?: { limit?: number; form?: "ascii" | "shorter" }): Grid;
+export function normal(grid: Grid,
+  more?: { limit?: number; doubtful?: Uint8Array | null; form?: "ascii" | "shorter" }): Grid;
 /** The 48 sizes of symbols. */
 export function sizes(): SizeOfSymbol[];
 /** The luminance of each pixel, as `read` takes it. */

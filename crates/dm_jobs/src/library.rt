@@ -6,9 +6,10 @@ ghost use Rattle.dm_layout.specs.symbols.Sizes.{most_modules};
 use crate::chance::Chance;
 use crate::digest::Digest;
 use dm_layout::symbols::{MOST_BLOCKS, MOST_MODULES};
-use dm_words::LARGEST_ROOM;
+use dm_words::{LARGEST_MARKS, LARGEST_ROOM};
 use ecc200_calls::{
-    Fault, How, ReadingOut, SymbolOut, normal as normalise, read, usual_limit, write,
+    Fault, HeadNumbers, How, MarkNumbers, ReadingOut, SymbolOut, normal as normalise, read,
+    usual_limit, write,
 };
 
 /// No fault.
@@ -18,12 +19,22 @@ const NONE: Fault = Fault {
     place: 0,
 };
 
+/// No head.
+const NO_HEAD: HeadNumbers = HeadNumbers {
+    kind: 0,
+    part: 0,
+    parts: 0,
+    file: [0; 2],
+};
+
 /// Squares.
 pub(crate) const SQUARE: How = How {
     form: 0,
     shape: 0,
     rows: 0,
     columns: 0,
+    extent: 0,
+    head: NO_HEAD,
 };
 
 /// The size with these rows and columns.
@@ -33,6 +44,8 @@ pub(crate) fn exact(rows: u16, columns: u16) -> How {
         shape: 4,
         rows,
         columns,
+        extent: 0,
+        head: NO_HEAD,
     }
 }
 
@@ -89,9 +102,17 @@ impl Caller {
                 border_faults: 0,
                 block_count: 0,
                 item_count: 0,
+                mark_count: 0,
+                identifier: 0,
+                dealing: 0,
+                head: NO_HEAD,
                 corrected: [0; MOST_BLOCKS],
                 erased: [0; MOST_BLOCKS],
                 left: [0; MOST_BLOCKS],
+                marks: [MarkNumbers {
+                    number: 0,
+                    place: 0,
+                }; LARGEST_MARKS],
                 items: [0; LARGEST_ROOM],
             },
             normal: no_symbol(),
@@ -117,7 +138,7 @@ impl Caller {
 
     /// Writes the symbol of these items.
     pub(crate) fn write(&mut self, items: &[u16], how: How, digest: &mut Digest) {
-        let code = write(items, &how, &mut self.symbol);
+        let code = write(items, &[], &how, &mut self.symbol);
         digest.add_code(code);
         let area = self.area();
         digest.add_bytes(&self.symbol.modules[..area]);

@@ -5,7 +5,6 @@ use Rattle.std.specs.Prelude.{IfOk, MatchResult}
 use Rattle.std.proofs.lemmas.Bool.{cases_eq, cases_lt}
 use Rattle.dm_code.specs.Codeword.{IsCodeword, IsNear, differing, distance}
 use Rattle.dm_code.proofs.Exported.{differs_same, differs_le}
-use Rattle.dm_symbol.specs.Reading.{HasNear}
 
 -- Words that agree at the first m places differ in at most as many of the first n places as come after those.
 pub differing_prefix : (w c : List ℕ) (m n : ℕ) → ((i : ℕ) → i < m → get_or w i 0 ≡ get_or c i 0)
@@ -34,15 +33,15 @@ near_itself k word code = record { codeword = code; long = refl; close = omega (
 -- What is found near a word, or that nothing is near it, is also true of an equal word.
 pub found_moves : {E : Type 0} (r : Result ℕ E) (found : List ℕ) (k l : ℕ) (w v : List ℕ) → k ≡ l → w ≡ v
     → MatchResult r (λ n. n ≢ 0 → IsNear k w found) (λ _. (c : List ℕ) → IsNear k w c → ⊥)
-    → MatchResult r (λ n. n ≢ 0 → IsNear l v found) (λ _. HasNear l v → ⊥)
+    → MatchResult r (λ n. n ≢ 0 → IsNear l v found) (λ _. (c : List ℕ) → IsNear l v c → ⊥)
 found_moves (Ok n) found k l w v ek ew h =
     λ some. subst (λ x. IsNear x v found) ek (subst (λ x. IsNear k x found) ew (h some))
 found_moves (Err e) found k l w v ek ew h =
-    λ n. h n.0 (subst (λ x. IsNear x w n.0) (sym ek) (subst (λ x. IsNear l x n.0) (sym ew) n.1))
+    λ c n. h c (subst (λ x. IsNear x w c) (sym ek) (subst (λ x. IsNear l x c) (sym ew) n))
 
 -- A word is corrected at no more places than half as many as it has check codewords.
 pub few_found : {E : Type 0} (r : Result ℕ E) (found : List ℕ) (k : ℕ) (w : List ℕ)
-    → MatchResult r (λ n. n ≢ 0 → IsNear k w found) (λ _. HasNear k w → ⊥)
+    → MatchResult r (λ n. n ≢ 0 → IsNear k w found) (λ _. (c : List ℕ) → IsNear k w c → ⊥)
     → IfOk r (λ n. n ≢ 0 → n ≡ distance w found) → IfOk r (λ n. 2 * n ≤ k)
 few_found (Ok n) found k w near counted =
     elim (cases_eq n 0) [

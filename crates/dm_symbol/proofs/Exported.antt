@@ -1,13 +1,14 @@
 -- What the crates above cite of the proofs of this one: facts of its definitions.
 pub use Rattle.dm_layout.proofs.Exported.{cut_cell, sixteen_shown}
-pub use Rattle.dm_symbol.proofs.CompletedWords.{normal_grid_is_there}
+pub use Rattle.dm_symbol.proofs.GridNormals.{fits_or_not, normal_grid_fits, normal_grid_is_one, normal_grid_is_there}
+pub use Rattle.dm_symbol.proofs.GridNormals.{normal_result_is_there, one_normal_result}
+pub use Rattle.dm_symbol.proofs.Grids.{no_more_items_are_read, one_given, read_is_message, read_result_is_there}
 pub use Rattle.dm_symbol.proofs.LightDoubt.{light_rows, read_alike, normal_alike, shown_alike}
-pub use Rattle.dm_symbol.proofs.EachGrid.{read_result_is_there, fits_or_not, normal_result_is_there}
-pub use Rattle.dm_symbol.proofs.NormalGrids.{normal_grid_is_one}
-pub use Rattle.dm_symbol.proofs.NormalReadings.{normal_grid_fits, one_normal_result}
-pub use Rattle.dm_symbol.proofs.ReadItems.{no_more_items_are_read, read_is_message}
-pub use Rattle.dm_symbol.proofs.Readings.{one_given}
+pub use Rattle.dm_symbol.proofs.LetterDoubt.{letter_read_alike, letter_normal_alike}
+pub use Rattle.dm_symbol.proofs.LetterMessages.{message_reads_letter, results_say_the_same}
+pub use Rattle.dm_symbol.proofs.MessageLetters.{message_tells_letter, fault_tells_of_letters}
+pub use Rattle.dm_symbol.proofs.NormalLetters.{one_normal_letter_result}
 pub use Rattle.dm_symbol.proofs.Rooms.{room_for_each, room_for_most}
-pub use Rattle.dm_symbol.proofs.SizeFacts.{has_that_side}
-pub use Rattle.dm_symbol.proofs.SymbolResults.{normal_symbol, reads_symbol, result_of_symbol}
-pub use Rattle.dm_symbol.proofs.WriteSteps.{too_long_fits_none}
+pub use Rattle.dm_symbol.proofs.SmallestLetterSymbols.{no_letter_written}
+pub use Rattle.dm_symbol.proofs.SquareSizes.{has_that_side}
+pub use Rattle.dm_symbol.proofs.WrittenWords.{no_words_written}

@@ -7,13 +7,12 @@ use Rattle.dm_layout.specs.symbols.Symbols.{SymbolView}
 use Rattle.dm_symbol.specs.declared.letters.LetterReadFault.{LetterReadFault}
 use Rattle.dm_symbol.specs.declared.letters.LetterReadFault.TheVariants as fault
 use Rattle.dm_symbol.specs.declared.letters.LetterNormalFault.{LetterNormalFault}
-use Rattle.dm_symbol.specs.Doubt.{sure_fault_count, erased_in}
-use Rattle.dm_symbol.specs.SymbolReading.{block_readings}
+use Rattle.dm_symbol.specs.Doubt.{sure_fault_count}
+use Rattle.dm_symbol.specs.SymbolReading.{readings_by}
 use Rattle.dm_symbol.specs.SymbolLaws.{AreLight}
 use Rattle.dm_symbol.specs.LetterReading.{LetterReadingView, ReadsLetter, LetterReadResult, letter_reading_of}
 use Rattle.dm_symbol.specs.LetterNormal.{NormalLetterResult}
-use Rattle.dm_symbol.proofs.LightDoubt.{erased_alike, faults_alike, few_alike, restored_alike}
-use Rattle.dm_symbol.proofs.SymbolSteps.{lost_moves, readings_move}
+use Rattle.dm_symbol.proofs.LightDoubt.{faults_alike, few_alike, lost_alike, restored_alike, said_alike}
 
 module _ (doubtful : SymbolView) (light : AreLight doubtful) (modules : SymbolView) (extent : Extent)
     (limit : ℕ) where
@@ -24,21 +23,19 @@ module _ (doubtful : SymbolView) (light : AreLight doubtful) (modules : SymbolVi
   letter_read_alike result (LetterReadResult.border more e) =
       let alike = faults_alike doubtful light modules in
       LetterReadResult.border (subst (λ n. limit < n) alike more) (e ∙ ap (λ n. Err (fault.Border n)) alike)
-  letter_read_alike result (LetterReadResult.block words b few held first e) =
-      LetterReadResult.block words b (few_alike doubtful light modules limit few) held
-      (lost_moves modules.size (erased_in modules.size None) (erased_in modules.size (Some doubtful))
-      (erased_alike doubtful light modules) words b first) e
-  letter_read_alike result (LetterReadResult.words words codewords why few restored refused e) =
-      LetterReadResult.words words codewords why (few_alike doubtful light modules limit few)
-      (restored_alike doubtful light modules words codewords restored) refused e
-  letter_read_alike result (LetterReadResult.letter words codewords letter number few restored said is e) =
-      let readings = readings_move modules.size (erased_in modules.size None) (erased_in modules.size (Some doubtful))
-      (erased_alike doubtful light modules) words codewords in
-      LetterReadResult.letter words codewords letter number (few_alike doubtful light modules limit few)
-      (restored_alike doubtful light modules words codewords restored) said is
-      (e ∙ ap (λ xs. Ok (letter_reading_of letter number xs (sure_fault_count modules None))) readings
-      ∙ ap (λ n. Ok (letter_reading_of letter number
-      (block_readings modules.size (erased_in modules.size (Some doubtful)) words codewords) n))
+  letter_read_alike result (LetterReadResult.block words b few lost e) =
+      LetterReadResult.block words b (few_alike doubtful light modules limit few)
+      (lost_alike doubtful light modules extent words b lost) e
+  letter_read_alike result (LetterReadResult.words d words codewords why few restored refused e) =
+      LetterReadResult.words d words codewords why (few_alike doubtful light modules limit few)
+      (restored_alike doubtful light modules d extent words codewords restored) refused e
+  letter_read_alike result (LetterReadResult.letter d words codewords letter number few restored said is e) =
+      LetterReadResult.letter d words codewords letter number (few_alike doubtful light modules limit few)
+      (restored_alike doubtful light modules d extent words codewords restored) said is
+      (e ∙ ap (λ xs. Ok (letter_reading_of letter number d xs (sure_fault_count modules None)))
+      (said_alike doubtful light modules d words codewords)
+      ∙ ap (λ n. Ok (letter_reading_of letter number d
+      (readings_by d modules.size (Some doubtful) words codewords) n))
       (faults_alike doubtful light modules))
 
   -- It is read as the same letter.
@@ -46,9 +43,10 @@ module _ (doubtful : SymbolView) (light : AreLight doubtful) (modules : SymbolVi
       → ReadsLetter extent modules (Some doubtful) limit letter
   reads_letter_alike letter h = record {
     border = few_alike doubtful light modules limit h.border;
+    dealing = h.dealing;
     words = h.words;
     codewords = h.codewords;
-    restored = restored_alike doubtful light modules h.words h.codewords h.restored;
+    restored = restored_alike doubtful light modules h.dealing extent h.words h.codewords h.restored;
     said = h.said;
   }
 

@@ -16,16 +16,16 @@ use Rattle.dm_symbol.specs.declared.letters.LetterReadFault.TheVariants as fault
 use Rattle.dm_symbol.specs.declared.reading.ReadFault.{ReadFault}
 use Rattle.dm_symbol.specs.declared.reading.ReadFault.TheVariants as message_fault
 use Rattle.dm_symbol.specs.SymbolReading.{ReadingView}
-use Rattle.dm_symbol.specs.Doubt.{sure_fault_count, erased_in}
+use Rattle.dm_symbol.specs.Doubt.{sure_fault_count}
 use Rattle.dm_symbol.specs.SymbolBlocks.{first_data}
-use Rattle.dm_symbol.specs.SymbolReading.{ReadsSymbol, SymbolReadResult, block_readings, symbol_reading_of}
+use Rattle.dm_symbol.specs.SymbolReading.{ReadsSymbol, SymbolReadResult, readings_by, symbol_reading_of}
 use Rattle.dm_symbol.specs.LetterReading.{LetterReadingView, ReadsLetter, LetterReadResult, letter_reading_of}
 use Rattle.dm_symbol.specs.LetterLaws.{SayTheSame}
 use Rattle.dm_words.proofs.Exported.{identifier_is_there}
 use Rattle.dm_symbol.proofs.LetterReadings.{one_letter_result}
 
 -- Data codewords that are refused as a message in the extent `Usual` are refused as a letter with the same fault.
-refused_usual : (extent : Extent) (words : List ℕ) (why : WordFault) → extent ≡ Usual → Refused extent words why
+pub refused_usual : (extent : Extent) (words : List ℕ) (why : WordFault) → extent ≡ Usual → Refused extent words why
     → RefusedIn extent words (words_fault.Word why)
 refused_usual extent words why is r = RefusedIn.of_message why is (subst (λ x. Refused x words why) is r) refl
 
@@ -35,6 +35,7 @@ module _ (modules : SymbolView) (doubtful : Option SymbolView) (limit : ℕ) whe
       → ReadsLetter extent modules doubtful limit (as_letter m)
   message_reads_letter extent m r = record {
     border = r.border;
+    dealing = r.dealing;
     words = r.words;
     codewords = r.codewords;
     restored = r.restored;
@@ -49,6 +50,7 @@ module _ (modules : SymbolView) (doubtful : Option SymbolView) (limit : ℕ) whe
         spelled.0,
         record {
           border = r.border;
+          dealing = r.dealing;
           words = r.words;
           codewords = r.codewords;
           restored = r.restored;
@@ -73,21 +75,21 @@ module _ (modules : SymbolView) (doubtful : Option SymbolView) (limit : ℕ) whe
         let count = sure_fault_count modules doubtful in
         same_by m (Err (message_fault.Border count)) (Err (fault.Border count)) l e (LetterReadResult.border h refl) b
         refl
-    results_say_the_same m l when (SymbolReadResult.block u x h hu first e) b =
-        same_by m (Err (message_fault.Block x)) (Err (fault.Block x)) l e (LetterReadResult.block u x h hu first refl) b
+    results_say_the_same m l when (SymbolReadResult.block u x h lost e) b =
+        same_by m (Err (message_fault.Block x)) (Err (fault.Block x)) l e (LetterReadResult.block u x h lost refl) b
         refl
-    results_say_the_same m l (inl is) (SymbolReadResult.words u c why h hu r e) b =
+    results_say_the_same m l (inl is) (SymbolReadResult.words d u c why h hu r e) b =
         same_by m (Err (message_fault.Words why)) (Err (fault.Words (words_fault.Word why))) l e
-        (LetterReadResult.words u c (words_fault.Word why) h hu
+        (LetterReadResult.words d u c (words_fault.Word why) h hu
         (refused_usual extent (first_data modules.size c) why is r) refl) b refl
-    results_say_the_same m l (inr ok) (SymbolReadResult.words u c why h hu r e) b =
+    results_say_the_same m l (inr ok) (SymbolReadResult.words d u c why h hu r e) b =
         absurd (false≢true (subst IsOk e ok))
-    results_say_the_same m l when (SymbolReadResult.message u c x h hu s e) b =
+    results_say_the_same m l when (SymbolReadResult.message d u c x h hu s e) b =
         let words = first_data modules.size c in
-        let blocks = block_readings modules.size (erased_in modules.size doubtful) u c in
+        let blocks = readings_by d modules.size doubtful u c in
         let count = sure_fault_count modules doubtful in
         let said = spelled_said extent words x s in
         let number = identifier_is_there words (as_letter x) (said_wide extent words (as_letter x) said) in
-        same_by m (Ok (symbol_reading_of x blocks count))
-        (Ok (letter_reading_of (as_letter x) number.0 blocks count)) l e
-        (LetterReadResult.letter u c (as_letter x) number.0 h hu said number.1 refl) b (refl, refl, refl)
+        same_by m (Ok (symbol_reading_of x d blocks count))
+        (Ok (letter_reading_of (as_letter x) number.0 d blocks count)) l e
+        (LetterReadResult.letter d u c (as_letter x) number.0 h hu said number.1 refl) b (refl, refl, refl, refl)

@@ -10,8 +10,10 @@ use Rattle.dm_layout.specs.symbols.Words.{WordsView, data_of}
 use Rattle.dm_symbol.specs.declared.letters.LetterReadFault.{LetterReadFault}
 use Rattle.dm_symbol.specs.declared.letters.LetterReadFault.TheVariants as fault
 use Rattle.dm_symbol.specs.declared.symbol.reading.BlockReading.{BlockReading}
-use Rattle.dm_symbol.specs.Doubt.{sure_fault_count, erased_in}
-use Rattle.dm_symbol.specs.SymbolReading.{block_readings}
+use Rattle.dm_symbol.specs.declared.symbol.dealing.Dealing.{Dealing}
+use Rattle.dm_symbol.specs.Doubt.{sure_fault_count}
+use Rattle.dm_symbol.specs.SymbolBlocks.{first_data}
+use Rattle.dm_symbol.specs.SymbolReading.{readings_by}
 use Rattle.dm_symbol.specs.LetterReading.{LetterReadingView, LetterReadResult, IsLetterRead}
 use Rattle.dm_words.specs.Symbology.{IsIdentifier}
 use Rattle.dm_symbol.specs.LetterReading.{letter_reading_of}
@@ -46,37 +48,39 @@ module _ (extent : Extent) (modules : SymbolView) (doubtful : Option SymbolView)
   faults = sure_fault_count modules doubtful
 
   -- More sure faults than the limit are a right result.
-  pub letter_border_result : (count : ℕ) → IsLost modules doubtful limit (Border count)
+  pub letter_border_result : (count : ℕ) → IsLost extent modules doubtful limit (Border count)
       → LetterReadResult extent modules doubtful limit (Err (fault.Border count))
   letter_border_result count lost = LetterReadResult.border lost.0 (ap (λ n. Err (fault.Border n)) lost.1)
 
   -- Where a block can't be restored, the first such block is a right result.
-  pub letter_lost_result : (b : ℕ) → IsLost modules doubtful limit (Block b)
+  pub letter_lost_result : (b : ℕ) → IsLost extent modules doubtful limit (Block b)
       → LetterReadResult extent modules doubtful limit (Err (fault.Block b))
-  letter_lost_result b (few, held, are_held, first) = LetterReadResult.block held b few are_held first refl
+  letter_lost_result b (few, held, lost) = LetterReadResult.block held b few lost refl
 
-  module _ (w : WordsView) (blocks : List BlockReading) (count : ℕ)
-      (r : IsRestored modules doubtful limit w blocks count) where
+  module _ (w : WordsView) (dealing : Dealing) (blocks : List BlockReading) (count : ℕ)
+      (r : IsRestored extent modules doubtful limit w dealing blocks count) where
+    -- The data codewords are those of the restored codewords.
+    data_words : data_of w ≡ first_data modules.size w.list
+    data_words = restored_data extent modules doubtful limit w dealing blocks count r
+
     -- Where the data codewords are refused, their fault is a right result.
     pub refused_letter_result : (why : LetterFault) → RefusedIn extent (data_of w) why
         → LetterReadResult extent modules doubtful limit (Err (fault.Words why))
     refused_letter_result why refused =
-        LetterReadResult.words r.held w.list why r.few r.restored
-        (subst (λ words. RefusedIn extent words why) (restored_data modules doubtful limit w blocks count r) refused)
-        refl
+        LetterReadResult.words dealing r.held w.list why r.few r.restored
+        (subst (λ words. RefusedIn extent words why) data_words refused) refl
 
     -- Where the data codewords say a letter, the reading is a right result.
     pub said_letter_result : (letter : LetterView) (identifier : ℕ) → SaysIn extent (data_of w) letter
         → IsIdentifier (data_of w) letter identifier
-        → LetterReadResult extent modules doubtful limit (Ok (letter_reading_of letter identifier blocks count))
+        → LetterReadResult extent modules doubtful limit (Ok (letter_reading_of letter identifier dealing blocks count))
     said_letter_result letter identifier says number =
-        let same = restored_data modules doubtful limit w blocks count r in
-        LetterReadResult.letter r.held w.list letter identifier r.few r.restored
-        (subst (λ words. SaysIn extent words letter) same says)
-        (subst (λ words. IsIdentifier words letter identifier) same number)
-        (ap (λ xs. Ok (letter_reading_of letter identifier xs count)) r.readings
-        ∙ ap (λ n. Ok (letter_reading_of letter identifier
-        (block_readings modules.size (erased_in modules.size doubtful) r.held w.list) n)) r.faults_are)
+        LetterReadResult.letter dealing r.held w.list letter identifier r.few r.restored
+        (subst (λ words. SaysIn extent words letter) data_words says)
+        (subst (λ words. IsIdentifier words letter identifier) data_words number)
+        (ap (λ xs. Ok (letter_reading_of letter identifier dealing xs count)) r.readings
+        ∙ ap (λ n. Ok (letter_reading_of letter identifier dealing
+        (readings_by dealing modules.size doubtful r.held w.list) n)) r.faults_are)
 
   -- A result is a fault of the border exactly where there are more sure faults than the limit, and tells their number.
   says_border : (result : Result LetterReadingView LetterReadFault)
@@ -91,9 +95,9 @@ module _ (extent : Extent) (modules : SymbolView) (doubtful : Option SymbolView)
       told : (result : Result LetterReadingView LetterReadFault) → LetterReadResult extent modules doubtful limit result
           → result ≡ Err (fault.Border count) → (limit < faults) × (count ≡ faults)
       told result (LetterReadResult.border more e) f = (more, same_border count faults (sym f ∙ e))
-      told result (LetterReadResult.block u b few hu first e) f = absurd (block_no_border count b (sym e ∙ f))
-      told result (LetterReadResult.words u c why few hu refused e) f = absurd (words_no_border count why (sym e ∙ f))
-      told result (LetterReadResult.letter u c x n few hu said is e) f = absurd (letter_no_border count _ (sym e ∙ f))
+      told result (LetterReadResult.block u b few lost e) f = absurd (block_no_border count b (sym e ∙ f))
+      told result (LetterReadResult.words d u c why few hu refused e) f = absurd (words_no_border count why (sym e ∙ f))
+      told result (LetterReadResult.letter d u c x n few hu said is e) f = absurd (letter_no_border count _ (sym e ∙ f))
 
   -- The result defined for a symbol is what reading it gives.
   pub is_letter_read : (result : Result LetterReadingView LetterReadFault)

@@ -11,16 +11,16 @@ use Rattle.dm_words.proofs.Exported.{said_wide, usual_spells}
 use Rattle.dm_layout.specs.symbols.Symbols.{SymbolView, IsSymbol}
 use Rattle.dm_symbol.specs.declared.letters.LetterReadFault.{LetterReadFault}
 use Rattle.dm_symbol.specs.declared.letters.LetterReadFault.TheVariants as fault
-use Rattle.dm_symbol.specs.Doubt.{sure_fault_count, erased_in}
+use Rattle.dm_symbol.specs.Doubt.{sure_fault_count}
 use Rattle.dm_symbol.specs.SymbolBlocks.{first_data}
-use Rattle.dm_symbol.specs.SymbolReading.{block_readings}
+use Rattle.dm_symbol.specs.SymbolReading.{readings_by}
 use Rattle.dm_symbol.specs.LetterReading.{LetterReadingView, ReadsLetter, LetterReadResult, IsReadAsLetter}
 use Rattle.dm_symbol.specs.LetterReading.{letter_reading_of}
 use Rattle.dm_words.specs.Symbology.{IsIdentifier}
 use Rattle.dm_words.proofs.Exported.{identifier_is_one, identifier_is_there}
 use Rattle.dm_symbol.proofs.SymbolOutcomes.{Outcome, IsOutcome, one_outcome, some_outcome}
 use Rattle.dm_symbol.proofs.SymbolOutcomes.Outcome.{Border, Block, Words, Says}
-use Rattle.dm_symbol.proofs.SymbolReadings.{restored_is_one}
+use Rattle.dm_symbol.proofs.SymbolReadings.{restored_is_one, restored_wide}
 
 -- What is said in an extent can be said in it.
 said_in : (extent : Extent) (words : List ℕ) (letter : LetterView) → SaysIn extent words letter
@@ -67,7 +67,8 @@ module _ (modules : SymbolView) (doubtful : Option SymbolView) where
       → ReadsLetter extent modules doubtful k x → ReadsLetter other modules doubtful l y → x ≡ y
   one_symbol_letter extent other k l x y hx hy =
       let same : hx.codewords ≡ hy.codewords =
-      (restored_is_one modules doubtful hx.words hx.codewords hy.words hy.codewords hx.restored hy.restored).1 in
+      (restored_is_one modules doubtful extent other hx.dealing hy.dealing hx.words hx.codewords hy.words hy.codewords
+      hx.restored hy.restored).1 in
       said_is_one extent other (first_data modules.size hy.codewords) x y
       (subst (λ c. SaysIn extent (first_data modules.size c) x) same hx.said) hy.said
 
@@ -83,33 +84,33 @@ module _ (modules : SymbolView) (doubtful : Option SymbolView) where
   result_for (Border count) = Err (fault.Border count)
   result_for (Block index) = Err (fault.Block index)
   result_for (Words why) = Err (fault.Words why)
-  result_for (Says words codewords said) =
-      Ok (letter_reading_of said.letter said.identifier
-      (block_readings modules.size (erased_in modules.size doubtful) words codewords)
+  result_for (Says dealing words codewords said) =
+      Ok (letter_reading_of said.letter said.identifier dealing
+      (readings_by dealing modules.size doubtful words codewords)
       (sure_fault_count modules doubtful))
 
   module _ (extent : Extent) (limit : ℕ) where
     -- The outcome for what the symbol says in the extent.
     abbrev pub IsLetterOutcome : Outcome Identified LetterFault → Type 0
-    IsLetterOutcome = IsOutcome (SaysIdentified extent) (RefusedIn extent) modules doubtful limit
+    IsLetterOutcome = IsOutcome (SaysIdentified extent) (RefusedIn extent) extent modules doubtful limit
 
     -- A result is that of an outcome.
     by_outcome : (result : Result LetterReadingView LetterReadFault)
         → LetterReadResult extent modules doubtful limit result
         → (a : Outcome Identified LetterFault) × IsLetterOutcome a × (result ≡ result_for a)
     by_outcome result (LetterReadResult.border h e) = (Border (sure_fault_count modules doubtful), (h, refl), e)
-    by_outcome result (LetterReadResult.block u b h hu first e) = (Block b, (u, h, hu, first), e)
-    by_outcome result (LetterReadResult.words u c why h hu r e) = (Words why, (u, c, h, hu, r), e)
-    by_outcome result (LetterReadResult.letter u c x n h hu s i e) =
-        (Says u c (record { letter = x; identifier = n }), (h, hu, (s, i)), e)
+    by_outcome result (LetterReadResult.block u b h lost e) = (Block b, (u, h, lost), e)
+    by_outcome result (LetterReadResult.words d u c why h hu r e) = (Words why, (d, u, c, h, hu, r), e)
+    by_outcome result (LetterReadResult.letter d u c x n h hu s i e) =
+        (Says d u c (record { letter = x; identifier = n }), (h, hu, (s, i)), e)
 
     -- An outcome has its result.
     of_outcome : (a : Outcome Identified LetterFault) → IsLetterOutcome a
         → LetterReadResult extent modules doubtful limit (result_for a)
     of_outcome (Border count) (h, e) = LetterReadResult.border h (ap (λ n. Err (fault.Border n)) e)
-    of_outcome (Block index) (u, h, hu, first) = LetterReadResult.block u index h hu first refl
-    of_outcome (Words why) (u, c, h, hu, r) = LetterReadResult.words u c why h hu r refl
-    of_outcome (Says u c x) (h, hu, (s, i)) = LetterReadResult.letter u c x.letter x.identifier h hu s i refl
+    of_outcome (Block index) (u, h, lost) = LetterReadResult.block u index h lost refl
+    of_outcome (Words why) (d, u, c, h, hu, r) = LetterReadResult.words d u c why h hu r refl
+    of_outcome (Says d u c x) (h, hu, (s, i)) = LetterReadResult.letter d u c x.letter x.identifier h hu s i refl
 
     -- A symbol has at most one result.
     pub one_letter_result : (a b : Result LetterReadingView LetterReadFault)
@@ -118,7 +119,7 @@ module _ (modules : SymbolView) (doubtful : Option SymbolView) where
         let x = by_outcome a h in
         let y = by_outcome b k in
         let same : x.0 ≡ y.0 =
-        one_outcome (SaysIdentified extent) (RefusedIn extent) modules doubtful limit (one_identified extent)
+        one_outcome (SaysIdentified extent) (RefusedIn extent) extent modules doubtful limit (one_identified extent)
         (refused_is_one extent) (λ words a why bytes s. said_not_refused extent words a.letter why bytes s.0) x.0 y.0
         x.1 y.1 in
         x.2 ∙ ap result_for same ∙ sym y.2
@@ -127,7 +128,7 @@ module _ (modules : SymbolView) (doubtful : Option SymbolView) where
     pub some_letter_result : IsSymbol modules
         → (result : Result LetterReadingView LetterReadFault) × LetterReadResult extent modules doubtful limit result
     some_letter_result h =
-        let a = some_outcome (SaysIdentified extent) (RefusedIn extent) modules doubtful limit
+        let a = some_outcome (SaysIdentified extent) (RefusedIn extent) extent modules doubtful limit
         (identified_or_refused extent) h in
         (result_for a.0, of_outcome a.0 a.1)
 
@@ -144,8 +145,8 @@ module _ (modules : SymbolView) (doubtful : Option SymbolView) where
         by (Border count) h = inr (fault.Border count, of_outcome (Border count) h)
         by (Block index) h = inr (fault.Block index, of_outcome (Block index) h)
         by (Words why) h = inr (fault.Words why, of_outcome (Words why) h)
-        by (Says u c x) (h, hu, (s, i)) =
-            inl (x.letter, record { border = h; words = u; codewords = c; restored = hu; said = s })
+        by (Says d u c x) (h, hu, (s, i)) =
+            inl (x.letter, record { border = h; dealing = d; words = u; codewords = c; restored = hu; said = s })
 
     -- A symbol that is read as a letter has a result that is a reading of it.
     result_of_letter : (x : LetterView) → ReadsLetter extent modules doubtful limit x
@@ -155,8 +156,8 @@ module _ (modules : SymbolView) (doubtful : Option SymbolView) where
         let words = first_data modules.size r.codewords in
         let number = identifier_is_there words x (said_wide extent words x r.said) in
         let a : Identified = record { letter = x; identifier = number.0 } in (
-          result_for (Says r.words r.codewords a),
-          LetterReadResult.letter r.words r.codewords x number.0 r.border r.restored r.said number.1 refl,
+          result_for (Says r.dealing r.words r.codewords a),
+          LetterReadResult.letter r.dealing r.words r.codewords x number.0 r.border r.restored r.said number.1 refl,
           refl,
         )
 
@@ -181,8 +182,9 @@ module _ (modules : SymbolView) (doubtful : Option SymbolView) where
         by (Border count) h same = absurd same
         by (Block index) h same = absurd same
         by (Words why) h same = absurd same
-        by (Says u c y) (h, hu, (s, i)) same = record {
+        by (Says d u c y) (h, hu, (s, i)) same = record {
           border = h;
+          dealing = d;
           words = u;
           codewords = c;
           restored = hu;
@@ -214,6 +216,6 @@ wide_reads_the_usual_letter modules doubtful limit reading a =
     by (Border count) h e = absurd (ok_no_fault reading (fault.Border count) e)
     by (Block index) h e = absurd (ok_no_fault reading (fault.Block index) e)
     by (Words why) h e = absurd (ok_no_fault reading (fault.Words why) e)
-    by (Says u c x) (h, hu, (s, i)) e =
-        LetterReadResult.letter u c x.letter x.identifier h hu
+    by (Says d u c x) (h, hu, (s, i)) e =
+        LetterReadResult.letter d u c x.letter x.identifier h (restored_wide modules doubtful Usual d u c hu)
         (SaysIn.of_letter refl (said_wide Usual (first_data modules.size c) x.letter s)) i e

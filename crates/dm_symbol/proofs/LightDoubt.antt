@@ -8,23 +8,29 @@ use Rattle.std.proofs.lemmas.List.Sums.{sum_by-cons}
 use Rattle.dm_place.specs.Border.{symbol_line}
 use Rattle.dm_place.specs.Placement.{place}
 use Rattle.dm_words.specs.declared.extent.Extent.{Extent}
+use Rattle.dm_words.specs.declared.extent.Extent.TheVariants.{Wide}
 use Rattle.dm_words.specs.declared.item.Item.{Item}
 use Rattle.dm_words.specs.declared.profile.Profile.{Profile}
 use Rattle.dm_layout.specs.symbols.Sizes.{SizeEntry, mapping_rows, mapping_columns, codeword_count}
 use Rattle.dm_layout.specs.symbols.Symbols.{SymbolView, rows_of}
 use Rattle.dm_layout.specs.symbols.Border.{is_fault}
 use Rattle.dm_layout.specs.symbols.Blocks.{places_of_block}
+use Rattle.dm_symbol.specs.declared.symbol.dealing.Dealing.{Dealing}
+use Rattle.dm_symbol.specs.declared.symbol.dealing.Dealing.TheVariants.{Standard, Restarted}
 use Rattle.dm_symbol.specs.declared.symbol.inspection.SymbolInspectionIn.{SymbolInspectionIn}
 use Rattle.dm_symbol.specs.declared.reading.ReadFault.{ReadFault}
 use Rattle.dm_symbol.specs.declared.reading.ReadFault.TheVariants as fault
 use Rattle.dm_symbol.specs.declared.normalising.NormalFault.{NormalFault}
 use Rattle.dm_symbol.specs.Doubt.{is_doubtful, is_doubtful_bit, is_erased, erased_in, is_sure_fault, sure_fault_count}
-use Rattle.dm_symbol.specs.SymbolReading.{ReadingView, AreRestored, ReadsSymbol, SymbolReadResult, block_readings}
-use Rattle.dm_symbol.specs.SymbolReading.{symbol_reading_of}
+use Rattle.dm_symbol.specs.Dealings.{dealt, erased_by, restarted_place}
+use Rattle.dm_symbol.specs.SymbolReading.{ReadingView, IsTried, AreRestored, AreLost, IsFirstLost, ReadsSymbol}
+use Rattle.dm_symbol.specs.SymbolReading.{SymbolReadResult, readings_by, symbol_reading_of}
+use Rattle.dm_symbol.specs.NormalOutcomes.{IsNormalOrFault}
 use Rattle.dm_symbol.specs.SymbolNormal.{NormalSymbolResult}
 use Rattle.dm_symbol.specs.SymbolInspection.{IsSymbolInspection}
 use Rattle.dm_symbol.specs.SymbolLaws.{AreLight}
-use Rattle.dm_symbol.proofs.SymbolDoubt.{erased_by_none, erased_nowhere, same_any}
+use Rattle.dm_symbol.proofs.SymbolDoubt.{erased_nowhere, same_any}
+use Rattle.dm_symbol.proofs.Dealings.{erased_by_nothing}
 use Rattle.dm_symbol.proofs.SymbolSteps.{near_moves, lost_moves, mended_moves, readings_move}
 
 -- The sure border faults are as many where the same modules are doubtful.
@@ -90,6 +96,46 @@ light_rows rows columns list h row column =
     light_by (λ r c. get_or list (r * columns + c) false) rows columns
     (λ r c. light_list list h (r * columns + c)) 0 row column
 
+-- Where the same places are erased by each dealing, the same is tried, restored and lost.
+module _ (modules : SymbolView) (p q : Option SymbolView)
+    (same : (d : Dealing) (b : ℕ) → b < modules.size.blocks
+    → erased_by d modules.size p b ≡ erased_by d modules.size q b) where
+  first_moves : (u : List ℕ) (b : ℕ) → IsFirstLost modules.size (erased_in modules.size p) u b
+      → IsFirstLost modules.size (erased_in modules.size q) u b
+  first_moves u b h =
+      lost_moves modules.size (erased_in modules.size p) (erased_in modules.size q) (same Standard) u b h
+
+  pub tried_moves : (d : Dealing) (extent : Extent) (u : List ℕ) → IsTried d extent modules p u
+      → IsTried d extent modules q u
+  tried_moves Standard extent u h = tt
+  tried_moves Restarted extent u h = (h.0, h.1, h.2, first_moves u h.2 h.3)
+
+  pub restored_moves : (d : Dealing) (extent : Extent) (u c : List ℕ) → AreRestored extent modules p d u c
+      → AreRestored extent modules q d u c
+  restored_moves d extent u c h = record {
+    tried = tried_moves d extent u h.tried;
+    by = record {
+      words_held = h.by.words_held;
+      of_size = h.by.of_size;
+      near = near_moves modules.size (erased_by d modules.size p) (erased_by d modules.size q) (same d)
+          (dealt d modules.size u) (dealt d modules.size c) h.by.near;
+    };
+  }
+
+  pub all_lost_moves : ((d : Dealing) (extent : Extent) (u c : List ℕ) → AreRestored extent modules q d u c
+      → AreRestored extent modules p d u c)
+      → (extent : Extent) (u : List ℕ) (b : ℕ) → AreLost extent modules p u b → AreLost extent modules q u b
+  all_lost_moves back extent u b h = record {
+    words_held = h.words_held;
+    first = first_moves u b h.first;
+    otherwise = λ c r. h.otherwise c (back Restarted extent u c r);
+  }
+
+  pub said_moves : (d : Dealing) (u c : List ℕ)
+      → readings_by d modules.size p u c ≡ readings_by d modules.size q u c
+  said_moves d u c = readings_move modules.size (erased_by d modules.size p) (erased_by d modules.size q) (same d)
+      (dealt d modules.size u) (dealt d modules.size c)
+
 module _ (doubtful : SymbolView) (light : AreLight doubtful) where
   -- No codeword is erased.
   none_is_erased : (size : SizeEntry) (word : ℕ) → is_erased size (Some doubtful) word ≡ false
@@ -101,11 +147,14 @@ module _ (doubtful : SymbolView) (light : AreLight doubtful) where
       same_any (is_doubtful_bit size (Some doubtful) word) (λ bit. false) 1 8
       (λ bit low high. light (at bit).0 (at bit).1)
 
-  -- So no place of a block is.
-  pub erased_by_light : (size : SizeEntry) (b : ℕ) → erased_in size (Some doubtful) b ≡ []
-  erased_by_light size b =
+  -- So no place of a block is, by either dealing.
+  erased_by_light : (d : Dealing) (size : SizeEntry) (b : ℕ) → erased_by d size (Some doubtful) b ≡ []
+  erased_by_light Standard size b =
       erased_nowhere 0 (is_erased size (Some doubtful)) (none_is_erased size)
       (places_of_block size.blocks b (codeword_count size))
+  erased_by_light Restarted size b =
+      erased_nowhere 0 (λ j. is_erased size (Some doubtful) (restarted_place size j))
+      (λ j. none_is_erased size (restarted_place size j)) (places_of_block size.blocks b (codeword_count size))
 
   module _ (modules : SymbolView) where
     -- All border faults are sure.
@@ -113,19 +162,30 @@ module _ (doubtful : SymbolView) (light : AreLight doubtful) where
     faults_alike = same_sure_faults modules None (Some doubtful) (λ row column. sym (light row column))
 
     -- The same places are erased, none.
-    pub erased_alike : (b : ℕ) → b < modules.size.blocks
-        → erased_in modules.size None b ≡ erased_in modules.size (Some doubtful) b
-    erased_alike b hb = erased_by_none modules.size b ∙ sym (erased_by_light modules.size b)
+    erased_alike : (d : Dealing) (b : ℕ) → b < modules.size.blocks
+        → erased_by d modules.size None b ≡ erased_by d modules.size (Some doubtful) b
+    erased_alike d b hb = sym (erased_by_nothing d modules.size b) ∙ sym (erased_by_light d modules.size b)
 
     -- The same codewords are restored.
-    pub restored_alike : (words codewords : List ℕ) → AreRestored modules None words codewords
-        → AreRestored modules (Some doubtful) words codewords
-    restored_alike words codewords h = record {
-      words_held = h.words_held;
-      of_size = h.of_size;
-      near = near_moves modules.size (erased_in modules.size None) (erased_in modules.size (Some doubtful))
-          erased_alike words codewords h.near;
-    }
+    pub restored_alike : (d : Dealing) (extent : Extent) (words codewords : List ℕ)
+        → AreRestored extent modules None d words codewords
+        → AreRestored extent modules (Some doubtful) d words codewords
+    restored_alike = restored_moves modules None (Some doubtful) erased_alike
+
+    restored_back : (d : Dealing) (extent : Extent) (words codewords : List ℕ)
+        → AreRestored extent modules (Some doubtful) d words codewords
+        → AreRestored extent modules None d words codewords
+    restored_back = restored_moves modules (Some doubtful) None (λ d b hb. sym (erased_alike d b hb))
+
+    -- The same words are lost.
+    pub lost_alike : (extent : Extent) (words : List ℕ) (b : ℕ) → AreLost extent modules None words b
+        → AreLost extent modules (Some doubtful) words b
+    lost_alike = all_lost_moves modules None (Some doubtful) erased_alike restored_back
+
+    -- The same is said of the blocks.
+    pub said_alike : (d : Dealing) (words codewords : List ℕ) → readings_by d modules.size None words codewords
+        ≡ readings_by d modules.size (Some doubtful) words codewords
+    said_alike = said_moves modules None (Some doubtful) erased_alike
 
     -- As many faults are within a limit.
     pub few_alike : (limit : ℕ) → sure_fault_count modules None ≤ limit
@@ -139,30 +199,28 @@ module _ (doubtful : SymbolView) (light : AreLight doubtful) where
     read_alike extent limit result (SymbolReadResult.border more e) =
         SymbolReadResult.border (subst (λ n. limit < n) faults_alike more)
         (e ∙ ap (λ n. Err (fault.Border n)) faults_alike)
-    read_alike extent limit result (SymbolReadResult.block words b few held first e) =
-        SymbolReadResult.block words b (few_alike limit few) held
-        (lost_moves modules.size (erased_in modules.size None) (erased_in modules.size (Some doubtful)) erased_alike
-        words b first) e
-    read_alike extent limit result (SymbolReadResult.words words codewords why few restored refused e) =
-        SymbolReadResult.words words codewords why (few_alike limit few) (restored_alike words codewords restored)
-        refused e
-    read_alike extent limit result (SymbolReadResult.message words codewords message few restored spelled e) =
-        let said = readings_move modules.size (erased_in modules.size None) (erased_in modules.size (Some doubtful))
-        erased_alike words codewords in
-        SymbolReadResult.message words codewords message (few_alike limit few)
-        (restored_alike words codewords restored) spelled
-        (e ∙ ap (λ xs. Ok (symbol_reading_of message xs (sure_fault_count modules None))) said
-        ∙ ap (λ n. Ok (symbol_reading_of message
-        (block_readings modules.size (erased_in modules.size (Some doubtful)) words codewords) n)) faults_alike)
+    read_alike extent limit result (SymbolReadResult.block words b few lost e) =
+        SymbolReadResult.block words b (few_alike limit few) (lost_alike extent words b lost) e
+    read_alike extent limit result (SymbolReadResult.words d words codewords why few restored refused e) =
+        SymbolReadResult.words d words codewords why (few_alike limit few)
+        (restored_alike d extent words codewords restored) refused e
+    read_alike extent limit result (SymbolReadResult.message d words codewords message few restored spelled e) =
+        SymbolReadResult.message d words codewords message (few_alike limit few)
+        (restored_alike d extent words codewords restored) spelled
+        (e ∙ ap (λ xs. Ok (symbol_reading_of message d xs (sure_fault_count modules None)))
+        (said_alike d words codewords)
+        ∙ ap (λ n. Ok (symbol_reading_of message d
+        (readings_by d modules.size (Some doubtful) words codewords) n)) faults_alike)
 
     -- It is read as the same message.
     reads_alike : (extent : Extent) (limit : ℕ) (message : List Item) → ReadsSymbol extent modules None limit message
         → ReadsSymbol extent modules (Some doubtful) limit message
     reads_alike extent limit message h = record {
       border = few_alike limit h.border;
+      dealing = h.dealing;
       words = h.words;
       codewords = h.codewords;
-      restored = restored_alike h.words h.codewords h.restored;
+      restored = restored_alike h.dealing extent h.words h.codewords h.restored;
       spelled = h.spelled;
     }
 
@@ -170,18 +228,18 @@ module _ (doubtful : SymbolView) (light : AreLight doubtful) where
     pub normal_alike : (extent : Extent) (profile : Profile) (limit : ℕ) (result : Result SymbolView NormalFault)
         → NormalSymbolResult extent profile modules None limit result
         → NormalSymbolResult extent profile modules (Some doubtful) limit result
-    normal_alike extent profile limit result (NormalSymbolResult.normal symbol h e) =
-        NormalSymbolResult.normal symbol
+    normal_alike extent profile limit result (IsNormalOrFault.normal symbol h e) =
+        IsNormalOrFault.normal symbol
         (record {
           message = h.message;
           read = reads_alike extent limit h.message h.read;
           normal_symbol = h.normal_symbol;
         }) e
-    normal_alike extent profile limit result (NormalSymbolResult.too_long h e) =
-        NormalSymbolResult.too_long
+    normal_alike extent profile limit result (IsNormalOrFault.too_long h e) =
+        IsNormalOrFault.too_long
         (record { message = h.message; read = reads_alike extent limit h.message h.read; too_long = h.too_long }) e
-    normal_alike extent profile limit result (NormalSymbolResult.fault why h e) =
-        NormalSymbolResult.fault why (read_alike extent limit (Err why) h) e
+    normal_alike extent profile limit result (IsNormalOrFault.fault why h e) =
+        IsNormalOrFault.fault why (read_alike extent limit (Err why) h) e
 
     -- It has the same inspection.
     pub shown_alike : {room : ℕ} (inspection : SymbolInspectionIn room) → IsSymbolInspection modules None inspection
@@ -190,8 +248,15 @@ module _ (doubtful : SymbolView) (light : AreLight doubtful) where
       held = h.held;
       same_size = h.same_size;
       of_size = h.of_size;
+      dealing = (
+        λ e. let some = h.dealing.0 e in
+            (some.0, restored_alike Restarted Wide inspection.held.list some.0 some.1),
+        λ some. h.dealing.1 (some.0, restored_back Restarted Wide inspection.held.list some.0 some.1),
+      );
       count = h.count;
-      mended = mended_moves modules.size (erased_in modules.size None) (erased_in modules.size (Some doubtful))
-          erased_alike inspection.held.list inspection.mended.list inspection.blocks.items h.mended;
+      mended = mended_moves modules.size (erased_by inspection.dealing modules.size None)
+          (erased_by inspection.dealing modules.size (Some doubtful)) (erased_alike inspection.dealing)
+          (dealt inspection.dealing modules.size inspection.held.list)
+          (dealt inspection.dealing modules.size inspection.mended.list) inspection.blocks.items h.mended;
       border = h.border ∙ faults_alike;
     }

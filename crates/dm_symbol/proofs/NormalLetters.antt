@@ -15,7 +15,7 @@ use Rattle.dm_symbol.specs.declared.letters.LetterNormalFault.TheVariants.{Read,
 use Rattle.dm_symbol.specs.LetterReading.{LetterReadingView, ReadsLetter, LetterReadResult}
 use Rattle.dm_symbol.specs.NormalLetter.{IsNormalOfLetter}
 use Rattle.dm_symbol.specs.LetterNormal.{HasNormalLetter, HasNoNormalLetter, NormalLetterResult, IsLetterNormalised}
-use Rattle.dm_symbol.proofs.EachGrid.{fits_or_not}
+use Rattle.dm_symbol.proofs.GridNormals.{fits_or_not}
 use Rattle.dm_symbol.proofs.LetterReadings.{one_symbol_letter, read_letter_right, one_letter_result, some_letter_result}
 use Rattle.dm_symbol.proofs.LetterReadings.{letter_or_fault, letter_no_fault}
 use Rattle.dm_symbol.proofs.WrittenLetters.{written_letter_is_there, written_reads_letter, written_symbols_tell_letters}

@@ -3,16 +3,22 @@ use Rattle.std.proofs.Common.{◌≡◌, ℕ, ◌≤◌, List, length, Option, a
 use Rattle.std.specs.List.{range_with_len}
 use Rattle.std.proofs.lemmas.List.{length-map}
 use Rattle.std.proofs.lemmas.List.FromFn.{length-range_with_len}
+use Rattle.dm_words.specs.declared.extent.Extent.{Extent}
+use Rattle.dm_words.specs.declared.extent.Extent.TheVariants.{Wide}
 use Rattle.dm_layout.specs.symbols.Sizes.{SizeEntry, block_check}
 use Rattle.dm_layout.specs.symbols.Symbols.{SymbolView}
 use Rattle.dm_layout.specs.symbols.Words.{WordsView, data_of}
 use Rattle.dm_layout.specs.symbols.Holding.{Holds}
+use Rattle.dm_symbol.specs.declared.symbol.dealing.Dealing.{Dealing}
+use Rattle.dm_symbol.specs.declared.symbol.dealing.Dealing.TheVariants.{Standard, Restarted}
 use Rattle.dm_symbol.specs.declared.symbol.reading.BlockReading.{BlockReading}
 use Rattle.dm_symbol.specs.declared.symbol.reading.Lost.TheVariants.{Block}
 use Rattle.dm_symbol.specs.Doubt.{sure_fault_count, erased_in}
+use Rattle.dm_symbol.specs.Dealings.{IsDealtTwoWays, dealt, erased_by}
 use Rattle.dm_symbol.specs.SymbolBlocks.{words_with, AreOfSize, AreHeldBy, AreBlocksNear, block_in, first_data}
-use Rattle.dm_symbol.specs.SymbolReading.{IsFirstLost, block_reading, block_readings}
-use Rattle.dm_symbol.specs.inner.Restoring.{IsRestored, IsLost}
+use Rattle.dm_symbol.specs.SymbolReading.{AreRestoredBy, IsFirstLost, block_reading, block_readings}
+use Rattle.dm_symbol.specs.inner.Restoring.{IsRestored, IsRestarted, IsLost}
+use Rattle.dm_symbol.proofs.SymbolBelow.{held_is_one}
 
 -- Words that modules hold are codewords of a symbol of their size.
 pub held_by_modules : (modules : SymbolView) (w : WordsView) → Holds modules w → AreHeldBy modules w.list
@@ -26,19 +32,32 @@ readings_count size erased u v =
     (λ b. block_reading (block_check size) (erased b) (block_in size u b) (block_in size v b))
     ∙ length-range_with_len 0 size.blocks
 
-module _ (modules : SymbolView) (doubtful : Option SymbolView) (limit : ℕ) where
+module _ (extent : Extent) (modules : SymbolView) (doubtful : Option SymbolView) (limit : ℕ) where
   -- The surely wrong modules of the borders.
   abbrev faults : ℕ
   faults = sure_fault_count modules doubtful
 
-  -- Where a block can't be restored, the symbol is lost by the first such block.
+  -- A block that is lost among words that modules hold is lost.
+  first_of_modules : (w : WordsView) (b : ℕ) → Holds modules w
+      → IsFirstLost w.size (erased_in w.size doubtful) w.list b
+      → IsFirstLost modules.size (erased_in modules.size doubtful) w.list b
+  first_of_modules w b h first = subst (λ s. IsFirstLost s (erased_in s doubtful) w.list b) h.same_size first
+
+  -- Where a block can't be restored, and the other dealing restores nothing where it is tried, the symbol is lost by
+  -- the first such block.
   pub is_lost : (w : WordsView) (b : ℕ) → faults ≤ limit → Holds modules w
-      → IsFirstLost w.size (erased_in w.size doubtful) w.list b → IsLost modules doubtful limit (Block b)
-  is_lost w b few h first = (
+      → IsFirstLost w.size (erased_in w.size doubtful) w.list b
+      → (extent ≡ Wide → IsDealtTwoWays modules.size → (held codewords : List ℕ)
+      → AreRestoredBy Restarted modules doubtful held codewords → ⊥)
+      → IsLost extent modules doubtful limit (Block b)
+  is_lost w b few h first none = (
     few,
     w.list,
-    held_by_modules modules w h,
-    subst (λ s. IsFirstLost s (erased_in s doubtful) w.list b) h.same_size first,
+    record {
+      words_held = held_by_modules modules w h;
+      first = first_of_modules w b h first;
+      otherwise = λ c r. none r.tried.0 r.tried.1 w.list c r.by;
+    },
   )
 
   -- Words that modules hold are restored to those whose blocks are near to theirs.
@@ -46,22 +65,50 @@ module _ (modules : SymbolView) (doubtful : Option SymbolView) (limit : ℕ) whe
       → Holds modules w → v.size ≡ w.size → AreOfSize w.size v.list
       → AreBlocksNear w.size (erased_in w.size doubtful) w.list v.list
       → blocks ≡ block_readings w.size (erased_in w.size doubtful) w.list v.list
-      → IsRestored modules doubtful limit v blocks count
+      → IsRestored extent modules doubtful limit v Standard blocks count
   is_restored w v blocks count few border h same of_size near said = record {
     few = few;
     faults_are = border;
     size = same ∙ h.same_size;
     held = w.list;
     restored = record {
-      words_held = held_by_modules modules w h;
-      of_size = subst (λ s. AreOfSize s v.list) h.same_size of_size;
-      near = subst (λ s. AreBlocksNear s (erased_in s doubtful) w.list v.list) h.same_size near;
+      tried = tt;
+      by = record {
+        words_held = held_by_modules modules w h;
+        of_size = subst (λ s. AreOfSize s v.list) h.same_size of_size;
+        near = subst (λ s. AreBlocksNear s (erased_in s doubtful) w.list v.list) h.same_size near;
+      };
     };
     readings = subst (λ s. blocks ≡ block_readings s (erased_in s doubtful) w.list v.list) h.same_size said;
   }
 
-  module _ (w : WordsView) (blocks : List BlockReading) (count : ℕ)
-      (r : IsRestored modules doubtful limit w blocks count) where
+  -- Where a block is lost in the extent `Wide`, they are restored to what the other dealing gives.
+  pub is_restored_otherwise : (w v : WordsView) (b : ℕ) (blocks : List BlockReading) (count : ℕ) → faults ≤ limit
+      → count ≡ faults → Holds modules w → IsFirstLost w.size (erased_in w.size doubtful) w.list b → extent ≡ Wide
+      → IsRestarted modules doubtful v blocks → IsRestored extent modules doubtful limit v Restarted blocks count
+  is_restored_otherwise w v b blocks count few border h first wide r =
+      let same : w.list ≡ r.held =
+      held_is_one modules w.list r.held (held_by_modules modules w h) r.by.words_held in
+      record {
+        few = few;
+        faults_are = border;
+        size = r.size;
+        held = r.held;
+        restored = record {
+          tried = (
+            wide,
+            r.two_ways,
+            b,
+            subst (λ u. IsFirstLost modules.size (erased_in modules.size doubtful) u b) same
+                (first_of_modules w b h first),
+          );
+          by = r.by;
+        };
+        readings = r.readings;
+      }
+
+  module _ (w : WordsView) (dealing : Dealing) (blocks : List BlockReading) (count : ℕ)
+      (r : IsRestored extent modules doubtful limit w dealing blocks count) where
     -- The data codewords are those of the restored codewords.
     pub restored_data : data_of w ≡ first_data modules.size w.list
     restored_data = ap (λ s. first_data s w.list) r.size
@@ -69,4 +116,5 @@ module _ (modules : SymbolView) (doubtful : Option SymbolView) (limit : ℕ) whe
     -- As much is said of blocks as the symbol has.
     pub restored_count : length blocks ≡ modules.size.blocks
     restored_count =
-        ap length r.readings ∙ readings_count modules.size (erased_in modules.size doubtful) r.held w.list
+        ap length r.readings ∙ readings_count modules.size (erased_by dealing modules.size doubtful)
+        (dealt dealing modules.size r.held) (dealt dealing modules.size w.list)

@@ -24,14 +24,14 @@ pub none_is_read : (extent : Extent) (choice : SizeChoice) (m : List Item) → N
     → NoneIsRead extent choice m
 none_is_read extent choice m none other doubtful limit taken reads =
     none other.size (first_data other.size reads.codewords) taken
-    (data_counted other.size reads.codewords reads.restored.of_size) reads.spelled
+    (data_counted other.size reads.codewords reads.restored.by.of_size) reads.spelled
 
 -- No symbol of a smaller size is read as the message.
 no_smaller : (extent : Extent) (choice : SizeChoice) (m : List Item) (g : SymbolView)
     → IsSmallestSymbol extent choice m g → NoSmallerIsRead extent choice m g
 no_smaller extent choice m g n other doubtful limit taken less reads =
     n.smallest.smallest other.size (first_data other.size reads.codewords) taken less
-    (data_counted other.size reads.codewords reads.restored.of_size) reads.spelled
+    (data_counted other.size reads.codewords reads.restored.by.of_size) reads.spelled
 
 -- The modules in which the completed codewords are laid are the smallest symbol of the message.
 pub laid_is_smallest : (extent : Extent) (choice : SizeChoice) (m : List Item) (modules : SymbolView) (w : WordsView)

@@ -28,7 +28,7 @@ use Rattle.dm_symbol.specs.inner.Marks.{is_mark, marked_in}
 -- ---- how many places a block has
 
 -- A block has as many places as its share of the codewords.
-places_count : (B b count : ℕ) → b < B → length (places_of_block B b count) ≡ share count B b
+pub places_count : (B b count : ℕ) → b < B → length (places_of_block B b count) ≡ share count B b
 places_count B b count hb =
     let words : List ℕ = range_with_len 0 count in
     let long : length words ≡ count = length-range_with_len 0 count in
@@ -75,8 +75,8 @@ same_any p q a (suc n) same =
     ap (λ b. b || list_any p (range_with_len (a + 1) n)) (same a (omega arith) (omega arith))
     ∙ ap (λ b. q a || b) (same_any p q (a + 1) n (λ j low high. same j (omega arith) (omega arith)))
 
--- Two tests that agree on a range give the same where they are asked at those numbers of it that pass a third.
-same_filtered : (f g p : ℕ → Bool) (a n : ℕ) → ((j : ℕ) → a ≤ j → j < a + n → f j ≡ g j)
+-- Functions that agree on a range give the same at those numbers of it that pass a test.
+pub same_filtered : {X : Type 0} (f g : ℕ → X) (p : ℕ → Bool) (a n : ℕ) → ((j : ℕ) → a ≤ j → j < a + n → f j ≡ g j)
     → map f (filter p (range_with_len a n)) ≡ map g (filter p (range_with_len a n))
 same_filtered f g p a zero same = refl
 same_filtered f g p a (suc n) same =
@@ -91,7 +91,7 @@ same_filtered f g p a (suc n) same =
     first false e rest = rest
 
 -- What is asked of what is got is asked at once.
-map_twice : (f : ℕ → Bool) (g : ℕ → ℕ) (xs : List ℕ) → map f (map g xs) ≡ map (λ x. f (g x)) xs
+pub map_twice : (f : ℕ → Bool) (g : ℕ → ℕ) (xs : List ℕ) → map f (map g xs) ≡ map (λ x. f (g x)) xs
 map_twice f g [] = refl
 map_twice f g (x ∷ xs) = ap (λ ys. f (g x) ∷ ys) (map_twice f g xs)
 
@@ -102,7 +102,7 @@ module _ (size : SizeEntry) (rows : List (List Bool)) (marks : List ℕ)
   doubt = record { size = size; rows = rows }
 
   -- A codeword is erased where its mark isn't 0.
-  erased_by_mark : (j : ℕ) → j < codeword_count size → is_erased size (Some doubt) j ≡ is_mark (get_or marks j 0)
+  pub erased_by_mark : (j : ℕ) → j < codeword_count size → is_erased size (Some doubt) j ≡ is_mark (get_or marks j 0)
   erased_by_mark j hj =
       let R = mapping_rows size in
       let C = mapping_columns size in
@@ -130,18 +130,34 @@ module _ (size : SizeEntry) (rows : List (List Bool)) (marks : List ℕ)
       ∙ ap (λ n. map (λ j. is_mark (get_or marks j 0)) (places n)) (sym h.codewords.count)
       ∙ sym (map_twice is_mark at_mark (places (length marks))))
 
+-- Doubtful modules of a size hold marks of that size.
+held_of_size : (size : SizeEntry) (doubtful : SymbolView) (marks : WordsView) → doubtful.size ≡ size
+    → Holds doubtful marks
+    → Holds (record { size = size; rows = doubtful.rows }) (record { size = size; list = marks.list })
+held_of_size size doubtful marks of_size h =
+    let to_size : marks.size ≡ size = h.same_size ∙ of_size in
+    subst (λ s. Holds (record { size = s; rows = doubtful.rows }) (record { size = size; list = marks.list })) of_size
+    (subst (λ s. Holds doubtful (record { size = s; list = marks.list })) to_size h)
+
 -- Doubtful modules of the size of a symbol hold the marks.
 pub erased_by_held : (size : SizeEntry) (doubtful : SymbolView) (marks : WordsView) (b : ℕ) → doubtful.size ≡ size
     → Holds doubtful marks
     → erased_in size (Some doubtful) b ≡ marked_in size (Some marks) b
 erased_by_held size doubtful marks b of_size h =
     let to_size : marks.size ≡ size = h.same_size ∙ of_size in
-    let here : Holds (record { size = size; rows = doubtful.rows }) (record { size = size; list = marks.list }) =
-    subst (λ s. Holds (record { size = s; rows = doubtful.rows }) (record { size = size; list = marks.list })) of_size
-    (subst (λ s. Holds doubtful (record { size = s; list = marks.list })) to_size h) in
+    let here = held_of_size size doubtful marks of_size h in
     ap (λ s. erased_in size (Some (record { size = s; rows = doubtful.rows })) b) of_size
     ∙ erased_by_marks size doubtful.rows marks.list here b
     ∙ ap (λ s. marked_in size (Some (record { size = s; list = marks.list })) b) (sym to_size)
+
+-- A codeword is erased where the mark that these modules hold for it isn't 0.
+pub erased_where_marked : (size : SizeEntry) (doubtful : SymbolView) (marks : WordsView) → doubtful.size ≡ size
+    → Holds doubtful marks → (j : ℕ) → j < codeword_count size
+    → is_erased size (Some doubtful) j ≡ is_mark (get_or marks.list j 0)
+erased_where_marked size doubtful marks of_size h j hj =
+    let here = held_of_size size doubtful marks of_size h in
+    ap (λ s. is_erased size (Some (record { size = s; rows = doubtful.rows })) j) of_size
+    ∙ erased_by_mark size doubtful.rows marks.list here j hj
 
 -- ---- borders
 

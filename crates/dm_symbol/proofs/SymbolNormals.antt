@@ -12,10 +12,10 @@ use Rattle.dm_layout.specs.declared.symbols.size.SizeChoice.{SizeChoice}
 use Rattle.dm_layout.specs.declared.symbols.size.SizeChoice.TheVariants.{Square}
 use Rattle.dm_layout.specs.symbols.Sizes.{block_check}
 use Rattle.dm_layout.specs.symbols.Symbols.{SymbolView}
+use Rattle.dm_symbol.specs.declared.symbol.dealing.Dealing.TheVariants.{Standard}
 use Rattle.dm_symbol.specs.declared.symbol.reading.BlockReading.{BlockReading}
 use Rattle.dm_symbol.specs.declared.reading.ReadFault.{ReadFault}
 use Rattle.dm_symbol.specs.declared.normalising.NormalFault.{NormalFault}
-use Rattle.dm_symbol.specs.declared.normalising.NormalFault.TheVariants.{Read, TooLong}
 use Rattle.dm_symbol.specs.Doubt.{sure_fault_count, erased_in}
 use Rattle.dm_layout.specs.symbols.Holding.{IsLaid}
 use Rattle.dm_words.specs.Spells.{Spells}
@@ -24,21 +24,22 @@ use Rattle.dm_symbol.specs.SymbolReading.{ReadingView, AreRestored, ReadsSymbol,
 use Rattle.dm_symbol.specs.SymbolReading.{symbol_reading_of, block_reading}
 use Rattle.dm_symbol.specs.SymbolReading.{block_readings}
 use Rattle.dm_symbol.specs.NormalSymbol.{IsWrittenIn, IsNormalSymbol, FitsChoice}
+use Rattle.dm_symbol.specs.NormalOutcomes.{IsNormalOrFault}
 use Rattle.dm_symbol.specs.SymbolNormal.{HasNormalSymbol, HasNoNormalSymbol, NormalSymbolResult, IsSymbolNormalised}
 use Rattle.dm_symbol.specs.SymbolLaws.{nothing_wrong}
-use Rattle.dm_symbol.proofs.Below.{spelled_wide}
+use Rattle.dm_symbol.proofs.Below.{one_spelled, spelled_wide}
 use Rattle.dm_symbol.proofs.Distances.{distance_to_itself, near_itself}
 use Rattle.dm_symbol.proofs.SymbolBelow.{near_plain, distance_plain}
 use Rattle.dm_symbol.proofs.SymbolDoubt.{erased_by_none, faults_by_none}
 use Rattle.dm_symbol.proofs.SymbolSteps.{reading_is}
 use Rattle.dm_symbol.proofs.SymbolReadings.{one_symbol_message, one_symbol_result, result_of_symbol, symbol_message}
-use Rattle.dm_symbol.proofs.SymbolReadings.{symbol_read_by_result}
+use Rattle.dm_symbol.proofs.SymbolReadings.{restored_wide, symbol_read_by_result}
 use Rattle.dm_symbol.proofs.SymbolWriteSteps.{chosen_holds}
 use Rattle.dm_symbol.proofs.WrittenWords.{words_written_once, written_fit, written_words_are_there}
 use Rattle.dm_words.specs.NormalForm.{normal_form}
 use Rattle.dm_words.proofs.Exported.{normal_form_codewords, normal_form_count, normal_form_spells}
 use Rattle.dm_layout.proofs.symbols.Exported.{size_facts}
-use Rattle.dm_symbol.proofs.NormalGrids.{one_spelled}
+use Rattle.dm_symbol.proofs.NormalOutcomes.{AreApart, one_normalised, is_normal_given}
 use Rattle.dm_symbol.proofs.SymbolBelow.{held_is_one}
 use Rattle.dm_symbol.proofs.SymbolReadings.{data_are_bytes}
 use Rattle.std.proofs.Common.{length}
@@ -59,35 +60,39 @@ module _ (g : SymbolView) (words : List ℕ) (laid : IsLaid (words_with g.size w
   pub no_sure_fault : sure_fault_count g None ≡ 0
   no_sure_fault = sym (faults_by_none g) ∙ laid.border
 
-  pub laid_restored : AreRestored g None words words
-  laid_restored = record {
-    words_held = laid.holds;
-    of_size = laid.holds.codewords;
-    near = λ b hb.
-        let k = block_check g.size in
-        let block = block_in g.size words b in
-        subst (λ e. IsNearBut k block e block) (sym (erased_by_none g.size b))
-        (near_plain k block block (near_itself k block (checked b hb)));
+  pub laid_restored : (extent : Extent) → AreRestored extent g None Standard words words
+  laid_restored extent = record {
+    tried = tt;
+    by = record {
+      words_held = laid.holds;
+      of_size = laid.holds.codewords;
+      near = λ b hb.
+          let k = block_check g.size in
+          let block = block_in g.size words b in
+          subst (λ e. IsNearBut k block e block) (sym (erased_by_none g.size b))
+          (near_plain k block block (near_itself k block (checked b hb)));
+    };
   }
 
   pub laid_reads : (extent : Extent) (m : List Item) (limit : ℕ) → Spells extent (first_data g.size words) m
       → ReadsSymbol extent g None limit m
   laid_reads extent m limit says = record {
     border = omega (arith, no_sure_fault);
+    dealing = Standard;
     words = words;
     codewords = words;
-    restored = laid_restored;
+    restored = laid_restored extent;
     spelled = says;
   }
 
   pub laid_result : (extent : Extent) (m : List Item) (limit : ℕ) → Spells extent (first_data g.size words) m
       → SymbolReadResult extent g None limit
-      (Ok (symbol_reading_of m (replicate g.size.blocks (nothing_wrong (block_check g.size))) 0))
+      (Ok (symbol_reading_of m Standard (replicate g.size.blocks (nothing_wrong (block_check g.size))) 0))
   unfolding laid_reads
   laid_result extent m limit says =
       let k = block_check g.size in
       let by : SymbolReadResult extent g None limit
-      (Ok (symbol_reading_of m (block_readings g.size (erased_in g.size None) words words)
+      (Ok (symbol_reading_of m Standard (block_readings g.size (erased_in g.size None) words words)
       (sure_fault_count g None))) =
       result_of_symbol g None extent limit m (laid_reads extent m limit says) in
       let clean : (b : ℕ) → block_reading k (erased_in g.size None b) (block_in g.size words b)
@@ -101,8 +106,9 @@ module _ (g : SymbolView) (words : List ℕ) (laid : IsLaid (words_with g.size w
       map_to_one (λ b. block_reading k (erased_in g.size None b) (block_in g.size words b) (block_in g.size words b))
       (nothing_wrong k) 0 g.size.blocks clean in
       subst (λ faults. SymbolReadResult extent g None limit
-      (Ok (symbol_reading_of m (replicate g.size.blocks (nothing_wrong k)) faults))) no_sure_fault
-      (subst (λ said. SymbolReadResult extent g None limit (Ok (symbol_reading_of m said (sure_fault_count g None))))
+      (Ok (symbol_reading_of m Standard (replicate g.size.blocks (nothing_wrong k)) faults))) no_sure_fault
+      (subst (λ said. SymbolReadResult extent g None limit
+      (Ok (symbol_reading_of m Standard said (sure_fault_count g None))))
       all by)
 
 -- The data codewords of a symbol in which a message is written spell it.
@@ -144,7 +150,7 @@ pub written_result : (extent : Extent) (choice : SizeChoice) (p : Profile) (m : 
     (limit : ℕ) → IsMessage m
     → IsWrittenIn choice p m g
     → SymbolReadResult extent g None limit
-    (Ok (symbol_reading_of m (replicate g.size.blocks (nothing_wrong (block_check g.size))) 0))
+    (Ok (symbol_reading_of m Standard (replicate g.size.blocks (nothing_wrong (block_check g.size))) 0))
 written_result extent choice p m g limit h n =
     laid_result g n.words n.laid n.checked extent m limit (written_spells extent choice p m g h n)
 
@@ -153,7 +159,7 @@ pub written_is_read : (extent : Extent) (choice : SizeChoice) (p : Profile) (m :
     (limit : ℕ)
     (result : Result ReadingView ReadFault) → IsMessage m → IsWrittenIn choice p m g
     → SymbolReadResult extent g None limit result
-    ↔ (result ≡ Ok (symbol_reading_of m (replicate g.size.blocks (nothing_wrong (block_check g.size))) 0))
+    ↔ (result ≡ Ok (symbol_reading_of m Standard (replicate g.size.blocks (nothing_wrong (block_check g.size))) 0))
 written_is_read extent choice p m g limit result h n =
     let right = written_result extent choice p m g limit h n in (
       λ a. one_symbol_result g None extent limit _ _ a right,
@@ -175,50 +181,50 @@ written_symbols_tell choice p m n g h hm hn ng nh = (
 err_is : (a b : ReadFault) → ◌≡◌ {A = Result ReadingView ReadFault} (Err a) (Err b) → a ≡ b
 err_is a b e = cc
 
-module _ (extent : Extent) (p : Profile) (modules : SymbolView) (doubtful : Option SymbolView) where
-  -- A symbol has at most one normal symbol under a profile.
-  pub one_normal_symbol : (n o : SymbolView) (k l : ℕ) → HasNormalSymbol extent p modules doubtful k n
-      → HasNormalSymbol extent p modules doubtful l o → n ≡ o
-  one_normal_symbol n o k l hn ho =
-      let same = one_symbol_message modules doubtful extent extent k l hn.message ho.message hn.read ho.read in
-      words_written_once Square (normal_form p ho.message) n o
-      (subst (λ m. IsNormalSymbol p m n) same hn.normal_symbol) ho.normal_symbol
+module _ (extent : Extent) (p : Profile) (modules : SymbolView) (doubtful : Option SymbolView) (limit : ℕ) where
+  -- This has the symbol as its normal symbol.
+  abbrev has : SymbolView → Type 0
+  has = HasNormalSymbol extent p modules doubtful limit
 
-  -- A symbol that is read as a message with a normal symbol isn't read as one that has none.
-  not_too_long : (n : SymbolView) (k l : ℕ) → HasNormalSymbol extent p modules doubtful k n
-      → HasNoNormalSymbol extent p modules doubtful l → ⊥
-  not_too_long n k l h none =
-      let same = one_symbol_message modules doubtful extent extent k l h.message none.message h.read none.read in
-      none.too_long (subst (FitsChoice Square p) same (written_fit Square (normal_form p h.message) n h.normal_symbol))
+  -- It has none.
+  abbrev has_none : Type 0
+  has_none = HasNoNormalSymbol extent p modules doubtful limit
 
-  -- A symbol that is read has no fault of reading.
-  no_fault : (limit : ℕ) (m : List Item) (why : ReadFault) → ReadsSymbol extent modules doubtful limit m
-      → SymbolReadResult extent modules doubtful limit (Err why) → ⊥
-  no_fault limit m why r a = symbol_read_by_result modules doubtful extent limit (Err why) m a r
+  -- It is refused when it is read.
+  abbrev refused : ReadFault → Type 0
+  refused why = SymbolReadResult extent modules doubtful limit (Err why)
+
+  -- A symbol that is read as a message has no other.
+  one_read : (m n : List Item) → ReadsSymbol extent modules doubtful limit m
+      → ReadsSymbol extent modules doubtful limit n → m ≡ n
+  one_read m n a b = one_symbol_message modules doubtful extent extent limit limit m n a b
+
+  -- A symbol has one normal symbol, or none, or is refused when it is read.
+  apart : AreApart has has_none refused
+  apart = record {
+    one = λ n o hn ho. words_written_once Square (normal_form p ho.message) n o
+        (subst (λ m. IsNormalSymbol p m n) (one_read hn.message ho.message hn.read ho.read) hn.normal_symbol)
+        ho.normal_symbol;
+    some_or_none = λ n h none. none.too_long (subst (FitsChoice Square p)
+        (one_read h.message none.message h.read none.read)
+        (written_fit Square (normal_form p h.message) n h.normal_symbol));
+    has_or_refused = λ n why h a. symbol_read_by_result modules doubtful extent limit (Err why) h.message a h.read;
+    none_or_refused = λ why h a. symbol_read_by_result modules doubtful extent limit (Err why) h.message a h.read;
+    one_refused = λ why other a b. err_is why other
+        (one_symbol_result modules doubtful extent limit (Err why) (Err other) a b);
+  }
 
   -- A symbol has at most one result of normalising.
-  pub one_normal_symbol_result : (limit : ℕ) (a b : Result SymbolView NormalFault)
+  pub one_normal_symbol_result : (a b : Result SymbolView NormalFault)
       → NormalSymbolResult extent p modules doubtful limit a
       → NormalSymbolResult extent p modules doubtful limit b → a ≡ b
-  one_normal_symbol_result limit a b (NormalSymbolResult.normal n h e) (NormalSymbolResult.normal o k f) =
-      e ∙ ap (λ x. Ok x) (one_normal_symbol n o limit limit h k) ∙ sym f
-  one_normal_symbol_result limit a b (NormalSymbolResult.normal n h e) (NormalSymbolResult.too_long k f) =
-      absurd (not_too_long n limit limit h k)
-  one_normal_symbol_result limit a b (NormalSymbolResult.normal n h e) (NormalSymbolResult.fault why k f) =
-      absurd (no_fault limit h.message why h.read k)
-  one_normal_symbol_result limit a b (NormalSymbolResult.too_long h e) (NormalSymbolResult.normal o k f) =
-      absurd (not_too_long o limit limit k h)
-  one_normal_symbol_result limit a b (NormalSymbolResult.too_long h e) (NormalSymbolResult.too_long k f) = e ∙ sym f
-  one_normal_symbol_result limit a b (NormalSymbolResult.too_long h e) (NormalSymbolResult.fault why k f) =
-      absurd (no_fault limit h.message why h.read k)
-  one_normal_symbol_result limit a b (NormalSymbolResult.fault why h e) (NormalSymbolResult.normal o k f) =
-      absurd (no_fault limit k.message why k.read h)
-  one_normal_symbol_result limit a b (NormalSymbolResult.fault why h e) (NormalSymbolResult.too_long k f) =
-      absurd (no_fault limit k.message why k.read h)
-  one_normal_symbol_result limit a b (NormalSymbolResult.fault why h e) (NormalSymbolResult.fault other k f) =
-      let same = one_symbol_result modules doubtful extent limit (Err why) (Err other) h k in
-      let inner : why ≡ other = err_is why other same in
-      e ∙ ap (λ x. Err (Read x)) inner ∙ sym f
+  one_normal_symbol_result a b = one_normalised has has_none refused apart a b
+
+  -- The result defined for a symbol is what normalising it gives.
+  pub is_symbol_normalised : (result : Result SymbolView NormalFault)
+      → NormalSymbolResult extent p modules doubtful limit result
+      → IsSymbolNormalised extent p modules doubtful limit result
+  is_symbol_normalised result a = is_normal_given has has_none refused apart result a
 
 -- A normal symbol has itself as its normal symbol, in each extent.
 normal_of_normal : (extent again : Extent) (p : Profile) (modules normal : SymbolView) (doubtful : Option SymbolView)
@@ -238,23 +244,23 @@ pub symbol_twice_is_once : (extent again : Extent) (p : Profile) (modules normal
     → NormalSymbolResult again p normal None other result ↔ (result ≡ Ok normal)
 symbol_twice_is_once extent again p modules normal doubtful limit other result h =
     let itself : NormalSymbolResult again p normal None other (Ok normal) =
-    NormalSymbolResult.normal normal (normal_of_normal extent again p modules normal doubtful limit other h) refl in (
+    IsNormalOrFault.normal normal (normal_of_normal extent again p modules normal doubtful limit other h) refl in (
       λ a. one_normal_symbol_result again p normal None other result (Ok normal) a itself,
       λ e. subst (λ a. NormalSymbolResult again p normal None other a) (sym e) itself,
     )
 
 -- Two symbols that are read have equal normal symbols exactly where their messages are equal.
 pub equal_normal_symbols : (extent other : Extent) (p : Profile) (g h a b : SymbolView) (d e : Option SymbolView)
-    (k l : ℕ) (m n : List Item)
-    → ReadsSymbol extent g d k m → ReadsSymbol other h e l n → HasNormalSymbol extent p g d k a
-    → HasNormalSymbol other p h e l b
+    (k l i j : ℕ) (m n : List Item)
+    → ReadsSymbol extent g d k m → ReadsSymbol other h e l n → HasNormalSymbol extent p g d i a
+    → HasNormalSymbol other p h e j b
     → (a ≡ b) ↔ (m ≡ n)
-equal_normal_symbols extent other p g h a b d e k l m n hm hn ha hb =
+equal_normal_symbols extent other p g h a b d e k l i j m n hm hn ha hb =
     let na : IsNormalSymbol p m a =
-    subst (λ x. IsNormalSymbol p x a) (one_symbol_message g d extent extent k k ha.message m ha.read hm)
+    subst (λ x. IsNormalSymbol p x a) (one_symbol_message g d extent extent i k ha.message m ha.read hm)
     ha.normal_symbol in
     let nb : IsNormalSymbol p n b =
-    subst (λ x. IsNormalSymbol p x b) (one_symbol_message h e other other l l hb.message n hb.read hn)
+    subst (λ x. IsNormalSymbol p x b) (one_symbol_message h e other other j l hb.message n hb.read hn)
     hb.normal_symbol in
     written_symbols_tell Square p m n a b (symbol_message g d extent k m hm) (symbol_message h e other l n hn) na nb
 
@@ -278,93 +284,8 @@ wide_reads_the_usual_symbol modules doubtful limit reading a = moved (Ok reading
         → SymbolReadResult Usual modules doubtful limit result
         → SymbolReadResult Wide modules doubtful limit result
     moved result is (SymbolReadResult.border h e) = no_reading result _ is e
-    moved result is (SymbolReadResult.block u x h hu first e) = no_reading result _ is e
-    moved result is (SymbolReadResult.words u c why h hu refused e) = no_reading result _ is e
-    moved result is (SymbolReadResult.message u c m h hu s e) =
-        SymbolReadResult.message u c m h hu (spelled_wide Usual (first_data modules.size c) m s) e
-
--- ---- what a result of normalising says
-
--- Equal results that are symbols have equal symbols.
-ok_is : (a b : SymbolView) → ◌≡◌ {A = Result SymbolView NormalFault} (Ok a) (Ok b) → a ≡ b
-ok_is a b e = cc
-
--- A fault isn't a symbol.
-err_no_ok : (a : SymbolView) (f : NormalFault) → ◌≡◌ {A = Result SymbolView NormalFault} (Err f) (Ok a) → ⊥
-err_no_ok a f e = cc
-
--- A symbol isn't a fault.
-ok_no_err : (a : SymbolView) (f : NormalFault) → ◌≡◌ {A = Result SymbolView NormalFault} (Ok a) (Err f) → ⊥
-ok_no_err a f e = cc
-
--- Two equal faults of reading say the same.
-read_is : (a b : ReadFault) → ◌≡◌ {A = Result SymbolView NormalFault} (Err (Read a)) (Err (Read b)) → a ≡ b
-read_is a b e = cc
-
--- A fault of reading isn't that the message is too long.
-read_no_too_long : (a : ReadFault) → ◌≡◌ {A = Result SymbolView NormalFault} (Err (Read a)) (Err TooLong) → ⊥
-read_no_too_long a e = cc
-
-module _ (extent : Extent) (p : Profile) (modules : SymbolView) (doubtful : Option SymbolView) (limit : ℕ) where
-  -- The result is a normal symbol exactly where the symbol has it.
-  says_normal : (result : Result SymbolView NormalFault) → NormalSymbolResult extent p modules doubtful limit result
-      → (n : SymbolView)
-      → (result ≡ Ok n) ↔ HasNormalSymbol extent p modules doubtful limit n
-  says_normal result a n = (
-    λ e. told result a e,
-    λ h. one_normal_symbol_result extent p modules doubtful limit result (Ok n) a
-        (NormalSymbolResult.normal n h refl),
-  )
-    where
-      told : (result : Result SymbolView NormalFault) → NormalSymbolResult extent p modules doubtful limit result
-          → result ≡ Ok n
-          → HasNormalSymbol extent p modules doubtful limit n
-      told result (NormalSymbolResult.normal o h e) f =
-          subst (HasNormalSymbol extent p modules doubtful limit) (ok_is o n (sym e ∙ f)) h
-      told result (NormalSymbolResult.too_long h e) f = absurd (err_no_ok n TooLong (sym e ∙ f))
-      told result (NormalSymbolResult.fault why h e) f = absurd (err_no_ok n (Read why) (sym e ∙ f))
-
-  -- The result is that there is none exactly where the symbol has none.
-  says_too_long : (result : Result SymbolView NormalFault) → NormalSymbolResult extent p modules doubtful limit result
-      → (result ≡ Err TooLong) ↔ HasNoNormalSymbol extent p modules doubtful limit
-  says_too_long result a = (
-    λ e. told result a e,
-    λ h. one_normal_symbol_result extent p modules doubtful limit result (Err TooLong) a
-        (NormalSymbolResult.too_long h refl),
-  )
-    where
-      told : (result : Result SymbolView NormalFault) → NormalSymbolResult extent p modules doubtful limit result
-          → result ≡ Err TooLong
-          → HasNoNormalSymbol extent p modules doubtful limit
-      told result (NormalSymbolResult.normal o h e) f = absurd (ok_no_err o TooLong (sym e ∙ f))
-      told result (NormalSymbolResult.too_long h e) f = h
-      told result (NormalSymbolResult.fault why h e) f = absurd (read_no_too_long why (sym e ∙ f))
-
-  -- The result is a fault of reading exactly where the symbol is refused with it.
-  says_fault : (result : Result SymbolView NormalFault) → NormalSymbolResult extent p modules doubtful limit result
-      → (why : ReadFault)
-      → (result ≡ Err (Read why)) ↔ SymbolReadResult extent modules doubtful limit (Err why)
-  says_fault result a why = (
-    λ e. told result a e,
-    λ h. one_normal_symbol_result extent p modules doubtful limit result (Err (Read why)) a
-        (NormalSymbolResult.fault why h refl),
-  )
-    where
-      told : (result : Result SymbolView NormalFault) → NormalSymbolResult extent p modules doubtful limit result
-          → result ≡ Err (Read why)
-          → SymbolReadResult extent modules doubtful limit (Err why)
-      told result (NormalSymbolResult.normal o h e) f = absurd (ok_no_err o (Read why) (sym e ∙ f))
-      told result (NormalSymbolResult.too_long h e) f = absurd (read_no_too_long why (sym f ∙ e))
-      told result (NormalSymbolResult.fault other h e) f =
-          subst (λ x. SymbolReadResult extent modules doubtful limit (Err x)) (read_is other why (sym e ∙ f)) h
-
-  -- The result defined for a symbol is what normalising it gives.
-  pub is_symbol_normalised : (result : Result SymbolView NormalFault)
-      → NormalSymbolResult extent p modules doubtful limit result
-      → IsSymbolNormalised extent p modules doubtful limit result
-  is_symbol_normalised result a = record {
-    result_is = a;
-    normal = says_normal result a;
-    too_long = says_too_long result a;
-    fault = says_fault result a;
-  }
+    moved result is (SymbolReadResult.block u x h lost e) = no_reading result _ is e
+    moved result is (SymbolReadResult.words d u c why h hu refused e) = no_reading result _ is e
+    moved result is (SymbolReadResult.message d u c m h hu s e) =
+        SymbolReadResult.message d u c m h (restored_wide modules doubtful Usual d u c hu)
+        (spelled_wide Usual (first_data modules.size c) m s) e

@@ -11,9 +11,11 @@ use Rattle.dm_layout.specs.symbols.Words.{WordsView, data_of}
 use Rattle.dm_symbol.specs.declared.symbol.reading.BlockReading.{BlockReading}
 use Rattle.dm_symbol.specs.declared.reading.ReadFault.{ReadFault}
 use Rattle.dm_symbol.specs.declared.reading.ReadFault.TheVariants as fault
-use Rattle.dm_symbol.specs.Doubt.{sure_fault_count, erased_in}
+use Rattle.dm_symbol.specs.declared.symbol.dealing.Dealing.{Dealing}
+use Rattle.dm_symbol.specs.Doubt.{sure_fault_count}
+use Rattle.dm_symbol.specs.SymbolBlocks.{first_data}
 use Rattle.dm_symbol.specs.SymbolReading.{ReadingView, SymbolReadResult}
-use Rattle.dm_symbol.specs.SymbolReading.{block_readings, symbol_reading_of, IsSymbolRead}
+use Rattle.dm_symbol.specs.SymbolReading.{readings_by, symbol_reading_of, IsSymbolRead}
 use Rattle.dm_symbol.specs.declared.symbol.reading.Lost.TheVariants.{Border, Block}
 use Rattle.dm_symbol.specs.inner.Restoring.{IsRestored, IsLost}
 use Rattle.dm_symbol.proofs.Restoring.{restored_data}
@@ -43,34 +45,37 @@ module _ (extent : Extent) (modules : SymbolView) (doubtful : Option SymbolView)
   faults = sure_fault_count modules doubtful
 
   -- More sure faults than the limit are a right result.
-  pub border_result : (count : ℕ) → IsLost modules doubtful limit (Border count)
+  pub border_result : (count : ℕ) → IsLost extent modules doubtful limit (Border count)
       → SymbolReadResult extent modules doubtful limit (Err (fault.Border count))
   border_result count lost = SymbolReadResult.border lost.0 (ap (λ n. Err (fault.Border n)) lost.1)
 
   -- Where a block can't be restored, the first such block is a right result.
-  pub lost_result : (b : ℕ) → IsLost modules doubtful limit (Block b)
+  pub lost_result : (b : ℕ) → IsLost extent modules doubtful limit (Block b)
       → SymbolReadResult extent modules doubtful limit (Err (fault.Block b))
-  lost_result b (few, held, are_held, first) = SymbolReadResult.block held b few are_held first refl
+  lost_result b (few, held, lost) = SymbolReadResult.block held b few lost refl
 
-  module _ (w : WordsView) (blocks : List BlockReading) (count : ℕ)
-      (r : IsRestored modules doubtful limit w blocks count) where
+  module _ (w : WordsView) (dealing : Dealing) (blocks : List BlockReading) (count : ℕ)
+      (r : IsRestored extent modules doubtful limit w dealing blocks count) where
+    -- The data codewords are those of the restored codewords.
+    data_words : data_of w ≡ first_data modules.size w.list
+    data_words = restored_data extent modules doubtful limit w dealing blocks count r
+
     -- Where the data codewords are refused, their fault is a right result.
     pub refused_result : (why : WordFault) → Refused extent (data_of w) why
         → SymbolReadResult extent modules doubtful limit (Err (fault.Words why))
     refused_result why refused =
-        SymbolReadResult.words r.held w.list why r.few r.restored
-        (subst (λ words. Refused extent words why) (restored_data modules doubtful limit w blocks count r) refused)
-        refl
+        SymbolReadResult.words dealing r.held w.list why r.few r.restored
+        (subst (λ words. Refused extent words why) data_words refused) refl
 
     -- Where the data codewords spell a message, the reading is a right result.
     pub spelled_result : (m : List Item) → Spells extent (data_of w) m
-        → SymbolReadResult extent modules doubtful limit (Ok (symbol_reading_of m blocks count))
+        → SymbolReadResult extent modules doubtful limit (Ok (symbol_reading_of m dealing blocks count))
     spelled_result m spelled =
-        SymbolReadResult.message r.held w.list m r.few r.restored
-        (subst (λ words. Spells extent words m) (restored_data modules doubtful limit w blocks count r) spelled)
-        (ap (λ xs. Ok (symbol_reading_of m xs count)) r.readings
-        ∙ ap (λ n. Ok (symbol_reading_of m
-        (block_readings modules.size (erased_in modules.size doubtful) r.held w.list) n)) r.faults_are)
+        SymbolReadResult.message dealing r.held w.list m r.few r.restored
+        (subst (λ words. Spells extent words m) data_words spelled)
+        (ap (λ xs. Ok (symbol_reading_of m dealing xs count)) r.readings
+        ∙ ap (λ n. Ok (symbol_reading_of m dealing
+        (readings_by dealing modules.size doubtful r.held w.list) n)) r.faults_are)
 
   -- A result is a fault of the border exactly where there are more sure faults than the limit, and tells their number.
   says_border : (result : Result ReadingView ReadFault) → SymbolReadResult extent modules doubtful limit result
@@ -85,9 +90,9 @@ module _ (extent : Extent) (modules : SymbolView) (doubtful : Option SymbolView)
       told : (result : Result ReadingView ReadFault) → SymbolReadResult extent modules doubtful limit result
           → result ≡ Err (fault.Border count) → (limit < faults) × (count ≡ faults)
       told result (SymbolReadResult.border more e) f = (more, same_border count faults (sym f ∙ e))
-      told result (SymbolReadResult.block u b few hu first e) f = absurd (block_no_border count b (sym e ∙ f))
-      told result (SymbolReadResult.words u c why few hu refused e) f = absurd (words_no_border count why (sym e ∙ f))
-      told result (SymbolReadResult.message u c m few hu spelled e) f = absurd (message_no_border count _ (sym e ∙ f))
+      told result (SymbolReadResult.block u b few lost e) f = absurd (block_no_border count b (sym e ∙ f))
+      told result (SymbolReadResult.words d u c why few hu refused e) f = absurd (words_no_border count why (sym e ∙ f))
+      told result (SymbolReadResult.message d u c m few hu spelled e) f = absurd (message_no_border count _ (sym e ∙ f))
 
   -- The result defined for a symbol is what reading it gives.
   pub is_symbol_read : (result : Result ReadingView ReadFault) → SymbolReadResult extent modules doubtful limit result

@@ -2,22 +2,18 @@
 use Rattle.std.proofs.Common.{◌≡◌, ◌≢◌, ℕ, ◌+◌, ◌<◌, ◌≤◌, List, ◌++◌, length, get_or, take, Option, Some, None}
 use Rattle.std.proofs.Common.{IsSome}
 use Rattle.std.proofs.Common.{inl, inr, refl, sym, ap, subst, ◌∙◌, arith}
-use Rattle.std.specs.Prelude.{true, nat_le, ◌&&◌}
-use Rattle.std.specs.List.{list_all}
-use Rattle.std.proofs.lemmas.Bool.{cases_eq, false≢true, leb-true}
+use Rattle.std.specs.Prelude.{IfSome}
+use Rattle.std.proofs.lemmas.Bool.{cases_eq, false≢true}
 use Rattle.std.proofs.lemmas.List.{get_or-take, length-take-le}
-use Rattle.std.proofs.lemmas.List.Elements.{recursion_from_All}
-use Rattle.std.proofs.lemmas.List.Sums.{AllPass-from_list_all}
 use Rattle.std.proofs.Math.Seq.{take-append_seam}
 use Rattle.dm_code.specs.Codeword.{IsCodeword, distance}
 use Rattle.dm_layout.specs.declared.symbols.size.SizeChoice.{SizeChoice}
-use Rattle.dm_layout.specs.symbols.Sizes.{SizeEntry, entry_for, takes, size_table, block_data, block_check, most_data}
+use Rattle.dm_layout.specs.symbols.Sizes.{SizeEntry, entry_for, block_data, block_check}
 use Rattle.dm_layout.specs.symbols.Blocks.{block_of}
 use Rattle.dm_layout.proofs.symbols.Exported.{data_of_block, same_data_by_blocks}
 use Rattle.dm_layout.proofs.symbols.Exported.{enough}
-use Rattle.dm_layout.proofs.symbols.Exported.{at_found}
 use Rattle.dm_symbol.specs.SymbolBlocks.{words_with, AreOfSize, AreCodewordsOf, block_in, first_data}
-use Rattle.dm_symbol.specs.WrittenWords.{FitChoice}
+use Rattle.dm_symbol.specs.WrittenWords.{FitChoice, HaveRoom, IsRoomFor}
 use Rattle.dm_symbol.proofs.Below.{codewords_apart}
 use Rattle.dm_symbol.proofs.Distances.{differing_prefix}
 use Rattle.dm_symbol.proofs.SymbolBelow.{block_lengths, block_facts}
@@ -97,29 +93,13 @@ pub chosen_holds : (choice : SizeChoice) (count : ℕ) (size : SizeEntry) → en
     → count ≤ size.data_count
 chosen_holds choice count size e = enough choice count (Some size) (sym e)
 
--- No size of the table has more data codewords than the most: this is computed.
-few_data : list_all (λ s. nat_le s.data_count most_data) size_table ≡ true
-unfolding size_table
-few_data = refl
-
--- A size that is chosen has no more.
-chosen_few : (choice : SizeChoice) (count : ℕ) (size : SizeEntry) → entry_for choice count ≡ Some size
-    → size.data_count ≤ most_data
-chosen_few choice count size e =
-    leb-true _ _ (at_found (λ s. nat_le s.data_count most_data ≡ true)
-    (λ s. takes choice s && nat_le count s.data_count) size_table size
-    (recursion_from_All (λ s. nat_le s.data_count most_data ≡ true) size_table
-    (AllPass-from_list_all (λ s. nat_le s.data_count most_data) size_table few_data)) e)
-
--- No size holds more codewords than the largest.
-none_for_more : (choice : SizeChoice) (count : ℕ) (o : Option SizeEntry) → entry_for choice count ≡ o
-    → most_data < count → IsSome o → ⊥
-none_for_more choice count (Some s) e long is =
-    let holds = chosen_holds choice count s e in
-    omega (arith, long, holds, chosen_few choice count s e)
-none_for_more choice count None e long is = absurd (false≢true is)
-
--- Codewords that are more than the largest size holds fit no size of any choice.
-pub too_long_for_all : (choice : SizeChoice) (form : List ℕ) → most_data < length form → FitChoice choice form → ⊥
-too_long_for_all choice form long fits =
-    none_for_more choice (length form) (entry_for choice (length form)) refl long fits
+-- Codewords for which there is no room fit no size of the choice.
+pub too_long_for_room : (choice : SizeChoice) (form : List ℕ) (data_words rows words : ℕ)
+    → HaveRoom choice form data_words rows words → data_words < length form → FitChoice choice form → ⊥
+too_long_for_room choice form data_words rows words room long fits =
+    by_size (entry_for choice (length form)) refl room fits
+  where
+    by_size : (o : Option SizeEntry) → entry_for choice (length form) ≡ o
+        → IfSome o (λ size. IsRoomFor size data_words rows words) → IsSome o → ⊥
+    by_size None e is some = false≢true some
+    by_size (Some size) e is some = omega (arith, chosen_holds choice (length form) size e, is.0, long)

@@ -1,6 +1,6 @@
 -- A normal grid of which some cells are turned over is still read.
 use Rattle.std.proofs.Common.{◌≡◌, ℕ, zero, suc, ◌+◌, ◌-◌, ◌*◌, ◌/◌, ◌%◌, ◌^◌, ◌<◌, ◌≤◌, Bool, true, false, not, ◌&&◌}
-use Rattle.std.proofs.Common.{eqb, List, get_or, inl, inr, refl, sym, ap, subst, ◌∙◌, arith}
+use Rattle.std.proofs.Common.{eqb, List, get_or, None, inl, inr, refl, sym, ap, subst, ◌∙◌, arith}
 use Rattle.std.specs.Bool.{beq}
 use Rattle.std.specs.Int.{bit_at}
 use Rattle.std.proofs.Math.Nat.{pow-suc}
@@ -10,24 +10,35 @@ use Rattle.std.proofs.lemmas.Nat.Bits.{bit_at_lowest, bit_at-suc}
 use Rattle.dm_words.specs.declared.extent.Extent.{Extent}
 use Rattle.dm_words.specs.declared.item.Item.{Item}
 use Rattle.dm_words.specs.declared.profile.Profile.{Profile}
-use Rattle.dm_code.specs.Codeword.{distance, differing}
+use Rattle.dm_code.specs.Codeword.{IsNear, distance, differing}
+use Rattle.dm_code.specs.Erased.{IsNearBut}
 use Rattle.dm_place.specs.declared.shape.Cell.{Cell}
+use Rattle.dm_layout.specs.declared.symbols.size.SizeChoice.TheVariants.{Square}
 use Rattle.dm_layout.specs.Sizes.{SizeRow, IsRow, codeword_count, block_length}
-use Rattle.dm_layout.specs.Grid.{GridView, IsGrid, cell_at}
+use Rattle.dm_layout.specs.Blocks.{block_of}
+use Rattle.dm_layout.specs.Grid.{GridView, IsGrid, cell_at, symbol_modules}
+use Rattle.dm_layout.specs.Words.{WordsView}
+use Rattle.dm_layout.specs.symbols.Sizes.{block_check}
+use Rattle.dm_layout.specs.symbols.Symbols.{SymbolView}
 use Rattle.dm_layout.specs.Border.{border_fault_count, is_fault, is_border, border_is_dark, symbol_line}
 use Rattle.dm_layout.specs.Placement.{place, At, IsPlace}
-use Rattle.dm_layout.specs.Holds.{bit_of}
+use Rattle.dm_layout.specs.Holds.{Holds, bit_of}
 use Rattle.dm_place.proofs.Exported.{one_bit}
-use Rattle.dm_layout.proofs.Exported.{lies_inside, row_facts, same_row, symbol_line-one}
+use Rattle.dm_layout.proofs.Exported.{lies_inside, row_facts, same_row, symbol_line-one, count_at_row, once_at_row}
+use Rattle.dm_layout.proofs.Exported.{every_grid_holds, laid_in_grid, length_of_block, modules_hold, word_of_block}
 use Rattle.dm_words.specs.Messages.{IsMessage}
-use Rattle.dm_symbol.specs.Blocks.{AreHeld, block_at}
+use Rattle.dm_symbol.specs.declared.symbol.dealing.Dealing.TheVariants.{Standard}
+use Rattle.dm_symbol.specs.Doubt.{sure_fault_count}
+use Rattle.dm_symbol.specs.SymbolBlocks.{AreHeldBy, AreOfSize, block_in}
+use Rattle.dm_symbol.specs.SymbolReading.{AreRestored}
 use Rattle.dm_symbol.specs.NormalGrid.{IsNormalGrid}
 use Rattle.dm_symbol.specs.Reading.{Reads}
 use Rattle.dm_symbol.specs.Laws.{turned_cells}
 use Rattle.dm_symbol.proofs.Counts.{cells_grow, none_pass, IsWitness, differing_below_cells}
-use Rattle.dm_symbol.proofs.NormalGrids.{normal_words_spell}
-use Rattle.dm_symbol.proofs.SizeFacts.{Facts, size_facts}
-use Rattle.dm_symbol.proofs.Below.{block_places, block_lengths, each_cell_once, every_grid_holds, shape_count}
+use Rattle.dm_symbol.proofs.SquareSizes.{half}
+use Rattle.dm_symbol.proofs.SymbolBelow.{near_plain}
+use Rattle.dm_symbol.proofs.SymbolDoubt.{erased_by_none, faults_by_none}
+use Rattle.dm_symbol.proofs.SymbolNormals.{written_spells}
 
 -- ---- bits
 
@@ -109,15 +120,16 @@ same_cell : (x y : Cell) → x.row ≡ y.row → x.column ≡ y.column → x ≡
 same_cell x y e f = ap (λ r. At r x.column) e ∙ ap (λ c. At y.row c) f
 
 -- A place of a block is a place of the symbol.
-in_symbol : (size : SizeRow) → Facts size → (b i : ℕ) → b < size.blocks → i < block_length size
+in_symbol : (size : SizeRow) → IsRow size → (b i : ℕ) → b < size.blocks → i < block_length size
     → i * size.blocks + b < codeword_count size
-in_symbol size f b i hb hi = omega (arith, mul-add-lt i size.blocks b (block_length size) hi hb, f.words_dealt)
+in_symbol size row b i hb hi =
+    omega (arith, mul-add-lt i size.blocks b (block_length size) hi hb, (row_facts size row).dealt)
 
 -- Each bit of each codeword of a block has its place.
 is_place : (size : SizeRow) → IsRow size → (b i bit : ℕ) → b < size.blocks → i < block_length size → 1 ≤ bit → bit ≤ 8
     → IsPlace size.mapping (i * size.blocks + b) bit (place size.mapping (i * size.blocks + b) bit)
 is_place size row b i bit hb hi low high = record {
-  word_in = omega (arith, in_symbol size (size_facts size row) b i hb hi, shape_count size row);
+  word_in = omega (arith, in_symbol size row b i hb hi, count_at_row size row);
   from_one = low;
   to_eight = high;
   there = refl;
@@ -140,7 +152,7 @@ one_lies size row b hb i j r c hi hj li lj =
     subst (λ cell. IsPlace size.mapping (j * size.blocks + b) lj.bit cell) same py in
     let both =
     one_bit size.mapping size.mapping x.row x.column (i * size.blocks + b) li.bit (j * size.blocks + b) lj.bit
-    (each_cell_once size row) px py_at in
+    (once_at_row size row) px py_at in
     (same_from_place i b j b size.blocks hb hb (sym both.0)).0
 
 -- Two numbers that equal two different ones differ.
@@ -150,6 +162,10 @@ differ_too a b x y p q other e = other (q ∙ sym e ∙ sym p)
 -- A cell has changed if its colours in the two grids differ.
 abbrev changed : GridView → GridView → ℕ → ℕ → Bool
 changed g h row column = not (beq (cell_at g row column) (cell_at h row column))
+
+-- These are the codewords of a grid of this size.
+abbrev words_of : SizeRow → List ℕ → WordsView
+words_of size list = record { size = size; list = list }
 
 module _ (size : SizeRow) (rows others : List (List Bool)) (u v : List ℕ) where
   -- This is the grid before cells are turned over.
@@ -161,23 +177,23 @@ module _ (size : SizeRow) (rows others : List (List Bool)) (u v : List ℕ) wher
   after = record { size = size; rows = others }
 
   -- A changed codeword has a changed cell.
-  changed_cell : AreHeld before u → AreHeld after v → (b : ℕ) → b < size.blocks → (i : ℕ) → i < block_length size
-      → (get_or (block_at size v b) i 0 ≡ get_or (block_at size u b) i 0 → ⊥)
+  changed_cell : Holds before (words_of size u) → Holds after (words_of size v) → (b : ℕ) → b < size.blocks
+      → (i : ℕ) → i < block_length size
+      → (get_or (block_of size.blocks b v) i 0 ≡ get_or (block_of size.blocks b u) i 0 → ⊥)
       → IsWitness size.side (changed before after) (LiesAt size b) i
   changed_cell held_u held_v b hb i hi other =
       let row = held_u.square.row in
-      let f = size_facts size row in
       let word = i * size.blocks + b in
-      let within = in_symbol size f b i hb hi in
-      let at_u = block_places size u held_u.codewords b i hb hi in
-      let at_v = block_places size v held_v.codewords b i hb hi in
+      let within = in_symbol size row b i hb hi in
+      let at_u = word_of_block (words_of size u) b i held_u.codewords hb hi in
+      let at_v = word_of_block (words_of size v) b i held_v.codewords hb hi in
       let d = colour_differs u v word (held_u.codewords.bytes word 0 (omega (arith, within, held_u.codewords.count)))
       (held_v.codewords.bytes word 0 (omega (arith, within, held_v.codewords.count)))
-      (differ_too (get_or (block_at size u b) i 0) (get_or (block_at size v b) i 0) (get_or u word 0)
+      (differ_too (get_or (block_of size.blocks b u) i 0) (get_or (block_of size.blocks b v) i 0) (get_or u word 0)
       (get_or v word 0) at_u at_v other) in
       let cell = place size.mapping word d.0 in
       let here = is_place size row b i d.0 hb hi d.1 d.2 in
-      let inside = (each_cell_once size row).inside word d.0 cell here in
+      let inside = (once_at_row size row).inside word d.0 cell here in
       let of_u = held_u.bits word d.0 cell here in
       let of_v = held_v.bits word d.0 cell here in
       record {
@@ -190,13 +206,15 @@ module _ (size : SizeRow) (rows others : List (List Bool)) (u v : List ℕ) wher
       }
 
   -- A block differs in at most as many codewords as cells have changed.
-  block_changes : AreHeld before u → AreHeld after v → (b : ℕ) → b < size.blocks
-      → distance (block_at size v b) (block_at size u b) ≤ turned_cells before after
+  block_changes : Holds before (words_of size u) → Holds after (words_of size v) → (b : ℕ) → b < size.blocks
+      → distance (block_of size.blocks b v) (block_of size.blocks b u) ≤ turned_cells before after
   block_changes held_u held_v b hb =
-      let long = block_lengths size v held_v.codewords b hb in
-      subst (λ k. differing (block_at size v b) (block_at size u b) k ≤ turned_cells before after) (sym long)
-      (differing_below_cells size.side (LiesAt size b) (block_at size v b) (block_at size u b) (block_length size)
-      (changed before after) (one_lies size held_u.square.row b hb) (changed_cell held_u held_v b hb))
+      let long = length_of_block (words_of size v) b held_v.codewords hb in
+      let x = block_of size.blocks b v in
+      let y = block_of size.blocks b u in
+      subst (λ k. differing x y k ≤ turned_cells before after) (sym long)
+      (differing_below_cells size.side (LiesAt size b) x y (block_length size) (changed before after)
+      (one_lies size held_u.square.row b hb) (changed_cell held_u held_v b hb))
 
 -- A grid that has no border fault gets at most as many as cells change.
 border_changes : (size : SizeRow) (rows others : List (List Bool))
@@ -210,6 +228,25 @@ border_changes size rows others none =
     fault_shows (is_border size r c) (cell_at g r c) (cell_at h r c) (border_is_dark size r c)
     (none_pass size.side (is_fault g) r c none hr hc) wrong)
 
+-- Words that are near to codewords of a symbol, block by block, are restored to these where no module is doubtful.
+restored_plainly : (extent : Extent) (modules : SymbolView) (u c : List ℕ) → AreHeldBy modules u → AreOfSize
+    modules.size c
+    → ((b : ℕ) → b < modules.size.blocks
+    → IsNear (block_check modules.size) (block_in modules.size u b) (block_in modules.size c b))
+    → AreRestored extent modules None Standard u c
+restored_plainly extent modules u c held of_size near = record {
+  tried = tt;
+  by = record {
+    words_held = held;
+    of_size = of_size;
+    near = λ b hb.
+        let k = block_check modules.size in
+        subst (λ e. IsNearBut k (block_in modules.size u b) e (block_in modules.size c b))
+        (sym (erased_by_none modules.size b))
+        (near_plain k (block_in modules.size u b) (block_in modules.size c b) (near b hb));
+  };
+}
+
 -- A normal grid of which no more cells are turned over is read as its message.
 turned_reads : (extent : Extent) (p : Profile) (m : List Item) (normal : GridView) (others : List (List Bool))
     (limit : ℕ) → IsMessage m → IsNormalGrid p m normal
@@ -218,28 +255,37 @@ turned_reads : (extent : Extent) (p : Profile) (m : List Item) (normal : GridVie
     → normal.size.limit ≤ limit → Reads extent (record { size = normal.size; rows = others }) limit m
 turned_reads extent p m normal others limit h n is_grid few at_least =
     let size = normal.size in
-    let f = size_facts size n.laid.holds.square.row in
-    let held = every_grid_holds (record { size = size; rows = others }) is_grid in
+    let row = n.is_grid.row in
+    let grid : GridView = record { size = size; rows = others } in
+    let words = n.normal.words in
+    let laid = laid_in_grid normal (words_of size words) row refl n.normal.laid in
+    let some = every_grid_holds grid is_grid in
+    let held : Holds grid (words_of size some.0.list) =
+    subst (Holds grid) (ap (λ s. words_of s some.0.list) some.1.same_size) some.1 in
+    let faults = border_changes size normal.rows others laid.border in
+    let sure : border_fault_count grid ≡ sure_fault_count (symbol_modules grid) None =
+    faults_by_none (symbol_modules grid) in
     record {
-      border = omega (arith, border_changes size normal.rows others n.laid.border, few, at_least);
-      words = held.0;
-      codewords = n.words;
-      corrected = record {
-        words_held = held.1;
-        of_size = n.laid.holds.codewords;
-        near = λ b hb. record {
-          codeword = n.checked b hb;
-          long = block_lengths size n.words n.laid.holds.codewords b hb
-              ∙ sym (block_lengths size held.0 held.1.codewords b hb);
-          close = omega (
-            arith,
-            block_changes size normal.rows others n.words held.0 n.laid.holds held.1 b hb,
-            few,
-            f.half,
-          );
-        };
+      is_grid = is_grid;
+      read = record {
+        border = omega (arith, sure, faults, few, at_least);
+        dealing = Standard;
+        words = some.0.list;
+        codewords = words;
+        restored = restored_plainly extent (symbol_modules grid) some.0.list words (modules_hold grid _ held)
+            n.normal.laid.holds.codewords (λ b hb. record {
+              codeword = n.normal.checked b hb;
+              long = length_of_block (words_of size words) b laid.holds.codewords hb
+                  ∙ sym (length_of_block (words_of size some.0.list) b held.codewords hb);
+              close = omega (
+                arith,
+                block_changes size normal.rows others words some.0.list laid.holds held b hb,
+                few,
+                half size row,
+              );
+            });
+        spelled = written_spells extent Square p m (symbol_modules normal) h n.normal;
       };
-      spelled = normal_words_spell extent p m normal h n;
     }
 
 -- If no more cells of a normal grid are turned over than codewords can be corrected in a block, the grid that comes out
@@ -249,7 +295,7 @@ pub turned_cells_are_read : (extent : Extent) (p : Profile) (m : List Item) (nor
     → grid.size.side ≡ normal.size.side → turned_cells normal grid ≤ normal.size.limit → normal.size.limit ≤ limit
     → Reads extent grid limit m
 turned_cells_are_read extent p m normal grid limit h n is_grid side few at_least =
-    let same : grid.size ≡ normal.size = same_row grid.size normal.size is_grid.row n.laid.holds.square.row side in
+    let same : grid.size ≡ normal.size = same_row grid.size normal.size is_grid.row n.is_grid.row side in
     let whole : ◌≡◌ {A = GridView} grid (record { size = normal.size; rows = grid.rows }) =
     ap (λ (s : SizeRow). let g : GridView = record { size = s; rows = grid.rows } in g) same in
     subst (λ g. Reads extent g limit m) (sym whole)

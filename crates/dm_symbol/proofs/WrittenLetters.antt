@@ -14,6 +14,7 @@ use Rattle.dm_layout.specs.declared.symbols.size.SizeChoice.{SizeChoice}
 use Rattle.dm_layout.specs.symbols.Sizes.{SizeEntry, block_check}
 use Rattle.dm_layout.specs.symbols.Symbols.{SymbolView}
 use Rattle.dm_layout.proofs.symbols.Exported.{size_facts}
+use Rattle.dm_symbol.specs.declared.symbol.dealing.Dealing.TheVariants.{Standard}
 use Rattle.dm_symbol.specs.declared.letters.LetterReadFault.{LetterReadFault}
 use Rattle.dm_symbol.specs.Doubt.{erased_in}
 use Rattle.dm_symbol.specs.SymbolBlocks.{block_in}
@@ -73,16 +74,17 @@ module _ (choice : SizeChoice) (p : Profile) (l : LetterView) where
     pub written_reads_letter : (extent : Extent) (limit : ℕ) → IsSaidIn extent l → ReadsLetter extent g None limit l
     written_reads_letter extent limit said = record {
       border = omega (arith, no_sure_fault g n.words n.laid n.checked);
+      dealing = Standard;
       words = n.words;
       codewords = n.words;
-      restored = laid_restored g n.words n.laid n.checked;
+      restored = laid_restored g n.words n.laid n.checked extent;
       said = subst (λ words. SaysIn extent words l) (sym n.data_words) (form_says extent said);
     }
 
     -- This is said of it, where the codewords that are written have this identifier.
     abbrev pub clean_reading : ℕ → Result LetterReadingView LetterReadFault
     clean_reading number =
-        Ok (letter_reading_of l number (replicate g.size.blocks (nothing_wrong (block_check g.size))) 0)
+        Ok (letter_reading_of l number Standard (replicate g.size.blocks (nothing_wrong (block_check g.size))) 0)
 
     module _ (number : ℕ) (is : IsIdentifier (padded (letter_form p l) g.size.data_count) l number) where
       -- Nothing is wrong in it.
@@ -91,10 +93,10 @@ module _ (choice : SizeChoice) (p : Profile) (l : LetterView) where
       unfolding written_reads_letter
       written_letter_result extent limit said =
           let r = written_reads_letter extent limit said in
-          LetterReadResult.letter r.words r.codewords l number r.border r.restored r.said
+          LetterReadResult.letter r.dealing r.words r.codewords l number r.border r.restored r.said
           (subst (λ words. IsIdentifier words l number) (sym n.data_words) is)
-          (ap (λ blocks. Ok (letter_reading_of l number blocks 0)) (sym (nothing_is_wrong g.size n.words))
-          ∙ ap (λ faults. Ok (letter_reading_of l number
+          (ap (λ blocks. Ok (letter_reading_of l number Standard blocks 0)) (sym (nothing_is_wrong g.size n.words))
+          ∙ ap (λ faults. Ok (letter_reading_of l number Standard
           (block_readings g.size (erased_in g.size None) n.words n.words) faults))
           (sym (no_sure_fault g n.words n.laid n.checked)))
 

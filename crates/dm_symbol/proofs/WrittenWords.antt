@@ -13,10 +13,13 @@ use Rattle.dm_layout.specs.symbols.Holding.{IsLaid}
 use Rattle.dm_layout.proofs.symbols.Exported.{some_laid}
 use Rattle.dm_symbol.specs.SymbolBlocks.{words_with, AreOfSize, AreCodewordsOf, first_data}
 use Rattle.dm_symbol.specs.WrittenWords.{FitChoice, AreWrittenIn, AreWritten}
-use Rattle.dm_symbol.proofs.NormalGrids.{some_is}
 use Rattle.dm_symbol.proofs.SymbolBelow.{held_is_one, laid_is_one}
 use Rattle.dm_symbol.proofs.SymbolCompletions.{checks_for, chosen_stands}
 use Rattle.dm_symbol.proofs.SymbolWriteSteps.{checks_follow, chosen_holds}
+
+-- Two equal results that are there say the same.
+pub some_is : {A : Type 0} (a b : A) → Some a ≡ Some b → a ≡ b
+some_is a b e = cc
 
 module _ (choice : SizeChoice) (form : List ℕ) where
   -- Codewords that are written in a size of the choice fit one.

@@ -1,31 +1,23 @@
--- Which codewords a grid holds, and which they are once each block that a codeword is near is corrected.
-use Rattle.std.specs.Prelude.{◌≡◌, ℕ, ◌<◌, List, Option, Some, None, length, get_or}
-use Rattle.dm_code.specs.Codeword.{IsNear, distance}
-use Rattle.dm_layout.specs.Sizes.{block_check}
-use Rattle.dm_layout.specs.Grid.{GridView}
-use Rattle.dm_layout.specs.Holds.{Holds}
-use Rattle.dm_layout.specs.Border.{border_fault_count}
+-- Which codewords a grid holds, and which they are once each block that a codeword is near is corrected: as inspecting
+-- its symbol shows, with no module doubtful.
+use Rattle.std.specs.Prelude.{◌≡◌, None, map, option_map}
+use Rattle.dm_layout.specs.Sizes.{most_grid_codewords}
+use Rattle.dm_layout.specs.Grid.{GridView, IsGrid, symbol_modules}
+use Rattle.dm_layout.specs.Words.{symbol_words}
 use Rattle.dm_symbol.specs.declared.inspection.Inspection.{Inspection}
-use Rattle.dm_symbol.specs.Blocks.{AreWordsOf, block_at}
-use Rattle.dm_symbol.specs.Reading.{HasNear}
+use Rattle.dm_symbol.specs.declared.symbol.inspection.SymbolInspectionIn.{SymbolInspectionIn}
+use Rattle.dm_symbol.specs.SymbolInspection.{IsSymbolInspection}
 
--- A block with k check codewords is corrected as far as it can be: it becomes the codeword that is near it, which
--- differs from it at `count` places;
--- or it stays as it is, where no codeword is near.
-abbrev pub IsBlockCorrected : ℕ → List ℕ → List ℕ → Option ℕ → Type 0
-IsBlockCorrected k block corrected (Some count) = IsNear k block corrected × (count ≡ distance block corrected)
-IsBlockCorrected k block corrected None = (HasNear k block → ⊥) × (corrected ≡ block)
-
--- The inspection of a grid gives the codewords that it holds; the same, with each block corrected as far as it can be;
--- for each block the
--- number of places at which these differ, or `None` where no codeword is near it; and how many modules of the borders
--- have the wrong colour.
+-- The inspection of a grid gives the codewords that it holds; the same, with each block corrected that differs from a
+-- codeword at no more places than half the number of its check codewords; for each block this number of places, or
+-- `None` where no codeword is so near; and how many modules of the borders have the wrong colour.
 pub record IsInspection (grid : GridView) (inspection : Inspection) : Type 0 where
-  pub held : Holds grid inspection.held
-  pub same_size : inspection.mended.size ≡ grid.size
-  pub of_size : AreWordsOf grid.size inspection.mended.list
-  pub count : length inspection.corrected.items ≡ grid.size.blocks
-  pub mended : (b : ℕ) → b < grid.size.blocks
-      → IsBlockCorrected (block_check grid.size) (block_at grid.size inspection.held.list b)
-      (block_at grid.size inspection.mended.list b) (get_or inspection.corrected.items b None)
-  pub border : inspection.border_faults ≡ border_fault_count grid
+  pub is_grid : IsGrid grid
+  pub of_symbol : SymbolInspectionIn most_grid_codewords
+  pub inspected : IsSymbolInspection (symbol_modules grid) None of_symbol
+  pub held_size : inspection.held.size ≡ grid.size
+  pub held : symbol_words inspection.held ≡ of_symbol.held
+  pub mended_size : inspection.mended.size ≡ grid.size
+  pub mended : symbol_words inspection.mended ≡ of_symbol.mended
+  pub corrected : inspection.corrected.items ≡ map (option_map (λ block. block.corrected)) of_symbol.blocks.items
+  pub border : inspection.border_faults ≡ of_symbol.border_faults

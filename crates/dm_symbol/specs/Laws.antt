@@ -1,5 +1,5 @@
 -- What holds of all messages and grids. The bytes of a message are numbers of 0 to 255.
-use Rattle.std.specs.Prelude.{◌≡◌, ℕ, ◌≤◌, List, Result, Ok, not, replicate, ◌↔◌, sum_by, count_by, length}
+use Rattle.std.specs.Prelude.{◌≡◌, ℕ, ◌≤◌, List, None, Result, Ok, not, replicate, ◌↔◌, sum_by, count_by, length}
 use Rattle.std.specs.Bool.{beq}
 use Rattle.std.specs.List.{range_with_len}
 use Rattle.dm_words.specs.declared.extent.Extent.{Extent}
@@ -7,17 +7,19 @@ use Rattle.dm_words.specs.declared.extent.Extent.TheVariants.{Usual, Wide}
 use Rattle.dm_words.specs.declared.item.Item.{Item}
 use Rattle.dm_words.specs.declared.profile.Profile.{Profile}
 use Rattle.dm_layout.specs.Border.{border_fault_count}
-use Rattle.dm_layout.specs.Sizes.{most_grid_data}
-use Rattle.dm_layout.specs.Grid.{GridView, IsGrid, cell_at}
+use Rattle.dm_layout.specs.Sizes.{most_grid_data, symbol_size}
+use Rattle.dm_layout.specs.Grid.{GridView, IsGrid, cell_at, symbol_modules}
 use Rattle.dm_words.specs.Laws.{AreMacro}
 use Rattle.dm_words.specs.Macros.{macro_text}
 use Rattle.dm_words.specs.Messages.{IsMessage, most_spelled}
 use Rattle.dm_symbol.specs.declared.reading.Reading.{Reading}
 use Rattle.dm_symbol.specs.declared.reading.ReadFault.{ReadFault}
 use Rattle.dm_symbol.specs.declared.normalising.NormalFault.{NormalFault}
-use Rattle.dm_symbol.specs.Blocks.{data_part}
 use Rattle.dm_symbol.specs.NormalGrid.{IsNormalGrid, FitsSomeSize}
-use Rattle.dm_symbol.specs.Reading.{IsCorrected, Reads, ReadResult, reading_of}
+use Rattle.dm_symbol.specs.Reading.{Reads, ReadResult, reading_of}
+use Rattle.dm_symbol.specs.SymbolBlocks.{first_data}
+use Rattle.dm_symbol.specs.declared.symbol.dealing.Dealing.TheVariants.{Standard}
+use Rattle.dm_symbol.specs.SymbolReading.{AreRestoredBy}
 use Rattle.dm_symbol.specs.Normal.{HasNormal, NormalResult}
 
 -- Two normal grids under one profile are equal exactly where their messages are equal.
@@ -149,11 +151,12 @@ EqualNormalGridsMeanEqualMessages =
 -- The data codewords of the grid, as they are corrected, are the macro of this digit and, behind it, parts with the
 -- items of this text.
 pub record ReadsMacro (grid : GridView) (limit digit : ℕ) (text : List Item) : Type 0 where
+  pub is_grid : IsGrid grid
   pub border : border_fault_count grid ≤ limit
   pub words : List ℕ
   pub codewords : List ℕ
-  pub corrected : IsCorrected grid words codewords
-  pub framed : AreMacro digit (data_part grid.size codewords) text
+  pub restored : AreRestoredBy Standard (symbol_modules grid) None words codewords
+  pub framed : AreMacro digit (first_data (symbol_size grid.size) codewords) text
 
 -- A grid whose first data codeword is a macro and one that spells the macro's header, text and trailer out, in whatever
 -- extent that is read, have

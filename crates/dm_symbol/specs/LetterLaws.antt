@@ -11,8 +11,9 @@ use Rattle.dm_words.specs.LetterForm.{letter_form}
 use Rattle.dm_words.specs.Pads.{padded}
 use Rattle.dm_words.specs.Smallest.{IsTaken}
 use Rattle.dm_layout.specs.declared.symbols.size.SizeChoice.{SizeChoice}
-use Rattle.dm_layout.specs.symbols.Sizes.{SizeEntry, block_check, codeword_count, most_rows, most_codewords}
+use Rattle.dm_layout.specs.symbols.Sizes.{SizeEntry, block_check, most_data, most_rows, most_codewords}
 use Rattle.dm_layout.specs.symbols.Symbols.{SymbolView, IsSymbol}
+use Rattle.dm_symbol.specs.declared.symbol.dealing.Dealing.TheVariants.{Standard}
 use Rattle.dm_symbol.specs.declared.letters.LetterReadFault.{LetterReadFault}
 use Rattle.dm_symbol.specs.declared.letters.LetterReadFault.TheVariants as fault
 use Rattle.dm_symbol.specs.declared.letters.LetterNormalFault.{LetterNormalFault}
@@ -25,6 +26,7 @@ use Rattle.dm_symbol.specs.NormalSymbol.{IsWrittenIn}
 use Rattle.dm_symbol.specs.LetterReading.{LetterReadingView, ReadsLetter, LetterReadResult}
 use Rattle.dm_words.specs.Symbology.{IsIdentifier}
 use Rattle.dm_symbol.specs.LetterReading.{letter_reading_of}
+use Rattle.dm_symbol.specs.WrittenWords.{IsRoomFor}
 use Rattle.dm_symbol.specs.NormalLetter.{LetterFits, HasRoomForLetter, IsLetterWrittenIn, IsNormalOfLetter}
 use Rattle.dm_symbol.specs.LetterNormal.{HasNormalLetter, NormalLetterResult}
 
@@ -106,12 +108,12 @@ letter_fault (message_fault.Border count) = fault.Border count
 letter_fault (message_fault.Block index) = fault.Block index
 letter_fault (message_fault.Words why) = fault.Words (words_fault.Word why)
 
--- These results say the same: readings of a message and of the letter with its items, and without a head and marks, in
--- which the same is said of each block and as many border faults are counted; or the same fault.
+-- These results say the same: readings of a message and of the letter with its items, and without a head and marks, by
+-- one dealing, in which the same is said of each block and as many border faults are counted; or the same fault.
 abbrev pub SayTheSame : Result ReadingView ReadFault → Result LetterReadingView LetterReadFault → Type 0
 SayTheSame (Ok message) (Ok letter) =
-    (letter.letter ≡ as_letter message.message) × (letter.blocks ≡ message.blocks)
-    × (letter.border_faults ≡ message.border_faults)
+    (letter.letter ≡ as_letter message.message) × (letter.dealing ≡ message.dealing)
+    × (letter.blocks ≡ message.blocks) × (letter.border_faults ≡ message.border_faults)
 SayTheSame (Ok message) (Err why) = ⊥
 SayTheSame (Err why) (Ok letter) = ⊥
 SayTheSame (Err why) (Err other) = other ≡ letter_fault why
@@ -141,15 +143,16 @@ MessagesAreWrittenAsLetters =
 -- Where there is room for each size of the choice, there is room for the symbol in which a letter is written.
 abbrev pub RoomForEachServesLetters : Type 0
 RoomForEachServesLetters =
-    (choice : SizeChoice) (profile : Profile) (letter : LetterView) (rows words : ℕ)
-    → ((size : SizeEntry) → IsTaken choice size → (size.rows ≤ rows) × (codeword_count size ≤ words))
-    → HasRoomForLetter choice profile letter rows words
+    (choice : SizeChoice) (profile : Profile) (letter : LetterView) (data_words rows words : ℕ)
+    → ((size : SizeEntry) → IsTaken choice size → IsRoomFor size data_words rows words)
+    → HasRoomForLetter choice profile letter data_words rows words
 
--- So there is in room for the most rows and the most codewords that a symbol has, whatever the choice.
+-- So there is in room for the most data codewords, rows and codewords that a symbol has, whatever the choice.
 abbrev pub MostRoomServesLetters : Type 0
 MostRoomServesLetters =
-    (choice : SizeChoice) (profile : Profile) (letter : LetterView) (rows words : ℕ) → most_rows ≤ rows
-    → most_codewords ≤ words → HasRoomForLetter choice profile letter rows words
+    (choice : SizeChoice) (profile : Profile) (letter : LetterView) (data_words rows words : ℕ)
+    → most_data ≤ data_words → most_rows ≤ rows → most_codewords ≤ words
+    → HasRoomForLetter choice profile letter data_words rows words
 
 -- A right letter that fits a size of the choice is written in some symbol; so one that fits a square has a normal
 -- symbol.
@@ -159,8 +162,9 @@ AWrittenLetterIsThere =
     → (modules : SymbolView) × IsLetterWrittenIn choice profile letter modules
 
 -- The symbol in which a right letter is written, in whatever choice of sizes, is read as that letter in each extent in
--- which the letter can be said and for every limit, with nothing wrong in any block and no border fault, and has no
--- other result; so is the normal symbol. Its identifier is that of the codewords that are written.
+-- which the letter can be said and for every limit, by the standard's dealing, with nothing wrong in any block and no
+-- border fault, and has no other result; so is the normal symbol. Its identifier is that of the codewords that are
+-- written.
 abbrev pub WrittenLetterIsRead : Type 0
 WrittenLetterIsRead =
     (extent : Extent) (choice : SizeChoice) (profile : Profile) (letter : LetterView) (modules : SymbolView)
@@ -168,7 +172,7 @@ WrittenLetterIsRead =
     → IsSaidIn extent letter → IsLetterWrittenIn choice profile letter modules
     → IsIdentifier (padded (letter_form profile letter) modules.size.data_count) letter identifier
     → LetterReadResult extent modules None limit result
-    ↔ (result ≡ Ok (letter_reading_of letter identifier
+    ↔ (result ≡ Ok (letter_reading_of letter identifier Standard
     (replicate modules.size.blocks (nothing_wrong (block_check modules.size))) 0))
 
 -- Two symbols in which right letters are written in one choice and under one profile are equal exactly where the

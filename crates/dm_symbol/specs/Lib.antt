@@ -1,10 +1,11 @@
-pub mod Blocks
 pub mod NormalGrid
 pub mod Reading
+pub mod NormalOutcomes
 pub mod Normal
 pub mod Inspection
 pub mod Laws
 pub mod Doubt
+pub mod Dealings
 pub mod SymbolBlocks
 pub mod SymbolReading
 pub mod NormalSymbol
@@ -17,6 +18,8 @@ pub mod LetterReading
 pub mod NormalLetter
 pub mod LetterNormal
 pub mod LetterLaws
+pub mod MessageLetters
+pub mod SmallestLetterSymbol
 pub mod inner
 -- Modules of the layers below, which crates above this one find under its name too: `Rattle.dm_symbol.specs.Grid` is
 -- dm_layout/specs/Grid.antt.

@@ -15,9 +15,9 @@ use Rattle.dm_symbol.specs.WrittenWords.{FitChoice, HaveRoom, AreWrittenIn, AreW
 abbrev pub LetterFits : SizeChoice → Profile → LetterView → Type 0
 LetterFits choice profile letter = FitChoice choice (letter_form profile letter)
 
--- If the letter fits some size of the choice, the smallest of these has at most so many rows and so many codewords. So
--- there is room for the symbol in which the letter is written.
-abbrev pub HasRoomForLetter : SizeChoice → Profile → LetterView → ℕ → ℕ → Type 0
+-- If the letter fits some size of the choice, the smallest of these has at most so many data codewords, so many rows
+-- and so many codewords. So there is room for the symbol in which the letter is written.
+abbrev pub HasRoomForLetter : SizeChoice → Profile → LetterView → ℕ → ℕ → ℕ → Type 0
 HasRoomForLetter choice profile letter = HaveRoom choice (letter_form profile letter)
 
 -- The letter is written in the modules, in a size of the choice: its normal form is.

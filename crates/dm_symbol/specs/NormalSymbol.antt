@@ -15,9 +15,9 @@ use Rattle.dm_symbol.specs.WrittenWords.{FitChoice, HaveRoom, AreWrittenIn, AreW
 abbrev pub FitsChoice : SizeChoice → Profile → List Item → Type 0
 FitsChoice choice profile message = FitChoice choice (normal_form profile message)
 
--- If the message fits some size of the choice, the smallest of these has at most so many rows and so many codewords. So
--- there is room for the symbol in which the message is written.
-abbrev pub HasRoomFor : SizeChoice → Profile → List Item → ℕ → ℕ → Type 0
+-- If the message fits some size of the choice, the smallest of these has at most so many data codewords, so many rows
+-- and so many codewords. So there is room for the symbol in which the message is written.
+abbrev pub HasRoomFor : SizeChoice → Profile → List Item → ℕ → ℕ → ℕ → Type 0
 HasRoomFor choice profile message = HaveRoom choice (normal_form profile message)
 
 -- The message is written in the modules, in a size of the choice: its normal form is.

@@ -8,6 +8,7 @@ use Rattle.dm_layout.specs.symbols.Sizes.{block_check}
 use Rattle.dm_layout.specs.symbols.Symbols.{SymbolView}
 use Rattle.dm_layout.specs.symbols.Holding.{IsLaid}
 use Rattle.dm_words.specs.Smallest.{IsTaken, IsSmaller, IsSmallestFor, IsPlainest, SpellsThenPads, NoneSpells}
+use Rattle.dm_symbol.specs.declared.symbol.dealing.Dealing.TheVariants.{Standard}
 use Rattle.dm_symbol.specs.SymbolBlocks.{words_with, AreCodewordsOf, first_data}
 use Rattle.dm_symbol.specs.SymbolReading.{ReadsSymbol, SymbolReadResult, symbol_reading_of}
 use Rattle.dm_symbol.specs.SymbolLaws.{nothing_wrong}
@@ -27,11 +28,12 @@ pub record IsSmallestSymbol (extent : Extent) (choice : SizeChoice) (message : L
   -- The check codewords make each block a codeword of its Reed-Solomon code.
   pub checked : AreCodewordsOf modules.size words
 
--- The symbol is read as the message in the extent, for every limit, with nothing wrong in any block and no border
--- fault.
+-- The symbol is read as the message in the extent, for every limit, by the standard's dealing, with nothing wrong in
+-- any block and no border fault.
 abbrev pub IsReadWithNothingWrong : Extent → List Item → SymbolView → Type 0
 IsReadWithNothingWrong extent message modules = (limit : ℕ) → SymbolReadResult extent modules None limit
-    (Ok (symbol_reading_of message (replicate modules.size.blocks (nothing_wrong (block_check modules.size))) 0))
+    (Ok (symbol_reading_of message Standard
+    (replicate modules.size.blocks (nothing_wrong (block_check modules.size))) 0))
 
 -- No symbol of a smaller size of the choice is read as the message in the extent, whatever is wrong or doubtful in it.
 abbrev pub NoSmallerIsRead : Extent → SizeChoice → List Item → SymbolView → Type 0

@@ -1,6 +1,6 @@
 -- What holds of all messages and of the symbols of all sizes. The bytes of a message are numbers of 0 to 255.
-use Rattle.std.specs.Prelude.{◌≡◌, ◌≤◌, ℕ, ◌-◌, ◌*◌, false, List, Option, Some, None, Result, Ok, Err, map, replicate}
-use Rattle.std.specs.Prelude.{◌↔◌}
+use Rattle.std.specs.Prelude.{◌≡◌, ◌<◌, ◌≤◌, ℕ, ◌+◌, ◌-◌, ◌*◌, false, List, Option, Some, None, Result, Ok, Err, map}
+use Rattle.std.specs.Prelude.{◌++◌, drop, replicate, ◌↔◌}
 use Rattle.dm_words.specs.declared.extent.Extent.{Extent}
 use Rattle.dm_words.specs.declared.extent.Extent.TheVariants.{Usual, Wide}
 use Rattle.dm_words.specs.declared.item.Item.{Item}
@@ -10,20 +10,26 @@ use Rattle.dm_words.specs.Smallest.{IsTaken}
 use Rattle.dm_layout.specs.Sizes as squares
 use Rattle.dm_layout.specs.Grid.{GridView, IsGrid, symbol_modules}
 use Rattle.dm_code.specs.Codeword.{IsNear}
-use Rattle.dm_code.specs.Erased.{IsNearBut}
+use Rattle.dm_code.specs.Erased.{IsNearBut, erased_places}
 use Rattle.dm_layout.specs.declared.symbols.size.SizeChoice.{SizeChoice}
-use Rattle.dm_layout.specs.symbols.Sizes.{SizeEntry, block_check, codeword_count, most_rows, most_codewords}
+use Rattle.dm_layout.specs.symbols.Blocks.{block_of, places_of_block}
+use Rattle.dm_layout.specs.symbols.Sizes.{SizeEntry, IsSize, block_check, most_data, most_rows}
+use Rattle.dm_layout.specs.symbols.Sizes.{most_codewords}
 use Rattle.dm_layout.specs.symbols.Symbols.{SymbolView, IsSymbol, module_at}
 use Rattle.dm_layout.specs.symbols.Border.{border_fault_count}
+use Rattle.dm_symbol.specs.declared.symbol.dealing.Dealing.TheVariants.{Standard, Restarted}
 use Rattle.dm_symbol.specs.declared.symbol.reading.BlockReading.{BlockReading}
 use Rattle.dm_symbol.specs.declared.symbol.inspection.SymbolInspectionIn.{SymbolInspectionIn}
 use Rattle.dm_symbol.specs.declared.reading.Reading.{Reading}
 use Rattle.dm_symbol.specs.declared.reading.ReadFault.{ReadFault}
 use Rattle.dm_symbol.specs.declared.normalising.NormalFault.{NormalFault}
-use Rattle.dm_symbol.specs.Doubt.{erased_in, sure_fault_count}
+use Rattle.dm_symbol.specs.Doubt.{erased_in, is_erased, sure_fault_count}
+use Rattle.dm_symbol.specs.Dealings.{IsDealtTwoWays, dealt, erased_by}
+use Rattle.dm_symbol.specs.SymbolBlocks.{AreOfSize, block_in, first_data}
 use Rattle.dm_symbol.specs.NormalGrid.{IsNormalGrid}
 use Rattle.dm_symbol.specs.Reading.{Reads, ReadResult}
 use Rattle.dm_symbol.specs.SymbolReading.{ReadingView, ReadsSymbol, SymbolReadResult, symbol_reading_of}
+use Rattle.dm_symbol.specs.WrittenWords.{IsRoomFor}
 use Rattle.dm_symbol.specs.NormalSymbol.{IsWrittenIn, FitsChoice, HasRoomFor, IsNormalSymbol}
 use Rattle.dm_symbol.specs.SymbolNormal.{HasNormalSymbol, NormalSymbolResult}
 use Rattle.dm_symbol.specs.SymbolInspection.{IsSymbolInspection}
@@ -37,6 +43,22 @@ NoDoubtIsNearness =
 -- With no module doubtful, the sure border faults are all border faults.
 abbrev pub NoDoubtCountsAllFaults : Type 0
 NoDoubtCountsAllFaults = (modules : SymbolView) → sure_fault_count modules None ≡ border_fault_count modules
+
+-- By the other dealing of 144 x 144 a block has the data codewords that are dealt to it and then the check codewords
+-- that are, of B blocks those at the places i, counted from 0 among the check codewords, with i mod B = b.
+abbrev pub OtherDealingRestarts : Type 0
+OtherDealingRestarts =
+    (size : SizeEntry) (words : List ℕ) (b : ℕ) → IsDealtTwoWays size → AreOfSize size words → b < size.blocks
+    → block_in size (dealt Restarted size words) b
+    ≡ block_of size.blocks b (first_data size words) ++ block_of size.blocks b (drop size.data_count words)
+
+-- Of these places, those are erased whose codewords are.
+abbrev pub OtherDealingErases : Type 0
+OtherDealingErases =
+    (size : SizeEntry) (doubtful : Option SymbolView) (b : ℕ) → IsDealtTwoWays size → IsSize size → b < size.blocks
+    → erased_by Restarted size doubtful b
+    ≡ erased_places (map (is_erased size doubtful) (places_of_block size.blocks b size.data_count
+    ++ map (λ i. size.data_count + i) (places_of_block size.blocks b size.check_count)))
 
 -- Modules are all light if none of them is dark.
 abbrev pub AreLight : SymbolView → Type 0
@@ -100,29 +122,31 @@ AWrittenSymbolIsThere =
 -- Where there is room for each size of the choice, there is room for the symbol in which a message is written.
 abbrev pub RoomForEachServes : Type 0
 RoomForEachServes =
-    (choice : SizeChoice) (profile : Profile) (message : List Item) (rows words : ℕ)
-    → ((size : SizeEntry) → IsTaken choice size → (size.rows ≤ rows) × (codeword_count size ≤ words))
-    → HasRoomFor choice profile message rows words
+    (choice : SizeChoice) (profile : Profile) (message : List Item) (data_words rows words : ℕ)
+    → ((size : SizeEntry) → IsTaken choice size → IsRoomFor size data_words rows words)
+    → HasRoomFor choice profile message data_words rows words
 
--- So there is in room for the most rows and the most codewords that a symbol has, whatever the choice.
+-- So there is in room for the most data codewords, rows and codewords that a symbol has, whatever the choice.
 abbrev pub MostRoomServes : Type 0
 MostRoomServes =
-    (choice : SizeChoice) (profile : Profile) (message : List Item) (rows words : ℕ) → most_rows ≤ rows
-    → most_codewords ≤ words → HasRoomFor choice profile message rows words
+    (choice : SizeChoice) (profile : Profile) (message : List Item) (data_words rows words : ℕ)
+    → most_data ≤ data_words → most_rows ≤ rows → most_codewords ≤ words
+    → HasRoomFor choice profile message data_words rows words
 
 -- This is said of a block of k check codewords in which nothing is wrong and nothing erased.
 abbrev pub nothing_wrong : ℕ → BlockReading
 nothing_wrong k = record { corrected = 0; erased = 0; left = k }
 
 -- The symbol in which a message is written, in whatever choice of sizes, is read as that message in each extent and for
--- every limit, with nothing wrong in any block and no border fault, and has no other result; so is the normal symbol.
+-- every limit, by the standard's dealing, with nothing wrong in any block and no border fault, and has no other result;
+-- so is the normal symbol.
 abbrev pub WrittenSymbolIsRead : Type 0
 WrittenSymbolIsRead =
     (extent : Extent) (choice : SizeChoice) (profile : Profile) (message : List Item) (modules : SymbolView)
     (limit : ℕ)
     (result : Result ReadingView ReadFault) → IsMessage message → IsWrittenIn choice profile message modules
     → SymbolReadResult extent modules None limit result
-    ↔ (result ≡ Ok (symbol_reading_of message
+    ↔ (result ≡ Ok (symbol_reading_of message Standard
     (replicate modules.size.blocks (nothing_wrong (block_check modules.size))) 0))
 
 -- Two symbols in which messages are written in one choice and under one profile are equal exactly where the messages
@@ -147,11 +171,12 @@ NormalSymbolTwiceIsOnce =
 abbrev pub EqualNormalSymbolsMeanEqualMessages : Type 0
 EqualNormalSymbolsMeanEqualMessages =
     (extent other_extent : Extent) (profile : Profile) (modules other normal other_normal : SymbolView)
-    (doubtful other_doubtful : Option SymbolView) (limit other_limit : ℕ) (message other_message : List Item)
+    (doubtful other_doubtful : Option SymbolView) (limit other_limit normal_limit other_normal_limit : ℕ)
+    (message other_message : List Item)
     → ReadsSymbol extent modules doubtful limit message
     → ReadsSymbol other_extent other other_doubtful other_limit other_message
-    → HasNormalSymbol extent profile modules doubtful limit normal
-    → HasNormalSymbol other_extent profile other other_doubtful other_limit other_normal
+    → HasNormalSymbol extent profile modules doubtful normal_limit normal
+    → HasNormalSymbol other_extent profile other other_doubtful other_normal_limit other_normal
     → (normal ≡ other_normal) ↔ (message ≡ other_message)
 
 -- These are the modules of a symbol that has the cells of the grid: it has as many rows and columns as the grid.
@@ -172,10 +197,11 @@ GridsAreReadAsSymbols =
 abbrev pub none_erased : ℕ → ℕ → BlockReading
 none_erased k count = record { corrected = count; erased = 0; left = k - 2 * count }
 
--- What reading gives for a grid whose blocks have k check codewords each, it gives for the symbol with its cells.
+-- What reading gives for a grid whose blocks have k check codewords each, it gives for the symbol with its cells, by
+-- the standard's dealing.
 abbrev pub symbol_result : ℕ → Result Reading ReadFault → Result ReadingView ReadFault
 symbol_result k (Ok reading) =
-    Ok (symbol_reading_of reading.message (map (none_erased k) reading.corrected.items) reading.border_faults)
+    Ok (symbol_reading_of reading.message Standard (map (none_erased k) reading.corrected.items) reading.border_faults)
 symbol_result k (Err why) = Err why
 
 -- The result of reading a grid is that of reading the symbol with its cells, with none of its modules doubtful.

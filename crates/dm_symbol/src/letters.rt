@@ -6,8 +6,10 @@ ghost use Rattle.dm_symbol.specs.LetterReading.{letter_reading_in, letter_readin
 
 pub mod normalising;
 pub mod reading;
+pub mod smallest;
 pub mod writing;
 
+use crate::symbol::dealing::Dealing;
 use crate::symbol::reading::BlockReading;
 use arrayvec::ArrayVec;
 use dm_layout::symbols::MOST_BLOCKS;
@@ -22,6 +24,8 @@ pub struct LetterReadingIn<const ITEMS: usize, const MARKS: usize> {
     /// The number of the symbology identifier, 1 to 6 (ISO/IEC 15424). It belongs to the codewords that were printed,
     /// and not to the letter: other codewords that say the same may have another one.
     pub identifier: u8,
+    /// How the codewords were found to be dealt into blocks: as the standard does, but in some symbols of 144 x 144.
+    pub dealing: Dealing,
     /// What became of each block, in order.
     pub blocks: ArrayVec<BlockReading, MOST_BLOCKS>,
     /// How many modules of the borders have the wrong colour and aren't doubtful.
@@ -54,11 +58,12 @@ pub enum LetterNormalFault {
 impl<const ITEMS: usize, const MARKS: usize> LetterReadingIn<ITEMS, MARKS> {
     /// Gives the reading of an empty letter, into which a symbol can be read.
     pub fn new() -> LetterReadingIn<ITEMS, MARKS>
-        ensures { letter_reading_in result ≡ letter_reading_of (as_letter []) 1 [] 0 }
+        ensures { letter_reading_in result ≡ letter_reading_of (as_letter []) 1 Dealing.Standard [] 0 }
     {
         LetterReadingIn {
             letter: LetterIn::new(),
             identifier: 1,
+            dealing: Dealing::Standard,
             blocks: ArrayVec::new(),
             border_faults: 0,
         }

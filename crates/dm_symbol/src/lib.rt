@@ -8,14 +8,15 @@
 //! symbol says in the smallest square; and [`inspect_symbol_to()`] the codewords in a [`SymbolInspectionIn`]. How a
 //! symbol is read is said by [`ReadOptions`]: the [`Extent`], the limit of wrong border modules, and which modules are
 //! doubtful. How it is written is said by [`WriteOptions`]: the [`Profile`] and the [`SizeChoice`].
-//! [`write_smallest_to()`] writes one than which no smaller symbol says the message. Their results and the codewords
-//! stand in targets, memory that the caller hands in and that serves any number of symbols. Each has a room; those that
-//! serve every symbol are [`Symbol`], [`SymbolWords`], [`SymbolReading`] and [`SymbolInspection`].
+//! [`write_smallest_to()`] writes one than which no smaller symbol says the message. A [`Dealing`] says how the check
+//! codewords of 144 x 144 were dealt into blocks, which some encoders do otherwise than the standard. Their results and
+//! the codewords stand in targets, memory that the caller hands in and that serves any number of symbols. Each has a
+//! room; those that serve every symbol are [`Symbol`], [`SymbolWords`], [`SymbolReading`] and [`SymbolInspection`].
 //!
 //! What a symbol says may be taken as a letter, a [`LetterIn`]: a [`Head`] or none, items, and [`Mark`]s at places of
 //! these. [`read_letter_to()`], [`write_letter_to()`] and [`normal_letter_to()`] do for letters what the calls of these
-//! names do for messages, which are the letters without a head and marks; a [`LetterReadingIn`] tells the symbology
-//! identifier too.
+//! names do for messages, which are the letters without a head and marks, and [`write_smallest_letter_to()`] does what
+//! [`write_smallest_to()`] does; a [`LetterReadingIn`] tells the symbology identifier too.
 //!
 //! Squares of 10 to 104 rows may be given as a [`Grid`]. [`read()`] gives what a grid says, a [`Reading`]; [`write()`]
 //! the normal grid of a [`Message`]; [`normal()`] the normal grid of what a grid says; and [`inspect()`] an
@@ -29,11 +30,13 @@
 //! [`MOST_ITEMS`], [`MESSAGE_ROOM`] and [`LARGEST_ROOM`], the last for a [`MessageIn`] of any symbol, and
 //! [`LARGEST_MARKS`] for the marks of a [`LetterIn`].
 //!
-//! What the contracts say is defined in `specs/`. For symbols of every size it is in `Doubt`, `SymbolBlocks`,
-//! `SymbolReading`, `WrittenWords`, `NormalSymbol`, `SmallestSymbol`, `SymbolNormal` and `SymbolInspection`; their laws
-//! are in `SymbolLaws`. For letters it is in `LetterReading`, `NormalLetter` and `LetterNormal`, with `LetterLaws`. For
-//! grids it is in `Blocks`, `NormalGrid`, `Reading`, `Normal` and `Inspection`, with `Laws`. The functions of [`laws`]
-//! prove these. No call allocates memory.
+//! What the contracts say is defined in `specs/`. For symbols of every size it is in `Doubt`, `Dealings`,
+//! `SymbolBlocks`, `SymbolReading`, `WrittenWords`, `NormalSymbol`, `SmallestSymbol`, `SymbolNormal` and
+//! `SymbolInspection`; their laws are in `SymbolLaws`. For letters it is in `LetterReading`, `NormalLetter`,
+//! `SmallestLetterSymbol` and `LetterNormal`, with `LetterLaws` and `MessageLetters`. For grids, which are read,
+//! written, normalised and inspected as their symbols are, it is in `NormalGrid`, `Reading`, `Normal` and `Inspection`,
+//! with `Laws`. What normalising gives, of whatever it is, is in `NormalOutcomes`. The functions of [`laws`] prove
+//! these. No call allocates memory.
 #![tactic(auto)]
 
 mod inspection;
@@ -58,11 +61,13 @@ pub use dm_words::{
 pub use inspection::{Inspection, inspect};
 pub use letters::normalising::normal_letter_to;
 pub use letters::reading::read_letter_to;
+pub use letters::smallest::write_smallest_letter_to;
 pub use letters::writing::write_letter_to;
 pub use letters::{LetterNormalFault, LetterReadFault, LetterReading, LetterReadingIn};
 pub use limit::usual_limit;
 pub use normalising::{NormalFault, normal, normal_as, normal_to};
 pub use reading::{ReadFault, Reading, read, read_to};
+pub use symbol::dealing::Dealing;
 pub use symbol::inspection::{SymbolInspection, SymbolInspectionIn, inspect_symbol_to};
 pub use symbol::normalising::normal_symbol_to;
 pub use symbol::reading::{

@@ -4,6 +4,7 @@ ghost use Rattle.std.specs.Prelude.{◌≡◌, ◌≤◌, ℕ, [], length, map};
 ghost use Rattle.dm_words.specs.Outcomes.{outcome};
 ghost use Rattle.dm_symbol.specs.Reading.{IsRead, reading_of};
 
+use crate::symbol::dealing::Dealing;
 use crate::symbol::reading::{BlockReading, ReadOptions, read_parts};
 use arrayvec::ArrayVec;
 use dm_layout::symbols::SymbolWordsIn;
@@ -81,6 +82,8 @@ pub fn read_to(
     let _checks = size.check_count();
     let mut words = SymbolWordsIn::<MOST_GRID_CODEWORDS>::zeros(size.symbol());
     let mut blocks = ArrayVec::new();
+    // By no other is a square of up to 104 rows read.
+    let mut dealing = Dealing::Standard;
     let how = ReadOptions {
         extent,
         border_limit,
@@ -91,6 +94,7 @@ pub fn read_to(
         how,
         &mut words,
         &mut reading.message,
+        &mut dealing,
         &mut blocks,
         &mut reading.border_faults,
     ) {

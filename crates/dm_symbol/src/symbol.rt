@@ -1,6 +1,7 @@
 //! Symbols of any size, squares and rectangles, with doubtful modules or none.
 
 pub(crate) mod correction;
+pub mod dealing;
 pub mod inspection;
 pub mod normalising;
 pub mod reading;

@@ -42,7 +42,7 @@ pub fn write_to(profile: Profile, message: &Message, grid: &mut Grid) -> Result<
     // Room for the codewords of any square. It is made before the first return, so that it is cleared only once.
     let mut words = SymbolWordsIn::<MOST_GRID_CODEWORDS>::zeros(grid.size().symbol());
     let mut list = ArrayVec::<u8, MOST_GRID_DATA>::new();
-    match normal_words_in(profile, message, &mut list) {
+    match normal_words_in(profile, message.items(), &mut list) {
         Ok(()) => {}
         Err(TooLong) => return Err(TooLong),
     }

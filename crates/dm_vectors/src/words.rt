@@ -16,6 +16,7 @@ mod lines;
 mod places;
 mod shorter;
 mod smallest;
+mod smallest_letters;
 mod wide;
 
 /// What the codewords spell, and the fault of no codeword where there are too many of them.

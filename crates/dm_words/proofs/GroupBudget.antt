@@ -5,6 +5,7 @@ use Rattle.std.specs.Prelude.{nat_le, not}
 use Rattle.std.proofs.lemmas.Bool.Decides.{nat_tests}
 use Rattle.std.proofs.lemmas.List.{length-drop, at_drop_more, length-append}
 use Rattle.dm_words.specs.declared.extent.Extent.{Extent}
+use Rattle.dm_words.specs.declared.smallest.setting.Setting.{Setting}
 use Rattle.dm_words.specs.declared.extent.Extent.TheVariants.{Usual, Wide}
 use Rattle.dm_words.specs.declared.item.Item.{Item}
 use Rattle.dm_words.specs.declared.item.Item.TheVariants.{Byte, Fnc1}
@@ -15,7 +16,7 @@ use Rattle.dm_words.specs.declared.smallest.edifact.Group.TheVariants as group
 use Rattle.dm_words.specs.inner.Costs.{never, owed_group, no_groups, leave, or_leave_edifact, has_edifact, stay_edifact}
 use Rattle.dm_words.specs.inner.Costs.{byte_before, going_from, row, parts_cost, IsRightStep}
 use Rattle.dm_words.specs.inner.Written.{waiting_values, whole_words, IsGroupPushed, group_stops, IsEdifactEnded}
-use Rattle.dm_words.proofs.CostsMet.{owed_byte}
+use Rattle.dm_words.proofs.CostBounds.{owed_byte}
 
 -- A run goes on where it doesn't cost less to leave it: by the test between groups, or that behind three values.
 abbrev stops_by : Group → Bool → Bool → Bool
@@ -25,25 +26,25 @@ stops_by (group.Two x y) between behind = false
 stops_by (group.Three x y z) between behind = behind
 
 -- The plan says whether a run stops.
-stops_are : (extent : Extent) (m : List Item) (s : Step) (g : Group) → IsRightStep extent m s
+stops_are : (setting : Setting) (m : List Item) (s : Step) (g : Group) → IsRightStep setting m s
     → group_stops g s
-    ≡ stops_by g (nat_le (leave 2 (parts_cost extent m)) (going_from extent m).edifact.none)
-    (nat_le (parts_cost extent m) (going_from extent m).edifact.three)
-stops_are extent m s g r = by_group g where
+    ≡ stops_by g (nat_le (leave 2 (parts_cost setting m)) (going_from setting m).edifact.none)
+    (nat_le (parts_cost setting m) (going_from setting m).edifact.three)
+stops_are setting m s g r = by_group g where
   by_group : (g : Group) → group_stops g s
-      ≡ stops_by g (nat_le (leave 2 (parts_cost extent m)) (going_from extent m).edifact.none)
-      (nat_le (parts_cost extent m) (going_from extent m).edifact.three)
+      ≡ stops_by g (nat_le (leave 2 (parts_cost setting m)) (going_from setting m).edifact.none)
+      (nat_le (parts_cost setting m) (going_from setting m).edifact.three)
   by_group group.Empty = ap (λ (t : Step). t.edifact_ends) r.ends
   by_group (group.One x) = refl
   by_group (group.Two x y) = refl
   by_group (group.Three x y z) = ap (λ (t : Step). t.group_ends) r.ends
 
 -- The costs of a run are those of going on, or of leaving.
-edifact_are : (extent : Extent) (m : List Item) → (row extent m).edifact
-    ≡ or_leave_edifact (parts_cost extent m) (going_from extent m).edifact
+edifact_are : (setting : Setting) (m : List Item) → (row setting m).edifact
+    ≡ or_leave_edifact (parts_cost setting m) (going_from setting m).edifact
 unfolding row
-edifact_are extent [] = refl
-edifact_are extent (x ∷ m) = refl
+edifact_are setting [] = refl
+edifact_are setting (x ∷ m) = refl
 
 -- Where a run goes on, it can pay for that.
 goes_on : (g : Group) (cost words total : ℕ) (over : Groups)
@@ -122,69 +123,69 @@ over_paid extent x g words total next b small = by_test (has_edifact extent x) r
       (held extent x e, omega (arith, b, o))
 
 -- What is known at an index where a run goes on.
-pub record IsGroupPaidAt (extent : Extent) (m : List Item) (i : ℕ) (d : Item) (g : Group) (words total : ℕ) : Type 0
+pub record IsGroupPaidAt (setting : Setting) (m : List Item) (i : ℕ) (d : Item) (g : Group) (words total : ℕ) : Type 0
   where
     pub there : i < length m
-    pub wide : extent ≡ Wide
+    pub wide : setting.extent ≡ Wide
     pub byte : ℕ
     pub is : get_or m i d ≡ Byte byte
     pub low : 32 ≤ byte
     pub high : byte ≤ 94
-    pub budget : words + owed_group (length (waiting_values g) + 1) (row extent (drop (i + 1) m)).edifact ≤ total
+    pub budget : words + owed_group (length (waiting_values g) + 1) (row setting (drop (i + 1) m)).edifact ≤ total
 
 -- From what is paid over the first item.
-paid_at : (extent : Extent) (m : List Item) (i : ℕ) (d : Item) (g : Group) (words total : ℕ) → i < length m
-    → words + owed_group (length (waiting_values g)) (going_from extent (drop i m)).edifact ≤ total
-    → total < never → IsGroupPaidAt extent m i d g words total
-paid_at extent m i d g words total lt b small =
+paid_at : (setting : Setting) (m : List Item) (i : ℕ) (d : Item) (g : Group) (words total : ℕ) → i < length m
+    → words + owed_group (length (waiting_values g)) (going_from setting (drop i m)).edifact ≤ total
+    → total < never → IsGroupPaidAt setting m i d g words total
+paid_at setting m i d g words total lt b small =
     let cons : drop i m ≡ get_or m i d ∷ drop (i + 1) m = at_drop_more (λ (l : List Item). l) m i d lt in
     let here : words + owed_group (length (waiting_values g))
-    (going_from extent (get_or m i d ∷ drop (i + 1) m)).edifact ≤ total =
-    subst (λ (l : List Item). words + owed_group (length (waiting_values g)) (going_from extent l).edifact ≤ total)
+    (going_from setting (get_or m i d ∷ drop (i + 1) m)).edifact ≤ total =
+    subst (λ (l : List Item). words + owed_group (length (waiting_values g)) (going_from setting l).edifact ≤ total)
     cons b in
-    let h = over_paid extent (get_or m i d) g words total (row extent (drop (i + 1) m)).edifact here small in
+    let h = over_paid setting.extent (get_or m i d) g words total (row setting (drop (i + 1) m)).edifact here small in
     record { there = lt; wide = h.0.wide; byte = h.0.byte; is = h.0.is; low = h.0.low; high = h.0.high; budget = h.1 }
 
 -- The first item of a run.
-pub first_of_groups : (extent : Extent) (m : List Item) (i : ℕ) (d : Item) (words total : ℕ) → i < length m
-    → words + (going_from extent (drop i m)).edifact.none ≤ total → total < never
-    → IsGroupPaidAt extent m i d group.Empty words total
+pub first_of_groups : (setting : Setting) (m : List Item) (i : ℕ) (d : Item) (words total : ℕ) → i < length m
+    → words + (going_from setting (drop i m)).edifact.none ≤ total → total < never
+    → IsGroupPaidAt setting m i d group.Empty words total
 unfolding owed_group
-first_of_groups extent m i d words total lt b small = paid_at extent m i d group.Empty words total lt b small
+first_of_groups setting m i d words total lt b small = paid_at setting m i d group.Empty words total lt b small
 
 -- Nothing is left where the items end, so a run doesn't go on there.
-some_left : (extent : Extent) (m : List Item) (g : Group) (words total : ℕ)
-    → words + owed_group (length (waiting_values g)) (going_from extent m).edifact ≤ total → total < never
+some_left : (setting : Setting) (m : List Item) (g : Group) (words total : ℕ)
+    → words + owed_group (length (waiting_values g)) (going_from setting m).edifact ≤ total → total < never
     → 0 < length m
-some_left extent [] g words total b small = absurd (never_on g words total small b)
-some_left extent (x ∷ m) g words total b small = omega arith
+some_left setting [] g words total b small = absurd (never_on g words total small b)
+some_left setting (x ∷ m) g words total b small = omega arith
 
 -- An item where a run goes on.
-pub group_at : (extent : Extent) (m : List Item) (i : ℕ) (d : Item) (s : Step) (g : Group) (words total : ℕ)
-    (on : Bool) → IsRightStep extent (drop i m) s
-    → words + owed_group (length (waiting_values g)) (row extent (drop i m)).edifact ≤ total → total < never → on
-    ≡ not (group_stops g s) → on ≡ true → IsGroupPaidAt extent m i d g words total
-group_at extent m i d s g words total on right budget small is so =
+pub group_at : (setting : Setting) (m : List Item) (i : ℕ) (d : Item) (s : Step) (g : Group) (words total : ℕ)
+    (on : Bool) → IsRightStep setting (drop i m) s
+    → words + owed_group (length (waiting_values g)) (row setting (drop i m)).edifact ≤ total → total < never → on
+    ≡ not (group_stops g s) → on ≡ true → IsGroupPaidAt setting m i d g words total
+group_at setting m i d s g words total on right budget small is so =
     let goes : group_stops g s ≡ false = by_bool (group_stops g s) (sym is ∙ so) in
-    let b = goes_on g (parts_cost extent (drop i m)) words total (going_from extent (drop i m)).edifact
-    (rw (edifact_are extent (drop i m)) at budget) small (sym (stops_are extent (drop i m) s g right) ∙ goes) in
-    let some = some_left extent (drop i m) g words total b small in
-    paid_at extent m i d g words total (omega (arith, some, length-drop i m)) b small where
+    let b = goes_on g (parts_cost setting (drop i m)) words total (going_from setting (drop i m)).edifact
+    (rw (edifact_are setting (drop i m)) at budget) small (sym (stops_are setting (drop i m) s g right) ∙ goes) in
+    let some = some_left setting (drop i m) g words total b small in
+    paid_at setting m i d g words total (omega (arith, some, length-drop i m)) b small where
       by_bool : (b : Bool) → not b ≡ true → b ≡ false
       by_bool true e = cc
       by_bool false e = refl
 
 -- Leaving a run.
-pub leave_groups : (extent : Extent) (m : List Item) (s : Step) (g : Group) (words total : ℕ) (on : Bool)
-    → IsRightStep extent m s
-    → words + owed_group (length (waiting_values g)) (row extent m).edifact ≤ total → on ≡ not (group_stops g s) → on
+pub leave_groups : (setting : Setting) (m : List Item) (s : Step) (g : Group) (words total : ℕ) (on : Bool)
+    → IsRightStep setting m s
+    → words + owed_group (length (waiting_values g)) (row setting m).edifact ≤ total → on ≡ not (group_stops g s) → on
     ≡ false
-    → ((length (waiting_values g) ≡ 0) × (words + leave 2 (parts_cost extent m) ≤ total)) ⊎
-    ((length (waiting_values g) ≡ 3) × (words + 3 + parts_cost extent m ≤ total))
-leave_groups extent m s g words total on right budget is none =
+    → ((length (waiting_values g) ≡ 0) × (words + leave 2 (parts_cost setting m) ≤ total)) ⊎
+    ((length (waiting_values g) ≡ 3) × (words + 3 + parts_cost setting m ≤ total))
+leave_groups setting m s g words total on right budget is none =
     let stops : group_stops g s ≡ true = by_bool (group_stops g s) (sym is ∙ none) in
-    leaves g (parts_cost extent m) words total (going_from extent m).edifact (rw (edifact_are extent m) at budget)
-    (sym (stops_are extent m s g right) ∙ stops) where
+    leaves g (parts_cost setting m) words total (going_from setting m).edifact (rw (edifact_are setting m) at budget)
+    (sym (stops_are setting m s g right) ∙ stops) where
       by_bool : (b : Bool) → not b ≡ false → b ≡ true
       by_bool true e = refl
       by_bool false e = cc

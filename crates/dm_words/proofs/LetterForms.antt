@@ -29,11 +29,11 @@ use Rattle.dm_words.proofs.PadWords.{length-padded}
 use Rattle.dm_words.proofs.WideLetters.{plain_letter, wide_is_letter}
 
 -- A part of a letter is one wherever it stands.
-abbrev IsFree : Piece Said → Type 0
+abbrev pub IsFree : Piece Said → Type 0
 IsFree p = (place : ℕ) (after : List ℕ) → IsLetterPart place p.words after p.what
 
 -- Such parts are joined.
-free_joined : (place : ℕ) (ps : List (Piece Said)) (after : List ℕ) → AllByRecursion IsFree ps
+pub free_joined : (place : ℕ) (ps : List (Piece Said)) (after : List ℕ) → AllByRecursion IsFree ps
     → AreJoined IsLetterPart place ps after
 free_joined place [] after h = tt
 free_joined place (p ∷ ps) after h =
@@ -75,12 +75,12 @@ units_marks before (u ∷ us) rest =
     units_marks (before + length u.what) us rest ∙ ap (λ (n : ℕ). said_marks n (whats rest)) e
 
 -- Items with marks are what these parts say, whose words are these.
-record HasParts (before : ℕ) (items : List Item) (marks : List Mark) (words : List ℕ) : Type 0 where
-  parts : List (Piece Said)
-  free : AllByRecursion IsFree parts
-  whole : words ≡ spelled parts
-  items_are : said_items (whats parts) ≡ items
-  marks_are : said_marks before (whats parts) ≡ marks
+pub record HasParts (before : ℕ) (items : List Item) (marks : List Mark) (words : List ℕ) : Type 0 where
+  pub parts : List (Piece Said)
+  pub free : AllByRecursion IsFree parts
+  pub whole : words ≡ spelled parts
+  pub items_are : said_items (whats parts) ≡ items
+  pub marks_are : said_marks before (whats parts) ≡ marks
 
 -- The first items are items, and so are the others.
 pub items_take : (n : ℕ) (items : List Item) → AreItems items → AreItems (take n items) × AreItems (drop n items)
@@ -115,7 +115,7 @@ ascii_parts before items rest words marks fit free whole are =
     }
 
 -- Items with marks are what parts say, whose words are the items in ASCII from mark to mark, and the marks.
-parts_of : (before : ℕ) (items : List Item) (marks : List Mark) → AreItems items
+pub parts_of : (before : ℕ) (items : List Item) (marks : List Mark) → AreItems items
     → AreMarks before (before + length items) marks → HasParts before items marks (ascii_with_marks before items marks)
 parts_of before items [] fit are =
     let h = ascii_parts before items [] [] [] fit tt refl refl in

@@ -15,6 +15,8 @@ mod LetterExtents
 mod LetterBytes
 mod KeptFaults
 mod MarkedWords
+mod LetterCounts
+mod SaidBounds
 mod Values
 mod Pairs
 mod Runs
@@ -39,6 +41,7 @@ mod SpellingCounts
 mod LowerBounds
 mod EdifactBounds
 mod CostsMet
+mod CostBounds
 mod CostLanes
 mod LeastLanes
 mod Plans
@@ -54,4 +57,8 @@ mod UnitWritten
 mod Frames
 mod SmallestSymbols
 mod SmallestLaws
+mod MarkedCosts
+mod LetterBounds
+mod LetterWritten
+mod SmallestLetters
 pub mod Exported

@@ -28,7 +28,6 @@ use Rattle.dm_words.proofs.SpellingCounts.{unit_few, spelling_count, held, Ascii
 
 -- These are costs: `least` in ASCII; `owed`, in a run where some values stand whose codewords are owed too.
 pub record AreCosts (least : List Item → ℕ) (owed : CodeSet → ℕ → List Item → ℕ) : Type 0 where
-  pub none : least [] ≡ 0
   pub unit : (x : Item) (m : List Item) → least (x ∷ m) ≤ unit_cost x + least m
   pub pair : (n : ℕ) (m : List Item) → n < 100 → least (Byte (48 + n / 10) ∷ Byte (48 + n % 10) ∷ m) ≤ 1 + least m
   pub begins : (set : CodeSet) (m : List Item) → least m ≤ 1 + owed set 0 m
@@ -234,7 +233,8 @@ module _ (least : List Item → ℕ) (owed : CodeSet → ℕ → List Item → �
     IsEdifactLower = (words after : List ℕ) (items m : List Item) → extent ≡ Wide → IsEdifactRun words after items
         → least m ≤ length after → least (items ++ m) ≤ length words + length after
 
-    part_lower : IsEdifactLower → (place : ℕ) (words after : List ℕ) (items m : List Item)
+    -- No part is shorter than what it adds to the cost.
+    pub part_lower : IsEdifactLower → (place : ℕ) (words after : List ℕ) (items m : List Item)
         → IsPart extent place words after items → least m ≤ length after
         → least (items ++ m) ≤ length words + length after
     part_lower other place words after items m (ascii u) le = omega (arith, unit_lower words items m u, le)
@@ -243,10 +243,10 @@ module _ (least : List Item → ℕ) (owed : CodeSet → ℕ → List Item → �
     part_lower other place words after items m (edifact wide r) le = other words after items m wide r le
 
     joined_lower : IsEdifactLower → (place : ℕ) (ps : List (Piece (List Item))) (after : List ℕ)
-        → AreJoined (IsPart extent) place ps after → least (gathered ps) ≤ length (spelled ps ++ after)
-    joined_lower other place [] after h = omega (arith, costs.none)
-    joined_lower other place (p ∷ ps) after h =
-        let rest = joined_lower other (place + length p.words) ps after h.1 in
+        → AreJoined (IsPart extent) place ps after → least [] ≤ 0 → least (gathered ps) ≤ length (spelled ps ++ after)
+    joined_lower other place [] after h none = omega (arith, none)
+    joined_lower other place (p ∷ ps) after h none =
+        let rest = joined_lower other (place + length p.words) ps after h.1 none in
         let one = part_lower other place p.words (spelled ps ++ after) p.what (gathered ps) h.0 rest in
         omega (
           arith,
@@ -258,6 +258,6 @@ module _ (least : List Item → ℕ) (owed : CodeSet → ℕ → List Item → �
 
     -- No parts are shorter than the cost of their items.
     pub parts_lower : IsEdifactLower → (place : ℕ) (words : List ℕ) (items : List Item)
-        → AreParts extent place words items → least items ≤ length words
-    parts_lower other place words items a =
-        rw (a.items_are, a.whole) (joined_lower other place a.parts a.after a.joined)
+        → AreParts extent place words items → least [] ≤ 0 → least items ≤ length words
+    parts_lower other place words items a none =
+        rw (a.items_are, a.whole) (joined_lower other place a.parts a.after a.joined none)

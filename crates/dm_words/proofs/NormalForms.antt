@@ -314,7 +314,7 @@ below_turn m k most b greater d lt is greatest so_far below =
     omega (arith, so_far both.0, here, one)
 
 -- A message has at most two items for each codeword of its ASCII form.
-two_items : (m : List Item) → length m ≤ 2 * length (ascii m)
+pub two_items : (m : List Item) → length m ≤ 2 * length (ascii m)
 two_items [] = omega arith
 two_items (Fnc1 ∷ m) = omega (arith, two_items m)
 two_items (Byte b ∷ []) = omega (arith, some_single b)

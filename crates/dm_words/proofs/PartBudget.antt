@@ -3,7 +3,7 @@ use Rattle.std.proofs.Common.{◌≡◌, ℕ, ◌+◌, ◌-◌, ◌<◌, ◌≤�
 use Rattle.std.proofs.Common.{◌∙◌, arith, Bool, true, false, cond}
 use Rattle.std.specs.Prelude.{◌&&◌, nat_le}
 use Rattle.std.proofs.lemmas.List.{length-drop, at_drop_more}
-use Rattle.dm_words.specs.declared.extent.Extent.{Extent}
+use Rattle.dm_words.specs.declared.smallest.setting.Setting.{Setting}
 use Rattle.dm_words.specs.declared.item.Item.{Item}
 use Rattle.dm_words.specs.declared.c40.set.CodeSet.{CodeSet}
 use Rattle.dm_words.specs.declared.c40.set.CodeSet.TheVariants.{C40, Text, X12}
@@ -14,26 +14,27 @@ use Rattle.dm_words.specs.inner.Costs.{never, owed, unit_cost, cost_of, segment_
 use Rattle.dm_words.specs.inner.Costs.{pair_first, row, parts_cost, going_from, going_pairs, IsRightStep}
 use Rattle.dm_words.proofs.CostsMet.{second_is}
 
-module _ (extent : Extent) (m : List Item) (i : ℕ) (d : Item) (s : Step) (there : i < length m)
-    (right : IsRightStep extent (drop i m) s) (words total : ℕ)
-    (budget : words + parts_cost extent (drop i m) ≤ total) where
+module _ (setting : Setting) (m : List Item) (i : ℕ) (d : Item) (s : Step) (there : i < length m)
+    (right : IsRightStep setting (drop i m) s) (words total : ℕ)
+    (budget : words + parts_cost setting (drop i m) ≤ total) where
   cons : drop i m ≡ get_or m i d ∷ drop (i + 1) m
   cons = at_drop_more (λ (l : List Item). l) m i d there
 
   -- The cost is that of what begins.
-  begin_cost : (b : Begin) → s.begins ≡ b → parts_cost extent (drop i m)
-      ≡ cost_of (get_or m i d) (pair_first (drop i m)) (row extent (drop (i + 1) m)) (going_from extent (drop i m)) b
+  begin_cost : (b : Begin) → s.begins ≡ b → parts_cost setting (drop i m)
+      ≡ cost_of (get_or m i d) (pair_first (drop i m)) (row setting (drop (i + 1) m)) (going_from setting (drop i m)) b
   begin_cost b is =
       let x = get_or m i d in
       let rest = drop (i + 1) m in
-      let here : IsRightStep extent (x ∷ rest) s = subst (λ (l : List Item). IsRightStep extent l s) cons right in
-      let e : parts_cost extent (x ∷ rest)
-      ≡ cost_of x (pair_first (x ∷ rest)) (row extent rest) (going_from extent (x ∷ rest)) s.begins = here.begins in
-      subst (λ (l : List Item). parts_cost extent l
-      ≡ cost_of x (pair_first l) (row extent rest) (going_from extent l) b) (sym cons)
-      (e ∙ ap (λ (c : Begin). cost_of x (pair_first (x ∷ rest)) (row extent rest) (going_from extent (x ∷ rest)) c) is)
+      let here : IsRightStep setting (x ∷ rest) s = subst (λ (l : List Item). IsRightStep setting l s) cons right in
+      let e : parts_cost setting (x ∷ rest)
+      ≡ cost_of x (pair_first (x ∷ rest)) (row setting rest) (going_from setting (x ∷ rest)) s.begins = here.begins in
+      subst (λ (l : List Item). parts_cost setting l
+      ≡ cost_of x (pair_first l) (row setting rest) (going_from setting l) b) (sym cons)
+      (e
+      ∙ ap (λ (c : Begin). cost_of x (pair_first (x ∷ rest)) (row setting rest) (going_from setting (x ∷ rest)) c) is)
 
-  pub one_paid : s.begins ≡ One → words + unit_cost (get_or m i d) + parts_cost extent (drop (i + 1) m) ≤ total
+  pub one_paid : s.begins ≡ One → words + unit_cost (get_or m i d) + parts_cost setting (drop (i + 1) m) ≤ total
   one_paid is = omega (arith, begin_cost One is, budget)
 
   -- Two digits.
@@ -41,12 +42,12 @@ module _ (extent : Extent) (m : List Item) (i : ℕ) (d : Item) (s : Step) (ther
     pub second_there : i + 1 < length m
     pub first : is_digit_item (get_or m i d) ≡ true
     pub second : is_digit_item (get_or m (i + 1) d) ≡ true
-    pub paid : words + 1 + parts_cost extent (drop (i + 2) m) ≤ total
+    pub paid : words + 1 + parts_cost setting (drop (i + 2) m) ≤ total
 
   pub pair_paid : total < never → s.begins ≡ Two → IsPairAt
   pair_paid small is = by_test (pair_first (drop i m)) refl (begin_cost Two is) where
-    by_test : (t : Bool) → pair_first (drop i m) ≡ t → parts_cost extent (drop i m)
-        ≡ cond t (1 + (row extent (drop (i + 1) m)).second) never → IsPairAt
+    by_test : (t : Bool) → pair_first (drop i m) ≡ t → parts_cost setting (drop i m)
+        ≡ cond t (1 + (row setting (drop (i + 1) m)).second) never → IsPairAt
     by_test false e cost = absurd (omega (arith, cost, budget, small))
     by_test true e cost =
         let both : is_digit_item (get_or m i d) && digit_first (drop (i + 1) m) ≡ true = (rw cons at e) in
@@ -55,9 +56,9 @@ module _ (extent : Extent) (m : List Item) (i : ℕ) (d : Item) (s : Step) (ther
         let two : i + 1 + 1 ≡ i + 2 = omega arith in
         let next : drop (i + 1) m ≡ get_or m (i + 1) d ∷ drop (i + 2) m =
         at_drop_more (λ (l : List Item). l) m (i + 1) d lt ∙ ap (λ (k : ℕ). get_or m (i + 1) d ∷ drop k m) two in
-        let paid : (row extent (drop (i + 1) m)).second ≡ parts_cost extent (drop (i + 2) m) =
-        ap (λ (l : List Item). (row extent l).second) next
-        ∙ second_is extent (get_or m (i + 1) d) (drop (i + 2) m) in
+        let paid : (row setting (drop (i + 1) m)).second ≡ parts_cost setting (drop (i + 2) m) =
+        ap (λ (l : List Item). (row setting l).second) next
+        ∙ second_is setting (get_or m (i + 1) d) (drop (i + 2) m) in
         record {
           second_there = lt;
           first = digits.0;
@@ -75,28 +76,28 @@ module _ (extent : Extent) (m : List Item) (i : ℕ) (d : Item) (s : Step) (ther
           some_digit (x ∷ l) e is = omega (arith, is)
 
   pub run_paid : (set : CodeSet) → s.begins ≡ Run set
-      → words + 1 + owed 0 (going_pairs set (going_from extent (drop i m))) ≤ total
+      → words + 1 + owed 0 (going_pairs set (going_from setting (drop i m))) ≤ total
   unfolding owed
   run_paid C40 is = omega (arith, begin_cost (Run C40) is, budget)
   run_paid Text is = omega (arith, begin_cost (Run Text) is, budget)
   run_paid X12 is = omega (arith, begin_cost (Run X12) is, budget)
 
-  pub edifact_paid : s.begins ≡ Edifact → words + 1 + (going_from extent (drop i m)).edifact.none ≤ total
+  pub edifact_paid : s.begins ≡ Edifact → words + 1 + (going_from setting (drop i m)).edifact.none ≤ total
   edifact_paid is = omega (arith, begin_cost Edifact is, budget)
 
   pub segment_paid : s.begins ≡ Segment
-      → (words + segment_cost (going_from extent (drop i m)).segment.bytes (going_from extent (drop i m)).segment.near
-      ≤ total) × (words + 2 + (going_from extent (drop i m)).segment.bytes ≤ total)
+      → (words + segment_cost (going_from setting (drop i m)).segment.bytes (going_from setting (drop i m)).segment.near
+      ≤ total) × (words + 2 + (going_from setting (drop i m)).segment.bytes ≤ total)
   segment_paid is =
-      let paid : words + segment_cost (going_from extent (drop i m)).segment.bytes
-      (going_from extent (drop i m)).segment.near ≤ total = omega (arith, begin_cost Segment is, budget) in
-      (paid, by_test (nat_le (going_from extent (drop i m)).segment.near 249) paid) where
+      let paid : words + segment_cost (going_from setting (drop i m)).segment.bytes
+      (going_from setting (drop i m)).segment.near ≤ total = omega (arith, begin_cost Segment is, budget) in
+      (paid, by_test (nat_le (going_from setting (drop i m)).segment.near 249) paid) where
         by_test : (t : Bool)
-            → words + cond t (2 + (going_from extent (drop i m)).segment.bytes)
-            (3 + (going_from extent (drop i m)).segment.bytes) ≤ total
-            → words + 2 + (going_from extent (drop i m)).segment.bytes ≤ total
+            → words + cond t (2 + (going_from setting (drop i m)).segment.bytes)
+            (3 + (going_from setting (drop i m)).segment.bytes) ≤ total
+            → words + 2 + (going_from setting (drop i m)).segment.bytes ≤ total
         by_test true b = omega (arith, b)
         by_test false b = omega (arith, b)
 
-  pub rest_paid : s.begins ≡ Rest → words + 2 + (going_from extent (drop i m)).segment.rest ≤ total
+  pub rest_paid : s.begins ≡ Rest → words + 2 + (going_from setting (drop i m)).segment.rest ≤ total
   rest_paid is = omega (arith, begin_cost Rest is, budget)

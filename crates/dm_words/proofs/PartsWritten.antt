@@ -30,7 +30,13 @@ module _ {B : Type 0} where
 -- Nothing is written yet.
 pub no_parts : (extent : Extent) (total : ℕ) (base : List ℕ) → ArePartsWritten extent total base base []
 no_parts extent total base =
-    record { parts = []; whole = sym (append-nil base); items_are = refl; right = λ after fills first. tt }
+    record {
+      parts = [];
+      whole = sym (append-nil base);
+      items_are = refl;
+      begins = λ after first. first;
+      right = λ after fills first. tt;
+    }
 
 -- No unlatch comes first where it doesn't in a part.
 no_unlatch : (part after : List ℕ) → 0 < length part → NoUnlatchFirst part → NoUnlatchFirst (part ++ after)
@@ -48,6 +54,11 @@ parts_more extent total base old new items more w p =
       whole = p.whole ∙ ap (λ (l : List ℕ). l ++ p.part) w.whole ∙ append_assoc base (spelled w.parts) p.part
           ∙ ap (λ (l : List ℕ). base ++ l) (sym (spelled-last w.parts piece));
       items_are = ap (λ (l : List Item). l ++ more) w.items_are ∙ sym (gathered-last w.parts piece);
+      begins = λ after first.
+          (let all : spelled w.parts ++ (p.part ++ after) ≡ spelled (w.parts ++ piece ∷ []) ++ after =
+          sym (append_assoc (spelled w.parts) p.part after)
+          ∙ ap (λ (l : List ℕ). l ++ after) (sym (spelled-last w.parts piece)) in
+          subst NoUnlatchFirst all (w.begins (p.part ++ after) (no_unlatch p.part after p.some p.begins)));
       right = λ after fills first.
           (let place : length old + 1 ≡ length base + 1 + length (spelled w.parts) =
           omega (arith, ap length w.whole, length-append base (spelled w.parts)) in

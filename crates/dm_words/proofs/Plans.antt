@@ -1,12 +1,13 @@
 -- The plan and the cost that the loop finds are those of the definition.
 use Rattle.std.proofs.Common.{◌≡◌, ℕ, zero, suc, ◌+◌, ◌-◌, ◌*◌, ◌<◌, ◌≤◌, List, [], ◌∷◌, length, drop, get_or, refl}
 use Rattle.std.proofs.Common.{sym, ap, subst, ◌∙◌, arith, Bool, true, false, cond, ltb, inl, inr}
-use Rattle.std.specs.Prelude.{nat_le}
+use Rattle.std.specs.Prelude.{nat_le, ◌==◌}
 use Rattle.std.proofs.lemmas.Bool.{cases_lt}
 use Rattle.std.proofs.lemmas.List.{at_drop_all, get_or-set_same, get_or-set_other}
 use Rattle.std.proofs.Math.ListN.{set}
 use Rattle.std.proofs.Math.Seq.{drop-cons, drop-length}
 use Rattle.dm_words.specs.declared.extent.Extent.{Extent}
+use Rattle.dm_words.specs.declared.smallest.setting.Setting.{Setting}
 use Rattle.dm_words.specs.declared.item.Item.{Item}
 use Rattle.dm_words.specs.declared.item.Item.TheVariants.{Byte, Fnc1}
 use Rattle.dm_words.specs.declared.c40.set.CodeSet.{CodeSet}
@@ -24,8 +25,9 @@ use Rattle.dm_words.specs.declared.smallest.plan.StepBits.{StepBits}
 use Rattle.dm_words.specs.declared.smallest.row.Costs.{Costs}
 use Rattle.dm_words.specs.inner.CostLanes.{HasRow}
 use Rattle.dm_words.specs.inner.Costs.{AreSmall, step_in}
-use Rattle.dm_words.specs.inner.Costs.{none_going, row, parts_cost, pair_first, IsWithin, IsRightStep, step_of}
-use Rattle.dm_words.specs.inner.Costs.{digit_first, is_digit_item}
+use Rattle.dm_words.specs.inner.Costs.{none_going, rest_behind, most_behind, row, parts_cost, pair_first, IsWithin}
+use Rattle.dm_words.specs.inner.Costs.{IsRightStep}
+use Rattle.dm_words.specs.inner.Costs.{digit_first, is_digit_item, step_of}
 use Rattle.dm_words.proofs.CostsMet.{least_is, is_least}
 use Rattle.dm_words.proofs.SpellingCounts.{unit_few}
 
@@ -72,11 +74,25 @@ stay_edifact_paid true most next h big =
 stay_edifact_paid false most next h big =
     (omega (arith, big), omega (arith, big), omega (arith, big), omega (arith, big))
 
--- No cost is too great.
-pub row_within : (extent : Extent) (m : List Item) → length m ≤ 3200 → IsWithin (length m) (row extent m)
+-- Up to the end of the symbol it costs nothing, or more than any cost.
+rest_few : (behind : ℕ) → rest_behind behind ≤ never
+rest_few behind = by_test (behind == 0) where
+  by_test : (t : Bool) → cond t 0 never ≤ never
+  by_test true = omega arith
+  by_test false = omega arith
+
+-- Items cost at most two codewords each.
+pub cost_most : (setting : Setting) (m : List Item) → parts_cost setting m ≤ setting.behind + 2 * length m
 unfolding row
-row_within extent [] few = record {
-  ascii = omega arith;
+cost_most setting [] = omega arith
+cost_most setting (x ∷ m) = omega (arith, least_is setting x m One, unit_few x, cost_most setting m)
+
+-- No cost is too great.
+pub row_within : (setting : Setting) (m : List Item) → length m ≤ 3200 → setting.behind ≤ most_behind
+    → IsWithin (length m) (row setting m)
+unfolding row
+row_within setting [] few small = record {
+  ascii = omega (arith, small);
   second = omega arith;
   c40 = (omega arith, omega arith, omega arith);
   text = (omega arith, omega arith, omega arith);
@@ -84,19 +100,19 @@ row_within extent [] few = record {
   edifact = (omega arith, omega arith, omega arith, omega arith);
   bytes = omega arith;
   near = omega arith;
-  rest = omega arith;
+  rest = omega (arith, rest_few setting.behind);
 }
-row_within extent (x ∷ m) few =
-    let h = row_within extent m (omega (arith, few)) in
-    let a : parts_cost extent (x ∷ m) ≤ 2 * length (x ∷ m) =
-    omega (arith, least_is extent x m One, unit_few x, h.ascii) in
-    let l = leaves (parts_cost extent (x ∷ m)) in
+row_within setting (x ∷ m) few small =
+    let h = row_within setting m (omega (arith, few)) small in
+    let a : parts_cost setting (x ∷ m) ≤ most_behind + 2 * length (x ∷ m) =
+    omega (arith, least_is setting x m One, unit_few x, h.ascii) in
+    let l = leaves (parts_cost setting (x ∷ m)) in
     let s = in_segment x h in
     let most = never + 4 * length m in
-    let c = stay_paid (set_values C40 x) most (row extent m).c40 (values_few C40 x) h.c40 (omega arith) in
-    let t = stay_paid (set_values Text x) most (row extent m).text (values_few Text x) h.text (omega arith) in
-    let y = stay_paid (set_values X12 x) most (row extent m).x12 (values_few X12 x) h.x12 (omega arith) in
-    let e = stay_edifact_paid (has_edifact extent x) most (row extent m).edifact h.edifact (omega arith) in
+    let c = stay_paid (set_values C40 x) most (row setting m).c40 (values_few C40 x) h.c40 (omega arith) in
+    let t = stay_paid (set_values Text x) most (row setting m).text (values_few Text x) h.text (omega arith) in
+    let y = stay_paid (set_values X12 x) most (row setting m).x12 (values_few X12 x) h.x12 (omega arith) in
+    let e = stay_edifact_paid (has_edifact setting.extent x) most (row setting m).edifact h.edifact (omega arith) in
     record {
       ascii = a;
       second = omega (arith, h.ascii, few);
@@ -114,27 +130,27 @@ row_within extent (x ∷ m) few =
         by_test true = omega arith
         by_test false = omega arith
 
-      in_segment : (x : Item) → IsWithin (length m) (row extent m)
-          → ((going_over extent x (row extent m)).segment.bytes ≤ never) ×
-          ((going_over extent x (row extent m)).segment.near ≤ length (x ∷ m))
-          × ((going_over extent x (row extent m)).segment.rest ≤ never + 4 * length (x ∷ m))
+      in_segment : (x : Item) → IsWithin (length m) (row setting m)
+          → ((going_over setting.extent x (row setting m)).segment.bytes ≤ never) ×
+          ((going_over setting.extent x (row setting m)).segment.near ≤ length (x ∷ m))
+          × ((going_over setting.extent x (row setting m)).segment.rest ≤ never + 4 * length (x ∷ m))
       in_segment Fnc1 h = (omega arith, omega arith, omega arith)
       in_segment (Byte b) h = (
         omega (arith, h.ascii, few),
-        by_test (nat_le (row extent m).ascii (row extent m).segment.bytes),
+        by_test (nat_le (row setting m).ascii (row setting m).segment.bytes),
         omega (arith, h.rest),
       ) where
-        by_test : (t : Bool) → cond t 1 (1 + (row extent m).segment.near) ≤ suc (length m)
+        by_test : (t : Bool) → cond t 1 (1 + (row setting m).segment.near) ≤ suc (length m)
         by_test true = omega arith
         by_test false = omega (arith, h.near)
 
 -- Nor is one of a row that the loop has.
-pub within : (extent : Extent) (m : List Item) (at : ℕ) (r : Row) → length m ≤ 3123 → r ≡ row extent (drop at m)
-    → length (drop at m) ≤ length m → IsWithin 3200 r
-within extent m at r few is shorter =
-    let h = row_within extent (drop at m) (omega (arith, few, shorter)) in
+pub within : (setting : Setting) (m : List Item) (at : ℕ) (r : Row) → length m ≤ 3123 → setting.behind ≤ most_behind → r
+    ≡ row setting (drop at m) → length (drop at m) ≤ length m → IsWithin 3200 r
+within setting m at r few small is shorter =
+    let h = row_within setting (drop at m) (omega (arith, few, shorter)) small in
     let n : length (drop at m) ≤ 3200 = omega (arith, few, shorter) in
-    let w : IsWithin 3200 (row extent (drop at m)) = record {
+    let w : IsWithin 3200 (row setting (drop at m)) = record {
       ascii = omega (arith, h.ascii, n);
       second = h.second;
       c40 = (omega (arith, h.c40.0, n), omega (arith, h.c40.1, n), omega (arith, h.c40.2, n));
@@ -153,31 +169,33 @@ within extent m at r few is shorter =
     subst (IsWithin 3200) (sym is) w
 
 -- What is found of an item is right.
-right_here : (extent : Extent) (x : Item) (rest : List Item) (begins : Begin) (step : Step)
-    → let next = row extent rest in let pair = pair_first (x ∷ rest) in let going = going_over extent x next in
+right_here : (setting : Setting) (x : Item) (rest : List Item) (begins : Begin) (step : Step)
+    → let next = row setting rest in let pair = pair_first (x ∷ rest) in let going = going_over setting.extent x next in
     cost_of x pair next going begins ≡ least x pair next going → step ≡ step_of (least x pair next going) begins going
-    → IsRightStep extent (x ∷ rest) step
+    → IsRightStep setting (x ∷ rest) step
 unfolding row
-right_here extent x rest begins step chosen is =
-    subst (IsRightStep extent (x ∷ rest)) (sym is) (record { begins = sym chosen; ends = refl })
+right_here setting x rest begins step chosen is =
+    subst (IsRightStep setting (x ∷ rest)) (sym is) (record { begins = sym chosen; ends = refl })
 
 -- What is found of an item and what follows is right.
-turn_here : (extent : Extent) (x : Item) (rest : List Item) (next new : Row) (pair : Bool) (going : Going)
+turn_here : (setting : Setting) (x : Item) (rest : List Item) (next new : Row) (pair : Bool) (going : Going)
     (begins : Begin) (cost : ℕ) (step : Step)
-    → next ≡ row extent rest → pair ≡ pair_first (x ∷ rest) → going ≡ going_over extent x next → cost
+    → next ≡ row setting rest → pair ≡ pair_first (x ∷ rest) → going ≡ going_over setting.extent x next → cost
     ≡ least x pair next going → cost_of x pair next going begins ≡ cost
     → step ≡ step_of cost begins going → new ≡ with_ascii cost next.ascii going
-    → (new ≡ row extent (x ∷ rest)) × IsRightStep extent (x ∷ rest) step
+    → (new ≡ row setting (x ∷ rest)) × IsRightStep setting (x ∷ rest) step
 unfolding row
-turn_here extent x rest next new pair going begins cost step is_next is_pair is_going is_cost chosen is_step is_new =
-    let right : cost_of x (pair_first (x ∷ rest)) (row extent rest) (going_over extent x (row extent rest)) begins
-    ≡ least x (pair_first (x ∷ rest)) (row extent rest) (going_over extent x (row extent rest)) =
+turn_here setting x rest next new pair going begins cost step is_next is_pair is_going is_cost chosen is_step is_new =
+    let right : cost_of x (pair_first (x ∷ rest)) (row setting rest)
+    (going_over setting.extent x (row setting rest)) begins
+    ≡ least x (pair_first (x ∷ rest)) (row setting rest) (going_over setting.extent x (row setting rest)) =
     (rw (is_cost, is_going, is_next, is_pair) at chosen) in
     let steps : step
-    ≡ step_of (least x (pair_first (x ∷ rest)) (row extent rest) (going_over extent x (row extent rest))) begins
-    (going_over extent x (row extent rest)) =
+    ≡ step_of (least x (pair_first (x ∷ rest)) (row setting rest) (going_over setting.extent x (row setting rest)))
+    begins
+    (going_over setting.extent x (row setting rest)) =
     (rw (is_cost, is_going, is_next, is_pair) at is_step) in
-    (rw (is_new, is_cost, is_going, is_next, is_pair) refl, right_here extent x rest begins step right steps)
+    (rw (is_new, is_cost, is_going, is_next, is_pair) refl, right_here setting x rest begins step right steps)
 
 -- No digit stands behind the last item.
 pub digit_last : (m : List Item) → digit_first (drop (length m) m) ≡ false
@@ -191,79 +209,81 @@ digit_here m at x d some within is_x =
     ∙ sym (ap digit_first (drop-cons m (at - 1) d (omega (arith, some, within))))
 
 -- A turn of the loop.
-pub turn : (extent : Extent) (m : List Item) (at : ℕ) (x d : Item) (next new : Row) (pair : Bool) (going : Going)
+pub turn : (setting : Setting) (m : List Item) (at : ℕ) (x d : Item) (next new : Row) (pair : Bool) (going : Going)
     (begins : Begin) (cost : ℕ) (step : Step)
     → 0 < at → at ≤ length m → x ≡ get_or m (at - 1) d
-    → next ≡ row extent (drop at m) → pair ≡ pair_first (x ∷ drop at m) → going ≡ going_over extent x next → cost
+    → next ≡ row setting (drop at m) → pair ≡ pair_first (x ∷ drop at m)
+    → going ≡ going_over setting.extent x next → cost
     ≡ least x pair next going → cost_of x pair next going begins ≡ cost
     → step ≡ step_of cost begins going → new ≡ with_ascii cost next.ascii going
-    → (new ≡ row extent (drop (at - 1) m)) × IsRightStep extent (drop (at - 1) m) step
-turn extent m at x d next new pair going begins cost step some within is_x is_next is_pair is_going is_cost chosen
+    → (new ≡ row setting (drop (at - 1) m)) × IsRightStep setting (drop (at - 1) m) step
+turn setting m at x d next new pair going begins cost step some within is_x is_next is_pair is_going is_cost chosen
     is_step is_new =
     let k : suc (at - 1) ≡ at = omega (arith, some) in
     let cons : drop (at - 1) m ≡ x ∷ drop at m = drop-cons m (at - 1) d (omega (arith, some, within))
     ∙ ap (λ (i : ℕ). get_or m (at - 1) d ∷ drop i m) k ∙ ap (λ (y : Item). y ∷ drop at m) (sym is_x) in
-    let P : List Item → Type 0 = λ r. (new ≡ row extent r) × IsRightStep extent r step in
+    let P : List Item → Type 0 = λ r. (new ≡ row setting r) × IsRightStep setting r step in
     subst P (sym cons)
-    (turn_here extent x (drop at m) next new pair going begins cost step is_next is_pair is_going is_cost chosen
+    (turn_here setting x (drop at m) next new pair going begins cost step is_next is_pair is_going is_cost chosen
     is_step is_new)
 
 -- One more step of the plan is written.
-pub plan_more : (extent : Extent) (m : List Item) (at : ℕ) (old : List StepBits) (step : StepBits) → 0 < at
-    → at ≤ length m → length m < length old → IsRightStep extent (drop (at - 1) m) (step_in step)
+pub plan_more : (setting : Setting) (m : List Item) (at : ℕ) (old : List StepBits) (step : StepBits) → 0 < at
+    → at ≤ length m → length m < length old → IsRightStep setting (drop (at - 1) m) (step_in step)
     → ((i : ℕ) (other : StepBits) → at ≤ i → i ≤ length m
-    → IsRightStep extent (drop i m) (step_in (get_or old i other)))
+    → IsRightStep setting (drop i m) (step_in (get_or old i other)))
     → (i : ℕ) (other : StepBits) → at - 1 ≤ i → i ≤ length m
-    → IsRightStep extent (drop i m) (step_in (get_or (set old (at - 1) step) i other))
-plan_more extent m at old step some within room right others i other from to =
+    → IsRightStep setting (drop i m) (step_in (get_or (set old (at - 1) step) i other))
+plan_more setting m at old step some within room right others i other from to =
     elim (cases_lt (at - 1) i) [
-      | inl later ↦ subst (λ (s : StepBits). IsRightStep extent (drop i m) (step_in s))
+      | inl later ↦ subst (λ (s : StepBits). IsRightStep setting (drop i m) (step_in s))
           (sym (get_or-set_other old (at - 1) i step other (omega (arith, later))))
           (others i other (omega (arith, later, some)) to)
       | inr le ↦ (let e : at - 1 ≡ i = omega (arith, le, from) in
-          let here : IsRightStep extent (drop (at - 1) m)
+          let here : IsRightStep setting (drop (at - 1) m)
           (step_in (get_or (set old (at - 1) step) (at - 1) other)) =
-          subst (λ (s : StepBits). IsRightStep extent (drop (at - 1) m) (step_in s))
+          subst (λ (s : StepBits). IsRightStep setting (drop (at - 1) m) (step_in s))
           (sym (get_or-set_same old (at - 1) step other (omega (arith, within, some, room)))) right in
-          subst (λ (j : ℕ). IsRightStep extent (drop j m) (step_in (get_or (set old (at - 1) step) j other))) e here)
+          subst (λ (j : ℕ). IsRightStep setting (drop j m) (step_in (get_or (set old (at - 1) step) j other))) e here)
     ]
 
 -- The first step of the plan that is written is that behind the last item.
-pub plan_first : (extent : Extent) (m : List Item) (old : List StepBits) (begins : Begin) (step : StepBits)
-    → length m < length old → step_in step ≡ step_of 0 begins none_going
+pub plan_first : (setting : Setting) (m : List Item) (old : List StepBits) (begins : Begin) (step : StepBits)
+    → length m < length old → step_in step ≡ step_of setting.behind begins (none_going setting.behind)
     → (i : ℕ) (other : StepBits) → length m ≤ i → i ≤ length m
-    → IsRightStep extent (drop i m) (step_in (get_or (set old (length m) step) i other))
+    → IsRightStep setting (drop i m) (step_in (get_or (set old (length m) step) i other))
 unfolding row
-plan_first extent m old begins step room is i other from to =
+plan_first setting m old begins step room is i other from to =
     let all : drop (length m) m ≡ [] = at_drop_all (λ (l : List Item). l) m (length m) (omega arith) in
-    let right : IsRightStep extent [] (step_in step) =
-    subst (IsRightStep extent []) (sym is) (record { begins = tt; ends = refl }) in
-    let here : IsRightStep extent (drop (length m) m) (step_in (get_or (set old (length m) step) (length m) other)) =
-    subst (λ (s : StepBits). IsRightStep extent (drop (length m) m) (step_in s))
+    let right : IsRightStep setting [] (step_in step) =
+    subst (IsRightStep setting []) (sym is) (record { begins = tt; ends = refl }) in
+    let here : IsRightStep setting (drop (length m) m) (step_in (get_or (set old (length m) step) (length m) other)) =
+    subst (λ (s : StepBits). IsRightStep setting (drop (length m) m) (step_in s))
     (sym (get_or-set_same old (length m) step other room))
-    (subst (λ (l : List Item). IsRightStep extent l (step_in step)) (sym all) right) in
+    (subst (λ (l : List Item). IsRightStep setting l (step_in step)) (sym all) right) in
     let e : length m ≡ i = omega (arith, from, to) in
-    subst (λ (j : ℕ). IsRightStep extent (drop j m) (step_in (get_or (set old (length m) step) j other))) e here
+    subst (λ (j : ℕ). IsRightStep setting (drop j m) (step_in (get_or (set old (length m) step) j other))) e here
 
 -- ---- lanes
 
 -- The costs behind the last item.
-pub last_costs : (extent : Extent) (m : List Item) (costs : Costs) → HasRow (with_ascii 0 never none_going) costs
-    → HasRow (row extent (drop (length m) m)) costs
+pub last_costs : (setting : Setting) (m : List Item) (costs : Costs)
+    → HasRow (with_ascii setting.behind never (none_going setting.behind)) costs
+    → HasRow (row setting (drop (length m) m)) costs
 unfolding row
-last_costs extent m costs has =
+last_costs setting m costs has =
     let all : drop (length m) m ≡ [] = at_drop_all (λ (l : List Item). l) m (length m) (omega arith) in
-    subst (λ (l : List Item). HasRow (row extent l) costs) (sym all) has
+    subst (λ (l : List Item). HasRow (row setting l) costs) (sym all) has
 
 -- Behind the last item no cost is too great.
-pub none_small : AreSmall none_going
-none_small = record {
+pub none_small : (behind : ℕ) → AreSmall (none_going behind)
+none_small behind = record {
   c40 = (omega arith, omega arith, omega arith);
   text = (omega arith, omega arith, omega arith);
   x12 = (omega arith, omega arith, omega arith);
   edifact = (omega arith, omega arith, omega arith, omega arith);
   bytes = omega arith;
-  rest = omega arith;
+  rest = omega (arith, rest_few behind);
 }
 
 -- Over an item no cost grows too great.

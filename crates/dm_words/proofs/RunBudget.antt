@@ -6,7 +6,7 @@ use Rattle.std.specs.Prelude.{not}
 use Rattle.std.proofs.lemmas.List.{length-drop, at_drop_more, get_or-drop}
 use Rattle.std.proofs.Math.Seq.{take-suc}
 use Rattle.std.proofs.lemmas.Bool.Decides.{nat_tests}
-use Rattle.dm_words.specs.declared.extent.Extent.{Extent}
+use Rattle.dm_words.specs.declared.smallest.setting.Setting.{Setting}
 use Rattle.dm_words.specs.declared.item.Item.{Item}
 use Rattle.dm_words.specs.declared.c40.set.CodeSet.{CodeSet}
 use Rattle.dm_words.specs.declared.c40.set.CodeSet.TheVariants.{C40, Text, X12}
@@ -67,22 +67,22 @@ leaves (part.One x) cost words total over b g = cc
 leaves (part.Two x y) cost words total over b g = cc
 
 -- The costs of a run are those of going on, or of leaving.
-pub pairs_are : (extent : Extent) (set : CodeSet) (m : List Item) → row_pairs set (row extent m)
-    ≡ or_leave (parts_cost extent m) (going_pairs set (going_from extent m))
+pub pairs_are : (setting : Setting) (set : CodeSet) (m : List Item) → row_pairs set (row setting m)
+    ≡ or_leave (parts_cost setting m) (going_pairs set (going_from setting m))
 unfolding row
-pairs_are extent C40 [] = refl
-pairs_are extent Text [] = refl
-pairs_are extent X12 [] = refl
-pairs_are extent C40 (x ∷ m) = refl
-pairs_are extent Text (x ∷ m) = refl
-pairs_are extent X12 (x ∷ m) = refl
+pairs_are setting C40 [] = refl
+pairs_are setting Text [] = refl
+pairs_are setting X12 [] = refl
+pairs_are setting C40 (x ∷ m) = refl
+pairs_are setting Text (x ∷ m) = refl
+pairs_are setting X12 (x ∷ m) = refl
 
 -- The plan says whether a run ends.
-pub ends_are : (extent : Extent) (set : CodeSet) (m : List Item) (s : Step) → IsRightStep extent m s → run_ends set s
-    ≡ nat_le (leave 1 (parts_cost extent m)) (going_pairs set (going_from extent m)).none
-ends_are extent C40 m s r = ap (run_ends C40) r.ends
-ends_are extent Text m s r = ap (run_ends Text) r.ends
-ends_are extent X12 m s r = ap (run_ends X12) r.ends
+pub ends_are : (setting : Setting) (set : CodeSet) (m : List Item) (s : Step) → IsRightStep setting m s → run_ends set s
+    ≡ nat_le (leave 1 (parts_cost setting m)) (going_pairs set (going_from setting m)).none
+ends_are setting C40 m s r = ap (run_ends C40) r.ends
+ends_are setting Text m s r = ap (run_ends Text) r.ends
+ends_are setting X12 m s r = ap (run_ends X12) r.ends
 
 -- An item is pushed within the budget.
 pub item_paid : (set : CodeSet) (p p' : Part) (k n words words' total : ℕ) (next : Pairs)
@@ -95,66 +95,69 @@ item_paid set p p' k n words words' total next budget e is =
     omega (arith, budget, o, is)
 
 -- Where a run goes on, the set has the item, and the run can pay for it.
-run_here : (extent : Extent) (set : CodeSet) (x : Item) (rest : List Item) (s : Step) (p : Part) (words total : ℕ)
-    → IsRightStep extent (x ∷ rest) s
-    → words + owed (length (part_values p)) (row_pairs set (row extent (x ∷ rest))) ≤ total
+run_here : (setting : Setting) (set : CodeSet) (x : Item) (rest : List Item) (s : Step) (p : Part) (words total : ℕ)
+    → IsRightStep setting (x ∷ rest) s
+    → words + owed (length (part_values p)) (row_pairs set (row setting (x ∷ rest))) ≤ total
     → total < never → is_empty p && run_ends set s ≡ false
     → (0 < set_values set x) ×
-    (words + owed (length (part_values p) + set_values set x) (row_pairs set (row extent rest)) ≤ total)
-run_here extent set x rest s p words total right budget small goes =
-    by_set set (rw (pairs_are extent set (x ∷ rest)) at budget) (rw (ends_are extent set (x ∷ rest) s right) at goes)
+    (words + owed (length (part_values p) + set_values set x) (row_pairs set (row setting rest)) ≤ total)
+run_here setting set x rest s p words total right budget small goes =
+    by_set set (rw (pairs_are setting set (x ∷ rest)) at budget) (rw (ends_are setting set (x ∷ rest) s right) at goes)
   where
     by_set : (set : CodeSet)
         → words + owed (length (part_values p))
-        (or_leave (parts_cost extent (x ∷ rest)) (going_pairs set (going_from extent (x ∷ rest)))) ≤ total
-        → is_empty p && nat_le (leave 1 (parts_cost extent (x ∷ rest)))
-        (going_pairs set (going_from extent (x ∷ rest))).none ≡ false
+        (or_leave (parts_cost setting (x ∷ rest)) (going_pairs set (going_from setting (x ∷ rest)))) ≤ total
+        → is_empty p && nat_le (leave 1 (parts_cost setting (x ∷ rest)))
+        (going_pairs set (going_from setting (x ∷ rest))).none ≡ false
         → (0 < set_values set x) ×
-        (words + owed (length (part_values p) + set_values set x) (row_pairs set (row extent rest)) ≤ total)
+        (words + owed (length (part_values p) + set_values set x) (row_pairs set (row setting rest)) ≤ total)
     by_set C40 b g =
-        goes_on p (parts_cost extent (x ∷ rest)) (set_values C40 x) words total (row extent rest).c40 b small g
+        goes_on p (parts_cost setting (x ∷ rest)) (set_values C40 x) words total (row setting rest).c40 b small g
     by_set Text b g =
-        goes_on p (parts_cost extent (x ∷ rest)) (set_values Text x) words total (row extent rest).text b small g
+        goes_on p (parts_cost setting (x ∷ rest)) (set_values Text x) words total (row setting rest).text b small g
     by_set X12 b g =
-        goes_on p (parts_cost extent (x ∷ rest)) (set_values X12 x) words total (row extent rest).x12 b small g
+        goes_on p (parts_cost setting (x ∷ rest)) (set_values X12 x) words total (row setting rest).x12 b small g
 
 -- Where a run goes on, an item is there.
-run_some : (extent : Extent) (set : CodeSet) (m : List Item) (s : Step) (p : Part) (words total : ℕ)
-    → IsRightStep extent m s → words + owed (length (part_values p)) (row_pairs set (row extent m)) ≤ total
+run_some : (setting : Setting) (set : CodeSet) (m : List Item) (s : Step) (p : Part) (words total : ℕ)
+    → IsRightStep setting m s → words + owed (length (part_values p)) (row_pairs set (row setting m)) ≤ total
     → total < never → is_empty p && run_ends set s ≡ false → 0 < length m
-run_some extent set [] s p words total right budget small goes =
-    absurd (by_set set (rw (pairs_are extent set []) at budget) (rw (ends_are extent set [] s right) at goes)) where
+run_some setting set [] s p words total right budget small goes =
+    absurd (by_set set (rw (pairs_are setting set []) at budget) (rw (ends_are setting set [] s right) at goes)) where
       by_set : (set : CodeSet)
           → words + owed (length (part_values p))
-          (or_leave (parts_cost extent []) (going_pairs set (going_from extent []))) ≤ total
-          → is_empty p && nat_le (leave 1 (parts_cost extent [])) (going_pairs set (going_from extent [])).none ≡ false
+          (or_leave (parts_cost setting []) (going_pairs set (going_from setting []))) ≤ total
+          → is_empty p && nat_le (leave 1 (parts_cost setting []))
+          (going_pairs set (going_from setting [])).none ≡ false
           → ⊥
-      by_set C40 b g = (let h = goes_on p (parts_cost extent []) 0 words total no_pairs b small g in omega (arith, h.0))
+      by_set C40 b g =
+          (let h = goes_on p (parts_cost setting []) 0 words total no_pairs b small g in omega (arith, h.0))
       by_set Text b g =
-          (let h = goes_on p (parts_cost extent []) 0 words total no_pairs b small g in omega (arith, h.0))
-      by_set X12 b g = (let h = goes_on p (parts_cost extent []) 0 words total no_pairs b small g in omega (arith, h.0))
-run_some extent set (x ∷ rest) s p words total right budget small goes = omega arith
+          (let h = goes_on p (parts_cost setting []) 0 words total no_pairs b small g in omega (arith, h.0))
+      by_set X12 b g =
+          (let h = goes_on p (parts_cost setting []) 0 words total no_pairs b small g in omega (arith, h.0))
+run_some setting set (x ∷ rest) s p words total right budget small goes = omega arith
 
 -- What is known of the item at an index where a run goes on.
-pub record IsPaidAt (extent : Extent) (set : CodeSet) (m : List Item) (i : ℕ) (d : Item) (p : Part) (words total : ℕ)
+pub record IsPaidAt (setting : Setting) (set : CodeSet) (m : List Item) (i : ℕ) (d : Item) (p : Part) (words total : ℕ)
     : Type 0 where
   pub there : i < length m
   pub held : 0 < set_values set (get_or m i d)
   pub budget : words + owed (length (part_values p) + set_values set (get_or m i d))
-      (row_pairs set (row extent (drop (i + 1) m))) ≤ total
+      (row_pairs set (row setting (drop (i + 1) m))) ≤ total
 
-pub run_at : (extent : Extent) (set : CodeSet) (m : List Item) (i : ℕ) (d : Item) (s : Step) (p : Part)
-    (words total : ℕ) (on : Bool) → IsRightStep extent (drop i m) s
-    → words + owed (length (part_values p)) (row_pairs set (row extent (drop i m))) ≤ total → total < never → on
-    ≡ not (is_empty p && run_ends set s) → on ≡ true → IsPaidAt extent set m i d p words total
-run_at extent set m i d s p words total on right budget small is so =
+pub run_at : (setting : Setting) (set : CodeSet) (m : List Item) (i : ℕ) (d : Item) (s : Step) (p : Part)
+    (words total : ℕ) (on : Bool) → IsRightStep setting (drop i m) s
+    → words + owed (length (part_values p)) (row_pairs set (row setting (drop i m))) ≤ total → total < never → on
+    ≡ not (is_empty p && run_ends set s) → on ≡ true → IsPaidAt setting set m i d p words total
+run_at setting set m i d s p words total on right budget small is so =
     let goes : is_empty p && run_ends set s ≡ false = by_bool (is_empty p && run_ends set s) (sym is ∙ so) in
-    let some = run_some extent set (drop i m) s p words total right budget small goes in
+    let some = run_some setting set (drop i m) s p words total right budget small goes in
     let lt : i < length m = omega (arith, some, length-drop i m) in
     let cons : drop i m ≡ get_or m i d ∷ drop (i + 1) m = at_drop_more (λ (l : List Item). l) m i d lt in
-    let h = run_here extent set (get_or m i d) (drop (i + 1) m) s p words total
-    (subst (λ (l : List Item). IsRightStep extent l s) cons right)
-    (subst (λ (l : List Item). words + owed (length (part_values p)) (row_pairs set (row extent l)) ≤ total) cons
+    let h = run_here setting set (get_or m i d) (drop (i + 1) m) s p words total
+    (subst (λ (l : List Item). IsRightStep setting l s) cons right)
+    (subst (λ (l : List Item). words + owed (length (part_values p)) (row_pairs set (row setting l)) ≤ total) cons
     budget) small goes in
     record { there = lt; held = h.0; budget = h.1 } where
       by_bool : (b : Bool) → not b ≡ true → b ≡ false
@@ -162,14 +165,14 @@ run_at extent set m i d s p words total on right budget small is so =
       by_bool false e = refl
 
 -- The first item of a run.
-pub first_at : (extent : Extent) (set : CodeSet) (m : List Item) (i : ℕ) (d : Item) (words total : ℕ) → i < length m
-    → words + owed 0 (going_pairs set (going_from extent (drop i m))) ≤ total → total < never
-    → IsPaidAt extent set m i d part.Empty words total
+pub first_at : (setting : Setting) (set : CodeSet) (m : List Item) (i : ℕ) (d : Item) (words total : ℕ) → i < length m
+    → words + owed 0 (going_pairs set (going_from setting (drop i m))) ≤ total → total < never
+    → IsPaidAt setting set m i d part.Empty words total
 unfolding owed
-first_at extent set m i d words total lt budget small =
+first_at setting set m i d words total lt budget small =
     let cons : drop i m ≡ get_or m i d ∷ drop (i + 1) m = at_drop_more (λ (l : List Item). l) m i d lt in
     let h = by_set set (get_or m i d) (drop (i + 1) m)
-    (subst (λ (l : List Item). words + owed 0 (going_pairs set (going_from extent l)) ≤ total) cons budget) in
+    (subst (λ (l : List Item). words + owed 0 (going_pairs set (going_from setting l)) ≤ total) cons budget) in
     record { there = lt; held = h.0; budget = h.1 } where
       by_count : (k : ℕ) (next : Pairs) → words + owed 0 (stay k next) ≤ total
           → (0 < k) × (words + owed (0 + k) next ≤ total)
@@ -179,11 +182,11 @@ first_at extent set m i d words total lt budget small =
           ∙ owed_values (suc k) 0 next in (omega arith, omega (arith, b, e))
 
       by_set : (set : CodeSet) (x : Item) (rest : List Item)
-          → words + owed 0 (going_pairs set (going_from extent (x ∷ rest))) ≤ total
-          → (0 < set_values set x) × (words + owed (0 + set_values set x) (row_pairs set (row extent rest)) ≤ total)
-      by_set C40 x rest b = by_count (set_values C40 x) (row extent rest).c40 b
-      by_set Text x rest b = by_count (set_values Text x) (row extent rest).text b
-      by_set X12 x rest b = by_count (set_values X12 x) (row extent rest).x12 b
+          → words + owed 0 (going_pairs set (going_from setting (x ∷ rest))) ≤ total
+          → (0 < set_values set x) × (words + owed (0 + set_values set x) (row_pairs set (row setting rest)) ≤ total)
+      by_set C40 x rest b = by_count (set_values C40 x) (row setting rest).c40 b
+      by_set Text x rest b = by_count (set_values Text x) (row setting rest).text b
+      by_set X12 x rest b = by_count (set_values X12 x) (row setting rest).x12 b
 
 -- The codewords of an item fit.
 pub item_room : (n words total : ℕ) (p : Pairs) → words + owed n p ≤ total → words + 2 * (n / 3) ≤ total
@@ -214,15 +217,15 @@ one_more m from i d le lt =
     ∙ ap (λ (k : ℕ). take k (drop from m)) (sym e)
 
 -- Leaving a run.
-pub leave_at : (extent : Extent) (set : CodeSet) (m : List Item) (s : Step) (p : Part) (words total : ℕ) (on : Bool)
-    → IsRightStep extent m s → words + owed (length (part_values p)) (row_pairs set (row extent m)) ≤ total
+pub leave_at : (setting : Setting) (set : CodeSet) (m : List Item) (s : Step) (p : Part) (words total : ℕ) (on : Bool)
+    → IsRightStep setting m s → words + owed (length (part_values p)) (row_pairs set (row setting m)) ≤ total
     → on ≡ not (is_empty p && run_ends set s) → on ≡ false
-    → (is_empty p ≡ true) × (words + leave 1 (parts_cost extent m) ≤ total)
-leave_at extent set m s p words total on right budget is none =
+    → (is_empty p ≡ true) × (words + leave 1 (parts_cost setting m) ≤ total)
+leave_at setting set m s p words total on right budget is none =
     let ends : is_empty p && run_ends set s ≡ true = by_bool (is_empty p && run_ends set s) (sym is ∙ none) in (
       both (is_empty p) (run_ends set s) ends,
-      leaves p (parts_cost extent m) words total (going_pairs set (going_from extent m))
-          (rw (pairs_are extent set m) at budget) (rw (ends_are extent set m s right) at ends),
+      leaves p (parts_cost setting m) words total (going_pairs set (going_from setting m))
+          (rw (pairs_are setting set m) at budget) (rw (ends_are setting set m s right) at ends),
     ) where
       by_bool : (b : Bool) → not b ≡ false → b ≡ true
       by_bool true e = refl

@@ -11,7 +11,7 @@ use Rattle.dm_words.specs.Designators.{most_assigned, IsDesignator, one, two, th
 use Rattle.dm_words.specs.Heads.{IsHead}
 use Rattle.dm_words.specs.Letters.{LetterView, AreMarks, IsLetter, Said, Items, Number, IsLetterPart, part, mark}
 use Rattle.dm_words.specs.Letters.{said_items, said_marks, IsOpening, headed, framed, plain, opening_head}
-use Rattle.dm_words.specs.Letters.{opening_items, closing_items, said_letter, SpellsLetter}
+use Rattle.dm_words.specs.Letters.{opening_items, closing_items, said_letter, AreLetterParts, SpellsLetter}
 use Rattle.dm_words.proofs.AsciiWords.{AreItems}
 use Rattle.dm_words.proofs.ItemBytes.{part_items, items-append, macro_byte}
 use Rattle.dm_words.proofs.Heads.{head_only}
@@ -58,6 +58,13 @@ marks_right before (Items items ∷ said) h =
     (subst (λ (k : ℕ). AreMarks (before + length items) k (said_marks (before + length items) said)) count
     (marks_right (before + length items) said h.1)) (omega arith)
 marks_right before (Number number ∷ said) h = (omega arith, h.0, marks_right before said h.1)
+
+-- The marks that parts of a letter say are in order.
+pub said_in_order : (before place : ℕ) (words : List ℕ) (said : List Said) → AreLetterParts place words said
+    → AreMarks before (before + length (said_items said)) (said_marks before said)
+said_in_order before place words said p =
+    marks_right before said
+    (subst (AllByRecursion IsRight) (sym p.said_are) (parts_right place p.parts p.after p.joined))
 
 -- An opening is right: its head, and the items before and behind those of the parts.
 record IsRightOpening (opening : Opening) : Type 0 where

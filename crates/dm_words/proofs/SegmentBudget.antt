@@ -1,46 +1,47 @@
 -- A segment that follows the plan stays within its budget.
 use Rattle.std.proofs.Common.{◌≡◌, ℕ, ◌+◌, ◌-◌, ◌<◌, ◌≤◌, List, [], ◌∷◌, ◌++◌, length, take, drop, get_or, refl, sym}
 use Rattle.std.proofs.Common.{ap, subst, ◌∙◌, arith, Bool, true, false, cond, inl, inr}
-use Rattle.std.specs.Prelude.{nat_le}
+use Rattle.std.specs.Prelude.{nat_le, ◌==◌}
 use Prim.Native.Nat.{min}
 use Rattle.std.proofs.lemmas.Bool.Decides.{nat_tests}
 use Rattle.std.proofs.lemmas.List.{length-drop, at_drop_more}
-use Rattle.dm_words.specs.declared.extent.Extent.{Extent}
+use Rattle.dm_words.specs.declared.smallest.setting.Setting.{Setting}
 use Rattle.dm_words.specs.declared.item.Item.{Item}
 use Rattle.dm_words.specs.declared.item.Item.TheVariants.{Byte, Fnc1}
 use Rattle.dm_words.specs.inner.Costs.{Bytes}
 use Rattle.dm_words.specs.inner.Costs.{Step}
 use Rattle.dm_words.specs.NormalForm.{has_fnc1, length_numbers}
-use Rattle.dm_words.specs.inner.Costs.{never, row, parts_cost, segment_cost, going_from, IsRightStep}
+use Rattle.dm_words.specs.inner.Costs.{never, most_behind, rest_behind, row, parts_cost, segment_cost, going_from}
+use Rattle.dm_words.specs.inner.Costs.{IsRightStep}
 use Rattle.dm_words.proofs.NormalForms.{short_numbers, long_numbers}
 use Rattle.dm_words.proofs.CostsMet.{bytes_is, near_cases}
 use Rattle.dm_words.proofs.Plans.{row_within}
 use Rattle.dm_words.proofs.RunBudget.{one_more}
 
-module _ (extent : Extent) where
+module _ (setting : Setting) where
   abbrev bytes_cost : List Item → ℕ
-  bytes_cost m = (row extent m).segment.bytes
+  bytes_cost m = (row setting m).segment.bytes
 
   abbrev near_of : List Item → ℕ
-  near_of m = (row extent m).segment.near
+  near_of m = (row setting m).segment.near
 
   -- So far a segment has `count` bytes, and `rest` follows.
   pub record IsSegmentSoFar (m rest : List Item) (count : ℕ) : Type 0 where
-    pub bytes : bytes_cost m ≡ count + min (parts_cost extent rest) (bytes_cost rest)
-    pub ended : parts_cost extent rest ≤ bytes_cost rest → near_of m ≡ count
-    pub open_still : bytes_cost rest < parts_cost extent rest → near_of m ≡ count + near_of rest
+    pub bytes : bytes_cost m ≡ count + min (parts_cost setting rest) (bytes_cost rest)
+    pub ended : parts_cost setting rest ≤ bytes_cost rest → near_of m ≡ count
+    pub open_still : bytes_cost rest < parts_cost setting rest → near_of m ≡ count + near_of rest
 
   pub segment_begun : (b : ℕ) (rest : List Item) → IsSegmentSoFar (Byte b ∷ rest) rest 1
   segment_begun b rest =
-      elim (near_cases extent b rest) [
+      elim (near_cases setting b rest) [
         | inl c ↦ record {
-          bytes = bytes_is extent b rest;
+          bytes = bytes_is setting b rest;
           ended = λ le. c.1;
           open_still =
               λ lt. absurd (omega (arith, lt, c.0));
         }
         | inr c ↦ record {
-          bytes = bytes_is extent b rest;
+          bytes = bytes_is setting b rest;
           ended = λ le. absurd (omega (arith, le, c.0));
           open_still =
               λ lt. c.1;
@@ -48,12 +49,12 @@ module _ (extent : Extent) where
       ]
 
   pub segment_more : (m : List Item) (b count : ℕ) (rest : List Item) → IsSegmentSoFar m (Byte b ∷ rest) count
-      → bytes_cost (Byte b ∷ rest) < parts_cost extent (Byte b ∷ rest) → IsSegmentSoFar m rest (count + 1)
+      → bytes_cost (Byte b ∷ rest) < parts_cost setting (Byte b ∷ rest) → IsSegmentSoFar m rest (count + 1)
   segment_more m b count rest s goes =
       let o = s.open_still goes in
-      let y : bytes_cost m ≡ count + 1 + min (parts_cost extent rest) (bytes_cost rest) =
-      omega (arith, s.bytes, goes, bytes_is extent b rest) in
-      elim (near_cases extent b rest) [
+      let y : bytes_cost m ≡ count + 1 + min (parts_cost setting rest) (bytes_cost rest) =
+      omega (arith, s.bytes, goes, bytes_is setting b rest) in
+      elim (near_cases setting b rest) [
         | inl c ↦ record {
           bytes = y;
           ended = λ le. omega (arith, o, c.1);
@@ -69,20 +70,20 @@ module _ (extent : Extent) where
       ]
 
   -- The next item is a byte where the segment goes on.
-  pub byte_next : (x : Item) (rest : List Item) → bytes_cost (x ∷ rest) < parts_cost extent (x ∷ rest)
-      → parts_cost extent (x ∷ rest) < never → (b : ℕ) × (x ≡ Byte b)
+  pub byte_next : (x : Item) (rest : List Item) → bytes_cost (x ∷ rest) < parts_cost setting (x ∷ rest)
+      → parts_cost setting (x ∷ rest) < never → (b : ℕ) × (x ≡ Byte b)
   unfolding row
   byte_next Fnc1 rest goes small = absurd (omega (arith, goes, small))
   byte_next (Byte b) rest goes small = (b, refl)
 
   -- The costs of a segment are those of going on.
-  segment_are : (m : List Item) → (row extent m).segment ≡ (going_from extent m).segment
+  segment_are : (m : List Item) → (row setting m).segment ≡ (going_from setting m).segment
   unfolding row
   segment_are [] = refl
   segment_are (x ∷ m) = refl
 
   -- The first item is a byte where a segment goes on over it.
-  pub first_byte : (m : List Item) → 0 < length m → (going_from extent m).segment.bytes < never
+  pub first_byte : (m : List Item) → 0 < length m → (going_from setting m).segment.bytes < never
       → (b : ℕ) × (rest : List Item) × (m ≡ Byte b ∷ rest)
   first_byte [] some small = absurd (omega (arith, some))
   first_byte (Fnc1 ∷ m) some small = absurd (omega (arith, small))
@@ -90,7 +91,7 @@ module _ (extent : Extent) where
 
   -- A segment begins at an index.
   pub begun_at : (m : List Item) (i : ℕ) (d : Item) → i < length m
-      → (going_from extent (drop i m)).segment.bytes < never
+      → (going_from setting (drop i m)).segment.bytes < never
       → (IsSegmentSoFar (drop i m) (drop (i + 1) m) (i + 1 - i)) × (has_fnc1 (take (i + 1 - i) (drop i m)) ≡ false)
   begun_at m i d lt small =
       let cons : drop i m ≡ get_or m i d ∷ drop (i + 1) m = at_drop_more (λ (l : List Item). l) m i d lt in
@@ -106,10 +107,10 @@ module _ (extent : Extent) where
       )
 
   -- The plan says whether a segment ends.
-  ends_are : (m : List Item) (s : Step) → IsRightStep extent m s → s.segment_ends
-      ≡ nat_le (parts_cost extent m) (bytes_cost m)
+  ends_are : (m : List Item) (s : Step) → IsRightStep setting m s → s.segment_ends
+      ≡ nat_le (parts_cost setting m) (bytes_cost m)
   ends_are m s r = ap (λ (t : Step). t.segment_ends) r.ends
-      ∙ ap (λ (t : Bytes). nat_le (parts_cost extent m) t.bytes) (sym (segment_are m))
+      ∙ ap (λ (t : Bytes). nat_le (parts_cost setting m) t.bytes) (sym (segment_are m))
 
   -- Bytes and one more.
   byte_more : (a : List Item) (b : ℕ) → has_fnc1 a ≡ false → has_fnc1 (a ++ Byte b ∷ []) ≡ false
@@ -118,10 +119,10 @@ module _ (extent : Extent) where
   byte_more (Fnc1 ∷ a) b none = absurd cc
 
   -- Where a segment goes on, items are left.
-  some_left : (l : List Item) → bytes_cost l < parts_cost extent l → 0 < length l
+  some_left : (l : List Item) → setting.behind ≤ most_behind → bytes_cost l < parts_cost setting l → 0 < length l
   unfolding row
-  some_left [] lt = absurd (omega (arith, lt))
-  some_left (x ∷ l) lt = omega arith
+  some_left [] less_behind lt = absurd (omega (arith, lt, less_behind))
+  some_left (x ∷ l) less_behind lt = omega arith
 
   -- Where a segment goes on, there is a byte more.
   pub record GoesOver (m : List Item) (from i : ℕ) : Type 0 where
@@ -129,21 +130,22 @@ module _ (extent : Extent) where
     pub so_far : IsSegmentSoFar (drop from m) (drop (i + 1) m) (i + 1 - from)
     pub bytes : has_fnc1 (take (i + 1 - from) (drop from m)) ≡ false
 
-  pub byte_at : (m : List Item) (from i : ℕ) (d : Item) (s : Step) → length m ≤ 3123 → from ≤ i → i ≤ length m
-      → IsRightStep extent (drop i m) s → s.segment_ends ≡ false
+  pub byte_at : (m : List Item) (from i : ℕ) (d : Item) (s : Step) → length m ≤ 3123 → setting.behind ≤ most_behind
+      → from ≤ i → i ≤ length m
+      → IsRightStep setting (drop i m) s → s.segment_ends ≡ false
       → IsSegmentSoFar (drop from m) (drop i m) (i - from) → has_fnc1 (take (i - from) (drop from m)) ≡ false
       → GoesOver m from i
-  byte_at m from i d s few le within right goes so_far bytes =
-      let lt : bytes_cost (drop i m) < parts_cost extent (drop i m) =
-      less (nat_le (parts_cost extent (drop i m)) (bytes_cost (drop i m))) refl (sym (ends_are (drop i m) s right)
+  byte_at m from i d s few less_behind le within right goes so_far bytes =
+      let lt : bytes_cost (drop i m) < parts_cost setting (drop i m) =
+      less (nat_le (parts_cost setting (drop i m)) (bytes_cost (drop i m))) refl (sym (ends_are (drop i m) s right)
       ∙ goes) in
-      let some : 0 < length (drop i m) = some_left (drop i m) lt in
+      let some : 0 < length (drop i m) = some_left (drop i m) less_behind lt in
       let there : i < length m = omega (arith, some, length-drop i m) in
       let cons : drop i m ≡ get_or m i d ∷ drop (i + 1) m = at_drop_more (λ (l : List Item). l) m i d there in
-      let small : parts_cost extent (drop i m) < never =
+      let small : parts_cost setting (drop i m) < never =
       omega (
         arith,
-        (row_within extent (drop i m) (omega (arith, few, length-drop i m))).ascii,
+        (row_within setting (drop i m) (omega (arith, few, length-drop i m)) less_behind).ascii,
         length-drop i m,
         few,
       ) in
@@ -160,47 +162,51 @@ module _ (extent : Extent) where
         bytes = subst (λ (l : List Item). has_fnc1 l
             ≡ false) more (byte_more (take (i - from) (drop from m)) next.0 bytes);
       } where
-        less : (t : Bool) → nat_le (parts_cost extent (drop i m)) (bytes_cost (drop i m)) ≡ t → t ≡ false
-            → bytes_cost (drop i m) < parts_cost extent (drop i m)
+        less : (t : Bool) → nat_le (parts_cost setting (drop i m)) (bytes_cost (drop i m)) ≡ t → t ≡ false
+            → bytes_cost (drop i m) < parts_cost setting (drop i m)
         less true e f = absurd cc
         less false e f = grind (arith, nat_tests)
 
   -- Where a segment ends, its cost is that of its field, its bytes and what follows.
-  pub ended_at : (m : List Item) (from i : ℕ) (s : Step) → IsRightStep extent (drop i m) s → s.segment_ends ≡ true
+  pub ended_at : (m : List Item) (from i : ℕ) (s : Step) → IsRightStep setting (drop i m) s → s.segment_ends ≡ true
       → IsSegmentSoFar (drop from m) (drop i m) (i - from)
-      → segment_cost (going_from extent (drop from m)).segment.bytes (going_from extent (drop from m)).segment.near
-      ≡ 1 + length (length_numbers (i - from)) + (i - from) + parts_cost extent (drop i m)
+      → segment_cost (going_from setting (drop from m)).segment.bytes (going_from setting (drop from m)).segment.near
+      ≡ 1 + length (length_numbers (i - from)) + (i - from) + parts_cost setting (drop i m)
   ended_at m from i s right ends so_far =
       subst (λ (t : Bytes). segment_cost t.bytes t.near
-      ≡ 1 + length (length_numbers (i - from)) + (i - from) + parts_cost extent (drop i m))
+      ≡ 1 + length (length_numbers (i - from)) + (i - from) + parts_cost setting (drop i m))
       (segment_are (drop from m)) here where
-        le : parts_cost extent (drop i m) ≤ bytes_cost (drop i m)
-        le = let t : nat_le (parts_cost extent (drop i m)) (bytes_cost (drop i m))
+        le : parts_cost setting (drop i m) ≤ bytes_cost (drop i m)
+        le = let t : nat_le (parts_cost setting (drop i m)) (bytes_cost (drop i m))
             ≡ true = sym (ends_are (drop i m) s right) ∙ ends in grind (arith, nat_tests)
 
-        y : bytes_cost (drop from m) ≡ (i - from) + parts_cost extent (drop i m)
+        y : bytes_cost (drop from m) ≡ (i - from) + parts_cost setting (drop i m)
         y = omega (arith, so_far.bytes, le)
 
         by_test : (t : Bool) → nat_le (i - from) 249 ≡ t
             → cond t (2 + bytes_cost (drop from m)) (3 + bytes_cost (drop from m))
-            ≡ 1 + length (length_numbers (i - from)) + (i - from) + parts_cost extent (drop i m)
+            ≡ 1 + length (length_numbers (i - from)) + (i - from) + parts_cost setting (drop i m)
         by_test true e = let few : i - from ≤ 249 =
             grind (arith, nat_tests) in omega (arith, y, ap length (short_numbers (i - from) few))
         by_test false e = let many : 249 < i - from =
             grind (arith, nat_tests) in omega (arith, y, ap length (long_numbers (i - from) many))
 
         here : segment_cost (bytes_cost (drop from m)) (near_of (drop from m))
-            ≡ 1 + length (length_numbers (i - from)) + (i - from) + parts_cost extent (drop i m)
+            ≡ 1 + length (length_numbers (i - from)) + (i - from) + parts_cost setting (drop i m)
         here = ap (λ (n : ℕ). segment_cost (bytes_cost (drop from m)) n) (so_far.ended le)
             ∙ by_test (nat_le (i - from) 249) refl
 
-  -- A segment up to the end of the symbol has all items.
-  pub rest_is : (m : List Item) → (going_from extent m).segment.rest < never
-      → (has_fnc1 m ≡ false) × ((going_from extent m).segment.rest ≡ length m)
-  rest_is [] small = (refl, refl)
+  -- A segment up to the end of the symbol has all items, and nothing follows them.
+  pub rest_is : (m : List Item) → (going_from setting m).segment.rest < never
+      → (has_fnc1 m ≡ false) × ((going_from setting m).segment.rest ≡ length m) × (setting.behind ≡ 0)
+  rest_is [] small = let h = by_test (setting.behind == 0) refl small in (refl, h.0, h.1) where
+    by_test : (t : Bool) → (setting.behind == 0) ≡ t → cond t 0 never < never
+        → (rest_behind setting.behind ≡ 0) × (setting.behind ≡ 0)
+    by_test true e lt = (rw e refl, grind (arith, nat_tests))
+    by_test false e lt = absurd (omega (arith, lt))
   rest_is (Fnc1 ∷ m) small = absurd (omega (arith, small))
   rest_is (Byte b ∷ m) small =
-      let same : (row extent m).segment.rest ≡ (going_from extent m).segment.rest =
+      let same : (row setting m).segment.rest ≡ (going_from setting m).segment.rest =
       ap (λ (t : Bytes). t.rest) (segment_are m) in
       let h = rest_is m (omega (arith, small, same)) in
-      (h.0, omega (arith, small, same, h.1))
+      (h.0, omega (arith, small, same, h.1), h.2)

@@ -19,7 +19,7 @@ use Rattle.dm_words.proofs.Extents.{wide_reads_the_same}
 use Rattle.dm_words.proofs.NormalForms.{normal_form_count, normal_form_spells}
 
 -- Of two sizes one is smaller than the other, or they are the same.
-one_is_smaller : (size other : SizeEntry) → IsSize size → IsSize other → (IsSmaller size other → ⊥)
+pub one_is_smaller : (size other : SizeEntry) → IsSize size → IsSize other → (IsSmaller size other → ⊥)
     → (IsSmaller other size → ⊥) → size ≡ other
 one_is_smaller size other is is_other not_smaller not_larger =
     let areas : area size ≡ area other = elim (cases_lt (area size) (area other)) [

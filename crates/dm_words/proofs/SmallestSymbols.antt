@@ -13,10 +13,10 @@ use Rattle.dm_words.specs.Macros.{macro_text}
 use Rattle.dm_words.specs.Messages.{IsMessage}
 use Rattle.dm_words.specs.Ascii.{ascii}
 use Rattle.dm_words.specs.Pads.{pads, padded}
-use Rattle.dm_words.specs.Smallest.{IsTaken, NoneSpells, IsSmallestFor, IsPlainest, ArePads, SpellsThenPads}
+use Rattle.dm_words.specs.Smallest.{IsTaken, IsSmaller, NoneSpells, IsSmallestFor, IsPlainest, ArePads, SpellsThenPads}
 use Rattle.dm_words.specs.Smallest.{plain_padded, macro_padded}
 use Rattle.dm_words.specs.Spells.{Spells, plain, by_macro, AreParts}
-use Rattle.dm_words.specs.inner.Costs.{parts_cost}
+use Rattle.dm_words.specs.inner.Costs.{at_end, parts_cost}
 use Rattle.dm_words.specs.inner.Ways.{IsLeastCost, inner_text, IsMacroOf, HasNoMacro}
 use Rattle.dm_words.specs.inner.Written.{NoUnlatchFirst, ArePartsWritten}
 use Rattle.dm_words.proofs.PadWords.{length-pads, length-padded, pads_are}
@@ -25,17 +25,17 @@ use Rattle.dm_words.proofs.LawLemmas.{ascii_spells}
 use Rattle.dm_words.proofs.Extents.{wide_reads_the_padded}
 use Rattle.dm_words.proofs.PartsWritten.{parts_whole}
 use Rattle.dm_words.proofs.SpelledBounds.{spelled_is_few}
-use Rattle.dm_words.proofs.CostsMet.{no_fewer_words}
+use Rattle.dm_words.proofs.CostBounds.{no_fewer_words}
 
 -- ---- what is written spells the message
 
 -- Pads don't begin with the unlatch.
-pads_begin : (place n : ℕ) → NoUnlatchFirst (pads place n)
+pub pads_begin : (place n : ℕ) → NoUnlatchFirst (pads place n)
 pads_begin place zero = tt
 pads_begin place (suc n) = λ e. absurd (omega (arith, e))
 
 -- The words up to the count are filled by pads.
-filled : (words : List ℕ) (count : ℕ) → length words ≤ count
+pub filled : (words : List ℕ) (count : ℕ) → length words ≤ count
     → length words + length (pads (length words + 1) (count - length words)) ≡ count
 filled words count fits = omega (arith, length-pads (length words + 1) (count - length words), fits)
 
@@ -89,8 +89,8 @@ macro_spells extent count word base new m text one is_text is parts fits =
 -- ---- the least cost
 
 -- Where there is no macro, the cost of the parts is the least.
-pub least_plain : (extent : Extent) (m : List Item) (cost : ℕ) → cost ≡ parts_cost extent m → HasNoMacro extent m
-    → IsLeastCost extent m cost
+pub least_plain : (extent : Extent) (m : List Item) (cost : ℕ) → cost ≡ parts_cost (at_end extent) m
+    → HasNoMacro extent m → IsLeastCost extent m cost
 least_plain extent m cost is none =
     record { parts = omega (arith, is); macros = λ word digit text wide k e. absurd (none word digit text wide k e) }
 
@@ -103,17 +103,42 @@ at_size P size is all =
     (recursion_from_All P size_table all) is
 
 -- Another size of the choice that is enough has no fewer modules.
-abbrev HasNoFewer : SizeChoice → ℕ → SizeEntry → SizeEntry → Type 0
+abbrev pub HasNoFewer : SizeChoice → ℕ → SizeEntry → SizeEntry → Type 0
 HasNoFewer choice cost size other = takes choice other ≡ true → cost ≤ other.data_count → area size ≤ area other
 
 -- Where it has as many, it has no fewer columns.
-abbrev IsNoNarrower : SizeChoice → ℕ → SizeEntry → SizeEntry → Type 0
+abbrev pub IsNoNarrower : SizeChoice → ℕ → SizeEntry → SizeEntry → Type 0
 IsNoNarrower choice cost size other = takes choice other ≡ true → cost ≤ other.data_count → area size ≡ area other
     → size.columns ≤ other.columns
 
 -- A size of the choice isn't enough.
-abbrev IsTooSmall : SizeChoice → ℕ → SizeEntry → Type 0
+abbrev pub IsTooSmall : SizeChoice → ℕ → SizeEntry → Type 0
 IsTooSmall choice cost other = takes choice other ≡ true → other.data_count < cost
+
+-- Where words that say something have at least so many codewords, those of no size say it that is smaller than the
+-- least one with as many.
+pub none_smaller : (Says : List ℕ → Type 0) (choice : SizeChoice) (cost : ℕ) (size smaller : SizeEntry)
+    (other : List ℕ)
+    → ((words : List ℕ) → Says words → cost ≤ length words) → All (HasNoFewer choice cost size) size_table
+    → All (IsNoNarrower choice cost size) size_table → IsTaken choice smaller → IsSmaller smaller size
+    → length other ≡ smaller.data_count → Says other → ⊥
+none_smaller Says choice cost size smaller other lower smallest narrowest is less sized says =
+    let enough : cost ≤ smaller.data_count = omega (arith, lower other says, sized) in
+    let above = at_size (HasNoFewer choice cost size) smaller is.0 smallest is.1 enough in
+    elim less [
+      | inl fewer ↦ omega (arith, fewer, above)
+      | inr narrower ↦
+          let wide = at_size (IsNoNarrower choice cost size) smaller is.0 narrowest is.1 enough (sym narrower.0) in
+          omega (arith, narrower.1, wide)
+    ]
+
+-- Those of no size say it where none has as many.
+pub none_has : (Says : List ℕ → Type 0) (choice : SizeChoice) (cost : ℕ) (size : SizeEntry) (other : List ℕ)
+    → ((words : List ℕ) → Says words → cost ≤ length words) → All (IsTooSmall choice cost) size_table
+    → IsTaken choice size → length other ≡ size.data_count → Says other → ⊥
+none_has Says choice cost size other lower none is sized says =
+    let few : size.data_count < cost = at_size (IsTooSmall choice cost) size is.0 none is.1 in
+    omega (arith, few, sized, lower other says)
 
 -- Words of the size for the least cost that spell the message are the smallest.
 pub is_smallest : (extent : Extent) (choice : SizeChoice) (m : List Item) (cost : ℕ) (size : SizeEntry)
@@ -126,23 +151,16 @@ is_smallest extent choice m cost size words least taken smallest narrowest long 
   taken = taken;
   sized = long;
   smallest = λ smaller other is less sized says.
-      let enough : cost ≤ smaller.data_count =
-      omega (arith, no_fewer_words extent other m cost least says, sized) in
-      let above = at_size (HasNoFewer choice cost size) smaller is.0 smallest is.1 enough in
-      elim less [
-        | inl fewer ↦ omega (arith, fewer, above)
-        | inr narrower ↦
-            let wide = at_size (IsNoNarrower choice cost size) smaller is.0 narrowest is.1 enough (sym narrower.0) in
-            omega (arith, narrower.1, wide)
-      ];
+      none_smaller (λ w. Spells extent w m) choice cost size smaller other
+      (λ w s. no_fewer_words extent w m cost least s) smallest narrowest is less sized says;
 }
 
 -- Where no size of the choice is enough, none has words that spell the message.
 pub none_spells : (extent : Extent) (choice : SizeChoice) (m : List Item) (cost : ℕ) → IsLeastCost extent m cost
     → All (IsTooSmall choice cost) size_table → NoneSpells extent choice m
 none_spells extent choice m cost least none size other is sized says =
-    let few : size.data_count < cost = at_size (IsTooSmall choice cost) size is.0 none is.1 in
-    omega (arith, few, sized, no_fewer_words extent other m cost least says)
+    none_has (λ w. Spells extent w m) choice cost size other (λ w s. no_fewer_words extent w m cost least s) none is
+    sized says
 
 -- ---- the plainest words
 
@@ -153,7 +171,7 @@ wider Usual words m says = says
 wider Wide words m says = wide_reads_the_padded words m says
 
 -- No macro is read in the usual extent.
-usual_cost : (m : List Item) → IsLeastCost Usual m (parts_cost Usual m)
+usual_cost : (m : List Item) → IsLeastCost Usual m (parts_cost (at_end Usual) m)
 usual_cost m = record { parts = omega arith; macros = λ word digit text wide k e. absurd cc }
 
 -- ASCII is the plainest.
@@ -181,13 +199,20 @@ usual_plainest m words count fits none says =
 
 -- Any words are the plainest where there is no room for the usual extent.
 pub any_plainest : (m : List Item) (words : List ℕ) (count usual : ℕ) → length words ≤ count
-    → count < length (ascii m) → usual ≡ parts_cost Usual m → count < usual → IsPlainest (padded words count) m
+    → count < length (ascii m) → usual ≡ parts_cost (at_end Usual) m → count < usual → IsPlainest (padded words count) m
 any_plainest m words count usual fits none is more =
     let long : length (padded words count) ≡ count = length-padded words count fits in
     record {
       ascii = λ room. absurd (omega (arith, room, long, none));
       usual = λ other same says. absurd
-          (omega (arith, no_fewer_words Usual other m (parts_cost Usual m) (usual_cost m) says, same, long, is, more));
+          (omega (
+            arith,
+            no_fewer_words Usual other m (parts_cost (at_end Usual) m) (usual_cost m) says,
+            same,
+            long,
+            is,
+            more,
+          ));
     }
 
 -- So are they where a message has more than two items for each codeword.

@@ -20,7 +20,7 @@ use Rattle.dm_words.specs.Refused.{left_out, macro_behind}
 use Rattle.dm_words.specs.Letters.{LetterView, Said, Items, Number, IsLetterPart, part, mark, AreLetterParts}
 use Rattle.dm_words.specs.Letters.{said_items, said_marks, AreEmptyRuns, AreFrame, BeginsFrame, BeginsWithHeadWord}
 use Rattle.dm_words.specs.Letters.{IsOpening, headed, framed, plain as opens_plain, opening_head, opening_items}
-use Rattle.dm_words.specs.Letters.{closing_items, SpellsLetter, IsLetterFault, word, HaveLetterFault}
+use Rattle.dm_words.specs.Letters.{closing_items, AreOpened, SpellsLetter, IsLetterFault, word, HaveLetterFault}
 use Rattle.dm_words.specs.declared.letters.head.Head.{Head}
 use Rattle.dm_words.specs.declared.letters.opening.Opening.{Opening}
 use Rattle.dm_words.specs.Macros.{macro_text}
@@ -128,6 +128,16 @@ no_head_word words said parts b = by_word b.is_head_word where
       (ap (first_letter_part 1) w) in
       absurd cc
 
+-- Parts of a letter from the first place on have nothing before them.
+pub opened_plain : (words more : List ℕ) (said : List Said) → words ≡ more → AreLetterParts 1 more said
+    → AreOpened words Plain 1 more
+opened_plain words more said whole parts = record {
+  first = [];
+  is_opening = opens_plain refl (no_head_word more said parts) (no_frame more said parts) refl;
+  whole = whole;
+  place_is = refl;
+}
+
 -- Parts of a letter from the first place on say a letter without a head.
 pub plain_letter : (words : List ℕ) (said : List Said) (items : List Item) → AreLetterParts 1 words said
     → said_items said ≡ items
@@ -136,12 +146,7 @@ plain_letter words said items parts is = record {
   opening = Plain;
   place = 1;
   more = words;
-  opened = record {
-    first = [];
-    is_opening = opens_plain refl (no_head_word words said parts) (no_frame words said parts) refl;
-    whole = refl;
-    place_is = refl;
-  };
+  opened = opened_plain words words said refl parts;
   said = said;
   parts = parts;
   letter_is =
@@ -160,12 +165,12 @@ said_words [] = refl
 said_words (p ∷ ps) = ap (λ (r : List ℕ). p.words ++ r) (said_words ps)
 
 -- They say the same items.
-same_items : (ps : List (Piece (List Item))) → said_items (whats (as_said ps)) ≡ gathered ps
+pub same_items : (ps : List (Piece (List Item))) → said_items (whats (as_said ps)) ≡ gathered ps
 same_items [] = refl
 same_items (p ∷ ps) = ap (λ (r : List Item). p.what ++ r) (same_items ps)
 
 -- They say no mark.
-no_marks : (before : ℕ) (ps : List (Piece (List Item))) → said_marks before (whats (as_said ps)) ≡ []
+pub no_marks : (before : ℕ) (ps : List (Piece (List Item))) → said_marks before (whats (as_said ps)) ≡ []
 no_marks before [] = refl
 no_marks before (p ∷ ps) = no_marks (before + length p.what) ps
 

@@ -24,5 +24,6 @@ pub mod Letters
 pub mod LetterResults
 pub mod LetterForm
 pub mod LetterExtents
+pub mod SmallestLetters
 pub mod Symbology
 pub mod inner

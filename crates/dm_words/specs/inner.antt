@@ -8,3 +8,4 @@ pub mod Fnc1
 pub mod LetterScan
 pub mod LetterContents
 pub mod MarkedForms
+pub mod LetterCosts

@@ -12,6 +12,10 @@ ghost use Rattle.dm_words.specs.Pads.{padded};
 ghost use Rattle.dm_words.specs.Spells.{Spells};
 ghost use Rattle.dm_words.specs.Letters.{LetterView, IsLetter, SpellsLetter};
 ghost use Rattle.dm_words.specs.LetterForm.{letter_form};
+ghost use Rattle.dm_words.specs.LetterExtents.{SaysIn};
+ghost use Rattle.dm_words.specs.SmallestLetters.{IsSmallestLetterFor, NoSizeSays, IsPlainestLetter};
+ghost use Rattle.dm_layout.specs.declared.symbols.size.SizeChoice.{SizeChoice};
+ghost use Rattle.dm_layout.specs.symbols.Sizes.{SizeEntry};
 ghost use Rattle.dm_words.specs.LetterResults.{BeginsLateFrame, HasOneLetterResult, FaultsAreKept, FaultsAreOld};
 
 /// A list of codewords, however long, says exactly one letter and is refused with no fault, or is refused with exactly
@@ -52,6 +56,25 @@ pub fn letter_form_says()
         → length (padded (letter_form profile l) count) ≡ count }
     ensures codewords { (profile : Profile) (l : LetterView) (count : ℕ) → IsLetter l
         → AreCodewords (padded (letter_form profile l) count) }
+{}
+
+/// How far the smallest codewords of a letter in an extent and a choice of sizes are determined, as
+/// [`crate::smallest_letter_words_to()`] gives them: whether there are any, and their size; all of them, where there is
+/// room for the ASCII form; and whether they say the letter in the usual extent.
+pub fn smallest_letter_words_are_alike()
+    ensures size { (extent : Extent) (choice : SizeChoice) (size other_size : SizeEntry)
+        (l : LetterView) (words other : List ℕ)
+        → IsSmallestLetterFor extent choice size words l
+        → IsSmallestLetterFor extent choice other_size other l → size ≡ other_size }
+    ensures some { (extent : Extent) (choice : SizeChoice) (size : SizeEntry)
+        (l : LetterView) (words : List ℕ)
+        → IsSmallestLetterFor extent choice size words l → NoSizeSays extent choice l → ⊥ }
+    ensures ascii { (l : LetterView) (words other : List ℕ)
+        → IsPlainestLetter words l → IsPlainestLetter other l → length words ≡ length other
+        → length (letter_form Profile.Ascii l) ≤ length words → words ≡ other }
+    ensures usual { (l : LetterView) (words other : List ℕ)
+        → IsPlainestLetter words l → IsPlainestLetter other l → length words ≡ length other
+        → SaysIn Extent.Usual words l ↔ SaysIn Extent.Usual other l }
 {}
 
 /// What is refused in the wide extent as a message is refused as a letter with the same fault, unless this is of ECI,

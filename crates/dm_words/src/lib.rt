@@ -14,8 +14,8 @@
 //!
 //! Letters: [`letter_to_as()`] reads the [`Letter`] that a list says in an extent into a target, which is a [`Head`] or
 //! none, items and [`Mark`]s, or gives the [`LetterFault`] with which the list is refused. [`letter_words_in()`] writes
-//! the codewords of a letter. [`head_of()`], [`head_words()`], [`designator_of()`] and [`designator_words()`] read and
-//! write a head or a designator alone.
+//! the codewords of a letter, and [`smallest_letter_words_to()`] those of the smallest size of a choice. [`head_of()`],
+//! [`head_words()`], [`designator_of()`] and [`designator_words()`] read and write a head or a designator alone.
 //!
 //! Limits: up to [`MOST_DATA`] codewords are read and written. A square has up to [`MOST_GRID_DATA`], for which a
 //! [`Message`] or a [`Letter`] serves: it has room for [`MESSAGE_ROOM`] items, of which the usual extent takes
@@ -61,11 +61,12 @@ pub use letters::letter::{Letter, LetterIn};
 pub use letters::mark::Mark;
 pub use letters::normal_form::letter_words_in;
 pub use letters::reading::letter_to_as;
-pub use letters::symbology::symbology_number;
+pub use letters::symbology::{message_symbology_number, symbology_number};
 pub use limits::{LARGEST_MARKS, LARGEST_ROOM, MESSAGE_ROOM, MOST_ITEMS, MOST_MARKS};
 pub use message::{Message, MessageIn};
 pub use normal_form::{ascii_words, normal_words_in, shorter_words};
 pub use pad::{add_pads, pad_to, padded};
 pub use profile::Profile;
 pub use reading::{message_of, message_to_as};
+pub use smallest::letters::smallest_letter_words_to;
 pub use smallest::smallest_words_to;

@@ -13,7 +13,7 @@ use crate::base256::{segment_length, write_segment};
 use crate::fault::TooLong;
 use crate::item::Item;
 use crate::limits::LARGEST_ROOM;
-use crate::message::{Message, MessageIn};
+use crate::message::Message;
 use crate::profile::Profile;
 use arrayvec::ArrayVec;
 use dm_layout::MOST_GRID_DATA;
@@ -42,30 +42,29 @@ fn words_of(profile: Profile, message: &Message) -> Result<ArrayVec<u8, MOST_GRI
     ensures { IsNormalFormResult profile message.now result }
 {
     let mut words = ArrayVec::new();
-    match normal_words_in(profile, message, &mut words) {
+    match normal_words_in(profile, message.items(), &mut words) {
         Ok(()) => Ok(words),
         Err(TooLong) => Err(TooLong),
     }
 }
 
-/// Writes the codewords of a message under a profile, those of [`ascii_words()`] or of [`shorter_words()`], into a
-/// target with room for `N` codewords, at least 3 as each symbol has; the message may have any room, at most
-/// [`LARGEST_ROOM`] items. After `Ok`, `words` holds these codewords, whatever it held before. `TooLong` exactly where
-/// they are more than `N`; then it holds what it held before. Under [`Profile::Shorter`] this does the same work as
-/// under [`Profile::Ascii`], except that it may write a segment too, or instead of ASCII.
-pub fn normal_words_in<const ROOM: usize, const N: usize>(
+/// Writes the codewords of a message of at most [`LARGEST_ROOM`] items under a profile, those of [`ascii_words()`] or
+/// of [`shorter_words()`], into a target with room for `N` codewords, at least 3 as each symbol has. After `Ok`,
+/// `words` holds these codewords, whatever it held before. `TooLong` exactly where they are more than `N`; then it
+/// holds what it held before. Under [`Profile::Shorter`] this does the same work as under [`Profile::Ascii`], except
+/// that it may write a segment too, or instead of ASCII.
+pub fn normal_words_in<const N: usize>(
     profile: Profile,
-    message: &MessageIn<ROOM>,
+    items: &[Item],
     words: &mut ArrayVec<u8, N>,
 ) -> Result<(), TooLong>
-    requires room { ROOM ≤ LARGEST_ROOM }
+    requires few { length items.now ≤ LARGEST_ROOM }
     requires least { 3 ≤ N }
     requires most { N ≤ MOST_DATA }
-    ensures form { OnOk result (words.new.items ≡ normal_form profile message.now) }
-    ensures too_long { IsErr result ↔ (N < length (normal_form profile message.now)) }
+    ensures form { OnOk result (words.new.items ≡ normal_form profile items.now) }
+    ensures too_long { IsErr result ↔ (N < length (normal_form profile items.now)) }
     ensures same { OnErr result (words.new.items ≡ words.old.items) }
 {
-    let items = message.items();
     if !surely_fits(items, N) {
         return write_counted(profile, items, words);
     }
@@ -76,7 +75,7 @@ pub fn normal_words_in<const ROOM: usize, const N: usize>(
     Ok(())
 }
 
-/// Does the same as [`normal_words_in()`] with these items, whose codewords it counts before it writes any.
+/// Does the same as [`normal_words_in()`], but counts the codewords before it writes any.
 fn write_counted<const N: usize>(
     profile: Profile,
     items: &[Item],

@@ -1,22 +1,26 @@
-//! The smallest symbol of a message: data codewords that spell it, of the smallest size of a choice that has any.
+//! The smallest symbol of a message: data codewords that spell it, of the smallest size of a choice that has any. Those
+//! of a letter are in [`letters`].
 
-ghost use Rattle.std.specs.Prelude.{◌≡◌, ◌<◌, ◌≤◌, OnErr, IsTrue, false, length};
+ghost use Rattle.std.specs.Prelude.{◌≡◌, ℕ, ◌<◌, ◌≤◌, OnErr, IsTrue, false, length};
 ghost use Rattle.dm_words.specs.declared.extent.Extent.TheVariants.{Usual};
 ghost use Rattle.dm_words.specs.Ascii.{ascii};
 ghost use Rattle.dm_words.specs.Messages.{IsMessage};
 ghost use Rattle.dm_words.specs.Outcomes.{outcome};
 ghost use Rattle.dm_words.specs.Pads.{padded};
 ghost use Rattle.dm_words.specs.Smallest.{IsPlainest, IsSmallestResult, SpellsThenPads};
-ghost use Rattle.dm_words.specs.inner.Costs.{parts_cost, IsRightPlan};
+ghost use Rattle.dm_words.specs.inner.Costs.{at_end, parts_cost, IsRightPlan};
+ghost use Rattle.dm_words.specs.inner.LetterCosts.{IsSizeFor};
 ghost use Rattle.dm_words.specs.inner.Ways.{IsLeastCost, IsMacroOf, IsWay, inner_text, text_of};
 
 mod edifact;
+pub mod letters;
 mod parts;
 mod plan;
 mod row;
 mod run;
 mod segment;
 mod sets;
+mod setting;
 mod values;
 
 use crate::ascii::{ascii_form, surely_fits, write_ascii};
@@ -29,6 +33,7 @@ use crate::message::MessageIn;
 use crate::pad::pad_to;
 use crate::smallest::parts::write_parts;
 use crate::smallest::plan::{StepBits, plan_to};
+use crate::smallest::setting::Setting;
 use arrayvec::ArrayVec;
 use dm_layout::symbols::{MOST_DATA, SizeChoice, SymbolSize};
 
@@ -56,8 +61,23 @@ pub fn smallest_words_to<const ROOM: usize>(
     ensures smallest { IsSmallestResult extent choice message.now result words.new.items }
     ensures same { OnErr result (words.new.items ≡ words.old.items) }
 {
+    smallest_items_to(extent, message.items(), choice, words)
+}
+
+/// Does the same with the items of a message.
+fn smallest_items_to(
+    extent: Extent,
+    items: &[Item],
+    choice: SizeChoice,
+    words: &mut ArrayVec<u8, MOST_DATA>,
+) -> Result<SymbolSize, TooLong>
+    requires few { length items.now ≤ LARGEST_ROOM }
+    requires message { IsMessage items.now }
+    ensures smallest { IsSmallestResult extent choice items.now result words.new.items }
+    ensures cheapest { (cost : ℕ) × IsLeastCost extent items.now cost × IsSizeFor choice cost result }
+    ensures same { OnErr result (words.new.items ≡ words.old.items) }
+{
     // To clear room for a long plan takes longer than to make a short one.
-    let items = message.items();
     if items.len() < SHORT_PLAN {
         smallest_by::<SHORT_PLAN>(extent, items, choice, words)
     } else if items.len() < MIDDLE_PLAN {
@@ -79,6 +99,7 @@ fn smallest_by<const STEPS: usize>(
     requires most { STEPS ≤ LONG_PLAN }
     requires message { IsMessage items.now }
     ensures smallest { IsSmallestResult extent choice items.now result words.new.items }
+    ensures cheapest { (cost : ℕ) × IsLeastCost extent items.now cost × IsSizeFor choice cost result }
     ensures same { OnErr result (words.new.items ≡ words.old.items) }
 {
     let mut plan = [StepBits::NONE; STEPS];
@@ -110,9 +131,9 @@ fn least_way(extent: Extent, items: &[Item], plan: &mut [StepBits]) -> Way
     requires steps { length items.now < length plan.old }
     ensures way { IsWay extent items.now result.macro_word result.cost }
     ensures least { IsLeastCost extent items.now result.cost }
-    ensures plan { IsRightPlan extent (text_of result.macro_word items.now) plan.new }
+    ensures plan { IsRightPlan (at_end extent) (text_of result.macro_word items.now) plan.new }
 {
-    let cost = plan_to(extent, items, plan);
+    let cost = plan_to(Setting::at_end(extent), items, plan);
     match macro_of(extent, items) {
         None => Way {
             macro_word: None,
@@ -128,19 +149,19 @@ fn with_macro(extent: Extent, items: &[Item], word: u8, cost: u16, plan: &mut [S
     requires few { length items.now ≤ LARGEST_ROOM }
     requires steps { length items.now < length plan.old }
     requires framed { IsMacroOf extent items.now word }
-    requires cost { cost ≡ parts_cost extent items.now }
+    requires cost { cost ≡ parts_cost (at_end extent) items.now }
     ensures way { IsWay extent items.now result.macro_word result.cost }
     ensures least { IsLeastCost extent items.now result.cost }
-    ensures plan { IsRightPlan extent (text_of result.macro_word items.now) plan.new }
+    ensures plan { IsRightPlan (at_end extent) (text_of result.macro_word items.now) plan.new }
 {
-    let by_macro = 1 + plan_to(extent, inner(items), plan);
+    let by_macro = 1 + plan_to(Setting::at_end(extent), inner(items), plan);
     if by_macro <= cost {
         return Way {
             macro_word: Some(word),
             cost: by_macro,
         };
     }
-    let _same = plan_to(extent, items, plan);
+    let _same = plan_to(Setting::at_end(extent), items, plan);
     Way {
         macro_word: None,
         cost,
@@ -169,7 +190,7 @@ fn write_plainest<const N: usize>(
     requires message { IsMessage items.now }
     requires way { IsWay extent items.now way.macro_word way.cost }
     requires steps { length items.now < length plan.old }
-    requires plan { IsRightPlan extent (text_of way.macro_word items.now) plan.old }
+    requires plan { IsRightPlan (at_end extent) (text_of way.macro_word items.now) plan.old }
     requires room { way.cost ≤ count }
     requires count { count ≤ N }
     requires most { N ≤ MOST_DATA }
@@ -234,7 +255,7 @@ fn write_usual_if_fits<const N: usize>(
     if 2 * usize::from(count) < items.len() {
         return;
     }
-    if plan_to(Extent::Usual, items, plan) <= count {
+    if plan_to(Setting::at_end(Extent::Usual), items, plan) <= count {
         let _usual = write_plain(Extent::Usual, items, plan, words, count);
     }
 }
@@ -253,7 +274,7 @@ fn write_way<const N: usize>(
     requires message { IsMessage items.now }
     requires way { IsWay extent items.now way.macro_word way.cost }
     requires steps { length items.now < length plan.now }
-    requires plan { IsRightPlan extent (text_of way.macro_word items.now) plan.now }
+    requires plan { IsRightPlan (at_end extent) (text_of way.macro_word items.now) plan.now }
     requires room { way.cost ≤ count }
     requires count { count ≤ N }
     requires most { N ≤ MOST_DATA }
@@ -266,7 +287,13 @@ fn write_way<const N: usize>(
         Some(word) => {
             words.clear();
             words.push(word);
-            let _usual = write_parts(extent, inner(items), plan, words, usize::from(count));
+            let _usual = write_parts(
+                Setting::at_end(extent),
+                inner(items),
+                plan,
+                words,
+                usize::from(count),
+            );
             false
         }
     }
@@ -284,8 +311,8 @@ fn write_plain<const N: usize>(
     requires few { length items.now ≤ LARGEST_ROOM }
     requires message { IsMessage items.now }
     requires steps { length items.now < length plan.now }
-    requires plan { IsRightPlan extent items.now plan.now }
-    requires room { parts_cost extent items.now ≤ count }
+    requires plan { IsRightPlan (at_end extent) items.now plan.now }
+    requires room { parts_cost (at_end extent) items.now ≤ count }
     requires count { count ≤ N }
     requires most { N ≤ MOST_DATA }
     ensures spells { SpellsThenPads extent (padded words.new.items count) items.now }
@@ -293,5 +320,11 @@ fn write_plain<const N: usize>(
     ensures fits { length words.new.items ≤ count }
 {
     words.clear();
-    write_parts(extent, items, plan, words, usize::from(count))
+    write_parts(
+        Setting::at_end(extent),
+        items,
+        plan,
+        words,
+        usize::from(count),
+    )
 }

@@ -6,15 +6,16 @@
 //! anew whenever it is built.
 #![tactic(auto)]
 
-ghost use Rattle.std.specs.Prelude.{◌≡◌, map};
+ghost use Rattle.std.specs.Prelude.{◌≡◌, [], map};
 ghost use Rattle.dm_layout.specs.symbols.Sizes.{size_table};
 ghost use Rattle.ecc200_calls.specs.Inspections.{IsInspectResult};
 ghost use Rattle.ecc200_calls.specs.Places.{IsPlacesResult};
 ghost use Rattle.ecc200_calls.specs.Readings.{IsReadResult, usual_limit};
 ghost use Rattle.ecc200_calls.specs.Sizes.{size_shown};
-ghost use Rattle.ecc200_calls.specs.Symbols.{IsNormalResult, IsWriteResult};
+ghost use Rattle.ecc200_calls.specs.Symbols.{IsNormalResult};
+ghost use Rattle.ecc200_calls.specs.Writings.{IsWriteResult};
 
-use ecc200_calls::{How, InspectionOut, PlacesOut, ReadingOut, SizesOut, SymbolOut};
+use ecc200_calls::{How, InspectionOut, MarkNumbers, PlacesOut, ReadingOut, SizesOut, SymbolOut};
 
 /// Reads the symbol of these modules, of which these are doubtful, in an extent.
 #[unsafe(no_mangle)]
@@ -34,20 +35,25 @@ pub extern "C" fn ecc200_read(
     ecc200_calls::read(modules, doubtful, rows, columns, border_limit, extent, out)
 }
 
-/// Writes the symbol of the message of these numbers.
+/// Writes the symbol of the letter with the items and the marks of these numbers.
 #[unsafe(no_mangle)]
-pub extern "C" fn ecc200_write(items: &[u16], how: &How, out: &mut SymbolOut) -> u16
-    ensures out { IsWriteResult items.now how.now out.old out.new }
+pub extern "C" fn ecc200_write(
+    items: &[u16],
+    marks: &[MarkNumbers],
+    how: &How,
+    out: &mut SymbolOut,
+) -> u16
+    ensures out { IsWriteResult items.now marks.now how.now out.old out.new }
     ensures code { result ≡ out.new.fault.code }
 {
-    ecc200_calls::write(items, how, out)
+    ecc200_calls::write(items, marks, how, out)
 }
 
-/// Writes the symbol of the message of these bytes, each of which is an item: what [`ecc200_write`] does for the same
-/// numbers.
+/// Writes the symbol of the letter of these bytes, each of which is an item: what [`ecc200_write`] does for the same
+/// numbers and no marks.
 #[unsafe(no_mangle)]
 pub extern "C" fn ecc200_write_bytes(bytes: &[u8], how: &How, out: &mut SymbolOut) -> u16
-    ensures out { IsWriteResult bytes.now how.now out.old out.new }
+    ensures out { IsWriteResult bytes.now [] how.now out.old out.new }
     ensures code { result ≡ out.new.fault.code }
 {
     ecc200_calls::write_bytes(bytes, how, out)
@@ -124,7 +130,7 @@ pub extern "C" fn ecc200_usual_limit(rows: u16, columns: u16) -> u16
 /// Gives the version of the interface: `ECC200_ABI` of the header that declares it.
 #[unsafe(no_mangle)]
 pub extern "C" fn ecc200_abi() -> u16
-    ensures { result ≡ 3 }
+    ensures { result ≡ 4 }
 {
     ecc200_calls::abi()
 }

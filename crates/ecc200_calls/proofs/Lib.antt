@@ -4,7 +4,11 @@ pub mod Rows
 pub mod MadeSymbols
 pub mod OfGiven
 pub mod Rooms
+pub mod ReadLetters
+pub mod LetterNumbers
 pub mod Written
+pub mod WrittenMessages
+pub mod NormalGiven
 pub mod Structure
 pub mod Bits
 pub mod Messages

@@ -1,22 +1,21 @@
 -- Messages and their numbers.
 use Rattle.std.proofs.Common.{◌≡◌, ◌⊎◌, inl, inr, ℕ, ◌*◌, ◌<◌, ◌≤◌, List, [], ◌∷◌, length}
-use Rattle.std.proofs.Common.{Bool, true, ◌&&◌, nat_le, Option, Some, None, IsSome, refl, sym, ◌∙◌, ap, arith}
+use Rattle.std.proofs.Common.{Bool, true, ◌&&◌, nat_le, Option, Some, None, IsSome, refl, ◌∙◌, ap, arith}
 use Rattle.std.specs.Prelude.{All}
 use Rattle.std.specs.List.{AllByRecursion, list_all}
 use Rattle.std.proofs.lemmas.List.Sums.{AllPass-from_list_all}
-use Rattle.std.proofs.lemmas.List.{length-map}
 use Rattle.std.proofs.lemmas.List.Elements.{recursion_from_All, All-from_recursion}
 use Rattle.std.proofs.lemmas.Bool.{and_parts, cases_lt, false≢true, leb-true}
 use Rattle.dm_symbol.specs.declared.Item.{Item}
 use Rattle.dm_symbol.specs.declared.Item.TheVariants.{Byte, Fnc1}
 use Rattle.dm_symbol.specs.declared.Profile.{Profile}
 use Rattle.dm_symbol.specs.declared.SizeChoice.{SizeChoice}
-use Rattle.dm_symbol.specs.Messages.{IsItem, IsMessage}
+use Rattle.dm_symbol.specs.Ascii.{ascii}
 use Rattle.dm_symbol.specs.NormalForm.{normal_form}
-use Rattle.dm_symbol.specs.NormalSymbol.{FitsChoice}
+use Rattle.dm_words.proofs.Exported.{longer, no_longer_than_ascii}
+use Rattle.dm_symbol.specs.Messages.{IsItem, IsMessage}
 use Rattle.dm_layout.specs.symbols.Sizes.{SizeEntry, entry_for, most_data, size_table, takes}
 use Rattle.dm_layout.proofs.symbols.Exported.{at_found, found_passes}
-use Rattle.dm_words.proofs.Exported.{normal_form_items}
 use Rattle.ecc200_calls.specs.Items.{number_of, numbers_of}
 
 -- A number up to 256 is that of an item.
@@ -47,13 +46,21 @@ message_there numbers h =
     let there = items_there numbers (recursion_from_All (λ number. number ≤ 256) numbers h) in
     (there.0, All-from_recursion IsItem there.0 there.1, there.2)
 
+-- Items take at most two codewords each in ASCII, and so in each normal form.
+two_for_each : (m : List Item) → length (ascii m) ≤ 2 * length m
+two_for_each [] = omega arith
+two_for_each (item ∷ m) = omega (arith, (longer item m).two_more, two_for_each m)
+
+pub at_most_two : (profile : Profile) (m : List Item) → length (normal_form profile m) ≤ 2 * length m
+at_most_two profile m = omega (arith, no_longer_than_ascii profile m, two_for_each m)
+
 -- Each size has at most as many data codewords as the largest.
 few_data : list_all (λ size. nat_le size.data_count most_data) size_table ≡ true
 unfolding size_table
 few_data = refl
 
 -- A size that is found has room for the codewords.
-room_in : (choice : SizeChoice) (count : ℕ) (o : Option SizeEntry) → entry_for choice count ≡ o → IsSome o
+pub room_in : (choice : SizeChoice) (count : ℕ) (o : Option SizeEntry) → entry_for choice count ≡ o → IsSome o
     → count ≤ most_data
 room_in choice count None e some = absurd (false≢true some)
 room_in choice count (Some size) e some =
@@ -64,12 +71,3 @@ room_in choice count (Some size) e some =
     (recursion_from_All (λ s. nat_le s.data_count most_data ≡ true) size_table
     (AllPass-from_list_all (λ s. nat_le s.data_count most_data) size_table few_data)) e in
     omega (arith, leb-true _ _ both.1, leb-true _ _ most)
-
--- A message of more items than the largest symbol has room for fits no size.
-pub too_many : (choice : SizeChoice) (profile : Profile) (m : List Item) (numbers : List ℕ) → numbers_of m ≡ numbers →
-    2 * most_data < length numbers → FitsChoice choice profile m → ⊥
-too_many choice profile m numbers e many h =
-    let count : length m ≡ length numbers = sym (length-map m number_of) ∙ ap length e in
-    let words = length (normal_form profile m) in
-    let few = room_in choice words (entry_for choice words) refl h in
-    omega (arith, normal_form_items profile m, count, many, few)

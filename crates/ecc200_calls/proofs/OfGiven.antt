@@ -6,7 +6,8 @@ use Rattle.std.proofs.lemmas.Bool.{and_parts, eqb-true}
 use Rattle.dm_symbol.specs.declared.Extent.{Extent}
 use Rattle.dm_symbol.specs.declared.Profile.{Profile}
 use Rattle.dm_symbol.specs.SymbolLaws.{AreLight}
-use Rattle.dm_symbol.proofs.Exported.{light_rows, read_alike, normal_alike, shown_alike}
+use Rattle.dm_symbol.proofs.Exported.{letter_normal_alike, letter_read_alike, light_rows}
+use Rattle.dm_symbol.proofs.Exported.{shown_alike}
 use Rattle.dm_layout.specs.symbols.Sizes.{SizeEntry, entry_with, size_table}
 use Rattle.dm_layout.proofs.symbols.Exported.{found_passes}
 use Rattle.dm_layout.specs.symbols.Symbols.{SymbolView, is_dark_number, rows_of}
@@ -102,7 +103,7 @@ module _ (rows columns : ℕ) (modules doubt : List ℕ) (size : SizeEntry) (som
       (subst (λ c. IsReadingGiven extent size.rows c symbol doubtful limit before after) known.columns_are given)))
       (λ symbol doubtful light given. record {
         result = given.result;
-        result_is = read_alike doubtful light symbol extent limit given.result given.result_is;
+        result_is = letter_read_alike doubtful light symbol extent limit given.result given.result_is;
         shown = given.shown;
       }) known of
 
@@ -118,7 +119,7 @@ module _ (rows columns : ℕ) (modules doubt : List ℕ) (size : SizeEntry) (som
       (λ symbol doubtful are given. NormalisedResult.of_symbol symbol doubtful are given)
       (λ symbol doubtful light given. record {
         result = given.result;
-        result_is = normal_alike doubtful light symbol extent profile limit given.result given.result_is;
+        result_is = letter_normal_alike doubtful light symbol extent limit profile given.result given.result_is;
         shown = given.shown;
       }) known of
 

@@ -15,6 +15,7 @@ use Rattle.dm_symbol.specs.declared.SizeChoice.{SizeChoice}
 use Rattle.dm_symbol.specs.declared.SizeChoice.TheVariants.{Exact, Square}
 use Rattle.dm_symbol.specs.Messages.{most_data, most_spelled}
 use Rattle.dm_symbol.specs.NormalForm.{normal_form}
+use Rattle.dm_symbol.specs.WrittenWords.{IsRoomFor}
 use Rattle.dm_symbol.proofs.Exported.{room_for_each, room_for_most}
 use Rattle.dm_layout.specs.symbols.Sizes.{SizeEntry, IsSize, codeword_count, entry_for, entry_of, most_codewords}
 use Rattle.dm_layout.specs.symbols.Sizes.{size_table}
@@ -101,6 +102,16 @@ largest_room size entry =
       most = omega arith;
     }
 
+-- In the largest room there is room for letters too.
+pub room_for_letters : (size : SizeEntry) → IsSize size
+    → (codeword_count size ≤ 2178) × (most_spelled Wide size.data_count ≤ 3123) × (size.data_count ≤ 2 * 779)
+room_for_letters size entry =
+    let f = size_facts size entry in (
+      omega (arith, f.codewords),
+      omega (arith, few_spelled Wide size.data_count, f.data_fits),
+      omega (arith, f.data_fits),
+    )
+
 -- ---- rooms to write in
 
 -- Behind a size with more data codewords than so many there is none with so few.
@@ -177,41 +188,52 @@ fewer_found most choice fewer count le (s ∷ rest) h size other e f small =
 -- Where a choice gives a size with so few data codewords, in either way of looking for one, there is room for the
 -- symbol in which a message is written.
 module _ (most rows words : ℕ) (each : list_all (fits most rows words) size_table ≡ true)
-    (split : splits most size_table ≡ true) (is : IsRoom rows words) where
-  to_write : (choice : SizeChoice) (message : List Item) (count : ℕ) (other : SizeEntry)
-      → AreWordsFor choice message count → entry_for choice count ≡ Some other → IsSize other
-      → other.data_count ≤ most → HasRoomToWrite rows words choice message
-  to_write choice message count other (AreWordsFor.enough codewords) found entry small = record {
-    room = is;
-    written = λ profile. at_most profile (entry_for choice (length (normal_form profile message))) refl;
-  }
-    where
-      at_most : (profile : Profile) (o : Option SizeEntry)
-          → entry_for choice (length (normal_form profile message)) ≡ o
-          → IfSome o (λ size. (size.rows ≤ rows) × (codeword_count size ≤ words))
-      at_most profile None f = tt
-      at_most profile (Some size) f =
-          few most rows words each
-          (λ s. takes choice s && nat_le (length (normal_form profile message)) s.data_count) size f
-          (fewer_found most choice (length (normal_form profile message)) count (codewords profile) size_table split
-          size other f found small)
-  to_write choice message count other (AreWordsFor.asked r c e) found entry small = record {
-    room = is;
-    written = λ profile. room_for_each choice (normal_form profile message) rows words (λ size taken.
-        let mine = exact_sides size (subst (λ ch. takes ch size ≡ true) e taken.1) in
-        let its =
-        exact_sides other (subst (λ ch. takes ch other ≡ true) e
-        (and_parts (takes choice other) (nat_le count other.data_count)
-        (found_passes (λ s. takes choice s && nat_le count s.data_count) size_table other found)).0) in
-        let same : size ≡ other = same_size size other taken.0 entry (mine.0 ∙ sym its.0) (mine.1 ∙ sym its.1) in
-        few most rows words each (λ s. nat_eq s.rows size.rows && nat_eq s.columns size.columns) size taken.0
-        (subst (λ (s : SizeEntry). s.data_count ≤ most) (sym same) small));
-  }
-    where
-      exact_sides : (s : SizeEntry) → takes (Exact r c) s ≡ true → (s.rows ≡ r) × (s.columns ≡ c)
-      exact_sides s t =
-          let both = and_parts (nat_eq s.rows r) (nat_eq s.columns c) t in
-          (eqb-true _ _ both.0, eqb-true _ _ both.1)
+    (split : splits most size_table ≡ true) (some : 3 ≤ most) (bounded : most ≤ most_data) (is : IsRoom rows words)
+  where
+    to_write : (choice : SizeChoice) (message : List Item) (count : ℕ) (other : SizeEntry)
+        → AreWordsFor choice message count → entry_for choice count ≡ Some other → IsSize other
+        → other.data_count ≤ most → HasRoomToWrite most rows words choice message
+    to_write choice message count other (AreWordsFor.enough codewords) found entry small = record {
+      some_data = some;
+      few_data = bounded;
+      room = is;
+      written = λ profile. at_most profile (entry_for choice (length (normal_form profile message))) refl;
+    }
+      where
+        at_most : (profile : Profile) (o : Option SizeEntry)
+            → entry_for choice (length (normal_form profile message)) ≡ o
+            → IfSome o (λ size. IsRoomFor size most rows words)
+        at_most profile None f = tt
+        at_most profile (Some size) f =
+            let small_too =
+            fewer_found most choice (length (normal_form profile message)) count (codewords profile) size_table split
+            size other f found small in
+            let sides =
+            few most rows words each
+            (λ s. takes choice s && nat_le (length (normal_form profile message)) s.data_count) size f small_too in
+            (small_too, sides.0, sides.1)
+    to_write choice message count other (AreWordsFor.asked r c e) found entry small = record {
+      some_data = some;
+      few_data = bounded;
+      room = is;
+      written = λ profile. room_for_each choice (normal_form profile message) most rows words (λ size taken.
+          let mine = exact_sides size (subst (λ ch. takes ch size ≡ true) e taken.1) in
+          let its =
+          exact_sides other (subst (λ ch. takes ch other ≡ true) e
+          (and_parts (takes choice other) (nat_le count other.data_count)
+          (found_passes (λ s. takes choice s && nat_le count s.data_count) size_table other found)).0) in
+          let same : size ≡ other = same_size size other taken.0 entry (mine.0 ∙ sym its.0) (mine.1 ∙ sym its.1) in
+          let small_too : size.data_count ≤ most = subst (λ (s : SizeEntry). s.data_count ≤ most) (sym same) small in
+          let sides =
+          few most rows words each (λ s. nat_eq s.rows size.rows && nat_eq s.columns size.columns) size taken.0
+          small_too in
+          (small_too, sides.0, sides.1));
+    }
+      where
+        exact_sides : (s : SizeEntry) → takes (Exact r c) s ≡ true → (s.rows ≡ r) × (s.columns ≡ c)
+        exact_sides s t =
+            let both = and_parts (nat_eq s.rows r) (nat_eq s.columns c) t in
+            (eqb-true _ _ both.0, eqb-true _ _ both.1)
 
 -- A size that spells at most so many items has few data codewords.
 few_data : (most count : ℕ) → most_spelled Wide count ≤ 2 * most + 7 → count ≤ most
@@ -221,16 +243,18 @@ few_data most (suc count) le = omega arith
 -- So it is for the small room and for the middle one.
 pub small_to_write : (choice : SizeChoice) (message : List Item) (count : ℕ) (other : SizeEntry)
     → AreWordsFor choice message count → entry_for choice count ≡ Some other → IsSize other → HasRoom 32 98 131 other
-    → HasRoomToWrite 32 98 choice message
+    → HasRoomToWrite 62 32 98 choice message
 small_to_write choice message count other are found entry room =
-    to_write 62 32 98 small_fits small_splits is_small choice message count other are found entry
+    to_write 62 32 98 small_fits small_splits (omega arith) (omega arith) is_small choice message count other are found
+    entry
     (few_data 62 other.data_count (room.spelled Wide))
 
 pub middle_to_write : (choice : SizeChoice) (message : List Item) (count : ℕ) (other : SizeEntry)
     → AreWordsFor choice message count → entry_for choice count ≡ Some other → IsSize other
-    → HasRoom 104 1152 1639 other → HasRoomToWrite 104 1152 choice message
+    → HasRoom 104 1152 1639 other → HasRoomToWrite 816 104 1152 choice message
 middle_to_write choice message count other are found entry room =
-    to_write 816 104 1152 middle_fits middle_splits is_middle choice message count other are found entry
+    to_write 816 104 1152 middle_fits middle_splits (omega arith) (omega arith) is_middle choice message count other are
+    found entry
     (few_data 816 other.data_count (room.spelled Wide))
 
 -- The largest squares of the small room and of the middle one.
@@ -242,24 +266,28 @@ middle_square = entry_of 104 104 24 24 4 4 816 336 6 false
 
 -- A message of which no normal form has more codewords than these have data codewords is written in one of their room.
 pub square_in_small : (message : List Item) → ((profile : Profile) → length (normal_form profile message) ≤ 62)
-    → HasRoomToWrite 32 98 Square message
+    → HasRoomToWrite 62 32 98 Square message
 unfolding size_table
 square_in_small message few =
     small_to_write Square message 62 small_square (AreWordsFor.enough few) refl refl
     (small_room small_square refl (omega arith))
 
 pub square_in_middle : (message : List Item) → ((profile : Profile) → length (normal_form profile message) ≤ 816)
-    → HasRoomToWrite 104 1152 Square message
+    → HasRoomToWrite 816 104 1152 Square message
 unfolding size_table
 square_in_middle message few =
     middle_to_write Square message 816 middle_square (AreWordsFor.enough few) refl refl
     (middle_room middle_square refl (omega arith))
 
 -- In the largest room there is always room.
-pub largest_to_write : (choice : SizeChoice) (message : List Item) → HasRoomToWrite 144 2178 choice message
+pub largest_to_write : (choice : SizeChoice) (message : List Item) → HasRoomToWrite 1558 144 2178 choice message
 largest_to_write choice message = record {
+  some_data = omega arith;
+  few_data = omega arith;
   room = is_largest;
-  written = λ profile. room_for_most choice (normal_form profile message) 144 2178 (omega arith) (omega arith);
+  written =
+      λ profile. room_for_most choice (normal_form profile message) 1558 144 2178 (omega arith) (omega arith)
+      (omega arith);
 }
 
 -- The codewords of a symbol fit an array that holds those of the largest.

@@ -1,46 +1,127 @@
--- Messages that are written, and symbols that are normalised.
-use Rattle.std.proofs.Common.{◌≡◌, ℕ, List, Option, Ok, Err, refl}
+-- Letters that are written, and symbols that are normalised.
+use Rattle.std.proofs.Common.{◌≡◌, ◌⊎◌, inl, inr, ℕ, ◌*◌, ◌+◌, ◌<◌, ◌≤◌, List, [], ◌∷◌, length, Option, None, Err}
+use Rattle.std.proofs.Common.{refl, sym, ◌∙◌, ap, subst, arith}
+use Rattle.std.specs.Prelude.{All}
+use Rattle.std.proofs.lemmas.List.{length-map}
 use Rattle.dm_symbol.specs.declared.Extent.{Extent}
+use Rattle.dm_symbol.specs.declared.Head.{Head}
 use Rattle.dm_symbol.specs.declared.Item.{Item}
 use Rattle.dm_symbol.specs.declared.Profile.{Profile}
 use Rattle.dm_symbol.specs.declared.SizeChoice.{SizeChoice}
-use Rattle.dm_symbol.specs.declared.SizeChoice.TheVariants.{Square}
-use Rattle.dm_symbol.specs.declared.NormalFault.TheVariants.{TooLong}
-use Rattle.dm_layout.specs.symbols.Symbols.{SymbolView}
+use Rattle.dm_symbol.specs.declared.TooLong.{TooLong}
+use Rattle.dm_words.specs.Heads.{IsHead}
+use Rattle.dm_words.specs.Letters.{LetterView, IsLetter, AreMarks}
+use Rattle.dm_words.specs.LetterExtents.{as_letter}
+use Rattle.dm_words.specs.LetterForm.{letter_form}
+use Rattle.dm_words.proofs.Exported.{letter_form_counts, said_few}
+use Rattle.dm_layout.proofs.symbols.Exported.{size_facts}
+use Rattle.dm_layout.specs.symbols.Sizes.{entry_for, most_data}
 use Rattle.dm_symbol.specs.Messages.{IsMessage}
-use Rattle.dm_symbol.specs.SymbolReading.{ReadsSymbol}
-use Rattle.dm_symbol.specs.SymbolNormal.{NormalSymbolResult}
+use Rattle.dm_symbol.specs.NormalLetter.{LetterFits}
+use Rattle.dm_symbol.proofs.Exported.{no_letter_written, no_words_written}
+use Rattle.ecc200_calls.specs.declared.form.Form.{Form}
+use Rattle.ecc200_calls.specs.declared.form.Form.TheVariants.{Profiled, Smallest}
+use Rattle.ecc200_calls.specs.declared.mark.MarkNumbers.{MarkNumbers}
 use Rattle.ecc200_calls.specs.declared.symbol.SymbolOut.{SymbolOut}
 use Rattle.ecc200_calls.specs.Faults.{too_long}
-use Rattle.ecc200_calls.specs.Items.{numbers_of}
-use Rattle.ecc200_calls.specs.Symbols.{IsMessageGiven, IsNormalGiven, IsWritingGiven, WrittenResult}
+use Rattle.ecc200_calls.specs.Items.{number_of, numbers_of}
+use Rattle.ecc200_calls.specs.Letters.{marks_of, marks_shown}
+use Rattle.ecc200_calls.specs.Symbols.{no_symbol}
+use Rattle.ecc200_calls.specs.Writings.{IsLetterGiven, IsWritingGiven, IsWrittenAs}
+use Rattle.ecc200_calls.proofs.Messages.{message_there, room_in}
+
+-- A message is a letter.
+pub message_is_letter : (m : List Item) → IsMessage m → IsLetter (as_letter m)
+message_is_letter m is = record { head = tt; items = is; marks = omega arith }
+
+-- Marks have the numbers that stand for them.
+pub marks_again : (marks : List MarkNumbers) → marks_shown (marks_of marks) ≡ marks
+marks_again [] = refl
+marks_again (m ∷ marks) = ap (λ ms. m ∷ ms) (marks_again marks)
 
 -- What is given for a message is given for its numbers.
-pub writing_given : (choice : SizeChoice) (profile : Profile) (numbers : List ℕ) (message : List Item)
+pub writing_given : (form : Form) (choice : SizeChoice) (numbers : List ℕ) (message : List Item)
     (before after : SymbolOut) → IsMessage message → numbers_of message ≡ numbers
-    → IsMessageGiven choice profile message before after → IsWritingGiven choice profile numbers before after
-writing_given choice profile numbers message before after is are (IsMessageGiven.no_size none e) =
-    record { result = Err too_long; result_is = WrittenResult.no_size message is are none refl; shown = e }
-writing_given choice profile numbers message before after is are (IsMessageGiven.written symbol written e) =
-    record { result = Ok symbol; result_is = WrittenResult.written message symbol is are written refl; shown = e }
+    → IsLetterGiven form choice (as_letter message) before after
+    → IsWritingGiven form choice None numbers [] before after
+writing_given form choice numbers message before after is are given =
+    IsWritingGiven.letter (as_letter message) (message_is_letter message is)
+    (record { head_is = refl; items = are; marks_are = refl }) given
 
--- What is given in squares for a message that a symbol is read as is what normalising gives.
-pub normal_of_message : (extent : Extent) (profile : Profile) (symbol : SymbolView) (doubtful : Option SymbolView)
-    (limit : ℕ) (message : List Item) (before after : SymbolOut) → ReadsSymbol extent symbol doubtful limit message
-    → IsMessageGiven Square profile message before after
-    → IsNormalGiven extent profile symbol doubtful limit before after
-normal_of_message extent profile symbol doubtful limit message before after reads (IsMessageGiven.no_size none e) =
-    record {
-      result = Err TooLong;
-      result_is =
-          NormalSymbolResult.too_long (record { message = message; read = reads; too_long = none }) refl;
-      shown = e;
-    }
-normal_of_message extent profile symbol doubtful limit message before after reads
-    (IsMessageGiven.written normal written e) =
-    record {
-      result = Ok normal;
-      result_is =
-          NormalSymbolResult.normal normal (record { message = message; read = reads; normal_symbol = written }) refl;
-      shown = e;
-    }
+-- What is given without a head and marks is given where there is none.
+pub given_without : (form : Form) (choice : SizeChoice) (head : Option Head) (numbers : List ℕ)
+    (marks : List MarkNumbers) (before after : SymbolOut) → (head ≡ None) × (marks ≡ [])
+    → IsWritingGiven form choice None numbers [] before after
+    → IsWritingGiven form choice head numbers marks before after
+given_without form choice head numbers marks before after (none, nothing) given =
+    subst (λ (h : Option Head). IsWritingGiven form choice h numbers marks before after) (sym none)
+    (subst (λ (m : List MarkNumbers). IsWritingGiven form choice None numbers m before after) (sym nothing) given)
+
+-- A letter of more items or marks than the largest symbol has room for fits no size.
+fits_none : (choice : SizeChoice) (profile : Profile) (l : LetterView)
+    → (2 * most_data < length l.items) ⊎ (most_data < 2 * length l.marks) → LetterFits choice profile l → ⊥
+fits_none choice profile l many h =
+    let words = length (letter_form profile l) in
+    let few = room_in choice words (entry_for choice words) refl h in
+    let counts = letter_form_counts profile l in
+    elim many [
+      | inl items ↦ omega (arith, items, few, counts)
+      | inr marks ↦ omega (arith, marks, few, counts)
+    ]
+
+-- What is given for the numbers of a letter where it fits no size is that it is too long.
+no_size_given : (form : Form) (choice : SizeChoice) (head : Option Head) (numbers : List ℕ)
+    (marks : List MarkNumbers) (before after : SymbolOut) → IsHead head → All (λ number. number ≤ 256) numbers
+    → AreMarks 0 (length numbers) (marks_of marks)
+    → ((l : LetterView) → length l.items ≡ length numbers → length l.marks ≡ length marks
+    → (why : TooLong) → IsWrittenAs form choice l (Err why))
+    → after ≡ no_symbol too_long before → IsWritingGiven form choice head numbers marks before after
+no_size_given form choice head numbers marks before after right items are none shown =
+    let there = message_there numbers items in
+    let l : LetterView = record { head = head; items = there.0; marks = marks_of marks } in
+    let item_count : length there.0 ≡ length numbers =
+    sym (length-map there.0 number_of) ∙ ap (λ (ns : List ℕ). length ns) there.2 in
+    let mark_count : length (marks_of marks) ≡ length marks = length-map marks _ in
+    IsWritingGiven.letter l
+    (record {
+      head = right;
+      items = there.1;
+      marks = subst (λ n. AreMarks 0 n (marks_of marks)) (sym item_count) are;
+    })
+    (record { head_is = refl; items = there.2; marks_are = marks_again marks })
+    (record { result = Err why; written = none l item_count mark_count why; shown = shown })
+  where
+    why : TooLong
+    why = record {}
+
+-- So it is under a profile where there are more items or marks than the normal form of a letter has room for.
+pub too_long_given : (profile : Profile) (choice : SizeChoice) (head : Option Head) (numbers : List ℕ)
+    (marks : List MarkNumbers) (before after : SymbolOut) → IsHead head → All (λ number. number ≤ 256) numbers
+    → AreMarks 0 (length numbers) (marks_of marks)
+    → (2 * most_data < length numbers) ⊎ (most_data < 2 * length marks) → after ≡ no_symbol too_long before
+    → IsWritingGiven (Profiled profile) choice head numbers marks before after
+too_long_given profile choice head numbers marks before after right items are many shown =
+    no_size_given (Profiled profile) choice head numbers marks before after right items are
+    (λ l item_count mark_count why. no_words_written choice (letter_form profile l) (Err why) refl
+    (fits_none choice profile l
+    (elim many [
+      | inl h ↦ inl (omega (arith, h, item_count))
+      | inr h ↦ inr (omega (arith, h, mark_count))
+    ]))) shown
+
+-- And so it is for the smallest symbol where there are more than any symbol says.
+pub none_smallest_given : (extent : Extent) (choice : SizeChoice) (head : Option Head) (numbers : List ℕ)
+    (marks : List MarkNumbers) (before after : SymbolOut) → IsHead head → All (λ number. number ≤ 256) numbers
+    → AreMarks 0 (length numbers) (marks_of marks)
+    → (2 * most_data + 7 < length numbers) ⊎ (most_data < 2 * length marks) → after ≡ no_symbol too_long before
+    → IsWritingGiven (Smallest extent) choice head numbers marks before after
+none_smallest_given extent choice head numbers marks before after right items are many shown =
+    no_size_given (Smallest extent) choice head numbers marks before after right items are
+    (λ l item_count mark_count why. no_letter_written extent choice l why
+    (λ size words taken sized says.
+    let few = said_few extent words l says in
+    let most = (size_facts size taken.0).data_fits in
+    elim many [
+      | inl h ↦ omega (arith, h, item_count, few.0, most, sized)
+      | inr h ↦ omega (arith, h, mark_count, few.1, most, sized)
+    ])) shown

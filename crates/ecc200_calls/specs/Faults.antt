@@ -4,6 +4,12 @@ use Rattle.dm_symbol.specs.declared.WordFault.{WordFault}
 use Rattle.dm_symbol.specs.declared.WordFault.TheVariants as word
 use Rattle.dm_symbol.specs.declared.ReadFault.{ReadFault}
 use Rattle.dm_symbol.specs.declared.ReadFault.TheVariants as read
+use Rattle.dm_symbol.specs.declared.LetterFault.{LetterFault}
+use Rattle.dm_symbol.specs.declared.LetterFault.TheVariants as letter
+use Rattle.dm_symbol.specs.declared.LetterReadFault.{LetterReadFault}
+use Rattle.dm_symbol.specs.declared.LetterReadFault.TheVariants as read_letter
+use Rattle.dm_symbol.specs.declared.LetterNormalFault.{LetterNormalFault}
+use Rattle.dm_symbol.specs.declared.LetterNormalFault.TheVariants as normal_letter
 use Rattle.dm_symbol.specs.declared.NormalFault.{NormalFault}
 use Rattle.dm_symbol.specs.declared.NormalFault.TheVariants as normal
 use Rattle.ecc200_calls.specs.declared.fault.Fault.{Fault}
@@ -34,21 +40,38 @@ word_fault (word.Value place) = fault 11 0 place
 word_fault (word.Length place) = fault 12 0 place
 word_fault (word.Unfinished place) = fault 13 0 place
 
--- A symbol is not read: because of its borders, with the number of their wrong modules; because of a block, with its
--- number, from 0; or because of its data codewords.
+-- A symbol is not read as a message: because of its borders, with the number of their wrong modules; because of a
+-- block, with its number, from 0; or because of its data codewords.
 abbrev pub read_fault : ReadFault → Fault
 read_fault (read.Border count) = fault 5 count 0
 read_fault (read.Block block) = fault 6 0 block
 read_fault (read.Words why) = word_fault why
 
--- A message fits no size that may be taken.
+-- The data codewords say no letter: they are refused as those of a message are; ECI has no designator; or structured
+-- append begins no head.
+abbrev pub letter_fault : LetterFault → Fault
+letter_fault (letter.Word why) = word_fault why
+letter_fault (letter.Designator place) = fault 20 0 place
+letter_fault (letter.Append place) = fault 21 0 place
+
+-- A symbol is not read as a letter: for the same reasons as a message.
+abbrev pub read_letter_fault : LetterReadFault → Fault
+read_letter_fault (read_letter.Border count) = fault 5 count 0
+read_letter_fault (read_letter.Block block) = fault 6 0 block
+read_letter_fault (read_letter.Words why) = letter_fault why
+
+-- A message or a letter fits no size that may be taken.
 abbrev pub too_long : Fault
 too_long = fault 14 0 0
 
--- A symbol has no normal symbol.
+-- A symbol has no normal symbol of a message, or of a letter.
 abbrev pub normal_fault : NormalFault → Fault
 normal_fault (normal.Read why) = read_fault why
 normal_fault normal.TooLong = too_long
+
+abbrev pub normal_letter_fault : LetterNormalFault → Fault
+normal_letter_fault (normal_letter.Read why) = read_letter_fault why
+normal_letter_fault normal_letter.TooLong = too_long
 
 -- This number, at this index, counted from 0, stands for no item.
 abbrev pub foreign : ℕ → ℕ → Fault
@@ -69,3 +92,11 @@ no_such_choice number = fault 18 number 0
 -- Doubtful modules are given, but not as many as the symbol has modules.
 abbrev pub wrong_doubt : Fault
 wrong_doubt = fault 19 0 0
+
+-- The mark with this index, counted from 0, is wrong.
+abbrev pub wrong_mark : ℕ → Fault
+wrong_mark place = fault 22 0 place
+
+-- The numbers of a head are those of none.
+abbrev pub no_such_head : Fault
+no_such_head = fault 23 0 0

@@ -9,6 +9,7 @@ use Rattle.ecc200_calls.specs.declared.inspection.InspectionOut.{InspectionOut}
 use Rattle.ecc200_calls.specs.Arrays.{over}
 use Rattle.ecc200_calls.specs.Faults.{no_fault}
 use Rattle.ecc200_calls.specs.Modules.{AreGiven, IsGivenFault}
+use Rattle.ecc200_calls.specs.Readings.{dealing_shown}
 
 -- After a fault there is that fault, the arrays are as they were before, and all else is 0.
 abbrev pub no_inspection : Fault → InspectionOut → InspectionOut
@@ -20,6 +21,7 @@ no_inspection why before =
       border_faults = 0;
       block_count = 0;
       codeword_count = 0;
+      dealing = 0;
       corrected = before.corrected;
       erased = before.erased;
       left = before.left;
@@ -52,6 +54,7 @@ inspection_shown rows columns inspection before =
       border_faults = inspection.border_faults;
       block_count = length inspection.blocks.items;
       codeword_count = length inspection.held.list;
+      dealing = dealing_shown inspection.dealing;
       corrected = over (map corrected_shown inspection.blocks.items) before.corrected;
       erased = over (map erased_shown inspection.blocks.items) before.erased;
       left = over (map left_shown inspection.blocks.items) before.left;

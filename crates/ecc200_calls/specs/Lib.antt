@@ -3,9 +3,11 @@ pub mod Faults
 pub mod Extents
 pub mod Choices
 pub mod Items
+pub mod Letters
 pub mod Modules
 pub mod Readings
 pub mod Symbols
+pub mod Writings
 pub mod Inspections
 pub mod Places
 pub mod Sizes

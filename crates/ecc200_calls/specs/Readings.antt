@@ -2,15 +2,18 @@
 use Rattle.std.specs.Prelude.{◌≡◌, ℕ, ◌+◌, ◌/◌, List, length, map, Option, Some, None, Result, Ok, Err}
 use Rattle.dm_symbol.specs.declared.Extent.{Extent}
 use Rattle.dm_symbol.specs.declared.BlockReading.{BlockReading}
-use Rattle.dm_symbol.specs.declared.ReadFault.{ReadFault}
+use Rattle.dm_symbol.specs.declared.Dealing.{Dealing}
+use Rattle.dm_symbol.specs.declared.Dealing.TheVariants.{Standard, Restarted}
+use Rattle.dm_symbol.specs.declared.LetterReadFault.{LetterReadFault}
 use Rattle.dm_layout.specs.symbols.Symbols.{SymbolView}
-use Rattle.dm_symbol.specs.SymbolReading.{ReadingView, SymbolReadResult}
+use Rattle.dm_symbol.specs.LetterReading.{LetterReadingView, LetterReadResult}
 use Rattle.ecc200_calls.specs.declared.fault.Fault.{Fault}
 use Rattle.ecc200_calls.specs.declared.reading.ReadingOut.{ReadingOut}
 use Rattle.ecc200_calls.specs.Arrays.{over}
 use Rattle.ecc200_calls.specs.Extents.{extent_of}
-use Rattle.ecc200_calls.specs.Faults.{no_fault, no_such_extent, read_fault}
+use Rattle.ecc200_calls.specs.Faults.{no_fault, no_such_extent, read_letter_fault}
 use Rattle.ecc200_calls.specs.Items.{numbers_of}
+use Rattle.ecc200_calls.specs.Letters.{head_shown, marks_shown}
 use Rattle.ecc200_calls.specs.Modules.{AreGiven, IsGivenFault}
 
 -- The usual border limit of a symbol is an eighth of its rows and columns together, rounded down, by a rule of this
@@ -38,14 +41,24 @@ no_reading why before =
       border_faults = 0;
       block_count = 0;
       item_count = 0;
+      mark_count = 0;
+      identifier = 0;
+      dealing = 0;
+      head = head_shown None;
       corrected = before.corrected;
       erased = before.erased;
       left = before.left;
+      marks = before.marks;
       items = before.items;
     }
 
+-- The number 0 stands for the standard's dealing of the check codewords, and 1 for the other.
+abbrev pub dealing_shown : Dealing → ℕ
+dealing_shown Standard = 0
+dealing_shown Restarted = 1
+
 -- A reading of a symbol with these rows and columns is given in this way.
-abbrev pub reading_shown : ℕ → ℕ → ReadingView → ReadingOut → ReadingOut
+abbrev pub reading_shown : ℕ → ℕ → LetterReadingView → ReadingOut → ReadingOut
 reading_shown rows columns reading before =
     record {
       fault = no_fault;
@@ -53,23 +66,28 @@ reading_shown rows columns reading before =
       columns = columns;
       border_faults = reading.border_faults;
       block_count = length reading.blocks;
-      item_count = length reading.message;
+      item_count = length reading.letter.items;
+      mark_count = length reading.letter.marks;
+      identifier = reading.identifier;
+      dealing = dealing_shown reading.dealing;
+      head = head_shown reading.letter.head;
       corrected = over (map corrected_in reading.blocks) before.corrected;
       erased = over (map erased_in reading.blocks) before.erased;
       left = over (map left_in reading.blocks) before.left;
-      items = over (numbers_of reading.message) before.items;
+      marks = over (marks_shown reading.letter.marks) before.marks;
+      items = over (numbers_of reading.letter.items) before.items;
     }
 
 -- A result is given as its reading, or as its fault.
-abbrev pub result_shown : ℕ → ℕ → Result ReadingView ReadFault → ReadingOut → ReadingOut
+abbrev pub result_shown : ℕ → ℕ → Result LetterReadingView LetterReadFault → ReadingOut → ReadingOut
 result_shown rows columns (Ok reading) before = reading_shown rows columns reading before
-result_shown rows columns (Err why) before = no_reading (read_fault why) before
+result_shown rows columns (Err why) before = no_reading (read_letter_fault why) before
 
--- The result of reading a symbol in an extent, with these of its modules doubtful, is given.
+-- The result of reading a symbol as a letter in an extent, with these of its modules doubtful, is given.
 pub record IsReadingGiven (extent : Extent) (rows columns : ℕ) (symbol : SymbolView) (doubtful : Option SymbolView)
     (limit : ℕ) (before after : ReadingOut) : Type 0 where
-  pub result : Result ReadingView ReadFault
-  pub result_is : SymbolReadResult extent symbol doubtful limit result
+  pub result : Result LetterReadingView LetterReadFault
+  pub result_is : LetterReadResult extent symbol doubtful limit result
   pub shown : after ≡ result_shown rows columns result before
 
 -- Reading these modules in an extent gives the reason why they make no symbol, or the result of reading their symbol.

@@ -1,3 +1,4 @@
+pub mod Heads
 pub mod PlaceSteps
 pub mod UnpackedCells
 pub mod Given

@@ -1,20 +1,10 @@
-//! How a message is written, as numbers.
+//! Choices of sizes as numbers.
 
 ghost use Rattle.std.specs.Prelude.{◌≡◌};
 ghost use Rattle.ecc200_calls.specs.Choices.{choice_of};
 
+use crate::how::How;
 use dm_symbol::SizeChoice;
-
-/// How a message is written: the number of a profile; the number of a choice of sizes; and the rows and columns of the
-/// size that is taken where the choice is of one size.
-#[repr(C)]
-#[derive(Clone, Copy)]
-pub struct How {
-    pub form: u16,
-    pub shape: u16,
-    pub rows: u16,
-    pub columns: u16,
-}
 
 /// Gives the choice of sizes that the numbers stand for.
 pub(crate) fn choice_of(how: How) -> Option<SizeChoice>

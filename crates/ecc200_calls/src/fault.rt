@@ -1,11 +1,17 @@
 //! Faults as numbers.
 
 ghost use Rattle.std.specs.Prelude.{◌≡◌};
-ghost use Rattle.ecc200_calls.specs.Faults.{fault, foreign, no_fault, no_such_choice, no_such_extent};
-ghost use Rattle.ecc200_calls.specs.Faults.{no_such_profile, no_such_size, normal_fault, read_fault, shape, too_long};
-ghost use Rattle.ecc200_calls.specs.Faults.{word_fault, wrong_doubt};
+ghost use Rattle.ecc200_calls.specs.Faults.{fault, foreign, letter_fault, no_fault, no_such_choice, no_such_extent};
+ghost use Rattle.ecc200_calls.specs.Faults.{
+  no_such_head,
+  no_such_profile,
+  no_such_size,
+  normal_letter_fault,
+  read_fault,
+};
+ghost use Rattle.ecc200_calls.specs.Faults.{read_letter_fault, shape, too_long, word_fault, wrong_doubt, wrong_mark};
 
-use dm_symbol::{NormalFault, ReadFault, WordFault};
+use dm_symbol::{LetterFault, LetterNormalFault, LetterReadFault, ReadFault, WordFault};
 
 /// Why there is no result: a code of the header, and what the header says beside it. All three are 0 if there is a
 /// result.
@@ -81,6 +87,20 @@ impl Fault {
         Fault::of(18, number, 0)
     }
 
+    /// Says that the mark with this index is wrong.
+    pub(crate) fn wrong_mark(place: u16) -> Fault
+        ensures { result ≡ wrong_mark place }
+    {
+        Fault::of(22, 0, place)
+    }
+
+    /// Says that the numbers of a head are those of none.
+    pub(crate) fn no_such_head() -> Fault
+        ensures { result ≡ no_such_head }
+    {
+        Fault::of(23, 0, 0)
+    }
+
     /// Says that doubtful modules are given, but not as many as there are modules.
     pub(crate) fn wrong_doubt() -> Fault
         ensures { result ≡ wrong_doubt }
@@ -89,7 +109,7 @@ impl Fault {
     }
 }
 
-/// Gives the fault of a symbol that is not read.
+/// Gives the fault of a symbol that is not read as a message.
 pub(crate) fn read_fault(why: ReadFault) -> Fault
     ensures { result ≡ read_fault why }
 {
@@ -115,12 +135,34 @@ fn word_fault(why: WordFault) -> Fault
     }
 }
 
-/// Gives the fault of a symbol that has no normal symbol.
-pub(crate) fn normal_fault(why: NormalFault) -> Fault
-    ensures { result ≡ normal_fault why }
+/// Gives the fault of a symbol that is not read as a letter.
+pub(crate) fn read_letter_fault(why: LetterReadFault) -> Fault
+    ensures { result ≡ read_letter_fault why }
 {
     match why {
-        NormalFault::Read(why) => read_fault(why),
-        NormalFault::TooLong => Fault::too_long(),
+        LetterReadFault::Border(count) => Fault::of(5, count, 0),
+        LetterReadFault::Block(block) => Fault::of(6, 0, u16::from(block)),
+        LetterReadFault::Words(why) => letter_fault(why),
+    }
+}
+
+/// Gives the fault of data codewords that say no letter.
+fn letter_fault(why: LetterFault) -> Fault
+    ensures { result ≡ letter_fault why }
+{
+    match why {
+        LetterFault::Word(why) => word_fault(why),
+        LetterFault::Designator(place) => Fault::of(20, 0, place),
+        LetterFault::Append(place) => Fault::of(21, 0, place),
+    }
+}
+
+/// Gives the fault of a symbol that has no normal symbol.
+pub(crate) fn normal_letter_fault(why: LetterNormalFault) -> Fault
+    ensures { result ≡ normal_letter_fault why }
+{
+    match why {
+        LetterNormalFault::Read(why) => read_letter_fault(why),
+        LetterNormalFault::TooLong => Fault::too_long(),
     }
 }

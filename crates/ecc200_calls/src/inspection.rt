@@ -12,6 +12,7 @@ use crate::arrays::put_bytes;
 use crate::fault::Fault;
 use crate::given::{Given, check_given};
 use crate::modules::put_modules;
+use crate::reading::dealing_number;
 use crate::room::*;
 use dm_layout::symbols::{MOST_BLOCKS, MOST_CODEWORDS, SymbolIn, SymbolSize};
 use dm_symbol::{BlockReading, SymbolInspectionIn, inspect_symbol_to};
@@ -29,6 +30,7 @@ pub struct InspectionOut {
     pub border_faults: u16,
     pub block_count: u16,
     pub codeword_count: u16,
+    pub dealing: u16,
     pub corrected: [u8; MOST_BLOCKS],
     pub erased: [u8; MOST_BLOCKS],
     pub left: [u8; MOST_BLOCKS],
@@ -50,7 +52,7 @@ pub fn inspect(
     match check_given(modules, doubtful, rows, columns) {
         Ok(given) => in_room!(
             Room::of(given.size),
-            inspect_given::<_, _, _>(modules, doubtful, given, out)
+            inspect_given::<ROWS, WORDS, ITEMS>(modules, doubtful, given, out)
         ),
         Err(why) => show_fault(out, why),
     }
@@ -111,6 +113,7 @@ fn show_fault(out: &mut InspectionOut, why: Fault)
     out.border_faults = 0;
     out.block_count = 0;
     out.codeword_count = 0;
+    out.dealing = 0;
 }
 
 /// Shows an inspection of a symbol of this size.
@@ -128,6 +131,7 @@ fn show_inspection<const WORDS: usize>(
     out.border_faults = inspection.border_faults;
     out.block_count = blocks.len() as u16;
     out.codeword_count = inspection.held.list().len() as u16;
+    out.dealing = dealing_number(inspection.dealing);
     put_corrected(&mut out.corrected, blocks);
     put_erased(&mut out.erased, blocks);
     put_left(&mut out.left, blocks);

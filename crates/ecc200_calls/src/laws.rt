@@ -1,5 +1,6 @@
 //! Laws of the definitions in `specs/`. Each function has an empty body: its contract is the law.
 
+ghost use Rattle.ecc200_calls.specs.Laws.{MessagesAreGiven, MessagesAreNormalised, MessagesAreWritten};
 ghost use Rattle.ecc200_calls.specs.Laws.{ModulesMakeTheSymbol, OneSymbolIsMade};
 
 /// The modules of a symbol, as they are given, make that symbol, and no other; so what reading them gives is what
@@ -7,4 +8,17 @@ ghost use Rattle.ecc200_calls.specs.Laws.{ModulesMakeTheSymbol, OneSymbolIsMade}
 pub fn modules_make_the_symbol()
     ensures made { ModulesMakeTheSymbol }
     ensures one { OneSymbolIsMade }
+{}
+
+/// In the extent `Usual`, and wherever a symbol is read as a message, what is given for it as a letter is what reading
+/// it as a message gives: the message, without a head and marks, or the fault.
+pub fn messages_are_given()
+    ensures { MessagesAreGiven }
+{}
+
+/// What is given for items without a head and marks is what writing their message gives; and, in the extent `Usual` and
+/// wherever a symbol is read as a message, what normalising it as a message gives.
+pub fn messages_are_written()
+    ensures written { MessagesAreWritten }
+    ensures normal { MessagesAreNormalised }
 {}

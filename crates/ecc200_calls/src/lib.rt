@@ -3,8 +3,9 @@
 //!
 //! [`read()`] writes a [`ReadingOut`]; [`write()`] and [`write_bytes()`], which take a [`How`], and [`normal()`] a
 //! [`SymbolOut`]; [`inspect()`] an [`InspectionOut`]; [`places()`] a [`PlacesOut`], a [`PlaceOut`] for each module; and
-//! each of these has a [`Fault`]. [`sizes()`] writes a [`SizesOut`], a [`SizeOut`] for each size. [`usual_limit()`] and
-//! [`abi()`] return a number.
+//! each of these has a [`Fault`]. The head of what is read and written is a [`HeadNumbers`], and each mark a
+//! [`MarkNumbers`]. [`sizes()`] writes a [`SizesOut`], a [`SizeOut`] for each size. [`usual_limit()`] and [`abi()`]
+//! return a number.
 //!
 //! C calls none of these by these names: the crate `ecc200` above this one, a static library, exports each with the
 //! prefix `ecc200_` and hands on to it. They are two crates since a static library is proved anew whenever it is built,
@@ -12,19 +13,30 @@
 //!
 //! Each function is total, takes no memory but its stack, and keeps nothing between calls. It writes nothing but `out`,
 //! and of the arrays in it only the elements that count. What they give is defined in `specs/`, on the definitions of
-//! `dm_symbol` for symbols of every size: `Readings`, `Symbols`, `Inspections`, `Places`, `Sizes`; `Laws` has the laws
-//! of these definitions, which the functions of [`laws`] prove. A caller's bytes are packed into rows of bits, and a
-//! symbol is unpacked over them, in `modules` alone; and `room` alone says how much room a call takes for its work.
+//! `dm_symbol` for symbols of every size: `Readings`, `Writings`, `Symbols`, `Letters`, `Inspections`, `Places`,
+//! `Sizes`; `Laws` has the laws of these definitions, which the functions of [`laws`] prove. A caller's bytes are
+//! packed into rows of bits, and a symbol is unpacked over them, in `modules` alone; and `room` alone says how much
+//! room a call takes for a message. What has a head or marks is read, written and normalised in `letter_reading`,
+//! `letter_writing` and `letter_normalising`, and whatever is written in its smallest symbol in `smallest_writing`,
+//! with room for whatever any symbol says.
 #![tactic(auto)]
 
 mod arrays;
 mod choice;
 mod extent;
 mod fault;
+mod form;
 mod given;
+mod head;
+mod how;
 mod inspection;
 mod interface;
 pub mod laws;
+mod letter;
+mod letter_normalising;
+mod letter_reading;
+mod letter_writing;
+mod mark;
 mod message;
 mod modules;
 mod normalising;
@@ -33,13 +45,16 @@ mod profile;
 mod reading;
 mod room;
 mod size_table;
+mod smallest_writing;
 mod symbol;
 mod writing;
 
-pub use choice::How;
 pub use fault::Fault;
+pub use head::HeadNumbers;
+pub use how::How;
 pub use inspection::{InspectionOut, inspect};
 pub use interface::abi;
+pub use mark::MarkNumbers;
 pub use normalising::normal;
 pub use place_table::{PlaceOut, PlacesOut, places};
 pub use reading::{ReadingOut, read, usual_limit};

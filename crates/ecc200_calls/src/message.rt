@@ -78,7 +78,7 @@ pub(crate) fn message_of_bytes<const ROOM: usize>(bytes: &[u8]) -> MessageIn<ROO
 }
 
 /// Gives the item of a number.
-fn item_of(number: u16) -> Item
+pub(crate) fn item_of(number: u16) -> Item
     requires { number ≤ 256 }
     ensures { number_of result ≡ number }
 {
@@ -99,12 +99,11 @@ fn number_of(item: Item) -> u16
     }
 }
 
-/// Writes the numbers of a message over the first ones.
-pub(crate) fn put_message<const ROOM: usize>(all: &mut [u16], message: &MessageIn<ROOM>)
-    requires { length message.now ≤ length all.old }
-    ensures { all.new ≡ over (numbers_of message.now) all.old }
+/// Writes the numbers of items over the first ones.
+pub(crate) fn put_items(all: &mut [u16], items: &[Item])
+    requires { length items.now ≤ length all.old }
+    ensures { all.new ≡ over (numbers_of items.now) all.old }
 {
-    let items = message.items();
     for (i, item) in items.iter().enumerate() {
         all[i] = number_of(*item);
     }

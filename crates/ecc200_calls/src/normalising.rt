@@ -1,8 +1,8 @@
 //! Normalising.
 
-ghost use Rattle.std.specs.Prelude.{◌≡◌, IfSome, IsTrue, length, option_map};
+ghost use Rattle.std.specs.Prelude.{◌≡◌, false, IfSome, IsTrue, length, option_map};
 ghost use Rattle.dm_layout.specs.symbols.Sizes.{area};
-ghost use Rattle.dm_symbol.specs.declared.SizeChoice.TheVariants.{Square};
+ghost use Rattle.dm_symbol.specs.declared.Extent.TheVariants.{Wide};
 ghost use Rattle.ecc200_calls.specs.Symbols.{IsNormalGiven, IsNormalResult, NormalisedResult, ProfileResult};
 ghost use Rattle.ecc200_calls.specs.inner.Given.{IsOfGiven};
 ghost use Rattle.ecc200_calls.specs.inner.Rooms.{HasRoom};
@@ -10,8 +10,10 @@ ghost use Rattle.ecc200_calls.specs.inner.Rooms.{HasRoom};
 use crate::extent::extent_of;
 use crate::fault::{Fault, read_fault};
 use crate::given::{Given, check_given};
+use crate::letter_normalising::normal_letter;
 use crate::modules::put_modules;
 use crate::profile::profile_of;
+use crate::reading::may_be_letter;
 use crate::room::*;
 use crate::symbol::{SymbolOut, show_fault};
 use crate::writing::write_message;
@@ -95,12 +97,73 @@ fn normal_under_profile(
         out.old out.new }
 {
     match check_given(modules, doubtful, rows, columns) {
-        Ok(given) => in_room!(
-            Room::of(given.size),
-            normal_given::<_, _, _>(extent, profile, modules, doubtful, given, border_limit, out)
-        ),
+        Ok(given) => normal_known(extent, profile, modules, doubtful, given, border_limit, out),
         Err(why) => show_fault(out, why),
     }
+}
+
+/// Shows the normal symbol of the message that the symbol says; or, where reading it as one doesn't tell, of the
+/// letter. So what says a message takes no room for marks.
+fn normal_known(
+    extent: Extent,
+    profile: Profile,
+    modules: &[u8],
+    doubtful: &[u8],
+    given: Given,
+    border_limit: u16,
+    out: &mut SymbolOut,
+)
+    requires modules { length modules.now ≡ area given.size }
+    requires doubtful { IsTrue given.doubt → length doubtful.now ≡ area given.size }
+    ensures { IsOfGiven given.size modules.now doubtful.now given.doubt (λ symbol doubtful.
+        IsNormalGiven extent profile symbol doubtful border_limit out.old out.new) }
+{
+    let Given { size, doubt } = given;
+    let known = Given { size, doubt };
+    if normal_message(extent, profile, modules, doubtful, known, border_limit, out) {
+        return;
+    }
+    normal_letter(
+        profile,
+        modules,
+        doubtful,
+        Given { size, doubt },
+        border_limit,
+        out,
+    );
+}
+
+/// Shows the normal symbol of the message that the symbol says, if reading it as one tells what it says; and gives
+/// whether it does.
+fn normal_message(
+    extent: Extent,
+    profile: Profile,
+    modules: &[u8],
+    doubtful: &[u8],
+    given: Given,
+    border_limit: u16,
+    out: &mut SymbolOut,
+) -> bool
+    requires modules { length modules.now ≡ area given.size }
+    requires doubtful { IsTrue given.doubt → length doubtful.now ≡ area given.size }
+    ensures told { IsTrue result → IsOfGiven given.size modules.now doubtful.now given.doubt
+        (λ symbol doubtful. IsNormalGiven extent profile symbol doubtful border_limit out.old
+        out.new) }
+    ensures wide { result ≡ false → extent ≡ Wide }
+    ensures same { result ≡ false → out.new ≡ out.old }
+{
+    in_room!(
+        Room::of(given.size),
+        normal_given::<ROWS, WORDS, ITEMS>(
+            extent,
+            profile,
+            modules,
+            doubtful,
+            given,
+            border_limit,
+            out
+        )
+    )
 }
 
 /// Does so in a room that serves for the symbol. It stands by itself, so that no other room is left for it on the
@@ -114,12 +177,15 @@ fn normal_given<const ROWS: usize, const WORDS: usize, const ITEMS: usize>(
     given: Given,
     border_limit: u16,
     out: &mut SymbolOut,
-)
+) -> bool
     requires room { HasRoom ROWS WORDS ITEMS given.size }
     requires modules { length modules.now ≡ area given.size }
     requires doubtful { IsTrue given.doubt → length doubtful.now ≡ area given.size }
-    ensures { IsOfGiven given.size modules.now doubtful.now given.doubt (λ symbol doubtful.
-        IsNormalGiven extent profile symbol doubtful border_limit out.old out.new) }
+    ensures told { IsTrue result → IsOfGiven given.size modules.now doubtful.now given.doubt
+        (λ symbol doubtful. IsNormalGiven extent profile symbol doubtful border_limit out.old
+        out.new) }
+    ensures wide { result ≡ false → extent ≡ Wide }
+    ensures same { result ≡ false → out.new ≡ out.old }
 {
     let mut symbol = SymbolIn::<ROWS>::light(given.size);
     put_modules(&mut symbol, modules);
@@ -127,14 +193,15 @@ fn normal_given<const ROWS: usize, const WORDS: usize, const ITEMS: usize>(
         let mut marked = SymbolIn::<ROWS>::light(given.size);
         put_modules(&mut marked, doubtful);
         let doubtful = Some(&marked);
-        normal_symbol::<ROWS, WORDS, ITEMS>(extent, profile, &symbol, doubtful, border_limit, out);
+        normal_symbol::<ROWS, WORDS, ITEMS>(extent, profile, &symbol, doubtful, border_limit, out)
     } else {
-        normal_symbol::<ROWS, WORDS, ITEMS>(extent, profile, &symbol, None, border_limit, out);
+        normal_symbol::<ROWS, WORDS, ITEMS>(extent, profile, &symbol, None, border_limit, out)
     }
 }
 
-/// Shows the normal symbol of what a symbol says, of whose modules these are doubtful, or why there is none. It is
-/// written in a room of its own: what the message takes in a square can be less than what the symbol takes, or more.
+/// Shows the normal symbol of the message that a symbol says, of whose modules these are doubtful, or why there is
+/// none, if reading it as a message tells what it says; and gives whether it does. It is written in a room of its own:
+/// what the message takes in a square can be less than what the symbol takes, or more.
 fn normal_symbol<const ROWS: usize, const WORDS: usize, const ITEMS: usize>(
     extent: Extent,
     profile: Profile,
@@ -142,11 +209,13 @@ fn normal_symbol<const ROWS: usize, const WORDS: usize, const ITEMS: usize>(
     doubtful: Option<&SymbolIn<ROWS>>,
     border_limit: u16,
     out: &mut SymbolOut,
-)
+) -> bool
     requires room { HasRoom ROWS WORDS ITEMS symbol.now.size }
     requires doubtful { IfSome doubtful (λ doubtful. doubtful.now.size ≡ symbol.now.size) }
-    ensures { IsNormalGiven extent profile symbol.now (option_map (λ d. d.now) doubtful.entry)
-        border_limit out.old out.new }
+    ensures told { IsTrue result → IsNormalGiven extent profile symbol.now
+        (option_map (λ d. d.now) doubtful.entry) border_limit out.old out.new }
+    ensures wide { result ≡ false → extent ≡ Wide }
+    ensures same { result ≡ false → out.new ≡ out.old }
 {
     let how = ReadOptions {
         extent,
@@ -158,8 +227,15 @@ fn normal_symbol<const ROWS: usize, const WORDS: usize, const ITEMS: usize>(
     match read_symbol_to(symbol, how, &mut words, &mut reading) {
         Ok(()) => {
             let size = SizeChoice::Square;
-            write_message(&reading.message, WriteOptions { profile, size }, out);
+            write_message(reading.message.items(), WriteOptions { profile, size }, out);
+            true
         }
-        Err(why) => show_fault(out, read_fault(why)),
+        Err(why) => {
+            if may_be_letter(extent, why) {
+                return false;
+            }
+            show_fault(out, read_fault(why));
+            true
+        }
     }
 }

@@ -3,15 +3,17 @@
 
 ghost use Rattle.std.specs.Prelude.{◌≡◌, ◌≤◌, length};
 ghost use Rattle.dm_layout.specs.symbols.Sizes.{codeword_count};
+ghost use Rattle.dm_symbol.specs.declared.Profile.{Profile};
+ghost use Rattle.dm_symbol.specs.NormalForm.{normal_form};
 ghost use Rattle.ecc200_calls.specs.inner.Rooms.{AreWordsFor, HasRoom, HasRoomToWrite};
 
 use crate::message::most_words;
-use dm_layout::symbols::{MOST_CODEWORDS, MOST_ROWS, SizeChoice, SymbolSize};
+use dm_layout::symbols::{MOST_CODEWORDS, MOST_DATA, MOST_ROWS, SizeChoice, SymbolSize};
 use dm_words::{Item, LARGEST_ROOM, MESSAGE_ROOM};
 
 /// The most data codewords of a symbol for which the small room serves. All symbols with at most 1,024 modules have no
 /// more, squares up to side 32 and most rectangles, and no others.
-const SMALL_DATA: u16 = 62;
+pub(crate) const SMALL_DATA: usize = 62;
 
 /// The rows of modules, the codewords and the items of a message for which the small room has room.
 pub(crate) const SMALL_ROWS: usize = 32;
@@ -21,7 +23,7 @@ pub(crate) const SMALL_WORDS: usize = 98;
 pub(crate) const SMALL_ITEMS: usize = 131;
 
 /// The most data codewords of a symbol for which the middle room serves: of all symbols but the three largest squares.
-const MIDDLE_DATA: u16 = 816;
+pub(crate) const MIDDLE_DATA: usize = 816;
 
 /// The same for the middle room.
 pub(crate) const MIDDLE_ROWS: usize = 104;
@@ -31,6 +33,8 @@ pub(crate) const MIDDLE_WORDS: usize = 1152;
 pub(crate) const MIDDLE_ITEMS: usize = MESSAGE_ROOM;
 
 /// The same for the largest room, which serves for every symbol.
+pub(crate) const LARGEST_DATA: usize = MOST_DATA;
+
 pub(crate) const LARGEST_ROWS: usize = MOST_ROWS;
 
 pub(crate) const LARGEST_WORDS: usize = MOST_CODEWORDS;
@@ -55,7 +59,7 @@ impl Room {
     {
         // For the proof alone: what `rows` ensures says that the size stands in the table.
         let _rows = size.rows();
-        let words = size.data_count();
+        let words = usize::from(size.data_count());
         if words <= SMALL_DATA {
             Room::Small
         } else if words <= MIDDLE_DATA {
@@ -84,10 +88,11 @@ impl Room {
     pub(crate) fn of_message(choice: SizeChoice, items: &[Item]) -> Room
         requires { length items.now ≤ LARGEST_ITEMS }
         ensures small { result ≡ Room.Small
-            → HasRoomToWrite SMALL_ROWS SMALL_WORDS choice items.now }
+            → HasRoomToWrite SMALL_DATA SMALL_ROWS SMALL_WORDS choice items.now }
         ensures middle { result ≡ Room.Middle
-            → HasRoomToWrite MIDDLE_ROWS MIDDLE_WORDS choice items.now }
-        ensures largest { HasRoomToWrite LARGEST_ROWS LARGEST_WORDS choice items.now }
+            → HasRoomToWrite MIDDLE_DATA MIDDLE_ROWS MIDDLE_WORDS choice items.now }
+        ensures largest { HasRoomToWrite LARGEST_DATA LARGEST_ROWS LARGEST_WORDS choice
+            items.now }
     {
         match choice {
             SizeChoice::Square => room_of_square(items),
@@ -101,17 +106,33 @@ impl Room {
 fn room_of_square(items: &[Item]) -> Room
     requires { length items.now ≤ LARGEST_ITEMS }
     ensures small { result ≡ Room.Small
-        → HasRoomToWrite SMALL_ROWS SMALL_WORDS SizeChoice.Square items.now }
+        → HasRoomToWrite SMALL_DATA SMALL_ROWS SMALL_WORDS SizeChoice.Square items.now }
     ensures middle { result ≡ Room.Middle
-        → HasRoomToWrite MIDDLE_ROWS MIDDLE_WORDS SizeChoice.Square items.now }
+        → HasRoomToWrite MIDDLE_DATA MIDDLE_ROWS MIDDLE_WORDS SizeChoice.Square items.now }
 {
-    let words = most_words(items);
-    if words <= usize::from(SMALL_DATA) {
+    let most = words_at_most(items);
+    if most <= SMALL_DATA {
         Room::Small
-    } else if words <= usize::from(MIDDLE_DATA) {
+    } else if most <= MIDDLE_DATA {
         Room::Middle
     } else {
         Room::Largest
+    }
+}
+
+/// Gives a number of codewords than which these items take no more in a normal form: two for each item, where their
+/// count alone tells the room by that, and else those of each by itself in ASCII, which takes a look at all.
+#[tactic(auto, using(crate::proofs::Messages::at_most_two))]
+fn words_at_most(items: &[Item]) -> usize
+    requires { length items.now ≤ LARGEST_ITEMS }
+    ensures { (profile : Profile) → length (normal_form profile items.now) ≤ result }
+{
+    let twice = 2 * items.len();
+    let is_middle = SMALL_DATA < items.len() && twice <= MIDDLE_DATA;
+    if is_middle || twice <= SMALL_DATA {
+        twice
+    } else {
+        most_words(items)
     }
 }
 
@@ -119,9 +140,9 @@ fn room_of_square(items: &[Item]) -> Room
 fn room_of_choice(choice: SizeChoice, items: &[Item]) -> Room
     requires { length items.now ≤ LARGEST_ITEMS }
     ensures small { result ≡ Room.Small
-        → HasRoomToWrite SMALL_ROWS SMALL_WORDS choice items.now }
+        → HasRoomToWrite SMALL_DATA SMALL_ROWS SMALL_WORDS choice items.now }
     ensures middle { result ≡ Room.Middle
-        → HasRoomToWrite MIDDLE_ROWS MIDDLE_WORDS choice items.now }
+        → HasRoomToWrite MIDDLE_DATA MIDDLE_ROWS MIDDLE_WORDS choice items.now }
 {
     match SymbolSize::for_words(choice, words_for(choice, items)) {
         Some(size) => Room::of(size),
@@ -150,24 +171,23 @@ pub(crate) fn smallest_size() -> SymbolSize
     SymbolSize::of(10, 10).unwrap()
 }
 
-/// Does work in a room: it is called with the rows, the codewords and the items of the room; with rows and codewords of
-/// the room and these items; or with the items of the room alone.
+/// Does work in a room, which is called with what it names of the room: the data codewords, rows, codewords, items.
 macro_rules! in_room {
-    ($room:expr, $work:ident::<_, _, _>($($given:expr),* $(,)?)) => {
+    ($room:expr, $work:ident::<ROWS, WORDS, ITEMS>($($given:expr),* $(,)?)) => {
         match $room {
             Room::Small => $work::<SMALL_ROWS, SMALL_WORDS, SMALL_ITEMS>($($given),*),
             Room::Middle => $work::<MIDDLE_ROWS, MIDDLE_WORDS, MIDDLE_ITEMS>($($given),*),
             Room::Largest => $work::<LARGEST_ROWS, LARGEST_WORDS, LARGEST_ITEMS>($($given),*),
         }
     };
-    ($room:expr, $work:ident::<_, _, $items:ident>($($given:expr),* $(,)?)) => {
+    ($room:expr, $work:ident::<DATA, ROWS, WORDS>($($given:expr),* $(,)?)) => {
         match $room {
-            Room::Small => $work::<SMALL_ROWS, SMALL_WORDS, $items>($($given),*),
-            Room::Middle => $work::<MIDDLE_ROWS, MIDDLE_WORDS, $items>($($given),*),
-            Room::Largest => $work::<LARGEST_ROWS, LARGEST_WORDS, $items>($($given),*),
+            Room::Small => $work::<SMALL_DATA, SMALL_ROWS, SMALL_WORDS>($($given),*),
+            Room::Middle => $work::<MIDDLE_DATA, MIDDLE_ROWS, MIDDLE_WORDS>($($given),*),
+            Room::Largest => $work::<LARGEST_DATA, LARGEST_ROWS, LARGEST_WORDS>($($given),*),
         }
     };
-    ($room:expr, $work:ident::<_>($($given:expr),* $(,)?)) => {
+    ($room:expr, $work:ident::<ITEMS>($($given:expr),* $(,)?)) => {
         match $room {
             Room::Small => $work::<SMALL_ITEMS>($($given),*),
             Room::Middle => $work::<MIDDLE_ITEMS>($($given),*),

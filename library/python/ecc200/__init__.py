@@ -17,10 +17,10 @@ from .codec import Symbol, encode
 from .core import *
 
 # (a list of words, since checkers of types take no other)
-__all__ = ["ABI", "BorderLimit", "Code", "Corners", "End", "Extent", "FNC1", "Findings", "Found", "Grid", "Inspection",
-           "Kind", "MOST_ITEMS", "Message", "Place", "Profile", "Reading", "Refused", "Rows", "SamplerMissing",
-           "Shape", "Size", "Symbol", "Unsure", "decode", "drawing", "encode", "find", "gs1", "has_sampler", "inspect",
-           "luminance", "normal", "pictures", "places", "read", "read_many", "sampler_fault", "sizes", "usual_limit",
-           "version", "write"]
+__all__ = ["ABI", "BorderLimit", "Code", "Corners", "End", "Extent", "FNC1", "Findings", "Form", "Found", "Grid",
+           "Head", "Inspection", "Kind", "MOST_ITEMS", "Mark", "Message", "Place", "Profile", "Reading", "Refused",
+           "Rows", "SamplerMissing", "Shape", "Size", "Symbol", "Unsure", "decode", "drawing", "encode", "find", "gs1",
+           "has_sampler", "inspect", "luminance", "normal", "pictures", "places", "read", "read_many", "sampler_fault",
+           "sizes", "usual_limit", "version", "write"]
 __version__ = version()
 _library = core._library

@@ -20,6 +20,11 @@ lost, of which twice as many can be restored as of wrong ones.
 A message is its bytes, and whether FNC1 stands in front, which marks GS1 messages; further FNC1s are the byte 0x1D, GS.
 To tell FNC1 from GS, use the items: 0 to 255, and FNC1. Text is a message only with the name of its charset.
 
+Beside its message a symbol may have marks, which say how the bytes behind them are meant: each is how many items stand
+before it, and the number of an ECI assignment, as (0, 26) for UTF-8 from the first byte on. And it may have a head:
+"programming", for reader programming, or (part, of, a, b), for a part of what several symbols say together, which have
+the two numbers of their file in common (structured append).
+
 What can't be read or written raises Refused. All functions may be called from any number of threads, and let others run
 meanwhile.
 
@@ -46,21 +51,25 @@ import warnings
 from typing import (Any, Callable, Dict, Iterable, Iterator, List, Literal, NamedTuple, Optional, Protocol, Sequence,
                     Tuple, Type, TypeVar, Union, overload)
 
-__all__ = ["ABI", "BorderLimit", "Code", "Corners", "End", "Extent", "FNC1", "Findings", "Found", "Grid", "Inspection",
-           "Kind", "MOST_ITEMS", "Message", "Place", "Profile", "Reading", "Refused", "Rows", "SamplerMissing", "Shape",
-           "Size", "Unsure", "decode", "find", "has_sampler", "inspect", "luminance", "normal", "places", "read",
-           "read_many", "sampler_fault", "sizes", "usual_limit", "version", "write"]
+__all__ = ["ABI", "BorderLimit", "Code", "Corners", "End", "Extent", "FNC1", "Findings", "Form", "Found", "Grid",
+           "Head", "Inspection", "Kind", "MOST_ITEMS", "Mark", "Message", "Place", "Profile", "Reading", "Refused",
+           "Rows", "SamplerMissing", "Shape", "Size", "Unsure", "decode", "find", "has_sampler", "inspect", "luminance",
+           "normal", "places", "read", "read_many", "sampler_fault", "sizes", "usual_limit", "version", "write"]
 
 # ecc200.h: constants
-ABI = 3
+ABI = 4
 _MOST_MODULES = 20736
 MOST_ITEMS = 3123
+_MOST_MARKS = 779
 _MOST_CODEWORDS = 2178
 _MOST_BLOCKS = 10
 _SIZE_COUNT = 48
 FNC1 = 256
 _BEYOND = 255
 _ONE = 4
+_NO_HEAD = 0
+_PART = 1
+_PROGRAMMING = 2
 # ecc200.h: end
 _GS = 0x1D
 
@@ -83,6 +92,8 @@ class _Symbol(Protocol):
 Grid = Union[str, bytes, bytearray, memoryview, Sequence[str], Sequence[bytes], Sequence[bytearray],
              Sequence[Sequence[int]], _Array, _Symbol]
 Message = Union[str, bytes, bytearray, memoryview, Iterable[int]]
+Mark = Tuple[int, int]
+Head = Union[None, Literal["programming"], Tuple[int, int, int, int]]
 # How many border modules may have the wrong colour: so many; as many as usual; or any number, if each block then leaves
 # a correction unused, which shows that it is a symbol.
 BorderLimit = Union[int, None, Literal["auto"]]
@@ -98,6 +109,15 @@ class Profile(enum.IntEnum):
     # ecc200.h: end
 
 
+class Form(enum.IntEnum):
+    """The form in which something is written: a profile, or the encodations that take the smallest size."""
+    # ecc200.h: forms
+    ASCII = 0
+    SHORTER = 1
+    SMALLEST = 2
+    # ecc200.h: end
+
+
 class Shape(enum.IntEnum):
     """The sizes of which a symbol that is written has the smallest that holds it, by the number of modules: the
     squares; the rectangles of ISO/IEC 16022; these and those of ISO/IEC 21471; all."""
@@ -110,8 +130,9 @@ class Shape(enum.IntEnum):
 
 
 class Extent(enum.IntEnum):
-    """What is read: ASCII, C40, Text, X12 and Base 256; or these, EDIFACT, a macro 05 or 06 in front, and an Upper
-    Shift that waits at the end of a run. What USUAL reads WIDE reads as the same."""
+    """What is read: ASCII, C40, Text, X12 and Base 256; or these, EDIFACT, a macro 05 or 06 in front, an Upper Shift
+    that waits at the end of a run, marks, heads, and the other dealing of 144 x 144. What USUAL reads WIDE reads as the
+    same."""
     # ecc200.h: extents
     USUAL = 0
     WIDE = 1
@@ -138,6 +159,10 @@ class Code(enum.IntEnum):
     EXTENT = 17
     CHOICE = 18
     DOUBT = 19
+    DESIGNATOR = 20
+    APPEND = 21
+    MARK = 22
+    HEAD = 23
     # ecc200.h: end
 
 
@@ -174,6 +199,11 @@ class Reading(NamedTuple):
     left: Tuple[int, ...]       # for each block, how many of its check codewords are left: two were used for each that
                                 # was corrected, and one for each erased one
     corners: Optional[Corners] = None  # where it was found, if that was in a picture
+    marks: Tuple[Mark, ...] = ()  # each with how many items stand before it, and its number
+    head: Head = None
+    symbology: str = "]d1"      # the symbology identifier of ISO/IEC 15424, "]d1" to "]d6", of the codewords that were
+                                # printed: symbols that say the same may have others
+    dealing: int = 0            # 1 if the codewords are dealt by the other dealing of 144 x 144, else 0
 
     @property
     def size(self) -> Tuple[int, int]:
@@ -248,7 +278,7 @@ class Size(NamedTuple):
         return _side(self.rows, self.columns)
 
 
-_u8, _u16 = ctypes.c_uint8, ctypes.c_uint16
+_u8, _u16, _u32 = ctypes.c_uint8, ctypes.c_uint16, ctypes.c_uint32
 
 
 # ecc200.h: structs
@@ -256,14 +286,23 @@ class _Fault(ctypes.Structure):
     _fields_ = [("code", _u16), ("value", _u16), ("place", _u16)]
 
 
+class _Head(ctypes.Structure):
+    _fields_ = [("kind", _u16), ("part", _u16), ("parts", _u16), ("file", _u8 * 2)]
+
+
+class _Mark(ctypes.Structure):
+    _fields_ = [("number", _u32), ("place", _u32)]
+
+
 class _ReadingOut(ctypes.Structure):
     _fields_ = [("fault", _Fault), ("rows", _u16), ("columns", _u16), ("border_faults", _u16), ("block_count", _u16),
-                ("item_count", _u16), ("corrected", _u8 * _MOST_BLOCKS), ("erased", _u8 * _MOST_BLOCKS),
-                ("left", _u8 * _MOST_BLOCKS), ("items", _u16 * MOST_ITEMS)]
+                ("item_count", _u16), ("mark_count", _u16), ("identifier", _u16), ("dealing", _u16), ("head", _Head),
+                ("corrected", _u8 * _MOST_BLOCKS), ("erased", _u8 * _MOST_BLOCKS), ("left", _u8 * _MOST_BLOCKS),
+                ("marks", _Mark * _MOST_MARKS), ("items", _u16 * MOST_ITEMS)]
 
 
 class _How(ctypes.Structure):
-    _fields_ = [("form", _u16), ("shape", _u16), ("rows", _u16), ("columns", _u16)]
+    _fields_ = [("form", _u16), ("shape", _u16), ("rows", _u16), ("columns", _u16), ("extent", _u16), ("head", _Head)]
 
 
 class _SymbolOut(ctypes.Structure):
@@ -272,8 +311,9 @@ class _SymbolOut(ctypes.Structure):
 
 class _InspectionOut(ctypes.Structure):
     _fields_ = [("fault", _Fault), ("rows", _u16), ("columns", _u16), ("border_faults", _u16), ("block_count", _u16),
-                ("codeword_count", _u16), ("corrected", _u8 * _MOST_BLOCKS), ("erased", _u8 * _MOST_BLOCKS),
-                ("left", _u8 * _MOST_BLOCKS), ("held", _u8 * _MOST_CODEWORDS), ("mended", _u8 * _MOST_CODEWORDS)]
+                ("codeword_count", _u16), ("dealing", _u16), ("corrected", _u8 * _MOST_BLOCKS),
+                ("erased", _u8 * _MOST_BLOCKS), ("left", _u8 * _MOST_BLOCKS), ("held", _u8 * _MOST_CODEWORDS),
+                ("mended", _u8 * _MOST_CODEWORDS)]
 
 
 class _PlaceOut(ctypes.Structure):
@@ -355,7 +395,8 @@ def _load(processor: str = "/proc/cpuinfo") -> ctypes.CDLL:
         ("usual_limit", _u16, [number, number]), ("sizes", None, [out]), ("places", _u16, [number, number, out]),
         ("read", _u16, [*symbol, number, number, out]), ("normal", _u16, [*symbol, number, number, number, out]),
         ("inspect", _u16, [*symbol, out]),
-        ("write", _u16, [out, number, octets, out]), ("write_bytes", _u16, [octets, number, octets, out]),
+        ("write", _u16, [out, number, octets, number, octets, out]),
+        ("write_bytes", _u16, [octets, number, octets, out]),
     ):
         function = getattr(library, "ecc200_" + name)
         function.restype, function.argtypes = result, given
@@ -383,10 +424,12 @@ def _room(rooms: List[_Room], kind: Type[ctypes.Structure]) -> _Room:
         return memoryview(made), ctypes.addressof(ctypes.c_char.from_buffer(made))
 
 
-# The beginning of a reading, with its three counts for each block, and of a symbol.
-_read_head = struct.Struct("=8H" + f"{_MOST_BLOCKS}s" * 3).unpack_from
+# The beginning of a reading, with its head and its three counts for each block, and of a symbol.
+_read_head = struct.Struct("=14H2B" + f"{_MOST_BLOCKS}s" * 3).unpack_from
 _drawn_head = struct.Struct("=5H").unpack_from
 _ITEMS, _MODULES, _PLACES = _ReadingOut.items.offset, _SymbolOut.modules.offset, _PlacesOut.places.offset
+_MARKS, _MARK_SIZE = _ReadingOut.marks.offset, ctypes.sizeof(_Mark)
+_IDENTIFIERS = tuple(f"]d{number}" for number in range(7))
 _DIGITS = bytes(byte == 0x31 for byte in range(256))
 _CHECKS_OF_A_CORRECTION = 2
 _TURNS = {2: 0, 3: 3, 4: 1, 5: 5, 6: 4, 7: 6, 8: 2}  # for each orientation of EXIF, Pillow's way of transposing
@@ -541,7 +584,8 @@ def _limit(rows: int, columns: int, border_limit: Optional[int]) -> int:
 
 
 def _said(answer: memoryview) -> Reading:
-    code, value, place, rows, columns, border_faults, blocks, count, corrected, erased, left = _read_head(answer)
+    (code, value, place, rows, columns, border_faults, blocks, count, mark_count, identifier, dealing, kind, part, of,
+     a, b, corrected, erased, left) = _read_head(answer)
     if code:
         raise Refused(code, value, place)
     raw = answer[_ITEMS:_ITEMS + 2 * count].tobytes()
@@ -553,7 +597,16 @@ def _said(answer: memoryview) -> Reading:
         counts = (corrected[0],), (erased[0],), (left[0],)
     else:
         counts = tuple(corrected[:blocks]), tuple(erased[:blocks]), tuple(left[:blocks])
-    return Reading(data, gs1, items, counts[0], border_faults, rows, columns, counts[1], counts[2])
+    marks = _marks_of(answer, mark_count) if mark_count else ()
+    head: Head = None if not kind else "programming" if kind == _PROGRAMMING else (part, of, a, b)
+    return Reading(data, gs1, items, counts[0], border_faults, rows, columns, counts[1], counts[2], None, marks, head,
+                   _IDENTIFIERS[identifier], dealing)
+
+
+def _marks_of(answer: memoryview, count: int) -> Tuple[Mark, ...]:
+    """The marks of a reading, each with its place first."""
+    numbers = struct.iter_unpack("=2I", answer[_MARKS:_MARKS + _MARK_SIZE * count])
+    return tuple((place, number) for number, place in numbers)
 
 
 class _Drawn(List[bytes]):
@@ -657,19 +710,53 @@ def _items(message: Iterable[int], gs1: bool) -> Any:
         raise Refused(Code.ITEM, items[place], min(place + gs1, 65535)) from None
 
 
+_HEADS: Dict[Any, Tuple[int, ...]] = {None: (_NO_HEAD, 0, 0, 0, 0), "programming": (_PROGRAMMING, 0, 0, 0, 0)}
+_MOST_OF_A_PART = (65535, 65535, 255, 255)
+_NO_MARK = 0xFFFFFFFF  # more than any number of an assignment, and than any place
+
+
+def _numbers_of(head: Head) -> Tuple[int, ...]:
+    """The numbers of a head, with 0, which the library refuses, for those that it can't be given."""
+    known = _HEADS.get(head) if head is None or isinstance(head, str) else None
+    if known:
+        return known
+    try:
+        each = [] if isinstance(head, str) else [*map(operator.index, head or ())]
+    except TypeError:
+        each = []
+    if len(each) != len(_MOST_OF_A_PART):
+        raise TypeError(f"a head is None, 'programming', or a part as (2, 5, 1, 2), unlike {head!r}")
+    return _PART, *(number if 0 <= number <= most else 0 for number, most in zip(each, _MOST_OF_A_PART))
+
+
+def _packed(marks: Iterable[Mark]) -> Tuple[bytes, int]:
+    """Marks as the library takes them, and how many there are. What it can't be given is a number that it refuses."""
+    packed, count = [], 0
+    for count, mark in enumerate(marks, 1):
+        try:
+            place, number = map(operator.index, mark)
+        except (TypeError, ValueError):
+            raise TypeError(f"a mark is its place and its number, as (0, 26), unlike {mark!r}") from None
+        packed.append(struct.pack("=2I", *(it if 0 <= it < _NO_MARK else _NO_MARK for it in (number, place))))
+    return b"".join(packed), count
+
+
 @functools.lru_cache(maxsize=1024)
-def _how(profile: int, shape: int, rows: int = 0, columns: int = 0) -> bytes:
-    """How a message is written, as the library takes it."""
-    return struct.pack("=4H", profile, shape, rows, columns)
+def _how(form: int, shape: int, rows: int = 0, columns: int = 0, extent: int = 0,
+         head: Tuple[int, ...] = _HEADS[None]) -> bytes:
+    """How something is written, as the library takes it."""
+    return struct.pack("=8H2B", form, shape, rows, columns, extent, *head)
 
 
-def _chosen(profile: int, size: Optional[Tuple[int, int]], shape: Optional[int]) -> bytes:
-    """How a message is written: in this form, and in this size or in the smallest of this shape."""
-    form = _number(Code.PROFILE, profile)
+def _chosen(form: int, size: Optional[Tuple[int, int]], shape: Optional[int], extent: int, head: Head) -> bytes:
+    """How something is written: in this form, in this size or in the smallest of this shape, with this head."""
+    wanted, numbers = _number(Code.PROFILE, form), _numbers_of(head)
+    readers = _number(Code.EXTENT, extent)
     if size is None:
         if shape == _ONE:
             raise Refused(Code.CHOICE, _ONE)
-        return _how(form, _number(Code.CHOICE, Shape.SQUARE if shape is None else shape))
+        chosen = _number(Code.CHOICE, Shape.SQUARE if shape is None else shape)
+        return _how(wanted, chosen, 0, 0, readers, numbers)
     if shape is not None:
         raise TypeError("a size is chosen or a shape, and not both")
     try:
@@ -678,26 +765,34 @@ def _chosen(profile: int, size: Optional[Tuple[int, int]], shape: Optional[int])
         raise TypeError(f"a size is the rows and the columns of a symbol, as (8, 32), unlike {size!r}") from None
     if (rows, columns) not in _sizes_by_dimensions():
         raise Refused(Code.SIZE, rows, columns)
-    return _how(form, _ONE, rows, columns)
+    return _how(wanted, _ONE, rows, columns, readers, numbers)
 
 
 def write(message: Message, gs1: bool = False, profile: Profile = Profile.ASCII, charset: Optional[str] = None,
-          size: Optional[Tuple[int, int]] = None, shape: Optional[Shape] = None) -> Rows:
+          size: Optional[Tuple[int, int]] = None, shape: Optional[Shape] = None, marks: Iterable[Mark] = (),
+          head: Head = None, form: Optional[Form] = None, extent: Extent = Extent.WIDE) -> Rows:
     """The symbol of a message, given as bytes, as items, which are 0 to 255 or FNC1, or as text with the charset that
     makes it bytes. With `gs1`, FNC1 stands in front and in place of each 0x1D. It is the normal grid, which is a
-    square, unless another `shape` is chosen, whose smallest symbol is written, or a `size` by its rows and columns."""
+    square, unless another `shape` is chosen, whose smallest symbol is written, or a `size` by its rows and columns.
+
+    `marks` and a `head` are written beside the message; the places of marks count its items, an FNC1 in front too.
+    `form` stands for a profile: Form.SMALLEST takes the encodations by which what is said fits the smallest size, of
+    those that readers of an `extent` read; Extent.USUAL has no marks and no heads, which are then too long."""
     if isinstance(message, str):
         if charset is None:
             raise TypeError("a message is bytes or items; for text name its charset, as in write(text, "
                             "charset='iso-8859-1')")
         message = message.encode(charset)
-    is_usual = profile is _ASCII and size is None and shape is None
-    how = _USUAL if is_usual else _chosen(profile, size, shape)
+    is_usual = profile is _ASCII and size is None and shape is None and head is None and form is None
+    if form is None and profile == Form.SMALLEST.value:
+        raise Refused(Code.PROFILE, profile)
+    how = _USUAL if is_usual else _chosen(profile if form is None else form, size, shape, extent, head)
+    beside, mark_count = _packed(marks) if marks else (None, 0)
     answer, address = room = _room(_symbols, _SymbolOut)
     try:
-        if gs1 or not isinstance(message, bytes):
+        if gs1 or mark_count or not isinstance(message, bytes):
             items = _items(message, gs1)
-            _library.ecc200_write(items.buffer_info()[0], len(items), how, address)
+            _library.ecc200_write(items.buffer_info()[0], len(items), beside, mark_count, how, address)
         else:
             _call_write_bytes(message, len(message), how, address)
         return _drawn(answer)
@@ -768,7 +863,7 @@ def _size_of(rows: int, columns: int) -> Size:
 
 # ---- Symbols in pictures, which the library ecc200_sample finds: the structs are those of ecc200_sample.h.
 
-_SAMPLE_ABI = 2
+_SAMPLE_ABI = 3
 _MOST_FOUND = 64  # symbols of one picture, unless a caller says otherwise
 _MOST_UNREAD = 32  # symbols of one picture that aren't read
 _ANY_TIME = 0xFFFFFFFF

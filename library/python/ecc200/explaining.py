@@ -11,8 +11,10 @@ from .spelling import spelled
 __all__ = ["Codeword", "Explanation", "explain"]
 
 _LATCHES = {230: "C40", 231: "Base 256", 238: "X12", 239: "Text", 240: "EDIFACT"}
-_OTHERS = {233: "structured append", 234: "reader programming", 236: "macro 05", 237: "macro 06", 241: "an ECI"}
+_APPEND, _PROGRAMMING, _ECI = 233, 234, 241
+_OTHERS = {_APPEND: "structured append", _PROGRAMMING: "reader programming", 236: "macro 05", 237: "macro 06"}
 _PAD, _UPPER_SHIFT, _FNC1_WORD, _UNLATCH, _EDIFACT_UNLATCH = 129, 235, 232, 254, 31
+_TRIPLETS = (230, 238, 239)
 _MACROS = {236: b"05", 237: b"06"}
 
 
@@ -83,8 +85,48 @@ def _tell_ascii(told: _Told) -> None:
     elif value in _LATCHES:
         told.say("ASCII", f"a latch to {_LATCHES[value]}")
         {231: _tell_bytes, 240: _tell_groups}.get(value, lambda told: _tell_triplets(_LATCHES[value], told))(told)
+    elif value == _ECI:
+        _tell_mark(told)
     else:
         told.say("ASCII", f"{_OTHERS[value]}, which isn't read here" if value in _OTHERS else "a reserved codeword")
+
+
+def _tell_mark(told: _Told) -> None:
+    """An ECI and its designator, of one to three codewords."""
+    told.say("ASCII", "an ECI: its number says how what follows is meant")
+    words = [*told.data[told.at:told.at + 3], 0, 0, 0]
+    count = 1 if words[0] < 128 else 2 if words[0] < 192 else 3
+    number = words[0] - 1
+    if count == 2:
+        number = (words[0] - 128) * 254 + 127 + words[1] - 1
+    if count == 3:
+        number = (words[0] - 192) * 64516 + 16383 + (words[1] - 1) * 254 + words[2] - 1
+    beside = {1: [""], 2: [", with the next codeword", ", with the codeword before"],
+              3: [", with the next two codewords", ", with the codewords beside it", ", with the two codewords before"]}
+    for which in beside[count][:told.left]:
+        told.say("ECI", f"the ECI {number}{which}")
+
+
+def _tell_head(told: _Told) -> None:
+    """A head, or the empty runs in front of a macro, and this."""
+    data, start = told.data, 0
+    if data[0] == _APPEND and len(data) > 3:
+        told.say("ASCII", "structured append: the symbol is a part of what several say together")
+        told.say("", f"part {data[1] // 16 + 1} of {17 - data[1] % 16}")
+        told.say("", f"the first number of their file, {data[2]}")
+        told.say("", f"the second number of their file, {data[3]}")
+        return
+    if data[0] == _PROGRAMMING:
+        told.say("ASCII", "reader programming: the message is for the reader")
+        return
+    while data[start] in _TRIPLETS and data[start + 1:start + 3][:1] == bytes([_UNLATCH]) and start + 2 < len(data):
+        start += 2
+    macro = _MACROS.get(data[start])
+    while macro and told.at < start:
+        _tell_ascii(told)
+    if macro:
+        told.say("ASCII", f"macro {macro.decode()}: [)>, RS, {macro.decode()} and GS in front of the message, RS and "
+                 "EOT behind it", b"[)>\x1e" + macro + b"\x1d")
 
 
 # ---- Base 256
@@ -185,10 +227,8 @@ def _tell_groups(told: _Told) -> None:
 
 def _tell(data: bytes) -> _Told:
     told = _Told(data)
-    macro = _MACROS.get(data[0])
-    if macro:
-        told.say("ASCII", f"macro {macro.decode()}: [)>, RS, {macro.decode()} and GS in front of the message, RS and "
-                 "EOT behind it", b"[)>\x1e" + macro + b"\x1d")
+    _tell_head(told)
+    macro = bool(told.items)
     while told.left and data[told.at] != _PAD:
         _tell_ascii(told)
     told.items += b"\x1e\x04" if macro else b""

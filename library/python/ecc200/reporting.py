@@ -70,6 +70,8 @@ def _answer(source: Source, given: argparse.Namespace, doubtful: Optional[Rows])
         border = found.border_limit if isinstance(found.answer, Reading) and border is None else border
     try:
         reading = core.read(rows, border, given.extent, doubtful)
+        if reading.marks or reading.head:
+            core.read(rows, border, core.Extent.USUAL, doubtful)  # which refuses them by name
         if border == "auto":
             border = max(usual_limit(*reading.size), reading.border_faults)
         return Answer(source, reading, rows, doubtful=doubtful, border=border)
@@ -293,8 +295,17 @@ def _only(given: argparse.Namespace, name: str) -> Tuple[Answer, int]:
     return found[0], _EARLY if ends else 0
 
 
+def _said(reading: Reading) -> Tuple[object, ...]:
+    """All that a symbol says."""
+    return reading.head, reading.items, reading.marks
+
+
 def _difference(first: Reading, second: Reading) -> str:
-    """Where two messages differ."""
+    """Where what two symbols say differs."""
+    if first.head != second.head:
+        return "their heads differ, which say what a symbol is a part of, or that it programs the reader"
+    if first.items == second.items:
+        return "their ECI marks differ, which say how the bytes are meant"
     a, b = ([0x1D if item == FNC1 else item for item in reading.items] for reading in (first, second))
     if a == b and first.gs1 == second.gs1:
         return "they differ in their separators alone: where one has FNC1, the other has the byte 0x1D"
@@ -309,7 +320,7 @@ def compare(given: argparse.Namespace) -> int:
     """Says whether two symbols say the same."""
     (first, early), (second, other) = (_only(given, name) for name in given.files)
     assert first.reading is not None and second.reading is not None
-    same = first.reading.items == second.reading.items
+    same = _said(first.reading) == _said(second.reading)
     for name, answer in zip(given.files, (first, second)):
         assert answer.reading is not None
         print(f"{name}: {shown(answer.reading.items)} ({answer.size}, {sum(answer.reading.corrected)} codewords "

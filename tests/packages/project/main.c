@@ -9,7 +9,7 @@ int main(void) {
     static ecc200_reading reading;
     const char *text = "Mitsubadoor";
     uint8_t bytes[ECC200_MOST_ITEMS];
-    const ecc200_how how = {ECC200_ASCII, ECC200_RECTANGLE, 0, 0};
+    const ecc200_how how = {.shape = ECC200_RECTANGLE};
     uint16_t code = ecc200_write_bytes((const uint8_t *)text, strlen(text), &how, &symbol);
     if (code != ECC200_OK) {
         puts(ecc200_code_words(code));

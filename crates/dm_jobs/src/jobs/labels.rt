@@ -4,7 +4,7 @@ use crate::chance::Chance;
 use crate::digest::Digest;
 use crate::message::put_message;
 use crate::texts::{Text, labelled};
-use dm_layout::symbols::{SizeChoice, Symbol, SymbolWords, table};
+use dm_layout::symbols::{MOST_DATA, SizeChoice, Symbol, SymbolWords, table};
 use dm_symbol::{Message, Profile, WriteOptions, write_smallest_to, write_symbol_to};
 use dm_words::Extent;
 
@@ -31,7 +31,12 @@ pub(crate) fn round(chance: &mut Chance, digest: &mut Digest) {
             Profile::Shorter
         };
         let how = WriteOptions { profile, size };
-        let written = write_symbol_to(&message, how, &mut words, &mut symbol);
+        let written = write_symbol_to::<MOST_DATA, _, _>(
+            message.items(),
+            how,
+            &mut words,
+            &mut symbol,
+        );
         digest.add_code(u16::from(written.is_err()));
         digest.add_symbol(&symbol);
         let extent = if chance.happens(75) {

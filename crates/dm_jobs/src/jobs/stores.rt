@@ -6,7 +6,7 @@ use crate::failure::Failure;
 use crate::message::put_message;
 use crate::page::{add_record, answers, side_at, turn, turn_some};
 use crate::texts::{Text, scanned};
-use dm_layout::symbols::{SizeChoice, Symbol, SymbolSize, SymbolWords, table};
+use dm_layout::symbols::{MOST_DATA, SizeChoice, Symbol, SymbolSize, SymbolWords, table};
 use dm_symbol::{Message, WriteOptions, write_smallest_to, write_symbol_to};
 use dm_text::{Profile, Task};
 use dm_words::{Extent, TooLong};
@@ -57,7 +57,6 @@ pub(crate) fn round(
 
 /// Prints a message as one of several printers does: in runs of C40 and the other encodations, in Base 256 where this
 /// is shorter, or in a size larger than is needed.
-#[tactic(auto, using(dm_symbol::proofs::Exported::room_for_most))]
 fn print(
     message: &Message,
     words: &mut SymbolWords,
@@ -67,20 +66,28 @@ fn print(
     let square = SizeChoice::Square;
     match chance.below(3) {
         0 => write_smallest_to(Extent::Usual, message, square, words, symbol),
-        1 => write_symbol_to(message, options(Profile::Shorter, square), words, symbol),
+        1 => write_items(message, Profile::Shorter, square, words, symbol),
         _ => {
-            write_symbol_to(message, options(Profile::Ascii, square), words, symbol)?;
+            write_items(message, Profile::Ascii, square, words, symbol)?;
             let side = symbol.size().rows();
             let larger = SizeChoice::Exact(side.saturating_add(2), side.saturating_add(2));
-            let _room = write_symbol_to(message, options(Profile::Ascii, larger), words, symbol);
+            let _room = write_items(message, Profile::Ascii, larger, words, symbol);
             Ok(())
         }
     }
 }
 
-/// Gives how a message is written under a profile in a choice of sizes.
-fn options(profile: Profile, size: SizeChoice) -> WriteOptions {
-    WriteOptions { profile, size }
+/// Writes a message under a profile in a choice of sizes.
+#[tactic(auto, using(dm_symbol::proofs::Exported::room_for_most))]
+fn write_items(
+    message: &Message,
+    profile: Profile,
+    size: SizeChoice,
+    words: &mut SymbolWords,
+    symbol: &mut Symbol,
+) -> Result<(), TooLong> {
+    let how = WriteOptions { profile, size };
+    write_symbol_to::<MOST_DATA, _, _>(message.items(), how, words, symbol)
 }
 
 /// Damages a scan of a mark: the first stays, one has as many wrong modules as codewords may be, and the others a few.

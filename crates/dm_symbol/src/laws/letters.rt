@@ -10,6 +10,7 @@ ghost use Rattle.dm_symbol.specs.LetterLaws.{WideReadsTheUsualLetter};
 ghost use Rattle.dm_symbol.specs.LetterLaws.{AWrittenLetterIsThere, WrittenLetterIsRead, WrittenSymbolsTellLetters};
 ghost use Rattle.dm_symbol.specs.LetterLaws.{RoomForEachServesLetters, MostRoomServesLetters};
 ghost use Rattle.dm_symbol.specs.LetterLaws.{NormalLetterTwiceIsOnce, EqualNormalSymbolsMeanEqualLetters};
+ghost use Rattle.dm_symbol.specs.MessageLetters.{FaultTellsOfLetters, MessageTellsItsLetter};
 
 /// With the same doubtful modules, a symbol is read as at most one letter, whatever the extents and the limits; and
 /// that letter is right.
@@ -80,4 +81,12 @@ pub fn light_doubt_leaves_letters()
 /// What is read as a letter in the usual extent has the same result in the wide one.
 pub fn wide_reads_the_usual_letter()
     ensures { WideReadsTheUsualLetter }
+{}
+
+/// What reading a symbol as a message gives tells what reading it as a letter gives, but for one fault: where it is
+/// read, the letter with its items and the identifier of its codewords; where it isn't, the same fault. That a codeword
+/// is left out in the wide extent is the fault that tells nothing: the codewords may say a letter.
+pub fn a_message_tells_its_letter()
+    ensures letter { MessageTellsItsLetter }
+    ensures fault { FaultTellsOfLetters }
 {}

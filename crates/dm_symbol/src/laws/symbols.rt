@@ -7,7 +7,7 @@ ghost use Rattle.dm_symbol.specs.SymbolLaws.{WrittenSymbolIsRead, WrittenSymbols
 ghost use Rattle.dm_symbol.specs.SymbolLaws.{EqualNormalSymbolsMeanEqualMessages, GridsAreReadAsSymbols};
 ghost use Rattle.dm_symbol.specs.SymbolLaws.{RoomForEachServes, MostRoomServes};
 ghost use Rattle.dm_symbol.specs.SymbolLaws.{AWrittenSymbolIsThere, GridsHaveTheResultsOfSymbols};
-ghost use Rattle.dm_symbol.specs.SymbolLaws.{NormalGridsAreNormalSymbols};
+ghost use Rattle.dm_symbol.specs.SymbolLaws.{NormalGridsAreNormalSymbols, OtherDealingRestarts, OtherDealingErases};
 
 /// With no module doubtful, blocks are near to codewords as they are without any talk of doubt, and all border faults
 /// count.
@@ -22,6 +22,12 @@ pub fn light_doubt_changes_nothing()
     ensures read { LightDoubtIsNoDoubt }
     ensures normal { LightDoubtNormalisesAlike }
     ensures shown { LightDoubtShowsAlike }
+{}
+
+/// By the other dealing of 144 x 144 the check codewords are dealt anew from block 0, and their places are erased so.
+pub fn the_other_dealing_restarts()
+    ensures blocks { OtherDealingRestarts }
+    ensures erased { OtherDealingErases }
 {}
 
 /// With the same doubtful modules, a symbol is read as at most one message, whatever the extents and the limits. For

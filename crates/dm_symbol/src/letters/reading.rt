@@ -47,14 +47,15 @@ pub fn read_letter_to<
         (outcome result (letter_reading_in reading.new)) }
     ensures same { (count : ℕ) → result ≡ Err (LetterReadFault.Border count)
         → reading.new ≡ reading.old }
-    ensures restored { OnOk result ((held : List ℕ) × AreRestored symbol.now
-        (option_map (λ d. d.now) how.entry.doubtful) held words.new.list) }
+    ensures restored { OnOk result ((held : List ℕ) × AreRestored how.entry.extent symbol.now
+        (option_map (λ d. d.now) how.entry.doubtful) reading.new.dealing held words.new.list) }
     ensures size { OnOk result (words.new.size ≡ symbol.now.size) }
 {
     match restore_to(
         symbol,
         how,
         words,
+        &mut reading.dealing,
         &mut reading.blocks,
         &mut reading.border_faults,
     ) {

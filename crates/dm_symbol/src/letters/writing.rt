@@ -29,7 +29,7 @@ pub fn write_letter_to<
 ) -> Result<(), TooLong>
     requires items { ITEMS ≤ LARGEST_ROOM }
     requires marks { MARKS ≤ LARGEST_MARKS }
-    requires room { HasRoomForLetter how.size how.profile letter.now ROWS WORDS }
+    requires room { HasRoomForLetter how.size how.profile letter.now MOST_DATA ROWS WORDS }
     ensures written { IsLetterWritten how.size how.profile letter.now
         (outcome result symbol.new) }
     ensures same { OnErr result (symbol.new ≡ symbol.old) }

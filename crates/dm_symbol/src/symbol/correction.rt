@@ -1,16 +1,16 @@
 //! Correction of a block of a symbol of any size, where it stands, with some of its places doubtful or none.
 
-ghost use Rattle.std.specs.Prelude.{◌≡◌, ◌≢◌, ◌*◌, ◌<◌, ◌≤◌, ℕ, [], Some, IfOk, IfSome};
+ghost use Rattle.std.specs.Prelude.{◌≡◌, ◌≢◌, ◌*◌, ◌<◌, ◌≤◌, ℕ, List, [], Some, IfOk, IfSome};
 ghost use Rattle.std.specs.Prelude.{MatchResult, length, map, option_map};
 ghost use Rattle.dm_code.specs.Codeword.{IsCodeword, IsNear, distance};
 ghost use Rattle.dm_layout.specs.symbols.Sizes.{block_check, block_length};
 ghost use Rattle.dm_layout.specs.symbols.Blocks.{block_of};
-ghost use Rattle.dm_layout.specs.symbols.Holding.{Holds};
-ghost use Rattle.dm_symbol.specs.Reading.{HasNear};
+ghost use Rattle.dm_symbol.specs.Dealings.{IsDealtTwoWays, erased_by};
 ghost use Rattle.dm_symbol.specs.SymbolBlocks.{AreOfSize, block_in};
 ghost use Rattle.dm_symbol.specs.SymbolReading.{IsBlockRestored};
 ghost use Rattle.dm_symbol.specs.inner.Marks.{is_mark, marked_in};
 
+use crate::symbol::dealing::{DATA, Dealing, turn_checks};
 use crate::symbol::reading::BlockReading;
 use arrayvec::ArrayVec;
 use dm_code::{BeyondLimit, LONGEST_WORD, Quick, correct_erased, correct_to};
@@ -80,8 +80,8 @@ fn codeword_near<const WORDS: usize>(
     ensures near { MatchResult result
         (λ changed. changed ≢ 0 → IsNear (block_check words.now.size)
         (block_in words.now.size words.now.list b) fixed.new.items)
-        (λ _. HasNear (block_check words.now.size) (block_in words.now.size words.now.list b)
-        → ⊥) }
+        (λ _. (codeword : List ℕ) → IsNear (block_check words.now.size)
+        (block_in words.now.size words.now.list b) codeword → ⊥) }
     ensures changed { IfOk result (λ changed. changed ≢ 0
         → changed ≡ distance (block_in words.now.size words.now.list b) fixed.new.items) }
     ensures itself { result ≡ Ok 0
@@ -127,18 +127,27 @@ fn correct_marked<const WORDS: usize>(
     })
 }
 
-/// Gives the marks that doubtful modules make, which are the codewords that they hold. One that isn't 0 erases the
-/// codeword at its place.
+/// Gives the marks that doubtful modules make, which are the codewords that they hold, dealt as these codewords are.
+/// One that isn't 0 erases the codeword at its place.
 pub(crate) fn marks_for<const ROWS: usize, const WORDS: usize>(
     words: &SymbolWordsIn<WORDS>,
+    dealing: Dealing,
     doubtful: &SymbolIn<ROWS>,
 ) -> SymbolWordsIn<WORDS>
-    requires { doubtful.now.size ≡ words.now.size }
-    ensures { Holds doubtful.now result }
+    requires doubtful { doubtful.now.size ≡ words.now.size }
+    requires dealing { dealing ≡ Dealing.Restarted → IsDealtTwoWays words.now.size }
+    ensures size { result.size ≡ words.now.size }
+    ensures marks { (b : ℕ) → b < words.now.size.blocks → marked_in words.now.size (Some result) b
+        ≡ erased_by dealing words.now.size (Some doubtful.now) b }
 {
     // For the proof alone: what `size` ensures says that the marks have room.
     let _size = words.size();
-    lift(doubtful)
+    let mut marks = lift(doubtful);
+    match dealing {
+        Dealing::Standard => {}
+        Dealing::Restarted => turn_checks(&mut marks, DATA),
+    }
+    marks
 }
 
 /// Says of each place of block `b` whether its codeword is erased.

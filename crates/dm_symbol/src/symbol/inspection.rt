@@ -1,14 +1,17 @@
 //! Inspection of a symbol of any size: its codewords before and after they are restored, whether it can be read or not.
 
-ghost use Rattle.std.specs.Prelude.{◌≡◌, ◌≤◌, [], IfSome, Some, length, option_map};
+ghost use Rattle.std.specs.Prelude.{◌≡◌, ◌<◌, ◌≤◌, ℕ, [], IfSome, IsSome, IsTrue, IsFalse, Some, None};
+ghost use Rattle.std.specs.Prelude.{get_or, length, map, option_map};
 ghost use Rattle.dm_layout.specs.symbols.Sizes.{codeword_count};
 ghost use Rattle.dm_symbol.specs.Doubt.{erased_in};
 ghost use Rattle.dm_symbol.specs.SymbolBlocks.{AreOfSize};
 ghost use Rattle.dm_symbol.specs.SymbolReading.{AreBlocksMended};
 ghost use Rattle.dm_symbol.specs.SymbolInspection.{IsSymbolInspection};
 ghost use Rattle.dm_symbol.specs.inner.Marks.{marked_in};
+ghost use Rattle.dm_symbol.specs.inner.Showing.{IsRestartShown};
 
 use crate::symbol::correction::{marks_for, restore_block};
+use crate::symbol::dealing::{Dealing, restore_restarted};
 use crate::symbol::reading::BlockReading;
 use arrayvec::ArrayVec;
 use dm_layout::symbols::{
@@ -20,10 +23,13 @@ use dm_layout::symbols::{
 pub struct SymbolInspectionIn<const WORDS: usize> {
     /// The codewords that the symbol holds.
     pub held: SymbolWordsIn<WORDS>,
-    /// The same, with each block restored to the codeword that is near to it but for what is doubtful. A block to which
-    /// none is near is left as it is.
+    /// The same, at the same places, with each block restored to the codeword that is near to it but for what is
+    /// doubtful. A block to which none is near is left as it is.
     pub mended: SymbolWordsIn<WORDS>,
-    /// What became of each block, in order; None where no codeword is near to it.
+    /// The dealing that is shown, which is the one by which the symbol is read at
+    /// [`Extent::Wide`](crate::Extent::Wide), and the standard's where it is read by neither.
+    pub dealing: Dealing,
+    /// What became of each block, dealt so, in order; None where no codeword is near to it.
     pub blocks: ArrayVec<Option<BlockReading>, MOST_BLOCKS>,
     /// How many modules of the borders have the wrong colour and aren't doubtful.
     pub border_faults: u16,
@@ -38,11 +44,13 @@ impl<const WORDS: usize> SymbolInspectionIn<WORDS> {
     pub fn new(size: SymbolSize) -> SymbolInspectionIn<WORDS>
         requires { codeword_count size ≤ WORDS }
         ensures blocks { result.blocks.items ≡ [] }
+        ensures dealing { result.dealing ≡ Dealing.Standard }
         ensures border { result.border_faults ≡ 0 }
     {
         SymbolInspectionIn {
             held: SymbolWordsIn::zeros(size),
             mended: SymbolWordsIn::zeros(size),
+            dealing: Dealing::Standard,
             blocks: ArrayVec::new(),
             border_faults: 0,
         }
@@ -52,7 +60,8 @@ impl<const WORDS: usize> SymbolInspectionIn<WORDS> {
 /// Inspects a symbol: leaves in `inspection`, whatever it held before, the codewords that the symbol holds, and the
 /// same with each block restored to which a codeword is near but for what is doubtful. Where
 /// [`read_symbol_to`](crate::read_symbol_to()) refuses a border or a block, or finds codewords that spell no message,
-/// this goes on, so that a program can show what is wrong with a symbol. Doubtful modules, where there are any, are a
+/// this goes on, so that a program can show what is wrong with a symbol. A symbol of 144 x 144 of which a block is lost
+/// is shown by the other [`Dealing`], where no block is lost by it. Doubtful modules, where there are any, are a
 /// symbol of the same size, dark where a module of the symbol is doubtful.
 pub fn inspect_symbol_to<const ROWS: usize, const WORDS: usize>(
     symbol: &SymbolIn<ROWS>,
@@ -67,7 +76,57 @@ pub fn inspect_symbol_to<const ROWS: usize, const WORDS: usize>(
     inspection.border_faults = border_faults(symbol, doubtful);
     lift_to(symbol, &mut inspection.held);
     inspection.mended = SymbolWordsIn::new(inspection.held.size(), inspection.held.list());
+    inspection.dealing = Dealing::Standard;
     mend_blocks(&mut inspection.mended, doubtful, &mut inspection.blocks);
+    if has_lost(&inspection.blocks) {
+        show_restarted(symbol, doubtful, inspection);
+    }
+}
+
+/// Whether there is a block to which no codeword is near.
+fn has_lost(blocks: &[Option<BlockReading>]) -> bool
+    ensures some { IsTrue result → (b : ℕ) × (b < length blocks.now) × (get_or blocks.now b None ≡ None) }
+    ensures none { IsFalse result → (b : ℕ) → b < length blocks.now → IsSome (get_or blocks.now b None) }
+{
+    for block in blocks {
+        if block.is_none() {
+            return true;
+        }
+    }
+    false
+}
+
+/// Shows the other dealing in an inspection, if the symbol is of 144 x 144 and each block is near to a codeword by it;
+/// else the inspection stays. It isn't inlined, so that it takes room on the stack only where a block is lost.
+#[inline(never)]
+fn show_restarted<const ROWS: usize, const WORDS: usize>(
+    symbol: &SymbolIn<ROWS>,
+    doubtful: Option<&SymbolIn<ROWS>>,
+    inspection: &mut SymbolInspectionIn<WORDS>,
+)
+    requires doubtful { IfSome doubtful (λ doubtful. doubtful.now.size ≡ symbol.now.size) }
+    requires codewords { codeword_count symbol.now.size ≤ WORDS }
+    ensures shown { IsRestartShown symbol.now (option_map (λ d. d.now) doubtful.entry)
+        inspection.old inspection.new }
+{
+    let mut words = SymbolWordsIn::zeros(symbol.size());
+    let mut blocks = ArrayVec::new();
+    if restore_restarted(symbol, doubtful, &mut words, &mut blocks) {
+        inspection.mended = words;
+        inspection.dealing = Dealing::Restarted;
+        show_blocks(&blocks, &mut inspection.blocks);
+    }
+}
+
+/// Leaves in `shown` these readings, each of a block to which a codeword is near.
+fn show_blocks(blocks: &[BlockReading], shown: &mut ArrayVec<Option<BlockReading>, MOST_BLOCKS>)
+    requires { length blocks.now ≤ MOST_BLOCKS }
+    ensures { shown.new.items ≡ map (λ block. Some block) blocks.now }
+{
+    shown.clear();
+    for block in blocks {
+        shown.push(Some(*block));
+    }
 }
 
 /// Restores each block to which a codeword is near but for what is doubtful, and leaves in `blocks` what became of
@@ -107,7 +166,7 @@ fn mend_doubtful<const ROWS: usize, const WORDS: usize>(
         (erased_in words.old.size (Some doubtful.now)) words.old.list words.new.list
         blocks.new.items }
 {
-    let marks = marks_for(words, doubtful);
+    let marks = marks_for(words, Dealing::Standard, doubtful);
     mend_each(words, Some(&marks), blocks);
 }
 

@@ -8,7 +8,7 @@ ghost use Rattle.dm_symbol.specs.SymbolNormal.{IsSymbolNormalisedTo};
 use crate::normalising::NormalFault;
 use crate::symbol::reading::{ReadOptions, SymbolReadingIn, read_symbol_to};
 use crate::symbol::writing::{WriteOptions, write_symbol_to};
-use dm_layout::symbols::{SizeChoice, Symbol, SymbolIn, SymbolWords};
+use dm_layout::symbols::{MOST_DATA, SizeChoice, Symbol, SymbolIn, SymbolWords};
 use dm_words::{LARGEST_ROOM, Profile, TooLong};
 
 /// Gives the normal symbol, under a profile, of the message that a symbol says, whatever its shape, size, encodation
@@ -45,7 +45,8 @@ pub fn normal_symbol_to<const ROWS: usize, const ITEMS: usize>(
         profile,
         size: SizeChoice::Square,
     };
-    match write_symbol_to(&reading.message, square, words, normal) {
+    let items = reading.message.items();
+    match write_symbol_to::<MOST_DATA, _, _>(items, square, words, normal) {
         Ok(()) => Ok(()),
         Err(TooLong) => Err(NormalFault::TooLong),
     }

@@ -5,7 +5,7 @@ ghost use Rattle.std.specs.Prelude.{length, option_map};
 ghost use Rattle.dm_layout.specs.symbols.Sizes.{codeword_count};
 ghost use Rattle.dm_words.specs.Messages.{most_spelled};
 ghost use Rattle.dm_words.specs.Outcomes.{outcome};
-ghost use Rattle.dm_symbol.specs.Doubt.{erased_in};
+ghost use Rattle.dm_symbol.specs.Dealings.{IsDealtTwoWays, erased_by};
 ghost use Rattle.dm_symbol.specs.inner.Marks.{marked_in};
 ghost use Rattle.dm_symbol.specs.inner.Restoring.{IsRestored, IsLost};
 ghost use Rattle.dm_symbol.specs.SymbolBlocks.{AreOfSize, AreBlocksNear};
@@ -14,6 +14,7 @@ ghost use Rattle.dm_symbol.specs.SymbolReading.{reading_in, symbol_reading_of};
 
 use crate::reading::ReadFault;
 use crate::symbol::correction::{marks_for, restore_block};
+use crate::symbol::dealing::{Dealing, restore_restarted};
 use arrayvec::ArrayVec;
 use dm_layout::symbols::{MOST_BLOCKS, SymbolIn, SymbolWordsIn, border_faults, lift_to};
 use dm_words::{Extent, LARGEST_ROOM, MessageIn, message_to_as};
@@ -56,6 +57,8 @@ pub(crate) enum Lost {
 pub struct SymbolReadingIn<const ITEMS: usize> {
     /// The message.
     pub message: MessageIn<ITEMS>,
+    /// How the codewords were found to be dealt into blocks: as the standard does, but in some symbols of 144 x 144.
+    pub dealing: Dealing,
     /// What became of each block, in order.
     pub blocks: ArrayVec<BlockReading, MOST_BLOCKS>,
     /// How many modules of the borders have the wrong colour and aren't doubtful.
@@ -68,10 +71,11 @@ pub type SymbolReading = SymbolReadingIn<LARGEST_ROOM>;
 impl<const ITEMS: usize> SymbolReadingIn<ITEMS> {
     /// Gives the reading of an empty message, into which [`read_symbol_to`] can read.
     pub fn new() -> SymbolReadingIn<ITEMS>
-        ensures { reading_in result ≡ symbol_reading_of [] [] 0 }
+        ensures { reading_in result ≡ symbol_reading_of [] Dealing.Standard [] 0 }
     {
         SymbolReadingIn {
             message: MessageIn::new(),
+            dealing: Dealing::Standard,
             blocks: ArrayVec::new(),
             border_faults: 0,
         }
@@ -84,7 +88,9 @@ impl<const ITEMS: usize> SymbolReadingIn<ITEMS> {
 /// of such modules, `Block` with the first block that is beyond correction, `Words`. A block with k check codewords is
 /// restored where twice the number of its wrong codewords, and the number of its erased ones, of which a module is
 /// doubtful, are together at most k. Where no module is doubtful, that is up to half of its check codewords, rounded
-/// down.
+/// down. At [`Extent::Wide`] a symbol of 144 x 144 of which a block is lost is restored as some encoders deal its check
+/// codewords into blocks, where all blocks can be: [`dealing`](SymbolReadingIn::dealing) then is
+/// [`Dealing::Restarted`].
 ///
 /// The fixed square isn't looked at, nor is what follows the first pad. The symbol is taken to be upright. One with
 /// more damage may be near the codewords of another message, and is then read as that message. Where a block has erased
@@ -112,8 +118,8 @@ pub fn read_symbol_to<const ROWS: usize, const WORDS: usize, const ITEMS: usize>
         (outcome result (reading_in reading.new)) }
     ensures same { (count : ℕ) → result ≡ Err (ReadFault.Border count)
         → reading.new ≡ reading.old }
-    ensures restored { OnOk result ((held : List ℕ) × AreRestored symbol.now
-        (option_map (λ d. d.now) how.entry.doubtful) held words.new.list) }
+    ensures restored { OnOk result ((held : List ℕ) × AreRestored how.entry.extent symbol.now
+        (option_map (λ d. d.now) how.entry.doubtful) reading.new.dealing held words.new.list) }
     ensures size { OnOk result (words.new.size ≡ symbol.now.size) }
 {
     read_parts(
@@ -121,18 +127,20 @@ pub fn read_symbol_to<const ROWS: usize, const WORDS: usize, const ITEMS: usize>
         how,
         words,
         &mut reading.message,
+        &mut reading.dealing,
         &mut reading.blocks,
         &mut reading.border_faults,
     )
 }
 
-/// Does the same as [`read_symbol_to`] with the parts of a reading in targets of their own: the message, what became of
-/// each block, and the number of wrong modules of the borders.
+/// Does the same as [`read_symbol_to`] with the parts of a reading in targets of their own: the message, the dealing,
+/// what became of each block, and the number of wrong modules of the borders.
 pub(crate) fn read_parts<const ROWS: usize, const WORDS: usize, const ITEMS: usize>(
     symbol: &SymbolIn<ROWS>,
     how: ReadOptions<ROWS>,
     words: &mut SymbolWordsIn<WORDS>,
     message: &mut MessageIn<ITEMS>,
+    dealing: &mut Dealing,
     blocks: &mut ArrayVec<BlockReading, MOST_BLOCKS>,
     faults: &mut u16,
 ) -> Result<(), ReadFault>
@@ -141,15 +149,15 @@ pub(crate) fn read_parts<const ROWS: usize, const WORDS: usize, const ITEMS: usi
     requires items { most_spelled how.extent symbol.now.size.data_count ≤ ITEMS }
     ensures read { IsSymbolRead how.entry.extent symbol.now
         (option_map (λ d. d.now) how.entry.doubtful) how.entry.border_limit
-        (outcome result (symbol_reading_of message.new blocks.new.items faults.new)) }
-    ensures same { (count : ℕ) → result ≡ Err (ReadFault.Border count)
-        → (message.new ≡ message.old) × (blocks.new ≡ blocks.old) × (faults.new ≡ faults.old) }
-    ensures restored { OnOk result ((held : List ℕ) × AreRestored symbol.now
-        (option_map (λ d. d.now) how.entry.doubtful) held words.new.list) }
+        (outcome result (symbol_reading_of message.new dealing.new blocks.new.items faults.new)) }
+    ensures same { (count : ℕ) → result ≡ Err (ReadFault.Border count) → (message.new ≡ message.old)
+        × (dealing.new ≡ dealing.old) × (blocks.new ≡ blocks.old) × (faults.new ≡ faults.old) }
+    ensures restored { OnOk result ((held : List ℕ) × AreRestored how.entry.extent symbol.now
+        (option_map (λ d. d.now) how.entry.doubtful) dealing.new held words.new.list) }
     ensures size { OnOk result (words.new.size ≡ symbol.now.size) }
     ensures count { OnOk result (length blocks.new.items ≡ symbol.now.size.blocks) }
 {
-    match restore_to(symbol, how, words, blocks, faults) {
+    match restore_to(symbol, how, words, dealing, blocks, faults) {
         Ok(()) => {}
         Err(Lost::Border(count)) => return Err(ReadFault::Border(count)),
         Err(Lost::Block(index)) => return Err(ReadFault::Block(index)),
@@ -161,57 +169,71 @@ pub(crate) fn read_parts<const ROWS: usize, const WORDS: usize, const ITEMS: usi
 }
 
 /// Restores the codewords of a symbol, whatever they say: refuses it if more modules of its borders than the limit have
-/// the wrong colour and aren't doubtful; and restores the blocks in order. After `Ok`, `words` are the restored
-/// codewords, `blocks` says what became of each block, and `faults` is the number of such modules. After `Border`
-/// `blocks` and `faults` are as they were.
+/// the wrong colour and aren't doubtful; and restores the blocks in order, by the other dealing where the extent asks
+/// for it. After `Ok`, `words` are the restored codewords, `dealing` is the one by which they are, `blocks` says what
+/// became of each block, and `faults` is the number of such modules. After `Border` these three are as they were.
 pub(crate) fn restore_to<const ROWS: usize, const WORDS: usize>(
     symbol: &SymbolIn<ROWS>,
     how: ReadOptions<ROWS>,
     words: &mut SymbolWordsIn<WORDS>,
+    dealing: &mut Dealing,
     blocks: &mut ArrayVec<BlockReading, MOST_BLOCKS>,
     faults: &mut u16,
 ) -> Result<(), Lost>
     requires doubtful { IfSome how.doubtful (λ doubtful. doubtful.now.size ≡ symbol.now.size) }
     requires codewords { codeword_count symbol.now.size ≤ WORDS }
-    ensures restored { OnOk result (IsRestored symbol.now (option_map (λ d. d.now) how.entry.doubtful)
-        how.entry.border_limit words.new blocks.new.items faults.new) }
-    ensures lost { IfErr result
-        (IsLost symbol.now (option_map (λ d. d.now) how.entry.doubtful) how.entry.border_limit) }
-    ensures same { (count : ℕ) → result ≡ Err (Lost.Border count)
-        → (blocks.new ≡ blocks.old) × (faults.new ≡ faults.old) }
+    ensures restored { OnOk result (IsRestored how.entry.extent symbol.now
+        (option_map (λ d. d.now) how.entry.doubtful) how.entry.border_limit words.new dealing.new
+        blocks.new.items faults.new) }
+    ensures lost { IfErr result (IsLost how.entry.extent symbol.now
+        (option_map (λ d. d.now) how.entry.doubtful) how.entry.border_limit) }
+    ensures same { (count : ℕ) → result ≡ Err (Lost.Border count) → (dealing.new ≡ dealing.old)
+        × (blocks.new ≡ blocks.old) × (faults.new ≡ faults.old) }
 {
     let border_faults = border_faults(symbol, how.doubtful);
     if border_faults > how.border_limit {
         return Err(Lost::Border(border_faults));
     }
     *faults = border_faults;
+    *dealing = Dealing::Standard;
     lift_to(symbol, words);
-    match restore_blocks(words, how.doubtful, blocks) {
-        Ok(()) => Ok(()),
-        Err(index) => Err(Lost::Block(index)),
+    let Err(first) = restore_blocks(words, Dealing::Standard, how.doubtful, blocks) else {
+        return Ok(());
+    };
+    match how.extent {
+        Extent::Usual => return Err(Lost::Block(first)),
+        Extent::Wide => {}
     }
+    if !restore_restarted(symbol, how.doubtful, words, blocks) {
+        return Err(Lost::Block(first));
+    }
+    *dealing = Dealing::Restarted;
+    Ok(())
 }
 
 /// Restores each block to the codeword that is near to it but for what is doubtful, and leaves in `blocks` what became
-/// of each; or gives the first block to which none is near.
-fn restore_blocks<const ROWS: usize, const WORDS: usize>(
+/// of each; or gives the first block to which none is near. The codewords stand as the standard deals them, and the
+/// modules hold them by this dealing.
+pub(crate) fn restore_blocks<const ROWS: usize, const WORDS: usize>(
     words: &mut SymbolWordsIn<WORDS>,
+    dealing: Dealing,
     doubtful: Option<&SymbolIn<ROWS>>,
     blocks: &mut ArrayVec<BlockReading, MOST_BLOCKS>,
 ) -> Result<(), u8>
-    requires { IfSome doubtful (λ doubtful. doubtful.now.size ≡ words.old.size) }
+    requires doubtful { IfSome doubtful (λ doubtful. doubtful.now.size ≡ words.old.size) }
+    requires dealing { dealing ≡ Dealing.Restarted → IsDealtTwoWays words.old.size }
     ensures size { words.new.size ≡ words.old.size }
     ensures words { AreOfSize words.old.size words.new.list }
     ensures near { OnOk result (AreBlocksNear words.old.size
-        (erased_in words.old.size (option_map (λ d. d.now) doubtful.entry)) words.old.list words.new.list) }
+        (erased_by dealing words.old.size (option_map (λ d. d.now) doubtful.entry)) words.old.list words.new.list) }
     ensures readings { OnOk result (blocks.new.items ≡ block_readings words.old.size
-        (erased_in words.old.size (option_map (λ d. d.now) doubtful.entry)) words.old.list words.new.list) }
+        (erased_by dealing words.old.size (option_map (λ d. d.now) doubtful.entry)) words.old.list words.new.list) }
     ensures lost { IfErr result (λ b. IsFirstLost words.old.size
-        (erased_in words.old.size (option_map (λ d. d.now) doubtful.entry)) words.old.list b) }
+        (erased_by dealing words.old.size (option_map (λ d. d.now) doubtful.entry)) words.old.list b) }
 {
     match doubtful {
         None => restore_each(words, None, blocks),
-        Some(doubtful) => restore_doubtful(words, doubtful, blocks),
+        Some(doubtful) => restore_doubtful(words, dealing, doubtful, blocks),
     }
 }
 
@@ -220,20 +242,22 @@ fn restore_blocks<const ROWS: usize, const WORDS: usize>(
 #[inline(never)]
 fn restore_doubtful<const ROWS: usize, const WORDS: usize>(
     words: &mut SymbolWordsIn<WORDS>,
+    dealing: Dealing,
     doubtful: &SymbolIn<ROWS>,
     blocks: &mut ArrayVec<BlockReading, MOST_BLOCKS>,
 ) -> Result<(), u8>
-    requires { doubtful.now.size ≡ words.old.size }
+    requires doubtful { doubtful.now.size ≡ words.old.size }
+    requires dealing { dealing ≡ Dealing.Restarted → IsDealtTwoWays words.old.size }
     ensures size { words.new.size ≡ words.old.size }
     ensures words { AreOfSize words.old.size words.new.list }
     ensures near { OnOk result (AreBlocksNear words.old.size
-        (erased_in words.old.size (Some doubtful.now)) words.old.list words.new.list) }
+        (erased_by dealing words.old.size (Some doubtful.now)) words.old.list words.new.list) }
     ensures readings { OnOk result (blocks.new.items ≡ block_readings words.old.size
-        (erased_in words.old.size (Some doubtful.now)) words.old.list words.new.list) }
+        (erased_by dealing words.old.size (Some doubtful.now)) words.old.list words.new.list) }
     ensures lost { IfErr result (λ b. IsFirstLost words.old.size
-        (erased_in words.old.size (Some doubtful.now)) words.old.list b) }
+        (erased_by dealing words.old.size (Some doubtful.now)) words.old.list b) }
 {
-    let marks = marks_for(words, doubtful);
+    let marks = marks_for(words, dealing, doubtful);
     restore_each(words, Some(&marks), blocks)
 }
 

@@ -16,7 +16,8 @@ use dm_layout::symbols::{
     put_block_checks,
 };
 use dm_words::{
-    Extent, LARGEST_ROOM, MessageIn, Profile, TooLong, normal_words_in, pad_to, smallest_words_to,
+    Extent, Item, LARGEST_ROOM, MessageIn, Profile, TooLong, normal_words_in, pad_to,
+    smallest_words_to,
 };
 
 /// How a message or a letter is written.
@@ -28,28 +29,30 @@ pub struct WriteOptions {
     pub size: SizeChoice,
 }
 
-/// Writes a message of any room up to [`LARGEST_ROOM`] (ISO/IEC 16022, symbol construction): after `Ok`, `symbol`,
+/// Writes a message of at most [`LARGEST_ROOM`] items (ISO/IEC 16022, symbol construction): after `Ok`, `symbol`,
 /// whatever it was before, is that of the codewords that the profile chooses, pads and check codewords, in the smallest
 /// size of the choice that holds them: the one of the smallest area, and of those of equal area the one with the fewest
 /// columns. The fault is `TooLong` exactly where no size of the choice holds them; then `symbol` is as it was. `words`
 /// is room for the codewords, whatever they were before.
 ///
-/// Both have room for that size. A [`Symbol`] and [`SymbolWords`] have room for every size; small ones, which serve
-/// where the choice is of small sizes, are made faster.
-pub fn write_symbol_to<const ITEMS: usize, const WORDS: usize, const ROWS: usize>(
-    message: &MessageIn<ITEMS>,
+/// Both have room for that size, and `DATA` is room for its data codewords. A [`Symbol`], [`SymbolWords`] and
+/// [`MOST_DATA`] have room for every size; small ones, which serve where the choice is of small sizes, are made faster.
+pub fn write_symbol_to<const DATA: usize, const WORDS: usize, const ROWS: usize>(
+    items: &[Item],
     how: WriteOptions,
     words: &mut SymbolWordsIn<WORDS>,
     symbol: &mut SymbolIn<ROWS>,
 ) -> Result<(), TooLong>
-    requires items { ITEMS ≤ LARGEST_ROOM }
-    requires room { HasRoomFor how.size how.profile message.now ROWS WORDS }
-    ensures written { IsSymbolWritten how.size how.profile message.now
+    requires few { length items.now ≤ LARGEST_ROOM }
+    requires least { 3 ≤ DATA }
+    requires most { DATA ≤ MOST_DATA }
+    requires room { HasRoomFor how.size how.profile items.now DATA ROWS WORDS }
+    ensures written { IsSymbolWritten how.size how.profile items.now
         (outcome result symbol.new) }
     ensures same { OnErr result (symbol.new ≡ symbol.old) }
 {
-    let mut list = ArrayVec::<u8, MOST_DATA>::new();
-    match normal_words_in(how.profile, message, &mut list) {
+    let mut list = ArrayVec::<u8, DATA>::new();
+    match normal_words_in(how.profile, items, &mut list) {
         Ok(()) => write_words_to(&mut list, how.size, words, symbol),
         Err(TooLong) => Err(TooLong),
     }
@@ -58,13 +61,14 @@ pub fn write_symbol_to<const ITEMS: usize, const WORDS: usize, const ROWS: usize
 /// Writes data codewords without pads: after `Ok`, `symbol` is that of these codewords with pads and check codewords,
 /// in the smallest size of the choice that holds them. `TooLong` exactly where no size of the choice does; then
 /// `symbol` is as it was.
-pub(crate) fn write_words_to<const WORDS: usize, const ROWS: usize>(
-    list: &mut ArrayVec<u8, MOST_DATA>,
+pub(crate) fn write_words_to<const DATA: usize, const WORDS: usize, const ROWS: usize>(
+    list: &mut ArrayVec<u8, DATA>,
     choice: SizeChoice,
     words: &mut SymbolWordsIn<WORDS>,
     symbol: &mut SymbolIn<ROWS>,
 ) -> Result<(), TooLong>
-    requires { HaveRoom choice list.old.items ROWS WORDS }
+    requires most { DATA ≤ MOST_DATA }
+    requires room { HaveRoom choice list.old.items DATA ROWS WORDS }
     ensures written { AreWritten choice list.old.items (outcome result symbol.new) }
     ensures same { OnErr result (symbol.new ≡ symbol.old) }
 {

@@ -11,7 +11,7 @@ type Row = (
 );
 
 /// What the codewords say, and the fault of no codeword where there are too many of them.
-fn letter(words: &[u8]) -> Result<Letter, LetterFault> {
+pub(super) fn letter(words: &[u8]) -> Result<Letter, LetterFault> {
     if words.len() > MOST_GRID_DATA {
         return Err(LetterFault::Append(0));
     }

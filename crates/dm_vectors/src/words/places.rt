@@ -19,7 +19,7 @@ static SHORTER: [(&[u8], &[u8]); 3] = [
 
 /// Whether the codewords are written into their place, with pads up to the size of side 12.
 fn is_written_to(message: &Message, words: &mut ArrayVec<u8, MOST_GRID_DATA>) -> bool {
-    if normal_words_in(Profile::Shorter, message, words).is_err() {
+    if normal_words_in(Profile::Shorter, message.items(), words).is_err() {
         return false;
     }
     match Size::of_side(12) {
@@ -51,7 +51,7 @@ fn hold(places: &mut Places, text: &[u8], expected: &[u8]) -> bool {
 
 /// Whether the normal codewords of the letter A are written into their place under the profile.
 fn holds_letter(profile: Profile, places: &mut Places) -> bool {
-    normal_words_in(profile, &places.message, &mut places.words).is_ok()
+    normal_words_in(profile, places.message.items(), &mut places.words).is_ok()
         && places.words.as_slice() == [66].as_slice()
 }
 

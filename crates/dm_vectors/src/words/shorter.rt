@@ -5,7 +5,7 @@ use super::*;
 /// The normal codewords of the message under the profile.
 fn normal_of(profile: Profile, message: &Message) -> Option<ArrayVec<u8, MOST_GRID_DATA>> {
     let mut words = ArrayVec::new();
-    match normal_words_in(profile, message, &mut words) {
+    match normal_words_in(profile, message.items(), &mut words) {
         Ok(()) => Some(words),
         Err(TooLong) => None,
     }

@@ -12,6 +12,7 @@ use Rattle.dm_words.specs.declared.item.Item.TheVariants.{Byte, Fnc1}
 use Rattle.dm_words.specs.declared.c40.set.CodeSet.{CodeSet}
 use Rattle.dm_words.specs.declared.c40.set.CodeSet.TheVariants.{C40, Text, X12}
 use Rattle.dm_words.specs.declared.smallest.plan.StepBits.{StepBits}
+use Rattle.dm_words.specs.declared.smallest.setting.Setting.{Setting}
 use Rattle.dm_words.specs.declared.smallest.plan.Begin.{Begin}
 use Rattle.dm_words.specs.declared.smallest.plan.Begin.TheVariants.{One, Two, Run, Edifact, Segment, Rest}
 use Rattle.dm_words.specs.Ascii.{is_digit}
@@ -229,35 +230,52 @@ with_ascii cost second going = record {
   segment = going.segment;
 }
 
--- No run and no segment goes on behind the last item.
-abbrev pub none_going : Going
-none_going =
+-- Items are written for an extent, and nothing follows them but the end of the symbol.
+abbrev pub at_end : Extent → Setting
+at_end extent = record { extent = extent; behind = 0 }
+
+-- Items are written in the wide extent, and so many codewords in ASCII follow them.
+abbrev pub before_words : ℕ → Setting
+before_words behind = record { extent = Wide; behind = behind }
+
+-- At most so many codewords are said to follow.
+abbrev pub most_behind : ℕ
+most_behind = 9400
+
+-- A segment up to the end of the symbol goes on over no more items where nothing follows, and else there is none.
+abbrev pub rest_behind : ℕ → ℕ
+rest_behind behind = if behind == 0 then 0 else never
+
+-- No run and no segment goes on behind the last item, where so many codewords follow in ASCII.
+abbrev pub none_going : ℕ → Going
+none_going behind =
     record {
       c40 = no_pairs;
       text = no_pairs;
       x12 = no_pairs;
       edifact = no_groups;
       segment =
-          record { bytes = never; near = 0; rest = 0 };
+          record { bytes = never; near = 0; rest = rest_behind behind };
     }
 
 -- The costs behind the last item.
-abbrev pub last_row : Row
-last_row = with_ascii 0 never none_going
+abbrev pub last_row : ℕ → Row
+last_row behind = with_ascii behind never (none_going behind)
 
 -- The costs from an item on; from whether it and the next are digits, and the costs from the next one on.
 abbrev pub row_before : Extent → Item → Bool → Row → Row
 row_before extent item pair next = let going =
     going_over extent item next in with_ascii (least item pair next going) next.ascii going
 
--- The costs of items.
-unfoldable pub row : Extent → List Item → Row
-row extent [] = last_row
-row extent (item ∷ rest) = row_before extent item (is_digit_item item && digit_first rest) (row extent rest)
+-- The costs of items, and of what follows them.
+unfoldable pub row : Setting → List Item → Row
+row setting [] = last_row setting.behind
+row setting (item ∷ rest) =
+    row_before setting.extent item (is_digit_item item && digit_first rest) (row setting rest)
 
--- The least number of codewords of parts that have these items.
-abbrev pub parts_cost : Extent → List Item → ℕ
-parts_cost extent items = (row extent items).ascii
+-- The least number of codewords of parts that have these items, and of what follows.
+abbrev pub parts_cost : Setting → List Item → ℕ
+parts_cost setting items = (row setting items).ascii
 
 -- ---- the plan
 
@@ -277,17 +295,17 @@ pair_first [] = false
 pair_first (item ∷ rest) = is_digit_item item && digit_first rest
 
 -- Items begin in a way that costs no more than any other.
-abbrev pub IsRightBegin : Extent → List Item → Begin → Type 0
-IsRightBegin extent [] begin = Unit {0}
-IsRightBegin extent (item ∷ rest) begin =
-    let next = row extent rest in
-    parts_cost extent (item ∷ rest)
-    ≡ cost_of item (is_digit_item item && digit_first rest) next (going_over extent item next) begin
+abbrev pub IsRightBegin : Setting → List Item → Begin → Type 0
+IsRightBegin setting [] begin = Unit {0}
+IsRightBegin setting (item ∷ rest) begin =
+    let next = row setting rest in
+    parts_cost setting (item ∷ rest)
+    ≡ cost_of item (is_digit_item item && digit_first rest) next (going_over setting.extent item next) begin
 
 -- A run goes on over the first item, or no further.
-abbrev pub going_from : Extent → List Item → Going
-going_from extent [] = none_going
-going_from extent (item ∷ rest) = going_over extent item (row extent rest)
+abbrev pub going_from : Setting → List Item → Going
+going_from setting [] = none_going setting.behind
+going_from setting (item ∷ rest) = going_over setting.extent item (row setting rest)
 
 -- What to do at an item where this costs so much in ASCII: a run or a segment ends where going on costs no less.
 abbrev pub step_of : ℕ → Begin → Going → Step
@@ -329,14 +347,14 @@ step_in bits = record {
 }
 
 -- The plan says what is right at these items.
-pub record IsRightStep (extent : Extent) (items : List Item) (step : Step) : Type 0 where
-  pub begins : IsRightBegin extent items step.begins
-  pub ends : step ≡ step_of (parts_cost extent items) step.begins (going_from extent items)
+pub record IsRightStep (setting : Setting) (items : List Item) (step : Step) : Type 0 where
+  pub begins : IsRightBegin setting items step.begins
+  pub ends : step ≡ step_of (parts_cost setting items) step.begins (going_from setting items)
 
 -- The plan says what is right at each item, and behind the last one.
-abbrev pub IsRightPlan : Extent → List Item → List StepBits → Type 0
-IsRightPlan extent items plan = (i : ℕ) (other : StepBits) → i ≤ length items
-    → IsRightStep extent (drop i items) (step_in (get_or plan i other))
+abbrev pub IsRightPlan : Setting → List Item → List StepBits → Type 0
+IsRightPlan setting items plan = (i : ℕ) (other : StepBits) → i ≤ length items
+    → IsRightStep setting (drop i items) (step_in (get_or plan i other))
 
 -- Where runs go on, no cost is too great.
 pub record AreSmall (going : Going) : Type 0 where
@@ -349,7 +367,7 @@ pub record AreSmall (going : Going) : Type 0 where
 
 -- No cost of a row is too great: over an item, what can't be grows by at most four values.
 pub record IsWithin (most : ℕ) (r : Row) : Type 0 where
-  pub ascii : r.ascii ≤ 2 * most
+  pub ascii : r.ascii ≤ most_behind + 2 * most
   pub second : r.second ≤ never
   pub c40 : ArePaid (never + 4 * most) r.c40
   pub text : ArePaid (never + 4 * most) r.text

@@ -7,14 +7,14 @@ use Rattle.dm_words.specs.declared.item.Item.{Item}
 use Rattle.dm_words.specs.declared.codeword.Codeword.TheVariants as codeword
 use Rattle.dm_words.specs.Codewords.{codeword_of}
 use Rattle.dm_words.specs.Macros.{macro_text}
-use Rattle.dm_words.specs.inner.Costs.{parts_cost}
+use Rattle.dm_words.specs.inner.Costs.{at_end, parts_cost}
 
 -- No way to write a message costs less: not its parts, nor the text of a macro and the macro itself.
 pub record IsLeastCost (extent : Extent) (message : List Item) (cost : ℕ) : Type 0 where
-  pub parts : cost ≤ parts_cost extent message
+  pub parts : cost ≤ parts_cost (at_end extent) message
   pub macros : (word digit : ℕ) (text : List Item) → extent ≡ Wide → codeword_of word ≡ Some (codeword.Macro digit)
       → message ≡ macro_text digit text
-      → cost ≤ 1 + parts_cost extent text
+      → cost ≤ 1 + parts_cost (at_end extent) text
 
 -- The items between a header and a trailer are these, if there are as many.
 abbrev pub inner_text : List Item → List Item
@@ -35,8 +35,9 @@ HasNoMacro extent items = (word digit : ℕ) (text : List Item) → extent ≡ W
 
 -- To write a message by this macro, or by none, costs at most this much.
 abbrev pub IsWay : Extent → List Item → Option ℕ → ℕ → Type 0
-IsWay extent items None cost = parts_cost extent items ≤ cost
-IsWay extent items (Some word) cost = IsMacroOf extent items word × (1 + parts_cost extent (inner_text items) ≤ cost)
+IsWay extent items None cost = parts_cost (at_end extent) items ≤ cost
+IsWay extent items (Some word) cost =
+    IsMacroOf extent items word × (1 + parts_cost (at_end extent) (inner_text items) ≤ cost)
 
 -- By a macro the text between the header and the trailer is written, and else all items.
 abbrev pub text_of : Option ℕ → List Item → List Item

@@ -168,5 +168,6 @@ pub record ArePartsWritten (extent : Extent) (total : ℕ) (base new : List ℕ)
   pub parts : List (Piece (List Item))
   pub whole : new ≡ base ++ spelled parts
   pub items_are : items ≡ gathered parts
+  pub begins : (after : List ℕ) → NoUnlatchFirst after → NoUnlatchFirst (spelled parts ++ after)
   pub right : (after : List ℕ) → length new + length after ≡ total → NoUnlatchFirst after
       → AreJoined (IsPart extent) (length base + 1) parts after

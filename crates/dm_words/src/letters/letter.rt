@@ -10,7 +10,6 @@ use crate::letters::designator::MOST_ASSIGNED;
 use crate::letters::head::Head;
 use crate::letters::mark::Mark;
 use crate::limits::{LARGEST_ROOM, MESSAGE_ROOM, MOST_MARKS};
-use crate::message::MessageIn;
 use std::marker::Model;
 
 /// A head or none, items, and marks: at most `ROOM` items and `MARKS` marks, in order, each at a place of the items. In
@@ -116,13 +115,6 @@ impl<const ROOM: usize, const MARKS: usize> LetterIn<ROOM, MARKS> {
         ensures letter { IsLetter self.now }
     {
         self.content.message.items()
-    }
-
-    /// Gives the items, as a message.
-    pub(crate) fn message(&self) -> &MessageIn<ROOM>
-        ensures { result.now ≡ self.now.items }
-    {
-        &self.content.message
     }
 
     /// Gives the marks, in order: at most `MARKS`.

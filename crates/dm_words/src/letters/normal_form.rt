@@ -22,7 +22,7 @@ use arrayvec::ArrayVec;
 use dm_layout::symbols::MOST_DATA;
 
 /// Gives how many codewords a mark of this number has: ECI and the designator.
-fn mark_length(number: u32) -> usize
+pub(crate) fn mark_length(number: u32) -> usize
     ensures value { result ≡ length (eci_word ∷ designator number) }
     ensures most { result ≤ 4 }
 {
@@ -36,7 +36,7 @@ fn mark_length(number: u32) -> usize
 }
 
 /// Gives how many codewords items with marks have: the items in ASCII from mark to mark, and the marks.
-fn marked_length(items: &[Item], marks: &[Mark]) -> usize
+pub(crate) fn marked_length(items: &[Item], marks: &[Mark]) -> usize
     requires few { length items.now ≤ LARGEST_ROOM }
     requires few_marks { length marks.now ≤ LARGEST_MARKS }
     requires in_order { AreMarks 0 (length items.now) marks.now }
@@ -54,7 +54,7 @@ fn marked_length(items: &[Item], marks: &[Mark]) -> usize
 }
 
 /// Adds codewords, where there is room.
-fn add_words<const N: usize>(more: &[u8], words: &mut ArrayVec<u8, N>)
+pub(crate) fn add_words<const N: usize>(more: &[u8], words: &mut ArrayVec<u8, N>)
     requires { length words.old.items + length more.now ≤ N }
     ensures { words.new.items ≡ words.old.items ++ more.now }
 {
@@ -74,7 +74,7 @@ fn add_ascii<const N: usize>(items: &[Item], words: &mut ArrayVec<u8, N>)
 }
 
 /// Adds ECI and the designator of a number.
-fn add_mark_words<const N: usize>(number: u32, words: &mut ArrayVec<u8, N>)
+pub(crate) fn add_mark_words<const N: usize>(number: u32, words: &mut ArrayVec<u8, N>)
     requires assigned { number ≤ MOST_ASSIGNED }
     requires room { length words.old.items + length (eci_word ∷ designator number) ≤ N }
     ensures { words.new.items ≡ words.old.items ++ (eci_word ∷ designator number) }
@@ -113,13 +113,30 @@ pub(crate) fn head_words_length(head: Option<Head>) -> usize
 }
 
 /// Whether there is no head and no mark.
-fn is_plain(head: Option<Head>, marks: &[Mark]) -> bool
+pub(crate) fn is_plain(head: Option<Head>, marks: &[Mark]) -> bool
     ensures { result ≡ is_plain head marks.now }
 {
     match head {
         None => marks.is_empty(),
         Some(_) => false,
     }
+}
+
+/// Writes a head, and items with marks, in place of the words that stand there.
+pub(crate) fn write_form<const N: usize>(
+    head: Option<Head>,
+    items: &[Item],
+    marks: &[Mark],
+    words: &mut ArrayVec<u8, N>,
+)
+    requires head { IsHead head }
+    requires in_order { AreMarks 0 (length items.now) marks.now }
+    requires room { length (head_words head ++ ascii_with_marks 0 items.now marks.now) ≤ N }
+    ensures { words.new.items ≡ head_words head ++ ascii_with_marks 0 items.now marks.now }
+{
+    words.clear();
+    add_words(head_words(head).as_slice(), words);
+    add_marked(items, marks, words);
 }
 
 /// Writes a head, and items with marks, into the target, where they are at most `N` codewords; otherwise
@@ -143,9 +160,7 @@ fn write_marked<const N: usize>(
     if length > N {
         return Err(TooLong);
     }
-    words.clear();
-    add_words(head_words(head).as_slice(), words);
-    add_marked(items, marks, words);
+    write_form(head, items, marks, words);
     Ok(())
 }
 
@@ -171,7 +186,7 @@ pub fn letter_words_in<const ROOM: usize, const MARKS: usize, const N: usize>(
     let head = letter.head();
     let marks = letter.marks();
     if is_plain(head, marks) {
-        return normal_words_in(profile, letter.message(), words);
+        return normal_words_in(profile, letter.items(), words);
     }
     write_marked(head, letter.items(), marks, words)
 }

@@ -5,10 +5,10 @@ ghost use Rattle.dm_words.specs.inner.Costs.{step_in, going_from, parts_cost, Is
 ghost use Rattle.dm_words.specs.inner.Written.{IsSmallGroup, waiting_values, whole_words, IsGroupPushed, group_stops};
 ghost use Rattle.dm_words.specs.inner.Written.{IsEdifactEnded, IsPartWritten};
 
-use crate::extent::Extent;
 use crate::item::{Item, byte};
 use crate::limits::LARGEST_ROOM;
 use crate::smallest::plan::StepBits;
+use crate::smallest::setting::Setting;
 use arrayvec::ArrayVec;
 use dm_layout::symbols::MOST_DATA;
 
@@ -81,7 +81,7 @@ fn end_run<const N: usize>(group: Group, words: &mut ArrayVec<u8, N>, total: usi
 
 /// Writes a run, and gives the index behind it.
 pub(crate) fn write_edifact<const N: usize>(
-    extent: Extent,
+    setting: Setting,
     items: &[Item],
     at: usize,
     plan: &[StepBits],
@@ -91,15 +91,15 @@ pub(crate) fn write_edifact<const N: usize>(
     requires at { at < length items.now }
     requires few { length items.now ≤ LARGEST_ROOM }
     requires steps { length items.now < length plan.now }
-    requires plan { IsRightPlan extent items.now plan.now }
+    requires plan { IsRightPlan setting items.now plan.now }
     requires budget { length words.old.items + 1
-        + (going_from extent (drop at items.now)).edifact.none ≤ total }
+        + (going_from setting (drop at items.now)).edifact.none ≤ total }
     requires total { total ≤ N }
     requires most { N ≤ MOST_DATA }
     ensures further { at < result }
     ensures within { result ≤ length items.now }
-    ensures budget { length words.new.items + parts_cost extent (drop result items.now) ≤ total }
-    ensures part { IsPartWritten extent total words.old.items words.new.items
+    ensures budget { length words.new.items + parts_cost setting (drop result items.now) ≤ total }
+    ensures part { IsPartWritten setting.extent total words.old.items words.new.items
         (take (result - at) (drop at items.now)) }
 {
     words.push(LATCH);

@@ -3,17 +3,17 @@
 ghost use Rattle.std.specs.Prelude.{◌≡◌, ◌+◌, ◌-◌, ◌≤◌, ◌<◌, IsTrue, length, take, drop};
 ghost use Rattle.dm_words.specs.declared.extent.Extent.TheVariants.{Usual};
 ghost use Rattle.dm_words.specs.Messages.{IsMessage};
-ghost use Rattle.dm_words.specs.inner.Costs.{parts_cost, IsRightPlan};
+ghost use Rattle.dm_words.specs.inner.Costs.{parts_cost, IsRightPlan, most_behind};
 ghost use Rattle.dm_words.specs.inner.Written.{IsPartWritten, ArePartsWritten};
 
 use crate::ascii::{digit_pair, unit_of, write_unit};
-use crate::extent::Extent;
 use crate::item::{Item, byte};
 use crate::limits::LARGEST_ROOM;
 use crate::smallest::edifact::write_edifact;
 use crate::smallest::plan::{Begin, StepBits};
 use crate::smallest::run::write_run;
 use crate::smallest::segment::{segment_end, write_segment};
+use crate::smallest::setting::Setting;
 use arrayvec::ArrayVec;
 use dm_layout::symbols::MOST_DATA;
 
@@ -28,7 +28,7 @@ struct Written {
 
 /// Writes the part that begins at an item.
 fn write_part<const N: usize>(
-    extent: Extent,
+    setting: Setting,
     items: &[Item],
     at: usize,
     plan: &[StepBits],
@@ -39,15 +39,16 @@ fn write_part<const N: usize>(
     requires few { length items.now ≤ LARGEST_ROOM }
     requires message { IsMessage items.now }
     requires steps { length items.now < length plan.now }
-    requires plan { IsRightPlan extent items.now plan.now }
-    requires budget { length words.old.items + parts_cost extent (drop at items.now) ≤ total }
+    requires behind { setting.behind ≤ most_behind }
+    requires plan { IsRightPlan setting items.now plan.now }
+    requires budget { length words.old.items + parts_cost setting (drop at items.now) ≤ total }
     requires total { total ≤ N }
     requires most { N ≤ MOST_DATA }
     ensures further { at < result.next }
     ensures within { result.next ≤ length items.now }
-    ensures budget { length words.new.items + parts_cost extent (drop result.next items.now)
+    ensures budget { length words.new.items + parts_cost setting (drop result.next items.now)
         ≤ total }
-    ensures part { IsPartWritten extent total words.old.items words.new.items
+    ensures part { IsPartWritten setting.extent total words.old.items words.new.items
         (take (result.next - at) (drop at items.now)) }
     ensures usual { IsTrue result.is_usual
         → IsPartWritten Usual total words.old.items words.new.items
@@ -69,15 +70,15 @@ fn write_part<const N: usize>(
             }
         }
         Begin::Run(set) => Written {
-            next: write_run(extent, items, at, set, plan, words, total),
+            next: write_run(setting, items, at, set, plan, words, total),
             is_usual: true,
         },
         Begin::Edifact => Written {
-            next: write_edifact(extent, items, at, plan, words, total),
+            next: write_edifact(setting, items, at, plan, words, total),
             is_usual: false,
         },
         Begin::Segment => {
-            let end = segment_end(extent, items, at, plan);
+            let end = segment_end(setting, items, at, plan);
             write_segment(&items[at..end], words, total);
             Written {
                 next: end,
@@ -96,7 +97,7 @@ fn write_part<const N: usize>(
 
 /// Writes the parts of a plan behind the words that stand there, and says whether the usual extent has them all.
 pub(crate) fn write_parts<const N: usize>(
-    extent: Extent,
+    setting: Setting,
     items: &[Item],
     plan: &[StepBits],
     words: &mut ArrayVec<u8, N>,
@@ -105,19 +106,20 @@ pub(crate) fn write_parts<const N: usize>(
     requires few { length items.now ≤ LARGEST_ROOM }
     requires message { IsMessage items.now }
     requires steps { length items.now < length plan.now }
-    requires plan { IsRightPlan extent items.now plan.now }
-    requires budget { length words.old.items + parts_cost extent items.now ≤ total }
+    requires behind { setting.behind ≤ most_behind }
+    requires plan { IsRightPlan setting items.now plan.now }
+    requires budget { length words.old.items + parts_cost setting items.now ≤ total }
     requires total { total ≤ N }
     requires most { N ≤ MOST_DATA }
-    ensures parts { ArePartsWritten extent total words.old.items words.new.items items.now }
+    ensures parts { ArePartsWritten setting.extent total words.old.items words.new.items items.now }
     ensures usual { IsTrue result
         → ArePartsWritten Usual total words.old.items words.new.items items.now }
-    ensures fits { length words.new.items ≤ total }
+    ensures fits { length words.new.items + setting.behind ≤ total }
 {
     let mut are_usual = true;
     let mut at = 0;
     while at < items.len() {
-        let part = write_part(extent, items, at, plan, words, total);
+        let part = write_part(setting, items, at, plan, words, total);
         are_usual &= part.is_usual;
         at = part.next;
     }

@@ -1,24 +1,24 @@
 //! What to do at each item, so that the message takes the fewest codewords.
 
-ghost use Rattle.std.specs.Prelude.{◌≡◌, ◌+◌, ◌^◌, ◌≤◌, ◌<◌, if◌then◌else◌, ℕ, nat_le, get_or, length};
+ghost use Rattle.std.specs.Prelude.{◌≡◌, ◌+◌, ◌*◌, ◌^◌, ◌≤◌, ◌<◌, if◌then◌else◌, ℕ, nat_le, get_or, length};
 ghost use Prim.Native.Nat.{min};
 ghost use Rattle.std.specs.Prelude.{map, nat_eq, not, replicate};
 ghost use Rattle.std.specs.Simd.Lanes.{sel_l, zip2};
 ghost use Rattle.dm_words.specs.inner.Costs.{Row, Going, cost_of, least, step_of, AreSmall};
 ghost use Rattle.dm_words.specs.inner.Costs.{parts_cost, is_digit_item, never, begin_at, step_in};
 ghost use Rattle.dm_words.specs.inner.Costs.{has_bit};
-ghost use Rattle.dm_words.specs.inner.Costs.{IsRightPlan};
+ghost use Rattle.dm_words.specs.inner.Costs.{IsRightPlan, most_behind};
 ghost use Rattle.dm_words.specs.inner.Written.{run_ends};
 ghost use Rattle.dm_words.specs.inner.CostLanes.{HasRow, HasGoing, cost_lanes, least_of};
 
 use crate::c40::set::CodeSet;
-use crate::extent::Extent;
 use crate::item::Item;
 use crate::limits::LARGEST_ROOM;
 use crate::smallest::row::{
     Costs, GoingCosts, NEVER, first_ends, going_over, none_going, second_ends, unit_cost,
     with_ascii,
 };
+use crate::smallest::setting::Setting;
 use std::simd::prelude::*;
 
 /// What begins at an item, in ASCII.
@@ -255,22 +255,24 @@ fn is_digit_item(item: Item) -> bool
     }
 }
 
-/// Writes what to do at each item, and behind the last one, into the plan, and gives the least number of codewords.
-pub(crate) fn plan_to(extent: Extent, items: &[Item], plan: &mut [StepBits]) -> u16
+/// Writes what to do at each item, and behind the last one, into the plan, and gives the least number of codewords of
+/// the items and of what follows them.
+pub(crate) fn plan_to(setting: Setting, items: &[Item], plan: &mut [StepBits]) -> u16
     requires few { length items.now ≤ LARGEST_ROOM }
+    requires behind { setting.behind ≤ most_behind }
     requires steps { length items.now < length plan.old }
-    ensures cost { result ≡ parts_cost extent items.now }
-    ensures most { result ≤ 6400 }
-    ensures plan { IsRightPlan extent items.now plan.new }
+    ensures cost { result ≡ parts_cost setting items.now }
+    ensures most { result ≤ setting.behind + 2 * length items.now }
+    ensures plan { IsRightPlan setting items.now plan.new }
 {
-    let none = none_going();
-    let mut costs = with_ascii(0, NEVER, &none);
+    let none = none_going(setting.behind);
+    let mut costs = with_ascii(setting.behind, NEVER, &none);
     let mut digit_behind = false;
-    plan[items.len()] = step_of(0, 0, &none);
+    plan[items.len()] = step_of(setting.behind, 0, &none);
     for at in (0..items.len()).rev() {
         let item = items[at];
         let digit = is_digit_item(item);
-        let going = going_over(extent, item, &costs);
+        let going = going_over(setting.extent, item, &costs);
         let choice = choose(item, digit & digit_behind, &costs, &going);
         plan[at] = step_of(choice.cost, choice.begins, &going);
         costs = with_ascii(choice.cost, costs.ascii, &going);

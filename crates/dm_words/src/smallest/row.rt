@@ -5,7 +5,7 @@ ghost use Rattle.std.specs.Prelude.{Bool, true};
 ghost use Rattle.dm_words.specs.inner.Costs.{Pairs, Groups, Going, Row, no_pairs, no_groups, values_before, never};
 ghost use Rattle.dm_words.specs.inner.Costs.{stay, stay_edifact};
 ghost use Rattle.dm_words.specs.inner.Costs.{is_basic, unit_cost, set_values, has_edifact, leave, going_over};
-ghost use Rattle.dm_words.specs.inner.Costs.{with_ascii, none_going};
+ghost use Rattle.dm_words.specs.inner.Costs.{with_ascii, none_going, rest_behind};
 ghost use Rattle.dm_words.specs.inner.Costs.{IsWithin, AreSmall};
 ghost use Rattle.dm_words.specs.inner.CostLanes.{read_edifact, one_or_two};
 ghost use Rattle.dm_words.specs.inner.CostLanes.{AreNext, end_lanes, limit_lanes, set_bits};
@@ -254,12 +254,20 @@ pub(crate) fn with_ascii(cost: u16, after: u16, going: &GoingCosts) -> Costs
     }
 }
 
-/// Gives what goes on behind the last item: nothing.
-pub(crate) fn none_going() -> GoingCosts
-    ensures { HasGoing none_going result }
+/// Gives the first costs where no run goes on, and a segment up to the end only where no codeword follows.
+fn no_first(behind: u16) -> Simd<u16, 8>
+    ensures { result ≡ first_lanes no_pairs no_pairs never (rest_behind behind) }
+{
+    let rest = if behind == 0 { 0 } else { NEVER };
+    u16x8::from_array([NEVER, NEVER, NEVER, NEVER, NEVER, NEVER, NEVER, rest])
+}
+
+/// Gives what goes on behind the last item, where so many codewords follow: nothing.
+pub(crate) fn none_going(behind: u16) -> GoingCosts
+    ensures { HasGoing (none_going behind) result }
 {
     GoingCosts {
-        first: no_second(),
+        first: no_first(behind),
         second: no_second(),
         near: 0,
     }

@@ -12,10 +12,10 @@ ghost use Rattle.dm_words.specs.inner.Written.{is_empty, run_ends, IsPartWritten
 
 use crate::c40::set::CodeSet;
 use crate::codeword::UNLATCH;
-use crate::extent::Extent;
 use crate::item::Item;
 use crate::limits::LARGEST_ROOM;
 use crate::smallest::plan::StepBits;
+use crate::smallest::setting::Setting;
 use crate::smallest::values::values_of;
 use arrayvec::ArrayVec;
 use dm_layout::symbols::MOST_DATA;
@@ -106,7 +106,7 @@ fn goes_on(part: Part, step: &StepBits, set: CodeSet) -> bool
 
 /// Writes a run, and gives the index behind it.
 pub(crate) fn write_run<const N: usize>(
-    extent: Extent,
+    setting: Setting,
     items: &[Item],
     at: usize,
     set: CodeSet,
@@ -117,14 +117,14 @@ pub(crate) fn write_run<const N: usize>(
     requires at { at < length items.now }
     requires few { length items.now ≤ LARGEST_ROOM }
     requires steps { length items.now < length plan.now }
-    requires plan { IsRightPlan extent items.now plan.now }
+    requires plan { IsRightPlan setting items.now plan.now }
     requires budget { length words.old.items + 1
-        + owed 0 (going_pairs set (going_from extent (drop at items.now))) ≤ total }
+        + owed 0 (going_pairs set (going_from setting (drop at items.now))) ≤ total }
     requires total { total ≤ N }
     requires most { N ≤ MOST_DATA }
     ensures further { at < result }
     ensures within { result ≤ length items.now }
-    ensures budget { length words.new.items + parts_cost extent (drop result items.now) ≤ total }
+    ensures budget { length words.new.items + parts_cost setting (drop result items.now) ≤ total }
     ensures part { (any : Extent) → IsPartWritten any total words.old.items words.new.items
         (take (result - at) (drop at items.now)) }
 {

@@ -4,32 +4,33 @@ ghost use Rattle.std.specs.Prelude.{◌≡◌, ◌+◌, ◌-◌, ◌≤◌, ◌<
 ghost use Rattle.dm_words.specs.declared.extent.Extent.{Extent};
 ghost use Rattle.dm_words.specs.Messages.{IsMessage};
 ghost use Rattle.dm_words.specs.NormalForm.{has_fnc1, length_numbers};
-ghost use Rattle.dm_words.specs.inner.Costs.{never, going_from, parts_cost, segment_cost, IsRightPlan};
+ghost use Rattle.dm_words.specs.inner.Costs.{never, going_from, parts_cost, segment_cost, IsRightPlan, most_behind};
 ghost use Rattle.dm_words.specs.inner.Written.{IsFieldWritten, IsPartWritten};
 
 use crate::base256::{MOST_SHORT, push_length, push_value, write_bytes};
 use crate::codeword::BASE256_LATCH;
-use crate::extent::Extent;
 use crate::item::Item;
 use crate::limits::LARGEST_ROOM;
 use crate::smallest::plan::StepBits;
+use crate::smallest::setting::Setting;
 use arrayvec::ArrayVec;
 use dm_layout::symbols::MOST_DATA;
 
 /// Gives the index behind a segment whose length is written out, from that of its first byte.
-pub(crate) fn segment_end(extent: Extent, items: &[Item], at: usize, plan: &[StepBits]) -> usize
+pub(crate) fn segment_end(setting: Setting, items: &[Item], at: usize, plan: &[StepBits]) -> usize
     requires at { at < length items.now }
     requires few { length items.now ≤ LARGEST_ROOM }
     requires steps { length items.now < length plan.now }
-    requires plan { IsRightPlan extent items.now plan.now }
-    requires byte { (going_from extent (drop at items.now)).segment.bytes < never }
+    requires plan { IsRightPlan setting items.now plan.now }
+    requires behind { setting.behind ≤ most_behind }
+    requires byte { (going_from setting (drop at items.now)).segment.bytes < never }
     ensures further { at < result }
     ensures within { result ≤ length items.now }
     ensures bytes { has_fnc1 (take (result - at) (drop at items.now)) ≡ false }
-    ensures cost { let segment = (going_from extent (drop at items.now)).segment in
+    ensures cost { let segment = (going_from setting (drop at items.now)).segment in
         segment_cost segment.bytes segment.near
         ≡ 1 + length (length_numbers (result - at)) + (result - at)
-        + parts_cost extent (drop result items.now) }
+        + parts_cost setting (drop result items.now) }
 {
     let mut next = at + 1;
     while !plan[next].segment_ends() {

@@ -1,4 +1,4 @@
-use Rattle.dm_symbol.proofs.NormalReadings.{macro_is_its_text}
+use Rattle.dm_symbol.proofs.GridNormals.{macro_is_its_text}
 use Rattle.dm_symbol.proofs.laws.a_macro_is_its_text.Goals as goal
 
 pub returns : goal.returns

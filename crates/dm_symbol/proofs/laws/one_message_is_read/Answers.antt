@@ -1,5 +1,5 @@
-use Rattle.dm_symbol.proofs.Readings.{one_message, one_given}
-use Rattle.dm_symbol.proofs.NormalReadings.{one_normal_result}
+use Rattle.dm_symbol.proofs.Grids.{one_message, one_given}
+use Rattle.dm_symbol.proofs.GridNormals.{one_normal_result}
 use Rattle.dm_symbol.proofs.laws.one_message_is_read.Goals as goal
 
 pub returns : goal.returns

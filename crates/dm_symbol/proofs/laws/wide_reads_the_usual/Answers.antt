@@ -1,5 +1,5 @@
-use Rattle.dm_symbol.proofs.Readings.{wide_reads_the_usual}
-use Rattle.dm_symbol.proofs.NormalReadings.{wide_normalises_the_usual}
+use Rattle.dm_symbol.proofs.Grids.{wide_reads_the_usual}
+use Rattle.dm_symbol.proofs.GridNormals.{wide_normalises_the_usual}
 use Rattle.dm_symbol.proofs.laws.wide_reads_the_usual.Goals as goal
 
 pub returns : goal.returns

@@ -1,13 +1,13 @@
 use Rattle.std.proofs.Common.{refl}
 use Rattle.std.proofs.lemmas.Bool.{false≢true}
-use Rattle.dm_symbol.specs.Normal.{NormalResult}
-use Rattle.dm_symbol.proofs.NormalReadings.{is_normalised}
+use Rattle.dm_symbol.specs.NormalOutcomes.{IsNormalOrFault}
+use Rattle.dm_symbol.proofs.GridNormals.{is_normalised}
 use Rattle.dm_symbol.proofs.normalising.normal_to.Goals as goal
 
 pub returns-in-Err : goal.returns-in-Err
 returns-in-Err c = record {
   normal = is_normalised c.args.extent c.args.profile c.args.grid.now c.args.border_limit _
-      (NormalResult.fault c.in-Err.fault c.in-Err.ensures.read.result_is refl);
+      (IsNormalOrFault.fault c.in-Err.fault c.in-Err.ensures.read.result_is refl);
   reading_is = tt;
   reading_of_long = λ e. cc;
   same = refl;
@@ -17,7 +17,7 @@ pub returns-in-Ok-write_to : goal.returns-in-Ok-write_to
 returns-in-Ok-write_to c = record {
   normal =
       is_normalised c.args.extent c.args.profile c.args.grid.now c.args.border_limit _
-      (NormalResult.normal c.write_to.new.grid
+      (IsNormalOrFault.normal c.write_to.new.grid
       (record {
         message = c.read_to.new.reading.message;
         read =
@@ -34,7 +34,7 @@ pub returns-in-Err-write_to : goal.returns-in-Err-write_to
 returns-in-Err-write_to c = record {
   normal =
       is_normalised c.args.extent c.args.profile c.args.grid.now c.args.border_limit _
-      (NormalResult.too_long
+      (IsNormalOrFault.too_long
       (record {
         message = c.read_to.new.reading.message;
         read =

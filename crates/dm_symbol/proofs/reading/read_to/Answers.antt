@@ -1,15 +1,14 @@
-use Rattle.std.proofs.Common.{◌≡◌, ◌≤◌, ◌∙◌, [], length, map, None, Ok, Err, ap, subst, sym, arith, rules}
+use Rattle.std.proofs.Common.{◌≡◌, ◌≤◌, ◌∙◌, length, map, None, Ok, Err, ap, subst, sym, arith, rules}
 use Rattle.dm_layout.specs.symbols.Symbols.{SymbolView}
 use Rattle.dm_layout.specs.symbols.Sizes.{codeword_count}
 use Rattle.dm_layout.specs.Sizes.{symbol_size}
-use Rattle.dm_layout.specs.Grid.{symbol_modules}
 use Rattle.dm_layout.proofs.Exported.{row_facts}
 use Rattle.dm_words.specs.Messages.{most_spelled}
 use Rattle.dm_symbol.specs.declared.symbol.reading.BlockReading.{BlockReading}
-use Rattle.dm_symbol.specs.SymbolReading.{SymbolReadResult, symbol_reading_of}
-use Rattle.dm_symbol.proofs.SizeFacts.{room_for_grid}
-use Rattle.dm_symbol.proofs.ReadSteps.{is_read}
-use Rattle.dm_symbol.proofs.GridResults.{grid_result}
+use Rattle.dm_symbol.specs.Reading.{IsRead, reading_of}
+use Rattle.dm_symbol.specs.SymbolReading.{IsSymbolRead, symbol_reading_of}
+use Rattle.dm_symbol.proofs.Grids.{is_read}
+use Rattle.dm_symbol.proofs.SquareSizes.{room_for_grid}
 use Rattle.dm_symbol.proofs.reading.read_to.Goals as goal
 
 pub zeros-words-requires : goal.zeros-words-requires
@@ -40,13 +39,10 @@ count_corrected-requires c =
 pub returns-in-Err-clause-read : goal.returns-in-Err-clause-read
 returns-in-Err-clause-read c =
     let e = c.args.extent in
-    let grid = c.args.grid.now in
     let limit = c.args.border_limit in
     let why = c.in-Err.fault in
-    let read : SymbolReadResult e (symbol_modules grid) None limit (Err why) =
-    subst (λ s. SymbolReadResult e s None limit (Err why)) c.as_symbol.ensures c.in-Err.ensures.read.result_is in
-    is_read e grid limit (Err why)
-    (grid_result {U = Unit {0}} e grid limit [] [] [] 0 (Err why) c.size-size.ensures.grid read tt)
+    is_read e c.args.grid.now limit (Err why) c.size-size.ensures.grid
+    (subst (λ s. IsSymbolRead e s None limit (Err why)) c.as_symbol.ensures c.in-Err.ensures.read)
 
 pub returns-clause-read : goal.returns-clause-read
 returns-clause-read c =
@@ -54,13 +50,12 @@ returns-clause-read c =
     let grid = c.args.grid.now in
     let limit = c.args.border_limit in
     let message = c.read_parts.new.message in
+    let dealing = c.read_parts.new.dealing in
     let blocks = c.read_parts.new.blocks.items in
-    let counts = c.count_corrected.new.counts.items in
     let faults = c.read_parts.new.faults in
-    let read : SymbolReadResult e (symbol_modules grid) None limit (Ok (symbol_reading_of message blocks faults)) =
-    subst (λ s. SymbolReadResult e s None limit (Ok (symbol_reading_of message blocks faults))) c.as_symbol.ensures
-    c.in-Ok.ensures.read.result_is in
-    let told : counts ≡ map (λ (b : BlockReading). b.corrected) blocks =
+    let told : c.count_corrected.new.counts.items ≡ map (λ (b : BlockReading). b.corrected) blocks =
     c.count_corrected.ensures ∙ ap (map (λ (b : BlockReading). b.corrected)) c.deref.ensures.0 in
-    is_read e grid limit _
-    (grid_result {U = Unit {0}} e grid limit message blocks counts faults (Ok tt) c.size-size.ensures.grid read told)
+    subst (λ xs. IsRead e grid limit (Ok (reading_of message xs faults))) (sym told)
+    (is_read e grid limit (Ok (symbol_reading_of message dealing blocks faults)) c.size-size.ensures.grid
+    (subst (λ s. IsSymbolRead e s None limit (Ok (symbol_reading_of message dealing blocks faults))) c.as_symbol.ensures
+    c.in-Ok.ensures.read))

@@ -1,6 +1,11 @@
+use Rattle.std.proofs.Common.{◌∙◌, ap}
+use Rattle.dm_words.specs.declared.smallest.setting.Setting.{Setting}
+use Rattle.dm_words.specs.inner.Costs.{parts_cost}
 use Rattle.dm_words.proofs.SmallestSymbols.{least_plain}
 use Rattle.dm_words.proofs.smallest.least_way.Goals as goal
 
 pub returns-in-None-clause-least : goal.returns-in-None-clause-least
 returns-in-None-clause-least c =
-    least_plain c.args.extent c.args.items.now c.plan_to-cost.result c.plan_to-cost.ensures.cost c.in-None.ensures.none
+    least_plain c.args.extent c.args.items.now c.plan_to-cost.result
+    (c.plan_to-cost.ensures.cost ∙ ap (λ (s : Setting). parts_cost s c.args.items.now) c.at_end.ensures)
+    c.in-None.ensures.none

@@ -33,3 +33,15 @@ returns-in-Some-clause-smallest g c =
       padded = spells;
       too_long = λ err size other taken sized says. absurd (cc);
     }
+
+pub returns-in-None-clause-cheapest : goal.returns-in-None-clause-cheapest
+returns-in-None-clause-cheapest g c =
+    (c.least_way-way.result.cost, c.least_way-way.ensures.least, c.in-None.ensures.none)
+
+pub returns-in-Some-clause-cheapest : goal.returns-in-Some-clause-cheapest
+returns-in-Some-clause-cheapest g c =
+    let size = c.in-Some.ensures in (
+      c.least_way-way.result.cost,
+      c.least_way-way.ensures.least,
+      record { taken = (size.size, size.chosen); smallest = size.smallest; narrowest = size.narrowest },
+    )

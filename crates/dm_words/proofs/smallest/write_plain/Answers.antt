@@ -1,5 +1,6 @@
 use Rattle.std.proofs.Common.{ℕ, arith, subst}
 use Rattle.dm_words.specs.declared.extent.Extent.TheVariants.{Usual}
+use Rattle.dm_words.specs.declared.smallest.setting.Setting.{Setting}
 use Rattle.dm_words.specs.inner.Written.{ArePartsWritten}
 use Rattle.dm_words.proofs.SmallestSymbols.{plain_spells}
 use Rattle.dm_words.proofs.smallest.write_plain.Goals as goal
@@ -9,7 +10,8 @@ returns-clause-spells g c =
     let new = c.write_parts.new.words.items in
     plain_spells c.args.extent c.args.count c.clear.new.self.items new c.args.items.now c.clear.ensures
     (subst (λ (n : ℕ). ArePartsWritten c.args.extent n c.clear.new.self.items new c.args.items.now) c.from.ensures
-    c.write_parts.ensures.parts)
+    (subst (λ (s : Setting). ArePartsWritten s.extent c.from.result c.clear.new.self.items new c.args.items.now)
+    c.at_end.ensures c.write_parts.ensures.parts))
     (omega (arith, c.write_parts.ensures.fits, c.from.ensures))
 
 pub returns-clause-usual : goal.returns-clause-usual

@@ -1,4 +1,6 @@
-use Rattle.std.proofs.Common.{arith}
+use Rattle.std.proofs.Common.{arith, ◌∙◌, ap}
+use Rattle.dm_words.specs.declared.smallest.setting.Setting.{Setting}
+use Rattle.dm_words.specs.inner.Costs.{parts_cost}
 use Rattle.dm_words.specs.Pads.{padded}
 use Rattle.dm_words.proofs.SmallestSymbols.{wider, usual_plainest, any_plainest, long_plainest}
 use Rattle.dm_words.proofs.smallest.write_usual_if_fits.Goals as goal
@@ -16,7 +18,9 @@ returns-then-plan_to-count-clause-plainest g c =
 pub returns-else-plan_to-count-clause-plainest : goal.returns-else-plan_to-count-clause-plainest
 returns-else-plan_to-count-clause-plainest g c =
     any_plainest c.args.items.now c.args.words.now.items c.args.count c.plan_to.result c.requires.fits
-    c.requires.no_ascii c.plan_to.ensures.cost c.if-plan_to-count.false
+    c.requires.no_ascii
+    (c.plan_to.ensures.cost ∙ ap (λ (s : Setting). parts_cost s c.args.items.now) c.at_end.ensures)
+    c.if-plan_to-count.false
 
 pub returns-then-from-items-clause-plainest : goal.returns-then-from-items-clause-plainest
 returns-then-from-items-clause-plainest g c =

@@ -1,6 +1,7 @@
 use Rattle.std.proofs.Common.{◌∙◌, ◌≤◌, ℕ, ◌-◌, List, [], ◌∷◌, ◌++◌, Option, ap, arith, subst, rules, drop, length}
 use Rattle.std.proofs.lemmas.List.{length-take, length-drop}
 use Rattle.std.proofs.lemmas.List.Elements.{All-drop, All-take}
+use Rattle.dm_words.specs.declared.smallest.setting.Setting.{Setting}
 use Rattle.dm_words.specs.Messages.{IsItem}
 use Rattle.dm_words.specs.inner.Ways.{IsWay}
 use Rattle.dm_words.specs.inner.Written.{ArePartsWritten}
@@ -16,7 +17,8 @@ returns-in-Some-clause-spells g c =
     macro_spells c.args.extent c.args.count c.in-Some.word base new c.args.items.now c.inner.result.now
     (c.push.ensures.items ∙ ap (λ (l : List ℕ). l ++ c.in-Some.word ∷ []) c.clear.ensures) c.inner.ensures way.0
     (subst (λ (n : ℕ). ArePartsWritten c.args.extent n base new c.inner.result.now) c.from.ensures
-    c.write_parts-usual.ensures.parts)
+    (subst (λ (s : Setting). ArePartsWritten s.extent c.from.result base new c.inner.result.now) c.at_end.ensures
+    c.write_parts-usual.ensures.parts))
     (omega (arith, c.write_parts-usual.ensures.fits, c.from.ensures))
 
 pub write_parts-usual-requires : goal.write_parts-usual-requires
@@ -42,18 +44,21 @@ write_parts-usual-requires g c =
           (
             omega (arith, fewer, c.requires.steps),
             (
-              rw c.inner.ensures plan,
+              rw c.at_end.ensures (omega arith),
               (
-                rw c.inner.ensures
-                    (omega (
-                      arith,
-                      way.1,
-                      c.push.ensures.len,
-                      ap length c.clear.ensures,
-                      c.requires.room,
-                      c.from.ensures,
-                    )),
-                (omega (arith, c.from.ensures, c.requires.count), c.requires.most),
+                rw (c.at_end.ensures, c.inner.ensures) plan,
+                (
+                  rw (c.at_end.ensures, c.inner.ensures)
+                      (omega (
+                        arith,
+                        way.1,
+                        c.push.ensures.len,
+                        ap length c.clear.ensures,
+                        c.requires.room,
+                        c.from.ensures,
+                      )),
+                  (omega (arith, c.from.ensures, c.requires.count), c.requires.most),
+                ),
               ),
             ),
           ),

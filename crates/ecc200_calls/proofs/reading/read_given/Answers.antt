@@ -2,22 +2,22 @@ use Rattle.ecc200_calls.specs.Readings.{IsReadingGiven}
 use Rattle.ecc200_calls.proofs.OfGiven.{doubted_given, sure_given}
 use Rattle.ecc200_calls.proofs.reading.read_given.Goals as goal
 
-pub returns-then-given : goal.returns-then-given
-returns-then-given g c =
+pub returns-then-given-clause-told : goal.returns-then-given-clause-told
+returns-then-given-clause-told g c = λ told.
     let a = c.args in
     doubted_given a.given.size a.modules.now a.doubtful.now a.given.doubt
     (λ size symbol doubtful. IsReadingGiven a.extent size.rows size.columns symbol doubtful a.border_limit a.out.now
     c.read_symbol.new.out)
     c.light-symbol.result c.put_modules.new.symbol c.light-marked.result c.put_modules-then-given.new.symbol
     c.if-given.true c.light-symbol.ensures.size c.put_modules.ensures.size c.put_modules.ensures.modules
-    c.light-marked.ensures.size c.put_modules-then-given.ensures.modules c.read_symbol.ensures
+    c.light-marked.ensures.size c.put_modules-then-given.ensures.modules (c.read_symbol.ensures.told told)
 
-pub returns-else-given : goal.returns-else-given
-returns-else-given g c =
+pub returns-else-given-clause-told : goal.returns-else-given-clause-told
+returns-else-given-clause-told g c = λ told.
     let a = c.args in
     let shown = c.read_symbol-else-given in
     sure_given a.given.size a.modules.now a.doubtful.now a.given.doubt
     (λ size symbol doubtful. IsReadingGiven a.extent size.rows size.columns symbol doubtful a.border_limit a.out.now
     shown.new.out)
     c.light-symbol.result c.put_modules.new.symbol c.if-given.false c.light-symbol.ensures.size
-    c.put_modules.ensures.size c.put_modules.ensures.modules shown.ensures
+    c.put_modules.ensures.size c.put_modules.ensures.modules (shown.ensures.told told)

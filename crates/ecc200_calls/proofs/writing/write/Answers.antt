@@ -1,13 +1,14 @@
-use Rattle.std.proofs.Common.{◌∙◌, sym, ap, subst}
-use Rattle.ecc200_calls.specs.Symbols.{ChoiceResult, IsWriteResult, no_symbol}
-use Rattle.ecc200_calls.proofs.writing.write.Goals.{in-Some, in-None}
+use Rattle.std.proofs.Common.{◌∙◌, sym, subst}
+use Rattle.ecc200_calls.specs.Writings.{IsWriteResult, IsWritingGiven}
+use Rattle.ecc200_calls.proofs.writing.write.Goals.{in-Ok, in-Err}
 use Rattle.ecc200_calls.proofs.writing.write.Goals as goal
 
 pub returns-clause-out : goal.returns-clause-out
-returns-clause-out c = elim c.match-profile_of.branch [
-  | in-Some w ↦ IsWriteResult.under_profile w.in-Some.profile (sym c.profile_of.ensures ∙ w.in-Some.is)
-      (subst (λ out. ChoiceResult w.in-Some.profile c.args.items.now c.args.how.now c.args.out.now out) (sym w.out-is)
-      w.write_chosen.ensures)
-  | in-None w ↦ IsWriteResult.no_profile (sym c.profile_of.ensures ∙ w.in-None.is) (w.out-is ∙ w.show_fault.ensures
-      ∙ ap (λ why. no_symbol why c.args.out.now) w.no_such_profile.ensures)
+returns-clause-out c = elim c.match-check_how.branch [
+  | in-Ok w ↦
+      let h = w.in-Ok.wanted in
+      IsWriteResult.asked h.form h.size h.head w.in-Ok.ensures.wanted
+      (subst (λ out. IsWritingGiven h.form h.size h.head c.args.items.now c.args.marks.now c.args.out.now out)
+      (sym w.out-is) w.write_wanted.ensures)
+  | in-Err w ↦ IsWriteResult.not_asked w.in-Err.why w.in-Err.ensures.fault (w.out-is ∙ w.show_fault.ensures)
 ]

@@ -1,8 +1,15 @@
+use Rattle.std.proofs.Common.{subst}
+use Rattle.dm_words.specs.LetterExtents.{as_letter}
+use Rattle.ecc200_calls.specs.declared.form.Form.TheVariants.{Profiled}
+use Rattle.ecc200_calls.specs.Writings.{IsLetterGiven}
 use Rattle.ecc200_calls.proofs.Written.{writing_given}
 use Rattle.ecc200_calls.proofs.writing.write_these_bytes.Goals as goal
 
 pub returns : goal.returns
 returns g c =
-    let made = c.message_of_bytes in
-    writing_given c.args.how.size c.args.how.profile c.args.bytes.now made.result c.args.out.now
-    c.write_message.new.out made.ensures.message made.ensures.numbers c.write_message.ensures
+    let made = c.message_of_bytes-message in
+    let how = c.args.how in
+    writing_given (Profiled how.profile) how.size c.args.bytes.now made.result c.args.out.now c.write_message.new.out
+    made.ensures.message made.ensures.numbers
+    (subst (λ m. IsLetterGiven (Profiled how.profile) how.size (as_letter m) c.args.out.now c.write_message.new.out)
+    c.items.ensures.value c.write_message.ensures)

@@ -3,7 +3,7 @@ use Rattle.std.specs.Prelude.{option_map}
 use Rattle.std.proofs.lemmas.Bool.{false≢true}
 use Rattle.dm_words.specs.LetterForm.{letter_form}
 use Rattle.dm_layout.specs.declared.symbols.size.SizeChoice.TheVariants.{Square}
-use Rattle.dm_layout.specs.symbols.Sizes.{most_rows, most_codewords}
+use Rattle.dm_layout.specs.symbols.Sizes.{most_data, most_rows, most_codewords}
 use Rattle.dm_layout.proofs.symbols.Exported.{size_facts}
 use Rattle.dm_symbol.proofs.Rooms.{room_for_most}
 use Rattle.dm_symbol.specs.LetterNormal.{NormalLetterResult}
@@ -82,6 +82,7 @@ read_letter_to-requires g c =
 
 pub write_letter_to-requires : goal.write_letter_to-requires
 write_letter_to-requires g c =
-    let room = room_for_most Square (letter_form c.args.profile c.read_letter_to.new.reading.letter) most_rows
-    most_codewords (omega arith) (omega arith) in
+    let form = letter_form c.args.profile c.read_letter_to.new.reading.letter in
+    let room = room_for_most Square form most_data most_rows most_codewords (omega arith) (omega arith)
+    (omega arith) in
     (search rules, (search rules, (search rules, (c.requires.room, (c.requires.few_marks, room)))))

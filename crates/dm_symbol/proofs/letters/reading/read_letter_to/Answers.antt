@@ -17,7 +17,8 @@ returns-in-Err-Block-clause-read g c =
     let doubt = option_map (λ d. d.now) how.doubtful in
     is_letter_read how.extent c.args.symbol.now doubt how.border_limit _
     (letter_lost_result how.extent c.args.symbol.now doubt how.border_limit c.in-Err-Block.index
-    (subst (IsLost c.args.symbol.now doubt how.border_limit) c.in-Err-Block.field-0-is c.in-Err-Block.ensures.lost))
+    (subst (IsLost how.extent c.args.symbol.now doubt how.border_limit) c.in-Err-Block.field-0-is
+    c.in-Err-Block.ensures.lost))
 
 pub letter_to_as-requires : goal.letter_to_as-requires
 letter_to_as-requires g c =
@@ -55,7 +56,8 @@ returns-in-Ok-letter_to_as-clause-read g c =
     c.symbology_number-reading.ensures.identifier in
     is_letter_read how.extent c.args.symbol.now doubt how.border_limit _
     (said_letter_result how.extent c.args.symbol.now doubt how.border_limit c.restore_to.new.words
-    c.restore_to.new.blocks.items c.restore_to.new.faults c.in-Ok.ensures.restored letter number says numbered)
+    c.restore_to.new.dealing c.restore_to.new.blocks.items c.restore_to.new.faults c.in-Ok.ensures.restored letter
+    number says numbered)
 
 pub returns-in-Err-clause-read : goal.returns-in-Err-clause-read
 returns-in-Err-clause-read g c =
@@ -66,4 +68,5 @@ returns-in-Err-clause-read g c =
     ((c.in-Err.ensures.read.fault c.in-Err.fault).0 refl) in
     is_letter_read how.extent c.args.symbol.now doubt how.border_limit _
     (refused_letter_result how.extent c.args.symbol.now doubt how.border_limit c.restore_to.new.words
-    c.restore_to.new.blocks.items c.restore_to.new.faults c.in-Ok.ensures.restored c.in-Err.fault refused)
+    c.restore_to.new.dealing c.restore_to.new.blocks.items c.restore_to.new.faults c.in-Ok.ensures.restored
+    c.in-Err.fault refused)

@@ -10,7 +10,7 @@ use Rattle.dm_symbol.proofs.symbol.correction.correct_block.Goals.{then-changed-
 pub returns-in_default-clause-restored : goal.returns-in_default-clause-restored
 returns-in_default-clause-restored g c =
     let w = c.args.words.now in (
-      λ n. c.in_default.ensures.near (n.0, plain_near (block_check w.size) (block_in w.size w.list c.args.b) n.0 n.1),
+      λ n. c.in_default.ensures.near n.0 (plain_near (block_check w.size) (block_in w.size w.list c.args.b) n.0 n.1),
       refl,
     )
 

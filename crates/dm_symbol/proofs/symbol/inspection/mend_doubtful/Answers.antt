@@ -1,7 +1,6 @@
-use Rattle.std.proofs.Common.{◌≡◌, ◌<◌, ℕ, Some, sym}
+use Rattle.std.proofs.Common.{◌≡◌, ◌<◌, ℕ, Some}
 use Rattle.dm_symbol.specs.Doubt.{erased_in}
 use Rattle.dm_symbol.specs.inner.Marks.{marked_in}
-use Rattle.dm_symbol.proofs.SymbolDoubt.{erased_by_held}
 use Rattle.dm_symbol.proofs.SymbolSteps.{mended_moves}
 use Rattle.dm_symbol.proofs.symbol.inspection.mend_doubtful.Goals as goal
 
@@ -12,6 +11,6 @@ returns-clause-mended g c =
     let d = c.args.doubtful.now in
     let marks = c.marks_for-marks.result in
     let same : (b : ℕ) → b < s.blocks → marked_in s (Some marks) b ≡ erased_in s (Some d) b =
-    λ b hb. sym (erased_by_held s d marks b c.requires c.marks_for-marks.ensures) in
+    c.marks_for-marks.ensures.marks in
     mended_moves s (marked_in s (Some marks)) (erased_in s (Some d)) same w.list c.mend_each.new.words.list
     c.mend_each.new.blocks.items c.mend_each.ensures.mended

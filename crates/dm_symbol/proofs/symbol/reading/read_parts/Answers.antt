@@ -29,7 +29,8 @@ returns-in-Err-Block-clause-read g c =
     let doubt = option_map (λ d. d.now) how.doubtful in
     is_symbol_read how.extent c.args.symbol.now doubt how.border_limit _
     (lost_result how.extent c.args.symbol.now doubt how.border_limit c.in-Err-Block.index
-    (subst (IsLost c.args.symbol.now doubt how.border_limit) c.in-Err-Block.field-0-is c.in-Err-Block.ensures.lost))
+    (subst (IsLost how.extent c.args.symbol.now doubt how.border_limit) c.in-Err-Block.field-0-is
+    c.in-Err-Block.ensures.lost))
 
 pub returns-in-Ok-message_to_as-clause-read : goal.returns-in-Ok-message_to_as-clause-read
 returns-in-Ok-message_to_as-clause-read g c =
@@ -41,7 +42,8 @@ returns-in-Ok-message_to_as-clause-read g c =
     ((c.in-Ok-message_to_as.ensures.message message).0 refl) in
     is_symbol_read how.extent c.args.symbol.now doubt how.border_limit _
     (spelled_result how.extent c.args.symbol.now doubt how.border_limit c.restore_to.new.words
-    c.restore_to.new.blocks.items c.restore_to.new.faults c.in-Ok.ensures.restored message spelled)
+    c.restore_to.new.dealing c.restore_to.new.blocks.items c.restore_to.new.faults c.in-Ok.ensures.restored message
+    spelled)
 
 pub returns-in-Err-clause-read : goal.returns-in-Err-clause-read
 returns-in-Err-clause-read g c =
@@ -52,7 +54,8 @@ returns-in-Err-clause-read g c =
     ((c.in-Err.ensures.fault c.in-Err.fault).0 refl) in
     is_symbol_read how.extent c.args.symbol.now doubt how.border_limit _
     (refused_result how.extent c.args.symbol.now doubt how.border_limit c.restore_to.new.words
-    c.restore_to.new.blocks.items c.restore_to.new.faults c.in-Ok.ensures.restored c.in-Err.fault refused)
+    c.restore_to.new.dealing c.restore_to.new.blocks.items c.restore_to.new.faults c.in-Ok.ensures.restored
+    c.in-Err.fault refused)
 
 pub returns-in-Ok-message_to_as-clause-restored : goal.returns-in-Ok-message_to_as-clause-restored
 returns-in-Ok-message_to_as-clause-restored g c =
@@ -60,5 +63,6 @@ returns-in-Ok-message_to_as-clause-restored g c =
 
 pub returns-in-Ok-message_to_as-clause-count : goal.returns-in-Ok-message_to_as-clause-count
 returns-in-Ok-message_to_as-clause-count g c =
-    restored_count c.args.symbol.now (option_map (λ d. d.now) c.args.how.doubtful) c.args.how.border_limit
-    c.restore_to.new.words c.restore_to.new.blocks.items c.restore_to.new.faults c.in-Ok.ensures.restored
+    restored_count c.args.how.extent c.args.symbol.now (option_map (λ d. d.now) c.args.how.doubtful)
+    c.args.how.border_limit c.restore_to.new.words c.restore_to.new.dealing c.restore_to.new.blocks.items
+    c.restore_to.new.faults c.in-Ok.ensures.restored

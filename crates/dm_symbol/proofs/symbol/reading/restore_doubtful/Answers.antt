@@ -1,7 +1,6 @@
-use Rattle.std.proofs.Common.{◌≡◌, ◌∙◌, ◌<◌, ℕ, Some, sym}
-use Rattle.dm_symbol.specs.Doubt.{erased_in}
+use Rattle.std.proofs.Common.{◌≡◌, ◌∙◌, ◌<◌, ℕ, Some}
+use Rattle.dm_symbol.specs.Dealings.{erased_by}
 use Rattle.dm_symbol.specs.inner.Marks.{marked_in}
-use Rattle.dm_symbol.proofs.SymbolDoubt.{erased_by_held}
 use Rattle.dm_symbol.proofs.SymbolSteps.{near_moves, lost_moves, readings_move, on_ok, if_err}
 use Rattle.dm_symbol.proofs.symbol.reading.restore_doubtful.Goals as goal
 
@@ -10,11 +9,12 @@ returns-clause-near g c =
     let w = c.args.words.now in
     let s = w.size in
     let d = c.args.doubtful.now in
+    let dealing = c.args.dealing in
     let marks = c.marks_for-marks.result in
-    let same : (b : ℕ) → b < s.blocks → marked_in s (Some marks) b ≡ erased_in s (Some d) b =
-    λ b hb. sym (erased_by_held s d marks b c.requires c.marks_for-marks.ensures) in
+    let same : (b : ℕ) → b < s.blocks → marked_in s (Some marks) b ≡ erased_by dealing s (Some d) b =
+    c.marks_for-marks.ensures.marks in
     on_ok c.restore_each.result
-    (near_moves s (marked_in s (Some marks)) (erased_in s (Some d)) same w.list c.restore_each.new.words.list)
+    (near_moves s (marked_in s (Some marks)) (erased_by dealing s (Some d)) same w.list c.restore_each.new.words.list)
     c.restore_each.ensures.near
 
 pub returns-clause-readings : goal.returns-clause-readings
@@ -22,11 +22,13 @@ returns-clause-readings g c =
     let w = c.args.words.now in
     let s = w.size in
     let d = c.args.doubtful.now in
+    let dealing = c.args.dealing in
     let marks = c.marks_for-marks.result in
-    let same : (b : ℕ) → b < s.blocks → marked_in s (Some marks) b ≡ erased_in s (Some d) b =
-    λ b hb. sym (erased_by_held s d marks b c.requires c.marks_for-marks.ensures) in
+    let same : (b : ℕ) → b < s.blocks → marked_in s (Some marks) b ≡ erased_by dealing s (Some d) b =
+    c.marks_for-marks.ensures.marks in
     on_ok c.restore_each.result (λ e. e
-    ∙ readings_move s (marked_in s (Some marks)) (erased_in s (Some d)) same w.list c.restore_each.new.words.list)
+    ∙ readings_move s (marked_in s (Some marks)) (erased_by dealing s (Some d)) same w.list
+    c.restore_each.new.words.list)
     c.restore_each.ensures.readings
 
 pub returns-clause-lost : goal.returns-clause-lost
@@ -34,9 +36,10 @@ returns-clause-lost g c =
     let w = c.args.words.now in
     let s = w.size in
     let d = c.args.doubtful.now in
+    let dealing = c.args.dealing in
     let marks = c.marks_for-marks.result in
-    let same : (b : ℕ) → b < s.blocks → marked_in s (Some marks) b ≡ erased_in s (Some d) b =
-    λ b hb. sym (erased_by_held s d marks b c.requires c.marks_for-marks.ensures) in
+    let same : (b : ℕ) → b < s.blocks → marked_in s (Some marks) b ≡ erased_by dealing s (Some d) b =
+    c.marks_for-marks.ensures.marks in
     if_err c.restore_each.result
-    (λ b h. lost_moves s (marked_in s (Some marks)) (erased_in s (Some d)) same w.list b h)
+    (λ b h. lost_moves s (marked_in s (Some marks)) (erased_by dealing s (Some d)) same w.list b h)
     c.restore_each.ensures.lost

@@ -1,11 +1,12 @@
 use Rattle.std.proofs.Common.{refl}
 use Rattle.dm_words.specs.NormalForm.{normal_form}
-use Rattle.dm_symbol.proofs.SymbolWriteSteps.{too_long_for_all}
+use Rattle.dm_symbol.proofs.SymbolWriteSteps.{too_long_for_room}
 use Rattle.dm_symbol.proofs.WrittenWords.{no_words_written}
 use Rattle.dm_symbol.proofs.symbol.writing.write_symbol_to.Goals as goal
 
 pub returns-in-Err-clause-written : goal.returns-in-Err-clause-written
 returns-in-Err-clause-written g c =
-    let form = normal_form c.args.how.profile c.args.message.now in
+    let form = normal_form c.args.how.profile c.args.items.now in
     no_words_written c.args.how.size form _ refl
-    (too_long_for_all c.args.how.size form (c.in-Err.ensures.too_long.0 refl))
+    (too_long_for_room c.args.how.size form g.row.DATA g.row.ROWS g.row.WORDS c.requires.room
+    (c.in-Err.ensures.too_long.0 refl))

@@ -1,6 +1,6 @@
 use Rattle.std.proofs.Common.{inl, inr, arith, ap, subst, ◌≡◌, ℕ, ◌-◌, List, length, take, drop, rules}
 use Rattle.dm_words.specs.declared.item.Item.{Item}
-use Rattle.dm_words.specs.declared.item.Item.TheVariants.{Byte, Fnc1}
+use Rattle.dm_words.specs.declared.item.Item.TheVariants.{Fnc1}
 use Rattle.dm_words.specs.declared.smallest.edifact.Group.TheVariants as group
 use Rattle.dm_words.specs.inner.Costs.{parts_cost}
 use Rattle.dm_words.proofs.GroupsWritten.{edifact_begun, edifact_item, edifact_written, IsEdifactSoFar}
@@ -10,7 +10,7 @@ use Rattle.dm_words.proofs.smallest.edifact.write_edifact.Goals as goal
 
 pub loop-words-init : goal.loop-words-init
 loop-words-init g c =
-    let f = first_of_groups c.args.extent c.args.items.now c.args.at Fnc1 (length c.push.new.self.items)
+    let f = first_of_groups c.args.setting c.args.items.now c.args.at Fnc1 (length c.push.new.self.items)
     c.args.total c.requires.at (omega (arith, c.requires.budget, c.push.ensures.len))
     (omega (arith, c.requires.total)) in
     let begun = edifact_begun c.args.words.now.items c.push.new.self.items c.push.ensures.items in
@@ -31,7 +31,7 @@ loop-words-init g c =
 
 pub bounds-items-next : goal.bounds-items-next
 bounds-items-next g c =
-    (group_at c.args.extent c.args.items.now c.loop-words.next Fnc1 _ c.loop-words.group
+    (group_at c.args.setting c.args.items.now c.loop-words.next Fnc1 _ c.loop-words.group
     (length c.loop-words.words.items) c.args.total c.goes_on.result
     (c.requires.plan c.loop-words.next _ c.loop-words.invariant.within) c.loop-words.invariant.budget
     (omega (arith, c.requires.total)) c.goes_on.ensures c.loop-words-test.true).there
@@ -46,7 +46,7 @@ push_value-group-requires-in-loop-words g c = (
       omega (
         arith,
         value_room c.loop-words.group (length c.loop-words.words.items) c.args.total _
-            (group_at c.args.extent c.args.items.now c.loop-words.next Fnc1 _ c.loop-words.group
+            (group_at c.args.setting c.args.items.now c.loop-words.next Fnc1 _ c.loop-words.group
             (length c.loop-words.words.items) c.args.total c.goes_on.result
             (c.requires.plan c.loop-words.next _ c.loop-words.invariant.within) c.loop-words.invariant.budget
             (omega (arith, c.requires.total)) c.goes_on.ensures c.loop-words-test.true).budget,
@@ -60,7 +60,7 @@ pub loop-words-smaller : goal.loop-words-smaller
 loop-words-smaller g c =
     omega (
       arith,
-      (group_at c.args.extent c.args.items.now c.loop-words.next Fnc1 _ c.loop-words.group
+      (group_at c.args.setting c.args.items.now c.loop-words.next Fnc1 _ c.loop-words.group
           (length c.loop-words.words.items) c.args.total c.goes_on.result
           (c.requires.plan c.loop-words.next _ c.loop-words.invariant.within) c.loop-words.invariant.budget
           (omega (arith, c.requires.total)) c.goes_on.ensures c.loop-words-test.true).there,
@@ -69,7 +69,7 @@ loop-words-smaller g c =
 pub loop-words-preserved : goal.loop-words-preserved
 loop-words-preserved g c =
     let v = c.loop-words.invariant in
-    let r = group_at c.args.extent c.args.items.now c.loop-words.next Fnc1 _ c.loop-words.group
+    let r = group_at c.args.setting c.args.items.now c.loop-words.next Fnc1 _ c.loop-words.group
     (length c.loop-words.words.items) c.args.total c.goes_on.result (c.requires.plan c.loop-words.next _ v.within)
     v.budget (omega (arith, c.requires.total)) c.goes_on.ensures c.loop-words-test.true in
     record {
@@ -94,9 +94,9 @@ end_run-requires g c =
 
 pub returns-clause-budget : goal.returns-clause-budget
 returns-clause-budget g c =
-    ended_budget c.loop-words.group c.args.total (parts_cost c.args.extent (drop c.loop-words.next c.args.items.now))
+    ended_budget c.loop-words.group c.args.total (parts_cost c.args.setting (drop c.loop-words.next c.args.items.now))
     c.loop-words.words.items c.end_run.new.words.items
-    (leave_groups c.args.extent (drop c.loop-words.next c.args.items.now) _ c.loop-words.group
+    (leave_groups c.args.setting (drop c.loop-words.next c.args.items.now) _ c.loop-words.group
     (length c.loop-words.words.items) c.args.total c.goes_on.result
     (c.requires.plan c.loop-words.next _ c.loop-words.invariant.within) c.loop-words.invariant.budget
     c.goes_on.ensures c.loop-words-test.false)
@@ -105,10 +105,10 @@ returns-clause-budget g c =
 pub returns-clause-part : goal.returns-clause-part
 returns-clause-part g c =
     let v = c.loop-words.invariant in
-    let l = leave_groups c.args.extent (drop c.loop-words.next c.args.items.now) _ c.loop-words.group
+    let l = leave_groups c.args.setting (drop c.loop-words.next c.args.items.now) _ c.loop-words.group
     (length c.loop-words.words.items) c.args.total c.goes_on.result (c.requires.plan c.loop-words.next _ v.within)
     v.budget c.goes_on.ensures c.loop-words-test.false in
-    edifact_written c.args.extent c.args.total c.args.words.now.items c.loop-words.words.items
+    edifact_written c.args.setting.extent c.args.total c.args.words.now.items c.loop-words.words.items
     c.end_run.new.words.items (take (c.loop-words.next - c.args.at) (drop c.args.at c.args.items.now))
     c.loop-words.group
     v.wide (omega (arith, waiting_room c.loop-words.group (length c.loop-words.words.items) c.args.total _ v.budget))

@@ -9,9 +9,9 @@ abbrev pub invariant-loop-words : goal.invariant-loop-words
 invariant-loop-words g l = record {
   from : l.at + 1 ≤ l.next;
   within : l.next ≤ length l.items;
-  wide : l.fn.extent ≡ Wide;
+  wide : l.fn.setting.extent ≡ Wide;
   budget : length l.words.items + owed_group (length (waiting_values l.group))
-      (row l.fn.extent (drop l.next l.items)).edifact ≤ l.total;
+      (row l.fn.setting (drop l.next l.items)).edifact ≤ l.total;
   so_far : IsEdifactSoFar l.fn.words.items l.words.items l.group (take (l.next - l.at) (drop l.at l.items));
 }
 

@@ -3,7 +3,7 @@ use Rattle.std.proofs.lemmas.List.{length-append, take_rest, drop_all}
 use Rattle.std.proofs.lemmas.List.Elements.{All-drop, All-take}
 use Rattle.dm_words.specs.declared.extent.Extent.TheVariants.{Usual}
 use Rattle.dm_words.specs.declared.item.Item.{Item}
-use Rattle.dm_words.specs.declared.item.Item.TheVariants.{Byte, Fnc1}
+use Rattle.dm_words.specs.declared.item.Item.TheVariants.{Fnc1}
 use Rattle.dm_words.specs.Messages.{byte_of, IsItem}
 use Rattle.dm_words.specs.Ascii.{digit_pair}
 use Rattle.dm_words.specs.NormalForm.{has_fnc1}
@@ -17,7 +17,7 @@ use Rattle.dm_words.proofs.smallest.parts.write_part.Goals as goal
 
 pub write_unit-one-requires : goal.write_unit-one-requires
 write_unit-one-requires g c =
-    let p = one_paid c.args.extent c.args.items.now c.args.at Fnc1 _ c.requires.at
+    let p = one_paid c.args.setting c.args.items.now c.args.at Fnc1 _ c.requires.at
     (c.requires.plan c.args.at _ (omega (arith, c.requires.at))) (length c.args.words.now.items) c.args.total
     c.requires.budget (sym c.begin.ensures ∙ c.in-One.is) in
     omega (
@@ -30,7 +30,7 @@ write_unit-one-requires g c =
 
 pub returns-in-One-clause-budget : goal.returns-in-One-clause-budget
 returns-in-One-clause-budget g c =
-    let p = one_paid c.args.extent c.args.items.now c.args.at Fnc1 _ c.requires.at
+    let p = one_paid c.args.setting c.args.items.now c.args.at Fnc1 _ c.requires.at
     (c.requires.plan c.args.at _ (omega (arith, c.requires.at))) (length c.args.words.now.items) c.args.total
     c.requires.budget (sym c.begin.ensures ∙ c.in-One.is) in
     omega (
@@ -44,7 +44,7 @@ returns-in-One-clause-budget g c =
 
 pub returns-in-One-clause-part : goal.returns-in-One-clause-part
 returns-in-One-clause-part g c =
-    one_written c.args.extent c.args.total c.args.words.now.items c.write_unit-one.new.words.items
+    one_written c.args.setting.extent c.args.total c.args.words.now.items c.write_unit-one.new.words.items
     (unit_words c.unit_of.result) c.args.items.now c.args.at Fnc1
     c.requires.at c.requires.message c.unit_of.ensures.words c.write_unit-one.ensures.words
 
@@ -56,14 +56,14 @@ returns-in-One-clause-usual g c =
 
 pub bounds-items-at-in-Two-2 : goal.bounds-items-at-in-Two-2
 bounds-items-at-in-Two-2 g c =
-    (pair_paid c.args.extent c.args.items.now c.args.at Fnc1 _ c.requires.at
+    (pair_paid c.args.setting c.args.items.now c.args.at Fnc1 _ c.requires.at
     (c.requires.plan c.args.at _ (omega (arith, c.requires.at))) (length c.args.words.now.items) c.args.total
     c.requires.budget (omega (arith, c.requires.total)) (sym c.begin.ensures ∙ c.in-Two.is)).second_there
 
 pub digit_pair-requires-clause-tens : goal.digit_pair-requires-clause-tens
 digit_pair-requires-clause-tens g c =
     digit_byte (get_or c.args.items.now c.args.at Fnc1) c.byte.result
-    (pair_paid c.args.extent c.args.items.now c.args.at Fnc1 _ c.requires.at
+    (pair_paid c.args.setting c.args.items.now c.args.at Fnc1 _ c.requires.at
     (c.requires.plan c.args.at _ (omega (arith, c.requires.at))) (length c.args.words.now.items) c.args.total
     c.requires.budget (omega (arith, c.requires.total)) (sym c.begin.ensures ∙ c.in-Two.is)).first
     c.byte.ensures
@@ -71,14 +71,14 @@ digit_pair-requires-clause-tens g c =
 pub digit_pair-requires-clause-ones : goal.digit_pair-requires-clause-ones
 digit_pair-requires-clause-ones g c =
     digit_byte (get_or c.args.items.now (c.args.at + 1) Fnc1) c.byte-in-Two.result
-    (pair_paid c.args.extent c.args.items.now c.args.at Fnc1 _ c.requires.at
+    (pair_paid c.args.setting c.args.items.now c.args.at Fnc1 _ c.requires.at
     (c.requires.plan c.args.at _ (omega (arith, c.requires.at))) (length c.args.words.now.items) c.args.total
     c.requires.budget (omega (arith, c.requires.total)) (sym c.begin.ensures ∙ c.in-Two.is)).second
     c.byte-in-Two.ensures
 
 pub push-requires : goal.push-requires
 push-requires g c =
-    let q = pair_paid c.args.extent c.args.items.now c.args.at Fnc1 _ c.requires.at
+    let q = pair_paid c.args.setting c.args.items.now c.args.at Fnc1 _ c.requires.at
     (c.requires.plan c.args.at _ (omega (arith, c.requires.at))) (length c.args.words.now.items) c.args.total
     c.requires.budget (omega (arith, c.requires.total)) (sym c.begin.ensures ∙ c.in-Two.is) in
     (omega arith, omega (arith, q.paid, c.requires.total))
@@ -87,7 +87,7 @@ pub returns-in-Two-clause-within : goal.returns-in-Two-clause-within
 returns-in-Two-clause-within g c =
     omega (
       arith,
-      (pair_paid c.args.extent c.args.items.now c.args.at Fnc1 _ c.requires.at
+      (pair_paid c.args.setting c.args.items.now c.args.at Fnc1 _ c.requires.at
           (c.requires.plan c.args.at _ (omega (arith, c.requires.at))) (length c.args.words.now.items) c.args.total
           c.requires.budget (omega (arith, c.requires.total)) (sym c.begin.ensures ∙ c.in-Two.is)).second_there,
     )
@@ -96,7 +96,7 @@ pub returns-in-Two-clause-budget : goal.returns-in-Two-clause-budget
 returns-in-Two-clause-budget g c =
     omega (
       arith,
-      (pair_paid c.args.extent c.args.items.now c.args.at Fnc1 _ c.requires.at
+      (pair_paid c.args.setting c.args.items.now c.args.at Fnc1 _ c.requires.at
           (c.requires.plan c.args.at _ (omega (arith, c.requires.at))) (length c.args.words.now.items) c.args.total
           c.requires.budget (omega (arith, c.requires.total)) (sym c.begin.ensures ∙ c.in-Two.is)).paid,
       c.push.ensures.len,
@@ -104,7 +104,7 @@ returns-in-Two-clause-budget g c =
 
 pub returns-in-Two-clause-part : goal.returns-in-Two-clause-part
 returns-in-Two-clause-part g c =
-    let q = pair_paid c.args.extent c.args.items.now c.args.at Fnc1 _ c.requires.at
+    let q = pair_paid c.args.setting c.args.items.now c.args.at Fnc1 _ c.requires.at
     (c.requires.plan c.args.at _ (omega (arith, c.requires.at))) (length c.args.words.now.items) c.args.total
     c.requires.budget (omega (arith, c.requires.total)) (sym c.begin.ensures ∙ c.in-Two.is) in
     let word : c.digit_pair.result
@@ -112,12 +112,12 @@ returns-in-Two-clause-part g c =
     (byte_of (get_or c.args.items.now (c.args.at + 1) Fnc1)) =
     c.digit_pair.ensures ∙ ap (λ (b : ℕ). digit_pair b c.byte-in-Two.result) c.byte.ensures
     ∙ ap (λ (b : ℕ). digit_pair (byte_of (get_or c.args.items.now c.args.at Fnc1)) b) c.byte-in-Two.ensures in
-    two_written c.args.extent c.args.total c.args.words.now.items c.push.new.self.items c.digit_pair.result
+    two_written c.args.setting.extent c.args.total c.args.words.now.items c.push.new.self.items c.digit_pair.result
     c.args.items.now c.args.at Fnc1 q.second_there q.first q.second word c.push.ensures.items
 
 pub returns-in-Two-clause-usual : goal.returns-in-Two-clause-usual
 returns-in-Two-clause-usual g c = λ usual.
-    let q = pair_paid c.args.extent c.args.items.now c.args.at Fnc1 _ c.requires.at
+    let q = pair_paid c.args.setting c.args.items.now c.args.at Fnc1 _ c.requires.at
     (c.requires.plan c.args.at _ (omega (arith, c.requires.at))) (length c.args.words.now.items) c.args.total
     c.requires.budget (omega (arith, c.requires.total)) (sym c.begin.ensures ∙ c.in-Two.is) in
     let word : c.digit_pair.result
@@ -131,7 +131,7 @@ returns-in-Two-clause-usual g c = λ usual.
 pub write_run-requires : goal.write_run-requires
 write_run-requires g c =
     let budget =
-    run_paid c.args.extent c.args.items.now c.args.at Fnc1 _ c.requires.at
+    run_paid c.args.setting c.args.items.now c.args.at Fnc1 _ c.requires.at
     (c.requires.plan c.args.at _ (omega (arith, c.requires.at))) (length c.args.words.now.items) c.args.total
     c.requires.budget c.in-Run.set (sym c.begin.ensures ∙ c.in-Run.is) in (
       search rules,
@@ -144,7 +144,7 @@ write_run-requires g c =
 pub write_edifact-requires : goal.write_edifact-requires
 write_edifact-requires g c =
     let budget =
-    edifact_paid c.args.extent c.args.items.now c.args.at Fnc1 _ c.requires.at
+    edifact_paid c.args.setting c.args.items.now c.args.at Fnc1 _ c.requires.at
     (c.requires.plan c.args.at _ (omega (arith, c.requires.at))) (length c.args.words.now.items) c.args.total
     c.requires.budget (sym c.begin.ensures ∙ c.in-Edifact.is) in (
       search rules,
@@ -158,7 +158,7 @@ pub segment_end-end-requires-clause-byte : goal.segment_end-end-requires-clause-
 segment_end-end-requires-clause-byte g c =
     omega (
       arith,
-      (segment_paid c.args.extent c.args.items.now c.args.at Fnc1 _ c.requires.at
+      (segment_paid c.args.setting c.args.items.now c.args.at Fnc1 _ c.requires.at
           (c.requires.plan c.args.at _ (omega (arith, c.requires.at))) (length c.args.words.now.items) c.args.total
           c.requires.budget (sym c.begin.ensures ∙ c.in-Segment.is)).1,
       c.requires.total,
@@ -166,10 +166,10 @@ segment_end-end-requires-clause-byte g c =
 
 pub write_segment-requires-in-Rest : goal.write_segment-requires-in-Rest
 write_segment-requires-in-Rest g c =
-    let p = rest_paid c.args.extent c.args.items.now c.args.at Fnc1 _ c.requires.at
+    let p = rest_paid c.args.setting c.args.items.now c.args.at Fnc1 _ c.requires.at
     (c.requires.plan c.args.at _ (omega (arith, c.requires.at))) (length c.args.words.now.items) c.args.total
     c.requires.budget (sym c.begin.ensures ∙ c.in-Rest.is) in
-    let rest = rest_is c.args.extent (drop c.args.at c.args.items.now) (omega (arith, p, c.requires.total)) in
+    let rest = rest_is c.args.setting (drop c.args.at c.args.items.now) (omega (arith, p, c.requires.total)) in
     let bytes = subst (λ (l : List Item). has_fnc1 l ≡ false) (sym (take_rest c.args.items.now c.args.at)) rest.0 in
     let message =
     All-take IsItem (length c.args.items.now - c.args.at) (drop c.args.at c.args.items.now)
@@ -192,9 +192,14 @@ write_segment-requires-in-Rest g c =
 
 pub returns-in-Rest-clause-budget : goal.returns-in-Rest-clause-budget
 returns-in-Rest-clause-budget g c =
+    let p = rest_paid c.args.setting c.args.items.now c.args.at Fnc1 _ c.requires.at
+    (c.requires.plan c.args.at _ (omega (arith, c.requires.at))) (length c.args.words.now.items) c.args.total
+    c.requires.budget (sym c.begin.ensures ∙ c.in-Rest.is) in
+    let rest = rest_is c.args.setting (drop c.args.at c.args.items.now) (omega (arith, p, c.requires.total)) in
     omega (
       arith,
       c.write_segment-in-Rest.ensures.fits,
-      ap (parts_cost c.args.extent) (drop_all (length c.args.items.now) c.args.items.now (omega arith)),
-      nothing_costs c.args.extent,
+      ap (parts_cost c.args.setting) (drop_all (length c.args.items.now) c.args.items.now (omega arith)),
+      nothing_costs c.args.setting,
+      rest.2,
     )

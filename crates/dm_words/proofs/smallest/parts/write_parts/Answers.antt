@@ -1,10 +1,13 @@
 use Rattle.std.proofs.Common.{◌≡◌, ◌∙◌, ℕ, ◌+◌, ◌-◌, ◌++◌, List, take, drop, ap, sym, subst, arith}
+use Rattle.std.proofs.lemmas.List.{drop_all}
 use Rattle.std.proofs.Math.Seq.{take-add}
 use Rattle.std.proofs.lemmas.Bool.{and_parts}
 use Rattle.dm_words.specs.declared.extent.Extent.{Extent}
 use Rattle.dm_words.specs.declared.extent.Extent.TheVariants.{Usual}
 use Rattle.dm_words.specs.declared.item.Item.{Item}
 use Rattle.dm_words.specs.inner.Written.{IsPartWritten, ArePartsWritten}
+use Rattle.dm_words.specs.inner.Costs.{parts_cost}
+use Rattle.dm_words.proofs.CostsMet.{nothing_costs}
 use Rattle.dm_words.proofs.PartsWritten.{no_parts, parts_more}
 use Rattle.dm_words.proofs.smallest.parts.write_parts.Goals as goal
 
@@ -12,7 +15,7 @@ pub loop-at-init : goal.loop-at-init
 loop-at-init g c = record {
   within = omega arith;
   budget = c.requires.budget;
-  parts = no_parts c.args.extent c.args.total c.args.words.now.items;
+  parts = no_parts c.args.setting.extent c.args.total c.args.words.now.items;
   usual = λ all. no_parts Usual c.args.total c.args.words.now.items;
 }
 
@@ -36,8 +39,17 @@ loop-at-preserved g c =
     record {
       within = w.within;
       budget = w.budget;
-      parts = joined c.args.extent c.loop-at.invariant.parts w.part;
+      parts = joined c.args.setting.extent c.loop-at.invariant.parts w.part;
       usual = λ all.
           (let each = and_parts c.loop-at.are_usual c.write_part-part.result.is_usual all in
           joined Usual (c.loop-at.invariant.usual each.0) (w.usual each.1));
     }
+
+pub returns-clause-fits : goal.returns-clause-fits
+returns-clause-fits g c =
+    omega (
+      arith,
+      c.loop-at.invariant.budget,
+      ap (parts_cost c.args.setting) (drop_all c.loop-at.at c.args.items.now c.loop-at-test.false),
+      nothing_costs c.args.setting,
+    )

@@ -8,8 +8,8 @@ use Rattle.dm_words.proofs.smallest.parts.write_parts.Given as goal
 abbrev pub invariant-loop-at : goal.invariant-loop-at
 invariant-loop-at g l = record {
   within : l.at ≤ length l.items;
-  budget : length l.words.items + parts_cost l.extent (drop l.at l.items) ≤ l.total;
-  parts : ArePartsWritten l.extent l.total l.fn.words.items l.words.items (take l.at l.items);
+  budget : length l.words.items + parts_cost l.setting (drop l.at l.items) ≤ l.total;
+  parts : ArePartsWritten l.setting.extent l.total l.fn.words.items l.words.items (take l.at l.items);
   usual : IsTrue l.are_usual → ArePartsWritten Usual l.total l.fn.words.items l.words.items (take l.at l.items);
 }
 

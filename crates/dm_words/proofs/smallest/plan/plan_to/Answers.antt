@@ -1,10 +1,10 @@
 use Rattle.std.proofs.Common.{◌≡◌, ◌∙◌, ◌-◌, ◌&&◌, Bool, sym, ℕ, drop, get_or, rules, ap, subst, arith, refl}
 use Rattle.std.proofs.lemmas.List.{length-drop}
 use Rattle.dm_words.specs.declared.smallest.plan.Begin.TheVariants.{Two}
-use Rattle.dm_words.specs.declared.item.Item.TheVariants.{Byte, Fnc1}
+use Rattle.dm_words.specs.declared.item.Item.TheVariants.{Fnc1}
 use Rattle.dm_words.specs.inner.Costs.{Row, row, going_over, is_digit_item, with_ascii, begin_at, step_in, none_going}
 use Rattle.dm_words.specs.inner.CostLanes.{HasRow}
-use Rattle.dm_words.proofs.Plans.{within, turn, plan_more, plan_first, row_within, last_costs, none_small, going_small}
+use Rattle.dm_words.proofs.Plans.{within, turn, plan_more, plan_first, cost_most, last_costs, none_small, going_small}
 use Rattle.dm_words.proofs.Plans.{digit_here, digit_last, least_small, kept_small}
 use Rattle.dm_words.proofs.smallest.plan.plan_to.Goals as goal
 
@@ -13,70 +13,71 @@ loop-at-init c = record {
   in_range = omega arith;
   room = search rules;
   digit = sym (digit_last c.args.items.now);
-  row = last_costs c.args.extent c.args.items.now c.with_ascii-costs.result
-      (c.with_ascii-costs.ensures none_going none_small c.none_going-none.ensures);
-  plan = plan_first c.args.extent c.args.items.now c.args.plan.now Two c.step_of.result c.requires.steps
-      (c.step_of.ensures none_going c.none_going-none.ensures);
+  row = last_costs c.args.setting c.args.items.now c.with_ascii-costs.result
+      (c.with_ascii-costs.ensures (none_going c.args.setting.behind) (none_small c.args.setting.behind)
+      c.none_going-none.ensures);
+  plan = plan_first c.args.setting c.args.items.now c.args.plan.now Two c.step_of.result c.requires.steps
+      (c.step_of.ensures (none_going c.args.setting.behind) c.none_going-none.ensures);
 }
 
 pub going_over-going-requires : goal.going_over-going-requires
 going_over-going-requires c =
-    let w = within c.args.extent c.args.items.now c.loop-at.at _ (omega (arith, c.requires.few)) refl
+    let w = within c.args.setting c.args.items.now c.loop-at.at _ (omega (arith, c.requires.few)) c.requires.behind refl
     (omega (arith, length-drop c.loop-at.at c.args.items.now)) in
     (kept_small _ c.loop-at.costs w c.loop-at.invariant.row).2
 
 pub choose-choice-requires-clause-ascii : goal.choose-choice-requires-clause-ascii
 choose-choice-requires-clause-ascii c =
-    let w = within c.args.extent c.args.items.now c.loop-at.at _ (omega (arith, c.requires.few)) refl
+    let w = within c.args.setting c.args.items.now c.loop-at.at _ (omega (arith, c.requires.few)) c.requires.behind refl
     (omega (arith, length-drop c.loop-at.at c.args.items.now)) in
     (kept_small _ c.loop-at.costs w c.loop-at.invariant.row).0
 
 pub choose-choice-requires-clause-after : goal.choose-choice-requires-clause-after
 choose-choice-requires-clause-after c =
-    let w = within c.args.extent c.args.items.now c.loop-at.at _ (omega (arith, c.requires.few)) refl
+    let w = within c.args.setting c.args.items.now c.loop-at.at _ (omega (arith, c.requires.few)) c.requires.behind refl
     (omega (arith, length-drop c.loop-at.at c.args.items.now)) in
     (kept_small _ c.loop-at.costs w c.loop-at.invariant.row).1
 
 pub step_of-requires-in-loop-at : goal.step_of-requires-in-loop-at
 step_of-requires-in-loop-at c =
-    let w = within c.args.extent c.args.items.now c.loop-at.at _ (omega (arith, c.requires.few)) refl
+    let w = within c.args.setting c.args.items.now c.loop-at.at _ (omega (arith, c.requires.few)) c.requires.behind refl
     (omega (arith, length-drop c.loop-at.at c.args.items.now)) in
     let x = get_or c.args.items.now (c.loop-at.at - 1) Fnc1 in
-    let next = row c.args.extent (drop c.loop-at.at c.args.items.now) in
-    let g = going_over c.args.extent x next in
-    let cost = c.choose-choice.ensures.cost next g c.loop-at.invariant.row (going_small c.args.extent x next w)
+    let next = row c.args.setting (drop c.loop-at.at c.args.items.now) in
+    let g = going_over c.args.setting.extent x next in
+    let cost = c.choose-choice.ensures.cost next g c.loop-at.invariant.row (going_small c.args.setting.extent x next w)
     (c.going_over-going.ensures next w c.loop-at.invariant.row) in
     omega (arith, cost, least_small x (c.is_digit_item-digit.result && c.loop-at.digit_behind) next g w)
 
 pub with_ascii-costs-requires-in-loop-at : goal.with_ascii-costs-requires-in-loop-at
 with_ascii-costs-requires-in-loop-at c =
-    let w = within c.args.extent c.args.items.now c.loop-at.at _ (omega (arith, c.requires.few)) refl
+    let w = within c.args.setting c.args.items.now c.loop-at.at _ (omega (arith, c.requires.few)) c.requires.behind refl
     (omega (arith, length-drop c.loop-at.at c.args.items.now)) in
     let x = get_or c.args.items.now (c.loop-at.at - 1) Fnc1 in
-    let next = row c.args.extent (drop c.loop-at.at c.args.items.now) in
-    let g = going_over c.args.extent x next in
-    let cost = c.choose-choice.ensures.cost next g c.loop-at.invariant.row (going_small c.args.extent x next w)
+    let next = row c.args.setting (drop c.loop-at.at c.args.items.now) in
+    let g = going_over c.args.setting.extent x next in
+    let cost = c.choose-choice.ensures.cost next g c.loop-at.invariant.row (going_small c.args.setting.extent x next w)
     (c.going_over-going.ensures next w c.loop-at.invariant.row) in
     omega (arith, cost, least_small x (c.is_digit_item-digit.result && c.loop-at.digit_behind) next g w)
 
 pub loop-at-preserved : goal.loop-at-preserved
 loop-at-preserved c =
     let v = c.loop-at.invariant in
-    let extent = c.args.extent in
+    let setting = c.args.setting in
     let m = c.args.items.now in
     let at = c.loop-at.at in
     let x = get_or m (at - 1) Fnc1 in
-    let next = row extent (drop at m) in
-    let w = within c.args.extent c.args.items.now c.loop-at.at _ (omega (arith, c.requires.few)) refl
+    let next = row setting (drop at m) in
+    let w = within c.args.setting c.args.items.now c.loop-at.at _ (omega (arith, c.requires.few)) c.requires.behind refl
     (omega (arith, length-drop c.loop-at.at c.args.items.now)) in
-    let g = going_over extent x next in
-    let small = going_small extent x next w in
+    let g = going_over setting.extent x next in
+    let small = going_small setting.extent x next w in
     let going = c.going_over-going.ensures next w v.row in
     let choice = c.choose-choice.result in
     let new = with_ascii choice.cost next.ascii g in
     let behind = c.loop-at.digit_behind in
     let pair = c.is_digit_item-digit.result && behind in
-    let t = turn extent m at x Fnc1 next new pair g (begin_at choice.begins) choice.cost
+    let t = turn setting m at x Fnc1 next new pair g (begin_at choice.begins) choice.cost
     (step_in c.step_of-in-loop-at.result) (omega (arith, c.loop-at-test.true)) v.in_range refl refl
     (ap (λ (b : Bool). b && behind) c.is_digit_item-digit.ensures ∙ ap (λ (b : Bool). is_digit_item x && b) v.digit)
     refl (c.choose-choice.ensures.cost next g v.row small going)
@@ -89,7 +90,7 @@ loop-at-preserved c =
       row = subst (λ (r : Row). HasRow r c.with_ascii-costs-in-loop-at.result)
           (ap (λ (n : ℕ). with_ascii choice.cost n g) v.row.ascii ∙ t.0)
           (c.with_ascii-costs-in-loop-at.ensures g small going);
-      plan = plan_more extent m at c.loop-at.plan c.step_of-in-loop-at.result (omega (arith, c.loop-at-test.true))
+      plan = plan_more setting m at c.loop-at.plan c.step_of-in-loop-at.result (omega (arith, c.loop-at-test.true))
           v.in_range (omega (arith, v.room)) t.1 v.plan;
     }
 
@@ -101,7 +102,6 @@ returns-clause-most c =
     omega (
       arith,
       c.loop-at.invariant.row.ascii,
-      ap (λ (r : Row). r.ascii) (ap (row c.args.extent) all),
-      (row_within c.args.extent c.args.items.now (omega (arith, c.requires.few))).ascii,
-      c.requires.few,
+      ap (λ (r : Row). r.ascii) (ap (row c.args.setting) all),
+      cost_most c.args.setting c.args.items.now,
     )

@@ -9,7 +9,7 @@ invariant-loop-at l = record {
   in_range : l.at ≤ length l.items;
   room : length l.items < length l.plan;
   digit : l.digit_behind ≡ digit_first (drop l.at l.items);
-  row : HasRow (row l.extent (drop l.at l.items)) l.costs;
+  row : HasRow (row l.setting (drop l.at l.items)) l.costs;
   plan : (i : ℕ) (other : StepBits) → l.at ≤ i → i ≤ length l.items
-      → IsRightStep l.extent (drop i l.items) (step_in (get_or l.plan i other));
+      → IsRightStep l.setting (drop i l.items) (step_in (get_or l.plan i other));
 }

@@ -1,6 +1,6 @@
 use Rattle.std.proofs.Common.{arith, ap, subst, ◌≡◌, ℕ, ◌-◌, List, length, take, drop, rules}
 use Rattle.dm_words.specs.declared.item.Item.{Item}
-use Rattle.dm_words.specs.declared.item.Item.TheVariants.{Byte, Fnc1}
+use Rattle.dm_words.specs.declared.item.Item.TheVariants.{Fnc1}
 use Rattle.dm_words.specs.declared.smallest.run.Part.TheVariants as part
 use Rattle.dm_words.specs.inner.Costs.{parts_cost}
 use Rattle.dm_words.proofs.LowerBounds.{leave_bounds}
@@ -11,7 +11,7 @@ use Rattle.dm_words.proofs.smallest.run.write_run.Goals as goal
 pub push_item-part-requires : goal.push_item-part-requires
 push_item-part-requires g c =
     let held =
-    (first_at c.args.extent c.args.set c.args.items.now c.args.at Fnc1 (length c.push.new.self.items) c.args.total
+    (first_at c.args.setting c.args.set c.args.items.now c.args.at Fnc1 (length c.push.new.self.items) c.args.total
     c.requires.at (omega (arith, c.requires.budget, c.push.ensures.len)) (omega (arith, c.requires.total))).held in (
       search rules,
       (
@@ -21,7 +21,7 @@ push_item-part-requires g c =
           omega (
             arith,
             item_room _ _ _ _
-                (first_at c.args.extent c.args.set c.args.items.now c.args.at Fnc1 (length c.push.new.self.items)
+                (first_at c.args.setting c.args.set c.args.items.now c.args.at Fnc1 (length c.push.new.self.items)
                 c.args.total c.requires.at (omega (arith, c.requires.budget, c.push.ensures.len))
                 (omega (arith, c.requires.total))).budget,
             c.requires.total,
@@ -32,7 +32,7 @@ push_item-part-requires g c =
 
 pub loop-set-init : goal.loop-set-init
 loop-set-init g c =
-    let f = (first_at c.args.extent c.args.set c.args.items.now c.args.at Fnc1 (length c.push.new.self.items)
+    let f = (first_at c.args.setting c.args.set c.args.items.now c.args.at Fnc1 (length c.push.new.self.items)
     c.args.total c.requires.at (omega (arith, c.requires.budget, c.push.ensures.len))
     (omega (arith, c.requires.total))) in
     let begun =
@@ -57,7 +57,7 @@ loop-set-init g c =
 
 pub bounds-items-next : goal.bounds-items-next
 bounds-items-next g c =
-    (run_at c.args.extent c.args.set c.args.items.now c.loop-set.next Fnc1 _ c.loop-set.part
+    (run_at c.args.setting c.args.set c.args.items.now c.loop-set.next Fnc1 _ c.loop-set.part
     (length c.loop-set.words.items) c.args.total c.goes_on.result
     (c.requires.plan c.loop-set.next _ c.loop-set.invariant.within) c.loop-set.invariant.budget
     (omega (arith, c.requires.total)) c.goes_on.ensures c.loop-set-test.true).there
@@ -65,7 +65,7 @@ bounds-items-next g c =
 pub push_item-part-requires-in-loop-set : goal.push_item-part-requires-in-loop-set
 push_item-part-requires-in-loop-set g c =
     let held =
-    (run_at c.args.extent c.args.set c.args.items.now c.loop-set.next Fnc1 _ c.loop-set.part
+    (run_at c.args.setting c.args.set c.args.items.now c.loop-set.next Fnc1 _ c.loop-set.part
     (length c.loop-set.words.items) c.args.total c.goes_on.result
     (c.requires.plan c.loop-set.next _ c.loop-set.invariant.within) c.loop-set.invariant.budget
     (omega (arith, c.requires.total)) c.goes_on.ensures c.loop-set-test.true).held in (
@@ -77,7 +77,7 @@ push_item-part-requires-in-loop-set g c =
           omega (
             arith,
             item_room _ _ _ _
-                (run_at c.args.extent c.args.set c.args.items.now c.loop-set.next Fnc1 _ c.loop-set.part
+                (run_at c.args.setting c.args.set c.args.items.now c.loop-set.next Fnc1 _ c.loop-set.part
                 (length c.loop-set.words.items) c.args.total c.goes_on.result
                 (c.requires.plan c.loop-set.next _ c.loop-set.invariant.within) c.loop-set.invariant.budget
                 (omega (arith, c.requires.total)) c.goes_on.ensures c.loop-set-test.true).budget,
@@ -91,7 +91,7 @@ pub loop-set-smaller : goal.loop-set-smaller
 loop-set-smaller g c =
     omega (
       arith,
-      (run_at c.args.extent c.args.set c.args.items.now c.loop-set.next Fnc1 _ c.loop-set.part
+      (run_at c.args.setting c.args.set c.args.items.now c.loop-set.next Fnc1 _ c.loop-set.part
           (length c.loop-set.words.items) c.args.total c.goes_on.result
           (c.requires.plan c.loop-set.next _ c.loop-set.invariant.within) c.loop-set.invariant.budget
           (omega (arith, c.requires.total)) c.goes_on.ensures c.loop-set-test.true).there,
@@ -100,7 +100,7 @@ loop-set-smaller g c =
 pub loop-set-preserved : goal.loop-set-preserved
 loop-set-preserved g c =
     let v = c.loop-set.invariant in
-    let r = (run_at c.args.extent c.args.set c.args.items.now c.loop-set.next Fnc1 _ c.loop-set.part
+    let r = (run_at c.args.setting c.args.set c.args.items.now c.loop-set.next Fnc1 _ c.loop-set.part
     (length c.loop-set.words.items) c.args.total c.goes_on.result
     (c.requires.plan c.loop-set.next _ c.loop-set.invariant.within) c.loop-set.invariant.budget
     (omega (arith, c.requires.total)) c.goes_on.ensures c.loop-set-test.true) in
@@ -121,14 +121,14 @@ loop-set-preserved g c =
 
 pub returns-then-total-len-gt1-clause-budget : goal.returns-then-total-len-gt1-clause-budget
 returns-then-total-len-gt1-clause-budget g c =
-    let l = (leave_at c.args.extent c.args.set (drop c.loop-set.next c.args.items.now) _ c.loop-set.part
+    let l = (leave_at c.args.setting c.args.set (drop c.loop-set.next c.args.items.now) _ c.loop-set.part
     (length c.loop-set.words.items) c.args.total c.goes_on.result
     (c.requires.plan c.loop-set.next _ c.loop-set.invariant.within) c.loop-set.invariant.budget c.goes_on.ensures
     c.loop-set-test.false) in
     omega (
       arith,
       l.1,
-      unlatched (parts_cost c.args.extent (drop c.loop-set.next c.args.items.now)),
+      unlatched (parts_cost c.args.setting (drop c.loop-set.next c.args.items.now)),
       c.push-then-total-len-gt1.ensures.len,
       c.if-total-len-gt1.true,
       c.len.ensures.value,
@@ -139,7 +139,7 @@ returns-then-total-len-gt1-clause-part g c =
     λ any. written_unlatch any c.args.set c.args.total c.args.words.now.items c.loop-set.words.items
     c.push-then-total-len-gt1.new.self.items
     (take (c.loop-set.next - c.args.at) (drop c.args.at c.args.items.now)) c.loop-set.part
-    (leave_at c.args.extent c.args.set (drop c.loop-set.next c.args.items.now) _ c.loop-set.part
+    (leave_at c.args.setting c.args.set (drop c.loop-set.next c.args.items.now) _ c.loop-set.part
     (length c.loop-set.words.items) c.args.total c.goes_on.result
     (c.requires.plan c.loop-set.next _ c.loop-set.invariant.within) c.loop-set.invariant.budget c.goes_on.ensures
     c.loop-set-test.false).0 c.loop-set.invariant.so_far c.push-then-total-len-gt1.ensures.items
@@ -148,18 +148,18 @@ pub returns-else-total-len-gt1-clause-budget : goal.returns-else-total-len-gt1-c
 returns-else-total-len-gt1-clause-budget g c =
     omega (
       arith,
-      (leave_at c.args.extent c.args.set (drop c.loop-set.next c.args.items.now) _ c.loop-set.part
+      (leave_at c.args.setting c.args.set (drop c.loop-set.next c.args.items.now) _ c.loop-set.part
           (length c.loop-set.words.items) c.args.total c.goes_on.result
           (c.requires.plan c.loop-set.next _ c.loop-set.invariant.within) c.loop-set.invariant.budget c.goes_on.ensures
           c.loop-set-test.false).1,
-      (leave_bounds 1 (parts_cost c.args.extent (drop c.loop-set.next c.args.items.now))).0,
+      (leave_bounds 1 (parts_cost c.args.setting (drop c.loop-set.next c.args.items.now))).0,
     )
 
 pub returns-else-total-len-gt1-clause-part : goal.returns-else-total-len-gt1-clause-part
 returns-else-total-len-gt1-clause-part g c =
     λ any. written_bare any c.args.set c.args.total c.args.words.now.items c.loop-set.words.items
     (take (c.loop-set.next - c.args.at) (drop c.args.at c.args.items.now)) c.loop-set.part
-    (leave_at c.args.extent c.args.set (drop c.loop-set.next c.args.items.now) _ c.loop-set.part
+    (leave_at c.args.setting c.args.set (drop c.loop-set.next c.args.items.now) _ c.loop-set.part
     (length c.loop-set.words.items) c.args.total c.goes_on.result
     (c.requires.plan c.loop-set.next _ c.loop-set.invariant.within) c.loop-set.invariant.budget c.goes_on.ensures
     c.loop-set-test.false).0 (omega (arith, c.if-total-len-gt1.false, c.len.ensures.value))

@@ -9,7 +9,7 @@ invariant-loop-set g l = record {
   from : l.at + 1 ≤ l.next;
   within : l.next ≤ length l.items;
   budget : length l.words.items + owed (length (part_values l.part))
-      (row_pairs l.set (row l.fn.extent (drop l.next l.items))) ≤ l.total;
+      (row_pairs l.set (row l.fn.setting (drop l.next l.items))) ≤ l.total;
   so_far : IsRunSoFar l.set l.fn.words.items l.words.items l.part (take (l.next - l.at) (drop l.at l.items));
 }
 

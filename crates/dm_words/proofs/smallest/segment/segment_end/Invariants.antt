@@ -7,7 +7,7 @@ abbrev pub invariant-loop-next : goal.invariant-loop-next
 invariant-loop-next l = record {
   from : l.at + 1 ≤ l.next;
   within : l.next ≤ length l.items;
-  so_far : IsSegmentSoFar l.fn.extent (drop l.at l.items) (drop l.next l.items) (l.next - l.at);
+  so_far : IsSegmentSoFar l.fn.setting (drop l.at l.items) (drop l.next l.items) (l.next - l.at);
   bytes : has_fnc1 (take (l.next - l.at) (drop l.at l.items)) ≡ false;
 }
 

@@ -1,6 +1,3 @@
-use Rattle.std.proofs.Common.{sym, subst}
-use Rattle.dm_layout.specs.declared.symbols.size.SizeChoice.{SizeChoice}
-use Rattle.ecc200_calls.specs.inner.Rooms.{HasRoomToWrite}
 use Rattle.ecc200_calls.proofs.Rooms.{largest_to_write}
 use Rattle.ecc200_calls.proofs.room.Room.of_message.Goals as goal
 

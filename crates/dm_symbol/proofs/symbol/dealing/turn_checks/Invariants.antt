@@ -1,0 +1,7 @@
+use Rattle.std.proofs.Common.{◌≡◌, get_or, map}
+use Rattle.std.specs.List.{range_with_len}
+use Rattle.dm_symbol.specs.inner.Turns.{turned_place}
+use Rattle.dm_symbol.proofs.symbol.dealing.turn_checks.Given as goal
+
+abbrev pub invariant-loop-i : goal.invariant-loop-i
+invariant-loop-i g l = l.checks.items ≡ map (λ i. get_or l.list (turned_place l.shift i) 0) (range_with_len 0 l.i)

@@ -1,0 +1,59 @@
+-- The smallest symbol of a letter, in a choice of sizes, for readers of an extent.
+use Rattle.std.specs.Prelude.{ℕ, List, Option, None, Result, Ok, IfOk, OnErr, replicate}
+use Rattle.dm_words.specs.declared.extent.Extent.{Extent}
+use Rattle.dm_words.specs.declared.fault.TooLong.{TooLong}
+use Rattle.dm_words.specs.Letters.{LetterView}
+use Rattle.dm_words.specs.Smallest.{IsTaken, IsSmaller}
+use Rattle.dm_words.specs.SmallestLetters.{IsSmallestLetterFor, IsPlainestLetter, SaysThenPads, NoSizeSays}
+use Rattle.dm_layout.specs.declared.symbols.size.SizeChoice.{SizeChoice}
+use Rattle.dm_layout.specs.symbols.Sizes.{block_check}
+use Rattle.dm_layout.specs.symbols.Symbols.{SymbolView}
+use Rattle.dm_layout.specs.symbols.Holding.{IsLaid}
+use Rattle.dm_symbol.specs.declared.symbol.dealing.Dealing.TheVariants.{Standard}
+use Rattle.dm_symbol.specs.SymbolBlocks.{words_with, AreCodewordsOf, first_data}
+use Rattle.dm_symbol.specs.LetterReading.{ReadsLetter, LetterReadResult, letter_reading_of}
+use Rattle.dm_symbol.specs.SymbolLaws.{nothing_wrong}
+
+-- The modules are a symbol with the smallest data codewords of the letter.
+pub record IsSmallestLetterSymbol (extent : Extent) (choice : SizeChoice) (letter : LetterView) (modules : SymbolView)
+    : Type 0 where
+  -- Codewords of this size are laid in it: it holds them, each module of its borders has the right colour, and it has
+  -- the fixed square.
+  pub words : List ℕ
+  pub laid : IsLaid (words_with modules.size words) modules
+  -- The data codewords say the letter, and those of no smaller size of the choice do.
+  pub smallest : IsSmallestLetterFor extent choice modules.size (first_data modules.size words) letter
+  -- Of the codewords of its size they are the plainest, with pads behind them.
+  pub plainest : IsPlainestLetter (first_data modules.size words) letter
+  pub padded : SaysThenPads extent (first_data modules.size words) letter
+  -- The check codewords make each block a codeword of its Reed-Solomon code.
+  pub checked : AreCodewordsOf modules.size words
+
+-- The symbol is read as the letter in the extent, for every limit, by the standard's dealing, with nothing wrong in any
+-- block and no border fault; its codewords have some identifier.
+abbrev pub IsLetterReadWithNothingWrong : Extent → LetterView → SymbolView → Type 0
+IsLetterReadWithNothingWrong extent letter modules =
+    (identifier : ℕ) × ((limit : ℕ) → LetterReadResult extent modules None limit
+    (Ok (letter_reading_of letter identifier Standard
+    (replicate modules.size.blocks (nothing_wrong (block_check modules.size))) 0)))
+
+-- No symbol of a smaller size of the choice is read as the letter in the extent, whatever is wrong or doubtful in it.
+abbrev pub NoSmallerSays : Extent → SizeChoice → LetterView → SymbolView → Type 0
+NoSmallerSays extent choice letter modules = (other : SymbolView) (doubtful : Option SymbolView) (limit : ℕ)
+    → IsTaken choice other.size → IsSmaller other.size modules.size → ReadsLetter extent other doubtful limit letter
+    → ⊥
+
+-- No symbol of any size of the choice is read as the letter in the extent, whatever is wrong or doubtful in it.
+abbrev pub NoneSays : Extent → SizeChoice → LetterView → Type 0
+NoneSays extent choice letter = (other : SymbolView) (doubtful : Option SymbolView) (limit : ℕ)
+    → IsTaken choice other.size → ReadsLetter extent other doubtful limit letter → ⊥
+
+-- Writing a letter in its smallest symbol gives one that is read as the letter, where no smaller one is; or that none
+-- is, of any size of the choice.
+pub record IsSmallestLetterWritten (extent : Extent) (choice : SizeChoice) (letter : LetterView)
+    (result : Result SymbolView TooLong) : Type 0 where
+  pub written : IfOk result (λ modules. IsSmallestLetterSymbol extent choice letter modules)
+  pub read : IfOk result (λ modules. IsLetterReadWithNothingWrong extent letter modules)
+  pub no_smaller : IfOk result (λ modules. NoSmallerSays extent choice letter modules)
+  pub none : OnErr result (NoneSays extent choice letter)
+  pub no_size : OnErr result (NoSizeSays extent choice letter)

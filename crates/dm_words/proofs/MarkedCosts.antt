@@ -1,0 +1,287 @@
+-- What items with marks cost, from mark to mark.
+use Rattle.std.proofs.Common.{◌≡◌, ℕ, zero, suc, ◌+◌, ◌-◌, ◌*◌, ◌/◌, ◌%◌, ◌<◌, ◌≤◌, List, [], ◌∷◌, ◌++◌, length}
+use Rattle.std.proofs.Common.{take, drop, get_or}
+use Rattle.std.proofs.Common.{refl, sym, ap, subst, ◌∙◌, arith, Bool, true, false, cond, ltb, inl, inr, length-append}
+use Rattle.std.proofs.Math.ListN.{set}
+use Rattle.std.proofs.lemmas.Bool.{cases_lt}
+use Rattle.std.proofs.lemmas.List.{get_or-set_same, get_or-set_other}
+use Rattle.dm_words.specs.Macros.{macro_header, macro_trailer, macro_text}
+use Rattle.dm_words.specs.inner.Costs.{most_behind}
+use Rattle.std.proofs.lemmas.List.{at_drop_more, at_drop_all, drop-drop, take_rest, length-take, length-drop}
+use Rattle.std.proofs.Math.Seq.{take-suc, take-length}
+use Rattle.dm_words.specs.declared.item.Item.{Item}
+use Rattle.dm_words.specs.declared.letters.mark.Mark.{Mark}
+use Rattle.dm_words.specs.declared.extent.Extent.TheVariants.{Wide}
+use Rattle.dm_words.specs.Designators.{eci_word, designator, most_assigned}
+use Rattle.dm_words.specs.Letters.{AreMarks}
+use Rattle.dm_words.specs.LetterForm.{mark_words}
+use Rattle.dm_words.specs.inner.Costs.{at_end, before_words, parts_cost}
+use Rattle.dm_words.specs.inner.LetterCosts.{marked_cost, behind_first, first_text, first_end}
+use Rattle.dm_words.proofs.LetterForms.{marks_within}
+use Rattle.dm_words.proofs.Marks.{lower}
+use Rattle.dm_words.proofs.Plans.{cost_most}
+
+-- A designator has at most three codewords.
+pub designator_few : (number : ℕ) → length (designator number) ≤ 3
+designator_few n = by_test (ltb n 127) (ltb n 16383) where
+  by_test : (one two : Bool)
+      → length (cond one ((n + 1) ∷ [])
+      (cond two ((128 + (n - 127) / 254) ∷ (1 + (n - 127) % 254) ∷ [])
+      ((192 + (n - 16383) / 64516) ∷ (1 + (n - 16383) / 254 % 254) ∷ (1 + (n - 16383) % 254) ∷ []))) ≤ 3
+  by_test true two = omega arith
+  by_test false true = omega arith
+  by_test false false = omega arith
+
+-- Items with marks cost at most two codewords for each item and four for each mark.
+pub marked_most : (seen : ℕ) (items : List Item) (marks : List Mark)
+    → marked_cost seen items marks ≤ 2 * length items + 4 * length marks
+marked_most seen items [] = omega (arith, cost_most (at_end Wide) items)
+marked_most seen items (m ∷ marks) =
+    let n = m.place - seen in
+    let rest = marked_cost m.place (drop n items) marks in
+    omega (
+      arith,
+      cost_most (before_words (length (mark_words m) + rest)) (take n items),
+      designator_few m.number,
+      marked_most m.place (drop n items) marks,
+      length-take n items,
+      length-drop n items,
+    )
+
+-- The cost is that of the items before the first mark, and of what follows them.
+pub cost_is : (seen : ℕ) (items : List Item) (marks : List Mark) → marked_cost seen items marks
+    ≡ parts_cost (before_words (behind_first seen items marks)) (first_text seen items marks)
+cost_is seen items [] = refl
+cost_is seen items (m ∷ marks) = refl
+
+-- Marks begin at a place or behind it.
+abbrev pub StartAt : ℕ → List Mark → Type 0
+StartAt place [] = Unit {0}
+StartAt place (m ∷ marks) = place ≤ m.place
+
+-- Marks in order do.
+start_at : (place most : ℕ) (marks : List Mark) → AreMarks place most marks → StartAt place marks
+start_at place most [] are = tt
+start_at place most (m ∷ marks) are = are.0
+
+-- Of marks in order the further ones are in order.
+marks_drop : (least most k : ℕ) (marks : List Mark) → AreMarks least most marks → AreMarks least most (drop k marks)
+marks_drop least most zero marks are = are
+marks_drop least most (suc k) [] are = are
+marks_drop least most (suc k) (m ∷ marks) are =
+    lower m.place least most (drop k marks) (marks_drop m.place most k marks are.2) are.0
+
+-- From a further place on, which no mark stands before, the same follows the items before the first mark.
+behind_shift : (seen place : ℕ) (items : List Item) (marks : List Mark) → seen ≤ place → StartAt place marks
+    → behind_first place (drop (place - seen) items) marks ≡ behind_first seen items marks
+behind_shift seen place items [] le starts = refl
+behind_shift seen place items (m ∷ marks) le starts =
+    let sum : (place - seen) + (m.place - place) ≡ m.place - seen = omega (arith, le, starts) in
+    ap (λ (l : List Item). length (mark_words m) + marked_cost m.place l marks)
+    (drop-drop (m.place - place) (place - seen) items ∙ ap (λ (k : ℕ). drop k items) sum)
+
+-- The items before the first mark, from a further place on.
+text_shift : (seen place : ℕ) (items : List Item) (marks : List Mark) → seen ≤ place → StartAt place marks
+    → first_text place (drop (place - seen) items) marks
+    ≡ take (first_end seen items marks - (place - seen)) (drop (place - seen) items)
+text_shift seen place items [] le starts = sym (take_rest items (place - seen))
+text_shift seen place items (m ∷ marks) le starts =
+    let same : m.place - place ≡ (m.place - seen) - (place - seen) = omega (arith, le, starts) in
+    ap (λ (k : ℕ). take k (drop (place - seen) items)) same
+
+-- So the cost from a further place on is this.
+cost_from : (seen place : ℕ) (items : List Item) (marks : List Mark) → seen ≤ place → StartAt place marks
+    → marked_cost place (drop (place - seen) items) marks
+    ≡ parts_cost (before_words (behind_first seen items marks))
+    (take (first_end seen items marks - (place - seen)) (drop (place - seen) items))
+cost_from seen place items marks le starts =
+    let b = behind_first place (drop (place - seen) items) marks in
+    cost_is place (drop (place - seen) items) marks
+    ∙ ap (λ (l : List Item). parts_cost (before_words b) l) (text_shift seen place items marks le starts)
+    ∙ ap (λ (n : ℕ). parts_cost (before_words n)
+    (take (first_end seen items marks - (place - seen)) (drop (place - seen) items)))
+    (behind_shift seen place items marks le starts)
+
+-- They end no further in front than at a place that no mark stands before.
+end_from : (seen place : ℕ) (items : List Item) (marks : List Mark) → AreMarks place (seen + length items) marks
+    → place - seen ≤ first_end seen items marks
+end_from seen place items [] are = omega (arith, are)
+end_from seen place items (m ∷ marks) are = omega (arith, are.0)
+
+-- They are these.
+pub text_is : (seen : ℕ) (items : List Item) (marks : List Mark) → take (first_end seen items marks) items
+    ≡ first_text seen items marks
+text_is seen items [] = take-length items
+text_is seen items (m ∷ marks) = refl
+
+-- ---- from the last mark to the first
+
+-- What is known of the mark before an index, which has this place and number, where the items behind it end at this
+-- index of the items.
+pub record IsBack (seen : ℕ) (items : List Item) (marks : List Mark) (k place number end : ℕ) : Type 0 where
+  pub from : seen ≤ place
+  pub within : place - seen ≤ end
+  pub assigned : number ≤ most_assigned
+  pub end_is : place - seen ≡ first_end seen items (drop (k - 1) marks)
+  pub cost : behind_first seen items (drop (k - 1) marks)
+      ≡ length (eci_word ∷ designator number)
+      + parts_cost (before_words (behind_first seen items (drop k marks)))
+      (take (end - (place - seen)) (drop (place - seen) items))
+
+pub back : (seen : ℕ) (items : List Item) (marks : List Mark) (k end : ℕ) (d : Mark) → 0 < k → k ≤ length marks
+    → AreMarks seen (seen + length items) marks → end ≡ first_end seen items (drop k marks)
+    → IsBack seen items marks k (get_or marks (k - 1) d).place (get_or marks (k - 1) d).number end
+back seen items marks k end d some within are is =
+    let m = get_or marks (k - 1) d in
+    let rest = drop k marks in
+    let next : (k - 1) + 1 ≡ k = omega (arith, some) in
+    let here : drop (k - 1) marks ≡ m ∷ rest =
+    at_drop_more (λ (r : List Mark). r) marks (k - 1) d (omega (arith, some, within))
+    ∙ ap (λ (i : ℕ). m ∷ drop i marks) next in
+    let a : AreMarks seen (seen + length items) (m ∷ rest) =
+    subst (AreMarks seen (seen + length items)) here (marks_drop seen (seen + length items) (k - 1) marks are) in
+    record {
+      from = a.0;
+      within = rw is (end_from seen m.place items rest a.2);
+      assigned = a.1;
+      end_is = ap (first_end seen items) (sym here);
+      cost = ap (behind_first seen items) here
+          ∙ ap (λ (n : ℕ). length (mark_words m) + n)
+          (cost_from seen m.place items rest a.0 (start_at m.place (seen + length items) rest a.2))
+          ∙ ap (λ (n : ℕ). length (mark_words m)
+          + parts_cost (before_words (behind_first seen items rest))
+          (take (n - (m.place - seen)) (drop (m.place - seen) items))) (sym is);
+    }
+
+-- ---- from the first mark to the last
+
+-- What is known of the mark at an index, which has this place and number, where the items before it begin at this index
+-- of the items and this many codewords follow them.
+pub record IsForth (seen : ℕ) (items : List Item) (marks : List Mark) (k from place number behind : ℕ) : Type 0 where
+  pub later : from ≤ place - seen
+  pub within : place - seen ≤ length items
+  pub assigned : number ≤ most_assigned
+  pub in_order : AreMarks (seen + (place - seen)) (seen + length items) (drop (k + 1) marks)
+  pub cost : marked_cost (seen + from) (drop from items) (drop k marks)
+      ≡ parts_cost (before_words behind) (take ((place - seen) - from) (drop from items))
+  pub behind_is : behind
+      ≡ length (eci_word ∷ designator number)
+      + marked_cost (seen + (place - seen)) (drop (place - seen) items) (drop (k + 1) marks)
+  pub mark : take (k + 1) marks
+      ≡ take k marks ++ (let n : Mark = record { place = seen + (place - seen); number = number } in n) ∷ []
+
+pub forth : (seen : ℕ) (items : List Item) (marks : List Mark) (k from : ℕ) (d : Mark) → k < length marks
+    → AreMarks (seen + from) (seen + length items) (drop k marks)
+    → IsForth seen items marks k from (get_or marks k d).place (get_or marks k d).number
+    (behind_first seen items (drop k marks))
+forth seen items marks k from d lt are =
+    let m = get_or marks k d in
+    let rest = drop (k + 1) marks in
+    let most = seen + length items in
+    let here : drop k marks ≡ m ∷ rest = at_drop_more (λ (r : List Mark). r) marks k d lt in
+    let a : AreMarks (seen + from) most (m ∷ rest) = subst (AreMarks (seen + from) most) here are in
+    let there : m.place ≡ seen + (m.place - seen) = omega (arith, a.0) in
+    let index : (seen + from) - seen ≡ from = omega arith in
+    let one : suc k ≡ k + 1 = omega arith in
+    record {
+      later = omega (arith, a.0);
+      within = omega (arith, marks_within m.place most rest a.2);
+      assigned = a.1;
+      in_order = subst (λ (p : ℕ). AreMarks p most rest) there a.2;
+      cost = ap (λ (i : ℕ). marked_cost (seen + from) (drop i items) (drop k marks)) (sym index)
+          ∙ cost_from seen (seen + from) items (drop k marks) (omega arith)
+          (start_at (seen + from) most (drop k marks) are)
+          ∙ ap (λ (i : ℕ). parts_cost (before_words (behind_first seen items (drop k marks)))
+          (take (first_end seen items (drop k marks) - i) (drop i items))) index
+          ∙ ap (λ (ms : List Mark). parts_cost (before_words (behind_first seen items (drop k marks)))
+          (take (first_end seen items ms - from) (drop from items))) here;
+      behind_is = ap (behind_first seen items) here
+          ∙ ap (λ (p : ℕ). length (mark_words m) + marked_cost p (drop (m.place - seen) items) rest) there;
+      mark = ap (λ (i : ℕ). take i marks) (sym one) ∙ take-suc marks k d lt
+          ∙ ap (λ (p : ℕ). take k marks ++ (let n : Mark = record { place = p; number = m.number } in n) ∷ []) there;
+    }
+
+-- Each mark of marks in order stands between the two places.
+pub each_within : (least most i : ℕ) (marks : List Mark) (d : Mark) → AreMarks least most marks → i < length marks
+    → (least ≤ (get_or marks i d).place) × ((get_or marks i d).place ≤ most)
+each_within least most i [] d are lt = absurd (omega (arith, lt))
+each_within least most zero (m ∷ marks) d are lt = (are.0, marks_within m.place most marks are.2)
+each_within least most (suc i) (m ∷ marks) d are lt =
+    let r = each_within m.place most i marks d are.2 (omega (arith, lt)) in (omega (arith, are.0, r.0), r.1)
+
+-- Marks in order none of which stands behind a place are in order up to it.
+up_to : (least most total : ℕ) (marks : List Mark) (d : Mark) → AreMarks least total marks → least ≤ most
+    → ((i : ℕ) → i < length marks → (get_or marks i d).place ≤ most) → AreMarks least most marks
+up_to least most total [] d are le each = le
+up_to least most total (m ∷ marks) d are le each = (
+  are.0,
+  are.1,
+  up_to m.place most total marks d are.2 (each 0 (omega arith)) (λ i lt. each (suc i) (omega (arith, lt))),
+)
+
+-- Marks in order each of which stands between two places are in order between these.
+pub between : (low least most total : ℕ) (marks : List Mark) (d : Mark) → AreMarks low total marks → least ≤ most
+    → ((i : ℕ) → i < length marks → (least ≤ (get_or marks i d).place) × ((get_or marks i d).place ≤ most))
+    → AreMarks least most marks
+between low least most total [] d are le each = le
+between low least most total (m ∷ marks) d are le each = (
+  (each 0 (omega arith)).0,
+  are.1,
+  up_to m.place most total marks d are.2 (each 0 (omega arith)).1 (λ i lt. (each (suc i) (omega (arith, lt))).1),
+)
+
+-- ---- turns of the loops
+
+-- A turn from the last mark to the first counts a mark and the items behind it.
+pub cost_turn : (seen : ℕ) (items : List Item) (marks : List Mark) (k place number end cost text count : ℕ)
+    → IsBack seen items marks k place number end → cost ≡ behind_first seen items (drop k marks)
+    → text ≡ parts_cost (before_words cost) (take (end - (place - seen)) (drop (place - seen) items))
+    → count ≡ length (eci_word ∷ designator number) → count + text ≡ behind_first seen items (drop (k - 1) marks)
+cost_turn seen items marks k place number end cost text count b is is_text is_count =
+    let t = is_text
+    ∙ ap (λ (n : ℕ). parts_cost (before_words n) (take (end - (place - seen)) (drop (place - seen) items))) is in
+    omega (arith, b.cost, t, is_count)
+
+-- It keeps what follows the items before the mark.
+pub behind_turn : (seen : ℕ) (items : List Item) (marks : List Mark) (k cost : ℕ) (behind : List ℕ) → 0 < k
+    → k ≤ length marks → length marks ≤ length behind → cost ≡ behind_first seen items (drop (k - 1) marks)
+    → ((i : ℕ) → k ≤ i → i < length marks → get_or behind i 0 ≡ behind_first seen items (drop i marks))
+    → (i : ℕ) → k - 1 ≤ i → i < length marks
+    → get_or (set behind (k - 1) cost) i 0 ≡ behind_first seen items (drop i marks)
+behind_turn seen items marks k cost behind some within room is others i from to =
+    elim (cases_lt (k - 1) i) [
+      | inl later ↦ get_or-set_other behind (k - 1) i cost 0 (omega (arith, later))
+          ∙ others i (omega (arith, later, some)) to
+      | inr le ↦ (let e : k - 1 ≡ i = omega (arith, le, from) in
+          ap (λ (j : ℕ). get_or (set behind (k - 1) cost) j 0) (sym e)
+          ∙ get_or-set_same behind (k - 1) cost 0 (omega (arith, some, within, room)) ∙ is
+          ∙ ap (λ (j : ℕ). behind_first seen items (drop j marks)) e)
+    ]
+
+-- What follows the items before a mark is little.
+pub behind_few : (seen : ℕ) (items : List Item) (marks : List Mark) (k from place number behind : ℕ)
+    → IsForth seen items marks k from place number behind → length items ≤ 3123 → length marks ≤ 779 → k < length marks
+    → behind ≤ most_behind
+behind_few seen items marks k from place number behind f few few_marks lt =
+    omega (
+      arith,
+      f.behind_is,
+      designator_few number,
+      marked_most (seen + (place - seen)) (drop (place - seen) items) (drop (k + 1) marks),
+      length-drop (place - seen) items,
+      length-drop (k + 1) marks,
+      few,
+      few_marks,
+      lt,
+    )
+
+-- The text of a macro has nine items fewer than its header, itself and its trailer.
+pub framed_length : (items text : List Item) (digit : ℕ) → items ≡ macro_text digit text
+    → length items ≡ 9 + length text
+framed_length items text digit e =
+    omega (
+      arith,
+      ap length e,
+      length-append (macro_header digit) (text ++ macro_trailer),
+      length-append text macro_trailer,
+    )

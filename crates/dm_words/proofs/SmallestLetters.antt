@@ -1,0 +1,186 @@
+-- The words that are written for a letter say it, and no fewer do; and how far they are determined.
+use Rattle.std.proofs.Common.{◌≡◌, ◌↔◌, ℕ, ◌+◌, ◌*◌, ◌≤◌, List, [], ◌∷◌, ◌++◌, length, refl, sym, ap, subst, ◌∙◌}
+use Rattle.std.proofs.Common.{arith, true, false, Option, Some, None, Result, Ok, Err}
+use Rattle.dm_layout.specs.declared.symbols.size.SizeChoice.{SizeChoice}
+use Rattle.dm_layout.specs.symbols.Sizes.{SizeEntry}
+use Rattle.dm_words.specs.declared.extent.Extent.{Extent}
+use Rattle.dm_words.specs.declared.extent.Extent.TheVariants.{Usual, Wide}
+use Rattle.dm_words.specs.declared.fault.TooLong.{TooLong}
+use Rattle.dm_words.specs.declared.item.Item.{Item}
+use Rattle.dm_words.specs.declared.letters.head.Head.{Head}
+use Rattle.dm_words.specs.declared.letters.mark.Mark.{Mark}
+use Rattle.dm_words.specs.declared.profile.Profile.TheVariants.{Ascii}
+use Rattle.dm_words.specs.Heads.{head_words}
+use Rattle.dm_words.specs.Letters.{LetterView}
+use Rattle.dm_words.specs.LetterForm.{form_by, letter_form, ascii_with_marks}
+use Rattle.dm_words.specs.LetterExtents.{as_letter, SaysIn}
+use Rattle.dm_words.specs.Pads.{padded}
+use Rattle.dm_words.specs.Smallest.{IsSmallestResult}
+use Rattle.dm_words.specs.SmallestLetters.{IsSmallestLetterFor, NoSizeSays, IsPlainestLetter, SaysThenPads, of_message}
+use Rattle.dm_words.specs.SmallestLetters.{of_letter, IsSmallestLetterResult}
+use Rattle.dm_words.specs.inner.Costs.{never}
+use Rattle.dm_words.specs.inner.LetterCosts.{view_of, IsLeastLetterCost, IsLeastSize, IsSizeFor}
+use Rattle.dm_words.specs.inner.MarkedForms.{is_plain}
+use Rattle.dm_words.specs.inner.Ways.{IsLeastCost}
+use Rattle.dm_words.proofs.CostBounds.{no_fewer_words}
+use Rattle.dm_words.proofs.LetterBounds.{no_fewer_letter}
+use Rattle.dm_words.proofs.LetterExtents.{spelled_said, usual_spells}
+use Rattle.dm_words.proofs.PadWords.{length-padded}
+use Rattle.dm_words.proofs.SmallestLaws.{one_is_smaller}
+use Rattle.dm_words.proofs.SmallestSymbols.{none_smaller, none_has, padded_spells}
+
+-- ---- messages
+
+-- The least cost of a message is that of it as a letter.
+least_letter : (m : List Item) (cost : ℕ) → IsLeastCost Wide m cost → IsLeastLetterCost (as_letter m) cost
+least_letter m cost least = record {
+  parts = omega (arith, least.parts);
+  framed = λ word digit text k none e marks. least.macros word digit text refl k e;
+}
+
+-- No words that say a message as a letter are fewer than its least cost.
+no_fewer_message : (extent : Extent) (m : List Item) (cost : ℕ) → length m ≤ 3123 → IsLeastCost extent m cost
+    → (words : List ℕ) → SaysIn extent words (as_letter m) → cost ≤ length words
+no_fewer_message Usual m cost few least words says =
+    no_fewer_words Usual words m cost least (usual_spells words (as_letter m) says).1
+no_fewer_message Wide m cost few least words says =
+    no_fewer_letter Wide words (as_letter m) cost (omega (arith, few)) (least_letter m cost least) says
+
+-- The smallest words of a message are those of it as a letter.
+pub message_letter : (extent : Extent) (choice : SizeChoice) (m : List Item) (result : Result SizeEntry TooLong)
+    (words : List ℕ) → length m ≤ 3123 → IsSmallestResult extent choice m result words
+    → (cost : ℕ) × IsLeastCost extent m cost × IsSizeFor choice cost result
+    → IsSmallestLetterResult extent choice (as_letter m) result words
+message_letter extent choice m (Ok size) words few r c =
+    let s = r.smallest in
+    let p = r.plainest in
+    let lower = no_fewer_message extent m c.0 few c.1 in
+    record {
+      smallest = record {
+        says = spelled_said extent words m s.spells;
+        taken = s.taken;
+        sized = s.sized;
+        smallest = λ smaller other taken less sized says.
+            none_smaller (λ w. SaysIn extent w (as_letter m)) choice c.0 size smaller other lower c.2.smallest
+            c.2.narrowest taken less sized says;
+      };
+      plainest = record {
+        ascii = p.ascii;
+        usual = λ other same says. SaysIn.of_message m refl
+            (p.usual other same (usual_spells other (as_letter m) says).1) refl;
+      };
+      padded = of_message m refl r.padded;
+      too_long = λ err size other taken sized says. absurd cc;
+    }
+message_letter extent choice m (Err fault) words few r c = record {
+  smallest = tt;
+  plainest = tt;
+  padded = tt;
+  too_long = λ err size other taken sized says.
+      none_has (λ w. SaysIn extent w (as_letter m)) choice c.0 size other (no_fewer_message extent m c.0 few c.1) c.2
+      taken sized says;
+}
+
+-- A letter without a head and marks is a message.
+pub plain_is : (l : LetterView) → is_plain l.head l.marks ≡ true → as_letter l.items ≡ l
+plain_is l is = by_parts l.head l.marks is where
+  by_parts : (head : Option Head) (marks : List Mark) → is_plain head marks ≡ true
+      → as_letter l.items ≡ view_of head l.items marks
+  by_parts None [] e = refl
+  by_parts None (m ∷ marks) e = absurd cc
+  by_parts (Some head) marks e = absurd cc
+
+-- ---- letters with a head or marks
+
+-- Nothing says one in the usual extent.
+pub not_usual : (words : List ℕ) (l : LetterView) → is_plain l.head l.marks ≡ false → SaysIn Usual words l → ⊥
+not_usual words l marked says =
+    let e = (usual_spells words l says).0 in
+    let plain : is_plain l.head l.marks ≡ true = ap (λ (k : LetterView). is_plain k.head k.marks) e in
+    absurd cc
+
+-- The normal form of one is its head, and its items with their marks.
+form_is : (head : Option Head) (items : List Item) (marks : List Mark) → is_plain head marks ≡ false
+    → form_by Ascii head items marks ≡ head_words head ++ ascii_with_marks 0 items marks
+form_is None items [] marked = absurd cc
+form_is None items (m ∷ marks) marked = refl
+form_is (Some head) items marks marked = refl
+
+-- With pads behind them or not, words say a letter.
+said_padded : (words : List ℕ) (l : LetterView) → SaysThenPads Wide words l → SaysIn Wide words l
+said_padded words l (of_message m is s) =
+    subst (SaysIn Wide words) (sym is) (spelled_said Wide words m (padded_spells Wide words m s))
+said_padded words l (of_letter is s pads) = SaysIn.of_letter is s
+
+-- What is written for one, with pads, is the smallest.
+pub marked_smallest : (choice : SizeChoice) (l : LetterView) (cost count : ℕ) (size : SizeEntry) (new words : List ℕ)
+    → 2 * length l.items + 4 * length l.marks ≤ never → is_plain l.head l.marks ≡ false → IsLeastLetterCost l cost
+    → IsLeastSize choice cost size → count ≡ size.data_count → words ≡ padded new count → length new ≤ count
+    → SaysThenPads Wide (padded new count) l
+    → (length (head_words l.head ++ ascii_with_marks 0 l.items l.marks) ≤ count → new
+    ≡ head_words l.head ++ ascii_with_marks 0 l.items l.marks)
+    → IsSmallestLetterResult Wide choice l (Ok size) words
+marked_smallest choice l cost count size new words few marked least fit counts is fits says ascii =
+    let long : length words ≡ count = ap length is ∙ length-padded new count fits in
+    let form = form_is l.head l.items l.marks marked in
+    let all : SaysThenPads Wide words l = subst (λ (w : List ℕ). SaysThenPads Wide w l) (sym is) says in
+    record {
+      smallest = record {
+        says = said_padded words l all;
+        taken = fit.taken;
+        sized = long ∙ counts;
+        smallest = λ smaller other taken less sized other_says.
+            none_smaller (λ w. SaysIn Wide w l) choice cost size smaller other
+            (λ w s. no_fewer_letter Wide w l cost few least s) fit.smallest fit.narrowest taken less sized other_says;
+      };
+      plainest = record {
+        ascii = λ room. (let e = ascii (omega (arith, room, ap length form, long)) in
+            is ∙ ap (λ (w : List ℕ). padded w count) (e ∙ sym form) ∙ ap (padded (letter_form Ascii l)) (sym long));
+        usual = λ other same other_says. absurd (not_usual other l marked other_says);
+      };
+      padded = all;
+      too_long = λ err other_size other taken sized other_says. absurd cc;
+    }
+
+-- Where no size is enough for one, none has words that say it.
+pub marked_too_long : (choice : SizeChoice) (l : LetterView) (cost : ℕ) (fault : TooLong) (words : List ℕ)
+    → 2 * length l.items + 4 * length l.marks ≤ never → IsLeastLetterCost l cost
+    → IsSizeFor choice cost (Err fault) → IsSmallestLetterResult Wide choice l (Err fault) words
+marked_too_long choice l cost fault words few least none = record {
+  smallest = tt;
+  plainest = tt;
+  padded = tt;
+  too_long = λ err size other taken sized says.
+      none_has (λ w. SaysIn Wide w l) choice cost size other (λ w s. no_fewer_letter Wide w l cost few least s) none
+      taken sized says;
+}
+
+-- ---- how far they are determined
+
+-- None is in a smaller size than another.
+pub one_letter_size : (extent : Extent) (choice : SizeChoice) (size other_size : SizeEntry) (l : LetterView)
+    (words other : List ℕ)
+    → IsSmallestLetterFor extent choice size words l → IsSmallestLetterFor extent choice other_size other l
+    → size ≡ other_size
+one_letter_size extent choice size other_size l words other s o =
+    one_is_smaller size other_size s.taken.0 o.taken.0
+    (λ less. o.smallest size words s.taken less s.sized s.says)
+    (λ less. s.smallest other_size other o.taken less o.sized o.says)
+
+-- Where there are some, it isn't so that none of any size says the letter.
+pub some_or_none : (extent : Extent) (choice : SizeChoice) (size : SizeEntry) (l : LetterView) (words : List ℕ)
+    → IsSmallestLetterFor extent choice size words l → NoSizeSays extent choice l → ⊥
+some_or_none extent choice size l words s none = none size words s.taken s.sized s.says
+
+-- Where there is room for the ASCII form, both are this with pads.
+pub one_letter_with_ascii : (l : LetterView) (words other : List ℕ) → IsPlainestLetter words l
+    → IsPlainestLetter other l → length words ≡ length other → length (letter_form Ascii l) ≤ length words
+    → words ≡ other
+one_letter_with_ascii l words other s o same room =
+    s.ascii room ∙ ap (padded (letter_form Ascii l)) same ∙ sym (o.ascii (omega (arith, room, same)))
+
+-- The usual extent reads both or neither.
+pub usual_letter_or_not : (l : LetterView) (words other : List ℕ) → IsPlainestLetter words l
+    → IsPlainestLetter other l → length words ≡ length other → SaysIn Usual words l ↔ SaysIn Usual other l
+usual_letter_or_not l words other s o same =
+    ((λ says. o.usual words same says), (λ says. s.usual other (sym same) says))

@@ -1,0 +1,14 @@
+use Rattle.std.proofs.Common.{◌+◌, ◌<◌, ◌≤◌, length, drop, take}
+use Rattle.dm_words.specs.Letters.{AreMarks}
+use Rattle.dm_words.specs.inner.LetterCosts.{marked_cost, AreSaid}
+use Rattle.dm_words.proofs.smallest.letters.write_texts.Given as goal
+
+-- The items before the index and the marks so far are written, and the others are paid.
+abbrev pub invariant-loop-k : goal.invariant-loop-k
+invariant-loop-k g l = record {
+  within : l.from ≤ length l.items;
+  steps : length l.items < length l.plan;
+  in_order : AreMarks (l.seen + l.from) (l.seen + length l.items) (drop l.k l.marks);
+  said : AreSaid l.total l.fn.words.items l.words.items l.seen (take l.from l.items) (take l.k l.marks);
+  budget : length l.words.items + marked_cost (l.seen + l.from) (drop l.from l.items) (drop l.k l.marks) ≤ l.total;
+}

@@ -1,0 +1,72 @@
+use Rattle.std.proofs.Common.{List, ◌-◌, get_or, length, arith, Result, Ok, Err, ap}
+use Rattle.std.specs.Prelude.{IsOk, OnOk}
+use Rattle.std.proofs.lemmas.Bool.{false≢true}
+use Rattle.dm_symbol.specs.declared.Mark.{Mark}
+use Rattle.ecc200_calls.specs.declared.mark.MarkNumbers.{MarkNumbers}
+use Rattle.ecc200_calls.proofs.LetterNumbers.{between, made_on, mark_fits, piece_fits}
+use Rattle.ecc200_calls.proofs.letter.letter_of_numbers.Goals as goal
+
+-- What stands where there is no mark.
+abbrev nothing : MarkNumbers
+nothing = record { number = 0; place = 0 }
+
+-- What holds where there is a value holds where there is room for it.
+with_room : {A E : Type 0} (r : Result A E) (P : Type 0) → IsOk r → OnOk r P → P
+with_room (Ok value) P ok p = p
+with_room (Err why) P ok p = absurd (false≢true ok)
+
+pub slice_bounds-push_items-count : goal.slice_bounds-push_items-count
+slice_bounds-push_items-count c =
+    let l = c.loop-mark in
+    (between c.args.head c.args.items.now c.args.marks.now l.before l.mark-index l.letter nothing c.loop-mark-test.true
+    l.invariant).0
+
+pub slice_bounds-push_items-start : goal.slice_bounds-push_items-start
+slice_bounds-push_items-start c =
+    let l = c.loop-mark in
+    let b = between c.args.head c.args.items.now c.args.marks.now l.before l.mark-index l.letter nothing
+    c.loop-mark-test.true l.invariant in omega (arith, b.0, b.1)
+
+pub slice_bounds-push_items-end : goal.slice_bounds-push_items-end
+slice_bounds-push_items-end c =
+    let l = c.loop-mark in
+    let b = between c.args.head c.args.items.now c.args.marks.now l.before l.mark-index l.letter nothing
+    c.loop-mark-test.true l.invariant in omega (arith, b.0, b.1)
+
+pub push_items-requires-clause-room : goal.push_items-requires-clause-room
+push_items-requires-clause-room c =
+    let l = c.loop-mark in
+    omega (
+      arith,
+      c.requires.room,
+      piece_fits c.args.items.now l.letter.items l.before
+          ((get_or c.args.marks.now l.mark-index nothing).place - l.before) l.invariant.before l.invariant.items_are,
+    )
+
+pub push_mark-room-requires : goal.push_mark-room-requires
+push_mark-room-requires c =
+    let l = c.loop-mark in
+    let b = between c.args.head c.args.items.now c.args.marks.now l.before l.mark-index l.letter nothing
+    c.loop-mark-test.true l.invariant in (omega arith, (omega arith, b.2))
+
+pub loop-mark-preserved : goal.loop-mark-preserved
+loop-mark-preserved c =
+    let l = c.loop-mark in
+    let pushed = c.push_items.ensures in
+    let fits = mark_fits c.args.head c.args.items.now c.args.marks.now l.before l.mark-index l.letter nothing
+    c.loop-mark-test.true l.invariant in
+    let room = c.push_mark-room.ensures.room.1
+    (omega (arith, fits, c.requires.mark_room, ap (λ (ms : List Mark). length ms) pushed.marks)) in
+    made_on c.args.head c.args.items.now c.args.marks.now l.before l.mark-index l.letter nothing
+    c.loop-mark-test.true l.invariant c.push_items.new.letter c.push_mark-room.new.self pushed.items pushed.head
+    pushed.marks (with_room c.push_mark-room.result _ room c.push_mark-room.ensures.added)
+
+pub push_items-requires-2-clause-room : goal.push_items-requires-2-clause-room
+push_items-requires-2-clause-room c =
+    let l = c.loop-mark in
+    omega (
+      arith,
+      c.requires.room,
+      piece_fits c.args.items.now l.letter.items l.before (length c.args.items.now - l.before)
+          l.invariant.before l.invariant.items_are,
+    )

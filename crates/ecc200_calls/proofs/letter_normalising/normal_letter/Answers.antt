@@ -1,0 +1,23 @@
+use Rattle.dm_symbol.specs.declared.Extent.TheVariants.{Wide}
+use Rattle.ecc200_calls.specs.Symbols.{IsNormalGiven}
+use Rattle.ecc200_calls.proofs.OfGiven.{doubted_given, sure_given}
+use Rattle.ecc200_calls.proofs.letter_normalising.normal_letter.Goals as goal
+
+pub returns-then-given : goal.returns-then-given
+returns-then-given c =
+    let a = c.args in
+    doubted_given a.given.size a.modules.now a.doubtful.now a.given.doubt
+    (λ size symbol doubtful. IsNormalGiven Wide a.profile symbol doubtful a.border_limit a.out.now
+    c.normal_symbol.new.out)
+    c.light-symbol.result c.put_modules.new.symbol c.light-marked.result c.put_modules-then-given.new.symbol
+    c.if-given.true c.light-symbol.ensures.size c.put_modules.ensures.size c.put_modules.ensures.modules
+    c.light-marked.ensures.size c.put_modules-then-given.ensures.modules c.normal_symbol.ensures
+
+pub returns-else-given : goal.returns-else-given
+returns-else-given c =
+    let a = c.args in
+    let shown = c.normal_symbol-else-given in
+    sure_given a.given.size a.modules.now a.doubtful.now a.given.doubt
+    (λ size symbol doubtful. IsNormalGiven Wide a.profile symbol doubtful a.border_limit a.out.now shown.new.out)
+    c.light-symbol.result c.put_modules.new.symbol c.if-given.false c.light-symbol.ensures.size
+    c.put_modules.ensures.size c.put_modules.ensures.modules shown.ensures

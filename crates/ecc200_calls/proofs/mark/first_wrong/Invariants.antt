@@ -1,0 +1,9 @@
+use Rattle.std.proofs.Common.{◌≤◌}
+use Rattle.ecc200_calls.proofs.LetterNumbers.{AreInOrder}
+use Rattle.ecc200_calls.proofs.mark.first_wrong.Given as goal
+
+abbrev pub invariant-loop-i : goal.invariant-loop-i
+invariant-loop-i l = record {
+  within : l.least ≤ l.count;
+  so_far : AreInOrder l.marks l.i l.least;
+}

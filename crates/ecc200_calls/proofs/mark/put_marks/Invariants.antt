@@ -1,0 +1,10 @@
+use Rattle.std.proofs.Common.{◌≡◌, drop, length, take}
+use Rattle.ecc200_calls.specs.Letters.{marks_shown}
+use Rattle.ecc200_calls.proofs.mark.put_marks.Given as goal
+
+abbrev pub invariant-loop-i : goal.invariant-loop-i
+invariant-loop-i l = record {
+  prefix : take l.i l.all ≡ marks_shown (take l.i l.marks);
+  behind : drop l.i l.all ≡ drop l.i l.initial.all;
+  room : length l.all ≡ length l.initial.all;
+}

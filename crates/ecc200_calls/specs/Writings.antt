@@ -1,0 +1,94 @@
+-- What the library gives for a letter that is to be written. A message is a letter without a head and marks.
+use Rattle.std.specs.Prelude.{◌≡◌, ℕ, ◌≤◌, List, length, nat_eq, if◌then◌else◌, Option, Some, None}
+use Rattle.std.specs.Prelude.{All, get_or, min, Result, Ok, Err}
+use Rattle.dm_symbol.specs.declared.Extent.TheVariants.{Usual, Wide}
+use Rattle.dm_symbol.specs.declared.Head.{Head}
+use Rattle.dm_symbol.specs.declared.Profile.TheVariants.{Ascii, Shorter}
+use Rattle.dm_symbol.specs.declared.SizeChoice.{SizeChoice}
+use Rattle.dm_symbol.specs.declared.TooLong.{TooLong}
+use Rattle.dm_words.specs.Letters.{LetterView, IsLetter}
+use Rattle.dm_layout.specs.symbols.Symbols.{SymbolView}
+use Rattle.dm_symbol.specs.NormalLetter.{IsLetterWritten}
+use Rattle.dm_symbol.specs.SmallestLetterSymbol.{IsSmallestLetterWritten}
+use Rattle.ecc200_calls.specs.declared.form.Form.{Form}
+use Rattle.ecc200_calls.specs.declared.form.Form.TheVariants.{Profiled, Smallest}
+use Rattle.ecc200_calls.specs.declared.how.How.{How}
+use Rattle.ecc200_calls.specs.declared.fault.Fault.{Fault}
+use Rattle.ecc200_calls.specs.declared.mark.MarkNumbers.{MarkNumbers}
+use Rattle.ecc200_calls.specs.declared.symbol.SymbolOut.{SymbolOut}
+use Rattle.ecc200_calls.specs.Choices.{choice_of}
+use Rattle.ecc200_calls.specs.Faults.{too_long, foreign, no_such_choice, no_such_extent, no_such_head}
+use Rattle.ecc200_calls.specs.Faults.{no_such_profile, wrong_mark}
+use Rattle.ecc200_calls.specs.Items.{IsFirstForeign}
+use Rattle.ecc200_calls.specs.Letters.{AreOfHead, IsFirstWrong, IsLetterOf}
+use Rattle.ecc200_calls.specs.Symbols.{no_symbol, symbol_shown}
+
+-- The numbers 0 and 1 stand for the smallest symbol for readers of the extents `Usual` and `Wide`.
+abbrev pub smallest_form : ℕ → Result Form Fault
+smallest_form extent =
+    if nat_eq extent 0 then Ok (Smallest Usual)
+    else (if nat_eq extent 1 then Ok (Smallest Wide) else Err (no_such_extent extent))
+
+-- The form 0 stands for the profile `Ascii`, 1 for `Shorter`, 2 for the smallest symbol for readers of the extent that
+-- is given, and no other number for any.
+abbrev pub form_of : How → Result Form Fault
+form_of how =
+    if nat_eq how.form 0 then Ok (Profiled Ascii)
+    else (if nat_eq how.form 1 then Ok (Profiled Shorter)
+    else (if nat_eq how.form 2 then smallest_form how.extent else Err (no_such_profile how.form)))
+
+-- What the numbers of a caller ask for can't be: the first of these that there is. There is no such form; no choice of
+-- sizes has the number of the shape; or the numbers of a head are those of none.
+pub data IsHowFault (how : How) (why : Fault) : Type 0 where
+  no_form : form_of how ≡ Err why → IsHowFault how why
+  no_choice : (form : Form) → form_of how ≡ Ok form → choice_of how ≡ None → why ≡ no_such_choice how.shape
+      → IsHowFault how why
+  no_head : (form : Form) (choice : SizeChoice) → form_of how ≡ Ok form → choice_of how ≡ Some choice
+      → ((head : Option Head) → AreOfHead how.head head → ⊥) → why ≡ no_such_head → IsHowFault how why
+
+-- The numbers ask for this form, this choice of sizes, and this head or none.
+pub record AskFor (how : How) (form : Form) (choice : SizeChoice) (head : Option Head) : Type 0 where
+  pub form_is : form_of how ≡ Ok form
+  pub choice_is : choice_of how ≡ Some choice
+  pub head_is : AreOfHead how.head head
+
+-- Writing a letter in a form and in a choice of sizes gives this.
+abbrev pub IsWrittenAs : Form → SizeChoice → LetterView → Result SymbolView TooLong → Type 0
+IsWrittenAs (Profiled profile) choice letter result = IsLetterWritten choice profile letter result
+IsWrittenAs (Smallest extent) choice letter result = IsSmallestLetterWritten extent choice letter result
+
+-- A symbol is given, or that the letter fits no size.
+abbrev pub symbol_given : Result SymbolView TooLong → SymbolOut → SymbolOut
+symbol_given (Ok symbol) before = symbol_shown symbol before
+symbol_given (Err why) before = no_symbol too_long before
+
+-- What writing a letter in a form and in a choice of sizes gives is given: its symbol, or that it fits no size of the
+-- choice.
+pub record IsLetterGiven (form : Form) (choice : SizeChoice) (letter : LetterView) (before after : SymbolOut)
+    : Type 0 where
+  pub result : Result SymbolView TooLong
+  pub written : IsWrittenAs form choice letter result
+  pub shown : after ≡ symbol_given result before
+
+-- What is given for the numbers of items and of marks, and a head or none, is the first of these that there is: the
+-- first number that stands for no item, with its index, counted from 0, or with 65535 if the index is more; the index
+-- of the first mark that is wrong, likewise; the result of writing the letter.
+pub data IsWritingGiven (form : Form) (choice : SizeChoice) (head : Option Head) (numbers : List ℕ)
+    (marks : List MarkNumbers) (before after : SymbolOut) : Type 0 where
+  no_item : (place : ℕ) → IsFirstForeign numbers place
+      → after ≡ no_symbol (foreign (get_or numbers place 0) (min place 65535)) before
+      → IsWritingGiven form choice head numbers marks before after
+  no_mark : (place : ℕ) → All (λ number. number ≤ 256) numbers → IsFirstWrong (length numbers) marks place
+      → after ≡ no_symbol (wrong_mark (min place 65535)) before
+      → IsWritingGiven form choice head numbers marks before after
+  letter : (letter : LetterView) → IsLetter letter → IsLetterOf head numbers marks letter
+      → IsLetterGiven form choice letter before after
+      → IsWritingGiven form choice head numbers marks before after
+
+-- Writing these numbers of items and of marks gives why what is asked for can't be, or the result for it.
+pub data IsWriteResult (numbers : List ℕ) (marks : List MarkNumbers) (how : How) (before after : SymbolOut)
+    : Type 0 where
+  not_asked : (why : Fault) → IsHowFault how why → after ≡ no_symbol why before
+      → IsWriteResult numbers marks how before after
+  asked : (form : Form) (choice : SizeChoice) (head : Option Head) → AskFor how form choice head
+      → IsWritingGiven form choice head numbers marks before after → IsWriteResult numbers marks how before after

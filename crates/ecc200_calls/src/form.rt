@@ -1,0 +1,40 @@
+//! Forms of writing as numbers.
+
+ghost use Rattle.std.specs.Prelude.{◌≡◌};
+ghost use Rattle.ecc200_calls.specs.Writings.{form_of, smallest_form};
+
+use crate::fault::Fault;
+use crate::how::How;
+use dm_symbol::{Extent, Profile};
+
+/// A form in which a letter is written.
+#[derive(Clone, Copy)]
+pub(crate) enum Form {
+    /// The codewords that a profile chooses for it.
+    Profiled(Profile),
+    /// Its smallest symbol for readers of an extent.
+    Smallest(Extent),
+}
+
+/// Gives the form that the numbers stand for, or why there is none.
+pub(crate) fn form_of(how: How) -> Result<Form, Fault>
+    ensures { result ≡ form_of how }
+{
+    match how.form {
+        0 => Ok(Form::Profiled(Profile::Ascii)),
+        1 => Ok(Form::Profiled(Profile::Shorter)),
+        2 => smallest_form(how.extent),
+        _ => Err(Fault::no_such_profile(how.form)),
+    }
+}
+
+/// Gives the smallest symbol for readers of the extent of a number.
+fn smallest_form(extent: u16) -> Result<Form, Fault>
+    ensures { result ≡ smallest_form extent }
+{
+    match extent {
+        0 => Ok(Form::Smallest(Extent::Usual)),
+        1 => Ok(Form::Smallest(Extent::Wide)),
+        _ => Err(Fault::no_such_extent(extent)),
+    }
+}

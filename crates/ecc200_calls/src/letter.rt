@@ -1,0 +1,69 @@
+//! Letters of numbers.
+
+ghost use Rattle.std.specs.Prelude.{◌≡◌, ◌+◌, ◌≤◌, ◌++◌, All, [], length};
+ghost use Rattle.dm_words.specs.Heads.{IsHead};
+ghost use Rattle.dm_words.specs.Letters.{AreMarks, IsLetter};
+ghost use Rattle.ecc200_calls.specs.Items.{numbers_of};
+ghost use Rattle.ecc200_calls.specs.Letters.{IsLetterOf, marks_of};
+
+use crate::mark::MarkNumbers;
+use crate::message::item_of;
+use dm_symbol::{Head, Item, LARGEST_MARKS, LARGEST_ROOM, LetterIn};
+
+/// A letter with room for what any symbol says.
+pub(crate) type Letter = LetterIn<LARGEST_ROOM, LARGEST_MARKS>;
+
+/// Gives the letter with this head, or none, and with the items and the marks of these numbers.
+pub(crate) fn letter_of_numbers(head: Option<Head>, items: &[u16], marks: &[MarkNumbers]) -> Letter
+    requires head { IsHead head }
+    requires items { All (λ item. item ≤ 256) items.now }
+    requires room { length items.now ≤ LARGEST_ROOM }
+    requires marks { AreMarks 0 (length items.now) (marks_of marks.now) }
+    requires mark_room { length marks.now ≤ LARGEST_MARKS }
+    ensures letter { IsLetter result }
+    ensures of_numbers { IsLetterOf head items.now marks.now result }
+{
+    let mut letter = Letter::new();
+    letter.set_head(head);
+    let mut before = 0;
+    for mark in marks {
+        let place = mark.place as usize;
+        push_items(&mut letter, &items[before..place]);
+        let _room = letter.push_mark(mark.number);
+        before = place;
+    }
+    push_items(&mut letter, &items[before..]);
+    // That it is right is known from this call.
+    let _items = letter.items();
+    letter
+}
+
+/// Adds the items of these numbers.
+fn push_items(letter: &mut Letter, numbers: &[u16])
+    requires items { All (λ item. item ≤ 256) numbers.now }
+    requires room { length letter.old.items + length numbers.now ≤ LARGEST_ROOM }
+    ensures items { numbers_of letter.new.items ≡ numbers_of letter.old.items ++ numbers.now }
+    ensures head { letter.new.head ≡ letter.old.head }
+    ensures marks { letter.new.marks ≡ letter.old.marks }
+{
+    for number in numbers {
+        let _room = letter.push(item_of(*number));
+    }
+}
+
+/// Gives the letter with this head, or none, with these bytes as its items, and without marks.
+pub(crate) fn letter_of_bytes(head: Option<Head>, bytes: &[u8]) -> Letter
+    requires head { IsHead head }
+    requires room { length bytes.now ≤ LARGEST_ROOM }
+    ensures letter { IsLetter result }
+    ensures of_numbers { IsLetterOf head bytes.now [] result }
+{
+    let mut letter = Letter::new();
+    letter.set_head(head);
+    for byte in bytes {
+        let _room = letter.push(Item::Byte(*byte));
+    }
+    // That it is right is known from this call.
+    let _items = letter.items();
+    letter
+}

@@ -1,0 +1,54 @@
+//! Marks as numbers.
+
+ghost use Rattle.std.specs.Prelude.{◌≡◌, ◌≤◌, IfNone, IfSome, length};
+ghost use Rattle.dm_words.specs.Letters.{AreMarks};
+ghost use Rattle.ecc200_calls.specs.Arrays.{over};
+ghost use Rattle.ecc200_calls.specs.Letters.{IsFirstWrong, mark_shown, marks_of, marks_shown};
+
+use dm_symbol::Mark;
+use dm_words::MOST_ASSIGNED;
+
+/// A mark as numbers: that of an ECI assignment, 0 to 999999, and how many items stand before it.
+#[repr(C)]
+#[derive(Clone, Copy)]
+pub struct MarkNumbers {
+    pub number: u32,
+    pub place: u32,
+}
+
+/// Gives the numbers of a mark.
+fn mark_shown(mark: Mark) -> MarkNumbers
+    ensures { result ≡ mark_shown mark }
+{
+    MarkNumbers {
+        number: mark.number,
+        place: u32::from(mark.place),
+    }
+}
+
+/// Writes the numbers of marks over the first ones.
+pub(crate) fn put_marks(all: &mut [MarkNumbers], marks: &[Mark])
+    requires { length marks.now ≤ length all.old }
+    ensures { all.new ≡ over (marks_shown marks.now) all.old }
+{
+    for (i, mark) in marks.iter().enumerate() {
+        all[i] = mark_shown(*mark);
+    }
+}
+
+/// Gives the index of the first of the marks of so many items that is wrong: it stands before the place of an earlier
+/// one or behind more items than there are, or its number is that of no assignment.
+pub(crate) fn first_wrong(count: usize, marks: &[MarkNumbers]) -> Option<usize>
+    ensures some { IfSome result (λ place. IsFirstWrong count marks.now place) }
+    ensures none { IfNone result (AreMarks 0 count (marks_of marks.now)) }
+{
+    let mut least = 0;
+    for (i, mark) in marks.iter().enumerate() {
+        let place = mark.place as usize;
+        if place < least || place > count || mark.number > MOST_ASSIGNED {
+            return Some(i);
+        }
+        least = place;
+    }
+    None
+}
