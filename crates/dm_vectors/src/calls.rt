@@ -5,10 +5,12 @@
 
 use arrayvec::ArrayVec;
 use dm_code::{encode, syndromes};
+use dm_layout::symbols::MOST_ROWS;
 use dm_layout::{Grid, LARGEST_SIDE, MOST_GRID_CODEWORDS, Size, Words, table};
 use dm_symbol::{
-    Extent, Message, NormalFault, Profile, ReadFault, ReadOptions, Reading, Symbol, SymbolReading,
-    SymbolSize, SymbolWords, TooLong, light_grid, read_symbol_to,
+    Extent, Message, NormalFault, Profile, ReadFault, ReadOptions, Reading, Symbol,
+    SymbolInspection, SymbolReading, SymbolSize, SymbolWords, TooLong, inspect_symbol_to,
+    light_grid, normal_symbol_to, read_symbol_to,
 };
 use gf301::{Poly, generator};
 
@@ -176,27 +178,58 @@ fn symbol_of(grid: &Grid) -> Option<Symbol> {
     Some(symbol)
 }
 
-/// Reads a symbol into `reading`, of whose modules these are doubtful, and nothing where they are those of another
-/// size.
-fn read_symbol(
+/// Reads a symbol into `reading`, and nothing where the doubtful modules are those of another size.
+pub(crate) fn read_symbol(
     symbol: &Symbol,
-    doubtful: &Symbol,
-    border_limit: u16,
+    how: ReadOptions<MOST_ROWS>,
     reading: &mut SymbolReading,
 ) -> Option<Result<(), ReadFault>> {
-    if doubtful.size() != symbol.size() {
-        return None;
+    if let Some(doubtful) = how.doubtful {
+        if doubtful.size() != symbol.size() {
+            return None;
+        }
     }
-    let how = ReadOptions {
-        extent: Extent::Usual,
-        border_limit,
-        doubtful: Some(doubtful),
-    };
     let size = symbol.size();
     // For the proof alone: what these ensure says that there is room.
     let _room = (size.data_count(), size.check_count());
     let mut words = SymbolWords::zeros(size);
     Some(read_symbol_to(symbol, how, &mut words, reading))
+}
+
+/// The normal symbol, in ASCII, of what a symbol says at `Wide` with no border fault, and none where it says nothing.
+pub(crate) fn normal_symbol(symbol: &Symbol) -> Option<Symbol> {
+    let how = ReadOptions {
+        extent: Extent::Wide,
+        border_limit: 0,
+        doubtful: None,
+    };
+    let size = symbol.size();
+    // For the proof alone: what these ensure says that there is room.
+    let _room = (size.rows(), size.data_count(), size.check_count());
+    let mut words = SymbolWords::zeros(size);
+    let mut reading = SymbolReading::new();
+    let mut normal = Symbol::light(size);
+    match normal_symbol_to(
+        symbol,
+        how,
+        Profile::Ascii,
+        &mut words,
+        &mut reading,
+        &mut normal,
+    ) {
+        Ok(()) => Some(normal),
+        Err(_) => None,
+    }
+}
+
+/// The inspection of a symbol none of whose modules is doubtful.
+pub(crate) fn inspect_symbol(symbol: &Symbol) -> SymbolInspection {
+    let size = symbol.size();
+    // For the proof alone: what `check_count` ensures says that there is room.
+    let _checks = size.check_count();
+    let mut inspection = SymbolInspection::new(size);
+    inspect_symbol_to(symbol, None, &mut inspection);
+    inspection
 }
 
 /// Reads the symbol with the cells of a grid into `reading`, of which these are doubtful, and nothing where they are
@@ -207,7 +240,13 @@ pub(crate) fn read_doubtful(
     limit: u16,
     reading: &mut SymbolReading,
 ) -> Option<Result<(), ReadFault>> {
-    read_symbol(&symbol_of(grid)?, &symbol_of(doubtful)?, limit, reading)
+    let doubtful = symbol_of(doubtful)?;
+    let how = ReadOptions {
+        extent: Extent::Usual,
+        border_limit: limit,
+        doubtful: Some(&doubtful),
+    };
+    read_symbol(&symbol_of(grid)?, how, reading)
 }
 
 pub(crate) fn normal_read_as(

@@ -12,6 +12,7 @@ use dm_symbol::{
     Item, Message, NormalFault, Profile, ReadFault, Reading, TooLong, WordFault, usual_limit,
 };
 
+mod dealings;
 mod doubt;
 mod extents;
 mod hostile;
