@@ -13,7 +13,7 @@ use Rattle.gf301.specs.Generator.{generator}
 use Rattle.gf301.proofs.Exported.{factor_value, length_times, product_assoc, product_cancel, product_cancels}
 use Rattle.gf301.proofs.Exported.{product_comm, product_one_right, product_positive, product_zero_left}
 use Rattle.gf301.proofs.Exported.{product_zero_right, raise_below, value_below, value_one, value_times}
-use Rattle.dm_code.specs.Erased.{IsNearBut, distance_but, erased_from, erased_places}
+use Rattle.dm_code.specs.Erased.{IsNearBut, distance_but, erased_places_from, erased_places}
 use Rattle.dm_code.specs.inner.Lessened.{AreValues, IsAscending, IsSameBut, IsWeighed, places_locator}
 use Rattle.dm_code.proofs.Codewords.{codeword_bytes}
 use Rattle.dm_code.proofs.ErrorPlaces.{locator_at}
@@ -24,47 +24,47 @@ use Rattle.dm_code.proofs.GivenBack.{given_back, step_back}
 -- ---- the erased places
 -- One place more is erased, or isn't.
 pub erased_snoc : (n : ℕ) (l : List Bool) (b : Bool) →
-    erased_from n (l ++ (b ∷ [])) ≡ erased_from n l ++ (if b then (n + length l) ∷ [] else [])
-unfolding erased_from
+    erased_places_from n (l ++ (b ∷ [])) ≡ erased_places_from n l ++ (if b then (n + length l) ∷ [] else [])
+unfolding erased_places_from
 erased_snoc n [] true = ap (λ m. m ∷ []) (let q : n ≡ n + 0 = omega arith in q)
 erased_snoc n [] false = refl
 erased_snoc n (true ∷ l) b =
-    ap (λ t. n ∷ t) (erased_snoc (suc n) l b ∙ ap (λ m. erased_from (suc n) l ++ (if b then m ∷ [] else []))
+    ap (λ t. n ∷ t) (erased_snoc (suc n) l b ∙ ap (λ m. erased_places_from (suc n) l ++ (if b then m ∷ [] else []))
     (let q : suc n + length l ≡ n + suc (length l) = omega arith in q))
 erased_snoc n (false ∷ l) b =
-    erased_snoc (suc n) l b ∙ ap (λ m. erased_from (suc n) l ++ (if b then m ∷ [] else []))
+    erased_snoc (suc n) l b ∙ ap (λ m. erased_places_from (suc n) l ++ (if b then m ∷ [] else []))
     (let q : suc n + length l ≡ n + suc (length l) = omega arith in q)
 
 -- Those of none are none.
-pub erased_nil : erased_from 0 [] ≡ []
-unfolding erased_from
+pub erased_nil : erased_places_from 0 [] ≡ []
+unfolding erased_places_from
 erased_nil = refl
 
 -- One place more of a list is looked at.
 erased_next : (l : List Bool) (i : ℕ) → i < length l →
-    erased_from 0 (take (i + 1) l) ≡ erased_from 0 (take i l) ++ (if get_or l i false then i ∷ [] else [])
+    erased_places_from 0 (take (i + 1) l) ≡ erased_places_from 0 (take i l) ++ (if get_or l i false then i ∷ [] else [])
 erased_next l i h =
     let n : 0 + length (take i l) ≡ i = omega (arith, length-take i l) in
-    ap (erased_from 0) (ap (λ j. take j l) (let q : i + 1 ≡ suc i = omega arith in q) ∙ take-suc l i false h)
+    ap (erased_places_from 0) (ap (λ j. take j l) (let q : i + 1 ≡ suc i = omega arith in q) ∙ take-suc l i false h)
     ∙ erased_snoc 0 (take i l) (get_or l i false)
-    ∙ ap (λ m. erased_from 0 (take i l) ++ (if get_or l i false then m ∷ [] else [])) n
+    ∙ ap (λ m. erased_places_from 0 (take i l) ++ (if get_or l i false then m ∷ [] else [])) n
 
 -- It is erased.
 pub erased_more : (l : List Bool) (i : ℕ) → i < length l → get_or l i false ≡ true →
-    erased_from 0 (take (i + 1) l) ≡ erased_from 0 (take i l) ++ (i ∷ [])
-erased_more l i h e = erased_next l i h ∙ ap (λ b. erased_from 0 (take i l) ++ (if b then i ∷ [] else [])) e
+    erased_places_from 0 (take (i + 1) l) ≡ erased_places_from 0 (take i l) ++ (i ∷ [])
+erased_more l i h e = erased_next l i h ∙ ap (λ b. erased_places_from 0 (take i l) ++ (if b then i ∷ [] else [])) e
 
 -- It isn't.
 pub erased_no_more : (l : List Bool) (i : ℕ) → i < length l → get_or l i false ≡ false →
-    erased_from 0 (take (i + 1) l) ≡ erased_from 0 (take i l)
+    erased_places_from 0 (take (i + 1) l) ≡ erased_places_from 0 (take i l)
 erased_no_more l i h e =
-    erased_next l i h ∙ ap (λ b. erased_from 0 (take i l) ++ (if b then i ∷ [] else [])) e
-    ∙ append-nil (erased_from 0 (take i l))
+    erased_next l i h ∙ ap (λ b. erased_places_from 0 (take i l) ++ (if b then i ∷ [] else [])) e
+    ∙ append-nil (erased_places_from 0 (take i l))
 
 -- Each of them is below the end of the list.
-pub erased_within : (n m : ℕ) (l : List Bool) → n + length l ≤ m → (i d : ℕ) → i < length (erased_from n l) →
-    get_or (erased_from n l) i d < m
-unfolding erased_from
+pub erased_within : (n m : ℕ) (l : List Bool) → n + length l ≤ m → (i d : ℕ) → i < length (erased_places_from n l) →
+    get_or (erased_places_from n l) i d < m
+unfolding erased_places_from
 erased_within n m [] h i d b = absurd (omega arith)
 erased_within n m (true ∷ l) h zero d b = omega arith
 erased_within n m (true ∷ l) h (suc i) d b = erased_within (suc n) m l (omega arith) i d (omega arith)
@@ -78,16 +78,17 @@ places_within w q e h z i d b =
     (erased_within 0 (length w) e (omega (arith, h)) i d (omega (arith, ap length z, b)))
 
 -- Each of them is at or after the first place.
-erased_after : (n : ℕ) (l : List Bool) (i : ℕ) → i < length (erased_from n l) → n ≤ get_or (erased_from n l) i 0
-unfolding erased_from
+erased_after : (n : ℕ) (l : List Bool) (i : ℕ) → i < length (erased_places_from n l) →
+    n ≤ get_or (erased_places_from n l) i 0
+unfolding erased_places_from
 erased_after n [] i b = absurd (omega arith)
 erased_after n (true ∷ l) zero b = omega arith
 erased_after n (true ∷ l) (suc i) b = omega (arith, erased_after (suc n) l i (omega arith))
 erased_after n (false ∷ l) i b = omega (arith, erased_after (suc n) l i b)
 
 -- They are in ascending order.
-pub erased_ascending : (n : ℕ) (l : List Bool) → IsAscending (erased_from n l)
-unfolding erased_from
+pub erased_ascending : (n : ℕ) (l : List Bool) → IsAscending (erased_places_from n l)
+unfolding erased_places_from
 erased_ascending n [] i j h b = absurd (omega arith)
 erased_ascending n (true ∷ l) i zero h b = absurd (omega arith)
 erased_ascending n (true ∷ l) zero (suc j) h b = omega (arith, erased_after (suc n) l j (omega arith))

@@ -21,8 +21,8 @@ At row column = record { row = row; column = column }
 -- left one. Above the matrix it gains the matrix's rows, and 4 - ((rows + 4) mod 8) columns. Then, left of the matrix,
 -- it gains the matrix's columns, and 4 - ((columns + 4) mod 8) rows. At an anchor of a matrix of the table no
 -- difference here is below 0.
-abbrev pub wrapped_twice : ℕ → ℕ → ℕ → ℕ → ℕ → ℕ → Cell
-wrapped_twice rows columns r c up left =
+abbrev pub wrapped_at_top_and_left : ℕ → ℕ → ℕ → ℕ → ℕ → ℕ → Cell
+wrapped_at_top_and_left rows columns r c up left =
     elim (nat_lt r up) [
       | true ↦ elim (nat_lt (c + 4) (left + (rows + 4) % 8)) [
         | true ↦ At (r + rows + 4 - (up + (columns + 4) % 8)) (c + 4 + columns - (left + (rows + 4) % 8))
@@ -41,7 +41,7 @@ lowered_cell rows cell = elim (nat_le rows cell.row) [ true ↦ At (cell.row - r
 -- The cell `up` rows above and `left` columns left of row r, column c is wrapped round the top edge, the left one and
 -- the bottom one, in this order. Round the bottom edge cells come in matrices of 24 by 36 and 24 by 44 cells alone.
 abbrev pub wrapped_cell : ℕ → ℕ → ℕ → ℕ → ℕ → ℕ → Cell
-wrapped_cell rows columns r c up left = lowered_cell rows (wrapped_twice rows columns r c up left)
+wrapped_cell rows columns r c up left = lowered_cell rows (wrapped_at_top_and_left rows columns r c up left)
 
 -- The standard shape has these eight cells, each given by how far it lies above and left of the anchor, the lower right
 -- cell.

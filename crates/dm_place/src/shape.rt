@@ -1,8 +1,8 @@
 //! The shapes in which codewords lie in the mapping matrix: ISO/IEC 16022, module placement.
 
 ghost use Rattle.std.specs.Prelude.{◌≡◌, ◌+◌, ◌%◌, ◌<◌, ◌≤◌};
-ghost use Rattle.dm_place.specs.Placement.{At, cells_of, wrapped_twice as wrapped_twice_by, lowered_cell, wrapped_cell};
-ghost use Rattle.dm_place.specs.Placement.{AnchorInside};
+ghost use Rattle.dm_place.specs.Placement.{At, AnchorInside, cells_of, lowered_cell, wrapped_cell};
+ghost use Rattle.dm_place.specs.Placement.{wrapped_at_top_and_left as wrapped_at_top_and_left_by};
 
 /// A cell of the mapping matrix; row and column count from 0, from the top and from the left.
 #[derive(Clone, Copy, Debug, PartialEq, Eq)]
@@ -42,7 +42,14 @@ fn lowered(rows: u16, cell: Cell) -> Cell
 
 /// Gives the cell `up` rows above and `left` columns left of a cell of the mapping matrix, wrapped round its top edge
 /// and then its left one. No difference here is below 0 for a shape of a matrix of the table of sizes.
-fn wrapped_twice(rows: u16, columns: u16, row: u16, column: u16, up: u16, left: u16) -> Cell
+fn wrapped_at_top_and_left(
+    rows: u16,
+    columns: u16,
+    row: u16,
+    column: u16,
+    up: u16,
+    left: u16,
+) -> Cell
     requires rows { 6 ≤ rows }
     requires columns { 6 ≤ columns }
     requires most_rows { rows ≤ 132 }
@@ -51,7 +58,7 @@ fn wrapped_twice(rows: u16, columns: u16, row: u16, column: u16, up: u16, left: 
     requires column { column < columns }
     requires up { up ≤ 2 }
     requires left { left ≤ 2 }
-    ensures value { result ≡ wrapped_twice_by rows columns row column up left }
+    ensures value { result ≡ wrapped_at_top_and_left_by rows columns row column up left }
 {
     let right = (rows + 4) % 8;
     let down = (columns + 4) % 8;
@@ -83,7 +90,10 @@ fn wrap(rows: u16, columns: u16, row: u16, column: u16, up: u16, left: u16) -> C
     requires left { left ≤ 2 }
     ensures value { result ≡ wrapped_cell rows columns row column up left }
 {
-    lowered(rows, wrapped_twice(rows, columns, row, column, up, left))
+    lowered(
+        rows,
+        wrapped_at_top_and_left(rows, columns, row, column, up, left),
+    )
 }
 
 impl Shape {

@@ -6,7 +6,7 @@ use Rattle.std.proofs.lemmas.List.{ext_get_or, length-take, length-take-le}
 use Rattle.dm_code.specs.Codeword.{IsNear, distance}
 use Rattle.dm_code.specs.Erased.{IsNearBut, blank, distance_but}
 use Rattle.dm_code.proofs.Exported.{near_but_one, near_but_none, near_none_but}
-use Rattle.dm_layout.specs.symbols.Sizes.{SizeEntry, IsSize, share, codeword_count, block_data, block_check}
+use Rattle.dm_layout.specs.symbols.Sizes.{SizeEntry, IsSize, count_in_block, codeword_count, block_data, block_check}
 use Rattle.dm_layout.specs.symbols.Sizes.{block_length}
 use Rattle.dm_layout.specs.symbols.Holding.{IsLaid}
 use Rattle.dm_layout.specs.symbols.Symbols.{SymbolView}
@@ -67,8 +67,8 @@ block_facts size h b hb =
 only_length : (size : SizeEntry) (b : ℕ) → size.blocks ≡ 1 → b < size.blocks → block_length size b ≡ codeword_count size
 only_length size b one hb =
     let first : b ≡ 0 = omega (arith, one, hb) in
-    let all : share (codeword_count size) 1 b ≡ codeword_count size = omega (arith, first) in
-    ap (λ n. share (codeword_count size) n b) one ∙ all
+    let all : count_in_block (codeword_count size) 1 b ≡ codeword_count size = omega (arith, first) in
+    ap (λ n. count_in_block (codeword_count size) n b) one ∙ all
 
 -- The only block of a symbol is all of its codewords.
 pub only_block : (size : SizeEntry) (words : List ℕ) → AreOfSize size words → size.blocks ≡ 1 → (b : ℕ)

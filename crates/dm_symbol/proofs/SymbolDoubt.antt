@@ -11,9 +11,9 @@ use Rattle.std.proofs.lemmas.List.FromFn.{length-range_with_len}
 use Rattle.dm_place.specs.Holding.{bit_of}
 use Rattle.dm_place.specs.Placement.{place, shapes}
 use Rattle.dm_place.proofs.Exported.{count_at_sides}
-use Rattle.dm_code.specs.Erased.{erased_from, erased_places}
+use Rattle.dm_code.specs.Erased.{erased_places_from, erased_places}
 use Rattle.dm_code.proofs.Exported.{erased_within}
-use Rattle.dm_layout.specs.symbols.Sizes.{SizeEntry, share, mapping_rows, mapping_columns, codeword_count}
+use Rattle.dm_layout.specs.symbols.Sizes.{SizeEntry, count_in_block, mapping_rows, mapping_columns, codeword_count}
 use Rattle.dm_layout.specs.symbols.Sizes.{block_length}
 use Rattle.dm_layout.specs.symbols.Symbols.{SymbolView}
 use Rattle.dm_layout.specs.symbols.Words.{WordsView}
@@ -28,13 +28,13 @@ use Rattle.dm_symbol.specs.inner.Marks.{is_mark, marked_in}
 -- ---- how many places a block has
 
 -- A block has as many places as its share of the codewords.
-pub places_count : (B b count : ℕ) → b < B → length (places_of_block B b count) ≡ share count B b
+pub places_count : (B b count : ℕ) → b < B → length (places_of_block B b count) ≡ count_in_block count B b
 places_count B b count hb =
     let words : List ℕ = range_with_len 0 count in
     let long : length words ≡ count = length-range_with_len 0 count in
     ap (λ n. length (places_of_block B b n)) (sym long)
     ∙ sym (length-map (places_of_block B b (length words)) (λ j. get_or words j 0))
-    ∙ length-block_of B b words hb ∙ ap (λ n. share n B b) long
+    ∙ length-block_of B b words hb ∙ ap (λ n. count_in_block n B b) long
 
 -- The erased places of a block lie in it.
 pub erased_inside : (size : SizeEntry) (doubtful : Option SymbolView) (b i : ℕ) → b < size.blocks
@@ -48,11 +48,12 @@ erased_inside size doubtful b i hb hi =
 -- ---- none is doubtful
 
 -- Where no place is erased, the list of the erased places is empty.
-pub erased_nowhere : (n : ℕ) (f : ℕ → Bool) → ((j : ℕ) → f j ≡ false) → (xs : List ℕ) → erased_from n (map f xs) ≡ []
-unfolding erased_from
+pub erased_nowhere : (n : ℕ) (f : ℕ → Bool) → ((j : ℕ) → f j ≡ false) → (xs : List ℕ) →
+    erased_places_from n (map f xs) ≡ []
+unfolding erased_places_from
 erased_nowhere n f none [] = refl
 erased_nowhere n f none (x ∷ xs) =
-    ap (λ b. cond b (n ∷ erased_from (suc n) (map f xs)) (erased_from (suc n) (map f xs))) (none x)
+    ap (λ b. cond b (n ∷ erased_places_from (suc n) (map f xs)) (erased_places_from (suc n) (map f xs))) (none x)
     ∙ erased_nowhere (suc n) f none xs
 
 -- Where no module is doubtful, no place is erased.

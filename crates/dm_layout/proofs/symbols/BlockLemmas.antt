@@ -6,38 +6,42 @@ use Rattle.std.proofs.lemmas.Nat.{mod-mul-add}
 use Rattle.std.proofs.lemmas.Grind.{same_number_lists}
 use Rattle.std.proofs.Math.Nat.{mul-le-mul_right}
 use Rattle.std.proofs.lemmas.List.{get_or-take}
-use Rattle.dm_layout.specs.symbols.Sizes.{SizeEntry, share, block_data, block_length, codeword_count}
+use Rattle.dm_layout.specs.symbols.Sizes.{SizeEntry, count_in_block, block_data, block_length, codeword_count}
 use Rattle.dm_layout.specs.symbols.Words.{WordsView, IsWords, data_of}
 use Rattle.dm_layout.specs.symbols.Blocks.{block_of, HasLengths}
 use Rattle.dm_layout.proofs.symbols.TableEntries.{size_facts, block_parts}
-use Rattle.dm_layout.proofs.symbols.BlockPlaces.{block_by_steps, length-block_of, get_or-block_of, share_inside}
-use Rattle.dm_layout.proofs.symbols.BlockPlaces.{place_parts}
+use Rattle.dm_layout.proofs.symbols.BlockPlaces.{block_by_steps, length-block_of, get_or-block_of}
+use Rattle.dm_layout.proofs.symbols.BlockPlaces.{count_in_block_inside, place_parts}
 
 -- A walk through a block gives the codewords of the block.
 pub walk_of_block : (w : WordsView) (B b : ℕ) (list : List ℕ) → b < w.size.blocks → B ≡ w.size.blocks → list ≡ w.list →
-    map (λ k. get_or list (k * B + b) 0) (range_with_len 0 (share (length list) B b)) ≡ block_of w.size.blocks b w.list
+    map (λ k. get_or list (k * B + b) 0) (range_with_len 0 (count_in_block (length list) B b))
+    ≡ block_of w.size.blocks b w.list
 walk_of_block w B b list lb eb el =
-    ap (λ m. map (λ k. get_or list (k * m + b) 0) (range_with_len 0 (share (length list) m b))) eb
-    ∙ ap (λ xs. map (λ k. get_or xs (k * w.size.blocks + b) 0) (range_with_len 0 (share (length xs) w.size.blocks b)))
+    ap (λ m. map (λ k. get_or list (k * m + b) 0) (range_with_len 0 (count_in_block (length list) m b))) eb
+    ∙ ap (λ xs. map (λ k. get_or xs (k * w.size.blocks + b) 0)
+    (range_with_len 0 (count_in_block (length xs) w.size.blocks b)))
     el
     ∙ sym (block_by_steps w.size.blocks b w.list lb)
 
 -- A walk through a block takes as many steps as the block has codewords.
 pub steps_of_block : (w : WordsView) (B b : ℕ) (list : List ℕ) → IsWords w → B ≡ w.size.blocks → list ≡ w.list →
-    share (length list) B b ≡ block_length w.size b
+    count_in_block (length list) B b ≡ block_length w.size b
 steps_of_block w B b list words eb el =
-    ap (λ m. share (length list) m b) eb ∙ ap (λ m. share m w.size.blocks b) (ap length el ∙ words.count)
+    ap (λ m. count_in_block (length list) m b) eb
+    ∙ ap (λ m. count_in_block m w.size.blocks b) (ap length el ∙ words.count)
 
 -- A block is as long as that block of its size is.
 pub length_of_block : (w : WordsView) (b : ℕ) → IsWords w → b < w.size.blocks →
     length (block_of w.size.blocks b w.list) ≡ block_length w.size b
-length_of_block w b words lb = length-block_of w.size.blocks b w.list lb ∙ ap (λ m. share m w.size.blocks b) words.count
+length_of_block w b words lb =
+    length-block_of w.size.blocks b w.list lb ∙ ap (λ m. count_in_block m w.size.blocks b) words.count
 
 -- Codeword k of block b is the one at place k * B + b of the symbol.
 pub word_of_block : (w : WordsView) (b k : ℕ) → IsWords w → b < w.size.blocks → k < block_length w.size b →
     get_or (block_of w.size.blocks b w.list) k 0 ≡ get_or w.list (k * w.size.blocks + b) 0
 word_of_block w b k words lb lk =
-    let e = ap (λ m. share m w.size.blocks b) words.count in
+    let e = ap (λ m. count_in_block m w.size.blocks b) words.count in
     get_or-block_of w.size.blocks b k w.list lb (subst (λ (n : ℕ). k < n) (sym e) lk)
 
 -- Place k of block b lies within the symbol's codewords.
@@ -45,7 +49,7 @@ pub place_inside : (w : WordsView) (b k : ℕ) → IsWords w → b < w.size.bloc
     k * w.size.blocks + b < length w.list
 place_inside w b k words lb lk =
     subst (λ (n : ℕ). k * w.size.blocks + b < n) (sym words.count)
-    (share_inside w.size.blocks b k (codeword_count w.size) lb lk)
+    (count_in_block_inside w.size.blocks b k (codeword_count w.size) lb lk)
 
 -- ---- a block is put
 
@@ -137,7 +141,7 @@ pub length_of_data : (w : WordsView) (b : ℕ) → IsWords w → b < w.size.bloc
 length_of_data w b words lb =
     let short = length-take w.size.data_count w.list in
     let count : length (data_of w) ≡ w.size.data_count = omega (arith, short, words.count) in
-    length-block_of w.size.blocks b (data_of w) lb ∙ ap (λ m. share m w.size.blocks b) count
+    length-block_of w.size.blocks b (data_of w) lb ∙ ap (λ m. count_in_block m w.size.blocks b) count
 
 -- A block begins with those of the symbol's data codewords that are dealt to it.
 pub data_of_block : (w : WordsView) (b : ℕ) → IsWords w → b < w.size.blocks →
@@ -155,8 +159,9 @@ data_of_block w b words lb =
     (omega (arith, taken, all, sum, dealt))
     (λ k l.
     let lk : k < m = omega (arith, taken) in
-    let inside : k * s.blocks + b < s.data_count = share_inside s.blocks b k s.data_count lb lk in
-    let step : k < share (length (data_of w)) s.blocks b = subst (λ (n : ℕ). k < share n s.blocks b) (sym count) lk in
+    let inside : k * s.blocks + b < s.data_count = count_in_block_inside s.blocks b k s.data_count lb lk in
+    let step : k < count_in_block (length (data_of w)) s.blocks b =
+    subst (λ (n : ℕ). k < count_in_block n s.blocks b) (sym count) lk in
     get_or-take m (block_of s.blocks b w.list) k 0 lk
     ∙ word_of_block w b k words lb (omega (arith, lk, sum))
     ∙ sym (get_or-take s.data_count w.list (k * s.blocks + b) 0 inside)

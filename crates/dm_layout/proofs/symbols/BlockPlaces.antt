@@ -8,7 +8,7 @@ use Rattle.std.proofs.lemmas.Bool.{ltb-true, ltb-false}
 use Rattle.std.proofs.lemmas.Nat.{div-mul-add, mod-mul-add}
 use Rattle.std.proofs.lemmas.List.FromFn.{length-map-range_with_len, get_or-map-range_with_len}
 use Rattle.std.proofs.Math.Nat.{mul-le-mul_right, lt_of_mul-lt-mul_right, div-add-mod}
-use Rattle.dm_layout.specs.symbols.Sizes.{share}
+use Rattle.dm_layout.specs.symbols.Sizes.{count_in_block}
 use Rattle.dm_layout.specs.symbols.Blocks.{block_of}
 use Rattle.dm_place.proofs.Exported.{filter_skip, filter_keep}
 
@@ -99,21 +99,21 @@ places_from B b r e k (suc n) lb tail =
         ∙ ap (λ m. filter (is_of_block B b) (range_with_len m rest)) f)
 
 -- Block b gets one thing of r that are left if b is below r, and so its share is one more than that of n rounds.
-share_more : (B b n r : ℕ) → b < r → r ≤ B → share (n * B + r) B b ≡ n + 1
-share_more B b n r l fits =
+count_in_block_more : (B b n r : ℕ) → b < r → r ≤ B → count_in_block (n * B + r) B b ≡ n + 1
+count_in_block_more B b n r l fits =
     let e : n * B + r + B - 1 - b ≡ (n + 1) * B + (r - 1 - b) = omega arith in
     ap (λ m. m / B) e ∙ div-mul-add (n + 1) B (r - 1 - b) (omega arith)
 
 -- It gets none if b is r or more.
-share_same : (B b n r : ℕ) → r ≤ b → b < B → share (n * B + r) B b ≡ n + 0
-share_same B b n r l fits =
+count_in_block_same : (B b n r : ℕ) → r ≤ b → b < B → count_in_block (n * B + r) B b ≡ n + 0
+count_in_block_same B b n r l fits =
     let e : n * B + r + B - 1 - b ≡ n * B + (r + B - 1 - b) = omega arith in
     let z : n ≡ n + 0 = omega arith in
     ap (λ m. m / B) e ∙ div-mul-add n B (r + B - 1 - b) (omega arith) ∙ z
 
 -- The places of block b among `count` are i * B + b for as many numbers i as its share has.
 places_of : (B b count : ℕ) → b < B → filter (is_of_block B b) (range_with_len 0 count) ≡
-    map (λ i. i * B + b) (range_with_len 0 (share count B b))
+    map (λ i. i * B + b) (range_with_len 0 (count_in_block count B b))
 places_of B b count lb =
     let n : ℕ = count / B in
     let r : ℕ = count % B in
@@ -124,55 +124,58 @@ places_of B b count lb =
     ap (λ m. filter (is_of_block B b) (range_with_len 0 m)) all
     ∙ ap (λ m. filter (is_of_block B b) (range_with_len m (n * B + r))) z
     ∙ by_rest n r small (nat_lt b r) refl
-    ∙ ap (λ m. map (λ i. i * B + b) (range_with_len 0 (share m B b))) (sym all)
+    ∙ ap (λ m. map (λ i. i * B + b) (range_with_len 0 (count_in_block m B b))) (sym all)
   where
     by_rest : (n r : ℕ) → r < B → (t : Bool) → nat_lt b r ≡ t →
         filter (is_of_block B b) (range_with_len (0 * B) (n * B + r)) ≡
-        map (λ i. i * B + b) (range_with_len 0 (share (n * B + r) B b))
+        map (λ i. i * B + b) (range_with_len 0 (count_in_block (n * B + r) B b))
     by_rest n r small true t =
         let l = ltb-true b r t in
         places_from B b r 1 0 n lb (λ i. one_of B b i r l (omega (arith, small)))
-        ∙ ap (λ m. map (λ i. i * B + b) (range_with_len 0 m)) (sym (share_more B b n r l (omega (arith, small))))
+        ∙ ap (λ m. map (λ i. i * B + b) (range_with_len 0 m))
+        (sym (count_in_block_more B b n r l (omega (arith, small))))
     by_rest n r small false t =
         let l = ltb-false b r t in
         places_from B b r 0 0 n lb (λ i. none_of B b i r l lb)
-        ∙ ap (λ m. map (λ i. i * B + b) (range_with_len 0 m)) (sym (share_same B b n r l lb))
+        ∙ ap (λ m. map (λ i. i * B + b) (range_with_len 0 m)) (sym (count_in_block_same B b n r l lb))
 
 -- In block b, codeword k is the one at place k * B + b.
 pub block_by_steps : (B b : ℕ) (words : List ℕ) → b < B →
-    block_of B b words ≡ map (λ k. get_or words (k * B + b) 0) (range_with_len 0 (share (length words) B b))
+    block_of B b words ≡ map (λ k. get_or words (k * B + b) 0) (range_with_len 0 (count_in_block (length words) B b))
 block_by_steps B b words lb =
     ap (map (λ j. get_or words j 0)) (places_of B b (length words) lb)
-    ∙ map_map (range_with_len 0 (share (length words) B b))
+    ∙ map_map (range_with_len 0 (count_in_block (length words) B b))
   where
     map_map : (ks : List ℕ) → map (λ j. get_or words j 0) (map (λ i. i * B + b) ks) ≡
         map (λ k. get_or words (k * B + b) 0) ks
     map_map [] = refl
     map_map (k ∷ ks) = ap (λ xs. get_or words (k * B + b) 0 ∷ xs) (map_map ks)
 
--- A block is as long as its share.
-pub length-block_of : (B b : ℕ) (words : List ℕ) → b < B → length (block_of B b words) ≡ share (length words) B b
+-- A block has as many codewords as are dealt to it.
+pub length-block_of : (B b : ℕ) (words : List ℕ) → b < B →
+    length (block_of B b words) ≡ count_in_block (length words) B b
 length-block_of B b words lb =
     ap length (block_by_steps B b words lb) ∙ length-map-range_with_len (λ k. get_or words (k * B + b) 0) 0
-    (share (length words) B b)
+    (count_in_block (length words) B b)
 
 -- Codeword k of block b is the one at place k * B + b.
-pub get_or-block_of : (B b k : ℕ) (words : List ℕ) → b < B → k < share (length words) B b →
+pub get_or-block_of : (B b k : ℕ) (words : List ℕ) → b < B → k < count_in_block (length words) B b →
     get_or (block_of B b words) k 0 ≡ get_or words (k * B + b) 0
 get_or-block_of B b k words lb lk =
     ap (λ xs. get_or xs k 0) (block_by_steps B b words lb)
-    ∙ get_or-map-range_with_len (λ j. get_or words (j * B + b) 0) 0 (share (length words) B b) k k 0 lk (omega arith)
+    ∙ get_or-map-range_with_len (λ j. get_or words (j * B + b) 0) 0 (count_in_block (length words) B b) k k 0 lk
+    (omega arith)
 
 -- Place k of a block lies among all places.
-pub share_inside : (B b k count : ℕ) → b < B → k < share count B b → k * B + b < count
-share_inside B b k count lb lk =
+pub count_in_block_inside : (B b k count : ℕ) → b < B → k < count_in_block count B b → k * B + b < count
+count_in_block_inside B b k count lb lk =
     let parts = div-add-mod (count + B - 1 - b) B in
-    let room : (k + 1) * B ≤ share count B b * B = mul-le-mul_right B (omega arith) in
+    let room : (k + 1) * B ≤ count_in_block count B b * B = mul-le-mul_right B (omega arith) in
     omega (arith, parts, room)
 
 -- Place j is the place of step j div B in block j mod B.
 pub record PlaceParts (B count j : ℕ) : Type 0 where
-  pub step : j / B < share count B (j % B)
+  pub step : j / B < count_in_block count B (j % B)
   pub block : j % B < B
   pub there : j / B * B + j % B ≡ j
 

@@ -6,7 +6,7 @@ use Rattle.std.proofs.Math.Bool.{and-or_distrib_left}
 use Rattle.std.proofs.lemmas.Bool.{le-leb, leb-true, ltb-true, ltb-false, lt-leb, cases_lt}
 use Rattle.std.proofs.lemmas.Bool.Decides.{Decides-and, Decides-or, Decides-like, Decides-eqb, Decides-ltb}
 use Rattle.std.proofs.lemmas.Bool.Decides.{same_from_decides}
-use Rattle.dm_place.specs.Placement.{wrapped_twice, wrapped_cell}
+use Rattle.dm_place.specs.Placement.{wrapped_at_top_and_left, wrapped_cell}
 use Rattle.dm_layout.specs.symbols.inner.Laying.{lowered, moved_in, folded}
 use Rattle.dm_layout.specs.symbols.inner.Widened.{round}
 use Rattle.dm_layout.proofs.symbols.LiftedWords.{cell_by, lowered_row, lowered_column}
@@ -354,8 +354,8 @@ pub folded_cell : (R C i j up left a b r c : ℕ) → 6 ≤ R → 6 ≤ C → R 
 folded_cell R C i j up left a b r c some least even_rows even_columns li lj anchor lu ll ea eb lr lc ic =
     fold_by R C i j up left a b r c (nat_lt i up) (nat_lt (j + 4) (left + (R + 4) % 8)) (nat_lt j left) some least
     even_rows even_columns li lj anchor lu ll ea eb lr lc refl refl refl
-    (subst (λ (k : ℕ). k < C) (lowered_column R (wrapped_twice R C i j up left)) ic)
-    ∙ ap (λ (k : ℕ). one_cell k (wrapped_twice R C i j up left).column r c)
-    (sym (lowered_row R (wrapped_twice R C i j up left)))
+    (subst (λ (k : ℕ). k < C) (lowered_column R (wrapped_at_top_and_left R C i j up left)) ic)
+    ∙ ap (λ (k : ℕ). one_cell k (wrapped_at_top_and_left R C i j up left).column r c)
+    (sym (lowered_row R (wrapped_at_top_and_left R C i j up left)))
     ∙ ap (λ (k : ℕ). one_cell (wrapped_cell R C i j up left).row k r c)
-    (sym (lowered_column R (wrapped_twice R C i j up left)))
+    (sym (lowered_column R (wrapped_at_top_and_left R C i j up left)))

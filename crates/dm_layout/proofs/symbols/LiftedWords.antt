@@ -7,7 +7,8 @@ use Rattle.std.proofs.lemmas.Bool.{and_parts, ltb-true, ltb-false, eqb-true, lt-
 use Rattle.dm_place.specs.declared.shape.Cell.{Cell}
 use Rattle.dm_place.specs.declared.shape.Shape.{Shape}
 use Rattle.dm_place.specs.declared.shape.Shape.TheVariants.{Standard, Corner1, Corner2, Corner3, Corner4}
-use Rattle.dm_place.specs.Placement.{At, cells_of, lowered_cell, wrapped_twice, wrapped_cell, standard, CellsInside}
+use Rattle.dm_place.specs.Placement.{At, cells_of, lowered_cell, wrapped_at_top_and_left, wrapped_cell, standard}
+use Rattle.dm_place.specs.Placement.{CellsInside}
 use Rattle.dm_place.specs.Holding.{digit, number_of, word_at}
 use Rattle.dm_place.proofs.Exported.{digit-has, sum_of_digits, inside_test, cells_inside}
 use Rattle.dm_layout.specs.symbols.Symbols.{is_dark_bit}
@@ -135,8 +136,8 @@ module _ (R C : ℕ) (look : ℕ → ℕ → Bool) (rows : List ℕ) (some : 6 �
       look (wrapped_cell R C r c up left).row (wrapped_cell R C r c up left).column
   wide_at r c up left lr lc anchor lu ll ic =
       by_tests r c up left (nat_lt r up) (nat_lt (c + 4) (left + (R + 4) % 8)) (nat_lt c left) lr lc anchor lu ll refl
-      refl refl (subst (λ (i : ℕ). i < C) (lowered_column R (wrapped_twice R C r c up left)) ic)
-      ∙ sym (lowered_at look R (wrapped_twice R C r c up left))
+      refl refl (subst (λ (i : ℕ). i < C) (lowered_column R (wrapped_at_top_and_left R C r c up left)) ic)
+      ∙ sym (lowered_at look R (wrapped_at_top_and_left R C r c up left))
 
   -- ---- a codeword
 

@@ -120,12 +120,12 @@ abbrev pub codeword_count : SizeEntry → ℕ
 codeword_count size = size.data_count + size.check_count
 
 -- Of `count` things that are dealt in turn into B blocks, block b, where b is below B, gets this many.
-abbrev pub share : ℕ → ℕ → ℕ → ℕ
-share count B b = (count + B - 1 - b) / B
+abbrev pub count_in_block : ℕ → ℕ → ℕ → ℕ
+count_in_block count B b = (count + B - 1 - b) / B
 
 -- Block b of this size has this many data codewords. In 144 x 144 the last two blocks have one fewer than the others.
 abbrev pub block_data : SizeEntry → ℕ → ℕ
-block_data size b = share size.data_count size.blocks b
+block_data size b = count_in_block size.data_count size.blocks b
 
 -- Each block of this size has this many check codewords.
 abbrev pub block_check : SizeEntry → ℕ
@@ -133,7 +133,7 @@ block_check size = size.check_count / size.blocks
 
 -- Block b of this size has this many codewords.
 abbrev pub block_length : SizeEntry → ℕ → ℕ
-block_length size b = share (codeword_count size) size.blocks b
+block_length size b = count_in_block (codeword_count size) size.blocks b
 
 -- The number of wrong codewords that can be corrected in a block.
 abbrev pub limit : SizeEntry → ℕ

@@ -1,7 +1,7 @@
 use Rattle.std.proofs.Common.{◌≡◌, ◌+◌, ◌*◌, ◌∙◌, sym, ap, [], ◌∷◌, ◌++◌, map, get_or, take, length, arith, lit<}
 use Rattle.std.specs.List.{range_with_len}
 use Rattle.std.proofs.lemmas.List.FromFn.{map-range_with_len_more, length-map-range_with_len}
-use Rattle.dm_layout.specs.symbols.Sizes.{SizeEntry, block_data, share}
+use Rattle.dm_layout.specs.symbols.Sizes.{SizeEntry, block_data, count_in_block}
 use Rattle.dm_layout.proofs.symbols.TableEntries.{short_block}
 use Rattle.dm_layout.proofs.symbols.BlockLemmas.{steps_of_block, walk_of_block, data_of_block}
 use Rattle.dm_layout.proofs.symbols.blocks.block.Goals as goal
@@ -32,7 +32,8 @@ pub returns-clause-value : goal.returns-clause-value
 returns-clause-value g c =
     let same : c.blocks-blocks.result ≡ c.args.words.now.size.blocks =
     c.blocks-blocks.ensures.value ∙ ap (λ (s : SizeEntry). s.blocks) c.size.ensures.value in
-    let all : c.loop-i.i ≡ share (length c.list-list.result.now) c.blocks-blocks.result c.args.b = omega arith in
+    let all : c.loop-i.i ≡ count_in_block (length c.list-list.result.now) c.blocks-blocks.result c.args.b =
+    omega arith in
     c.loop-i.invariant
     ∙ ap (λ m. map (λ k. get_or c.list-list.result.now (k * c.blocks-blocks.result + c.args.b) 0) (range_with_len 0 m))
     all
@@ -43,7 +44,8 @@ pub returns-clause-length : goal.returns-clause-length
 returns-clause-length g c =
     let same : c.blocks-blocks.result ≡ c.args.words.now.size.blocks =
     c.blocks-blocks.ensures.value ∙ ap (λ (s : SizeEntry). s.blocks) c.size.ensures.value in
-    let all : c.loop-i.i ≡ share (length c.list-list.result.now) c.blocks-blocks.result c.args.b = omega arith in
+    let all : c.loop-i.i ≡ count_in_block (length c.list-list.result.now) c.blocks-blocks.result c.args.b =
+    omega arith in
     ap length c.loop-i.invariant
     ∙ length-map-range_with_len (λ k. get_or c.list-list.result.now (k * c.blocks-blocks.result + c.args.b) 0) 0
     c.loop-i.i
