@@ -1,7 +1,9 @@
 // Times the calls of the library ecc200 in process, beside libdmtx, zint and zxing-cpp if they are compiled in
 // (WITH_DMTX, WITH_ZINT, WITH_ZXING), on the same symbols: microseconds of processor time a call, the best of some
 // rounds. Each answer is compared with what was written. Prints a line for each kind of work: the size by its rows and
-// columns, work, library, microseconds.
+// columns, work, library, microseconds. Given a file of messages, each a line of hexadecimal digits, it writes them too,
+// as small as each encoder does, and prints another line for each encoder: the sizes among which it chooses, library,
+// microseconds a message, the modules of all symbols, and how many messages all encoders write.
 #include <ecc200.h>
 
 #include <algorithm>
@@ -9,6 +11,8 @@
 #include <cstdlib>
 #include <cstring>
 #include <ctime>
+#include <exception>
+#include <fstream>
 #include <random>
 #include <string>
 #include <vector>
@@ -229,8 +233,120 @@ static void time_zint(const std::vector<Mark> &marks) {
 }
 #endif
 
+// ---- Messages in small symbols
+
+// An encoder, the sizes among which it chooses, and how many modules its symbol of a message has: 0 if it refuses it.
+struct Encoder {
+    const char *sizes, *who;
+    size_t (*modules)(const std::string &message);
+};
+
+template <uint16_t form, uint16_t shape> static size_t ours(const std::string &message) {
+    ecc200_how how = {};
+    how.form = form, how.shape = shape, how.extent = ECC200_WIDE;
+    bool is_written = !ecc200_write_bytes((const uint8_t *)message.data(), message.size(), &how, &symbol);
+    return is_written ? (size_t)symbol.rows * symbol.columns : 0;
+}
+
+#ifdef WITH_ZINT
+template <int sizes, int mode> static size_t by_zint(const std::string &message) {
+    zint_symbol *made = ZBarcode_Create();
+    made->symbology = BARCODE_DATAMATRIX;
+    made->input_mode = mode;
+    made->option_3 = sizes;
+    bool is_written = ZBarcode_Encode(made, (unsigned char *)message.data(), (int)message.size()) < ZINT_ERROR;
+    size_t modules = is_written ? (size_t)made->rows * made->width : 0;
+    ZBarcode_Delete(made);
+    return modules;
+}
+#endif
+
+#ifdef WITH_ZXING
+static size_t by_zxing(const std::string &message) {
+    ZXing::MultiFormatWriter writer(ZXing::BarcodeFormat::DataMatrix);
+    writer.setMargin(0);
+    std::wstring text;
+    for (unsigned char byte : message) text += (wchar_t)byte;
+    try {
+        auto matrix = writer.encode(text, 0, 0);
+        return (size_t)matrix.width() * matrix.height();
+    } catch (const std::exception &) {
+        return 0;
+    }
+}
+#endif
+
+#ifdef WITH_DMTX
+template <int scheme> static size_t by_dmtx(const std::string &message) {
+    DmtxEncode *encode = dmtxEncodeCreate();
+    dmtxEncodeSetProp(encode, DmtxPropSizeRequest, DmtxSymbolSquareAuto);
+    dmtxEncodeSetProp(encode, DmtxPropScheme, scheme);
+    dmtxEncodeSetProp(encode, DmtxPropModuleSize, 1);
+    dmtxEncodeSetProp(encode, DmtxPropMarginSize, 1);
+    bool is_written = dmtxEncodeDataMatrix(encode, (int)message.size(), (unsigned char *)message.data());
+    size_t side = is_written ? encode->region.symbolRows : 0;
+    dmtxEncodeDestroy(&encode);
+    return side * side;
+}
+#endif
+
+static const Encoder ENCODERS[] = {
+    {"squares", "ecc200", ours<ECC200_SMALLEST, ECC200_SQUARE>},
+    {"squares", "ecc200, ASCII", ours<ECC200_ASCII, ECC200_SQUARE>},
+#ifdef WITH_ZINT
+    {"squares", "zint", by_zint<DM_SQUARE, DATA_MODE>},
+    {"squares", "zint, fast", by_zint<DM_SQUARE, DATA_MODE | FAST_MODE>},
+#endif
+#ifdef WITH_DMTX
+    {"squares", "libdmtx, best", by_dmtx<DmtxSchemeAutoBest>},
+    {"squares", "libdmtx, ASCII", by_dmtx<DmtxSchemeAscii>},
+#endif
+    {"all sizes", "ecc200", ours<ECC200_SMALLEST, ECC200_ANY>},
+#ifdef WITH_ZINT
+    {"all sizes", "zint", by_zint<DM_DMRE, DATA_MODE>},
+#endif
+#ifdef WITH_ZXING
+    {"all sizes", "zxing-cpp, no extension", by_zxing},
+#endif
+};
+
+static bool is_written_by_all(const std::string &message) {
+    return std::all_of(std::begin(ENCODERS), std::end(ENCODERS),
+                       [&](const Encoder &encoder) { return encoder.modules(message) != 0; });
+}
+
+// Those messages of a file that each encoder writes.
+static std::vector<std::string> messages_of(const char *path) {
+    std::vector<std::string> messages;
+    std::ifstream file(path);
+    for (std::string line; std::getline(file, line);) {
+        std::string message;
+        for (size_t i = 0; i + 1 < line.size(); i += 2) message += (char)std::stoi(line.substr(i, 2), nullptr, 16);
+        if (is_written_by_all(message)) messages.push_back(message);
+    }
+    return messages;
+}
+
+static void time_messages(const char *path) {
+    const std::vector<std::string> messages = messages_of(path);
+    if (messages.empty()) die("no message is written by all");
+    for (const Encoder &encoder : ENCODERS) {
+        double best = 1e9;
+        size_t modules = 0;
+        for (int i = 0; i < rounds; i++) {
+            double from = now();
+            modules = 0;
+            for (const std::string &message : messages) modules += encoder.modules(message);
+            best = std::min(best, now() - from);
+        }
+        std::printf("%s|%s|%.2f|%zu|%zu\n", encoder.sizes, encoder.who, 1e6 * best / messages.size(), modules,
+                    messages.size());
+    }
+}
+
 int main(int argc, char **argv) {
     if (argc > 1) rounds = std::max(1, std::atoi(argv[1]));
+    if (argc > 2) time_messages(argv[2]);
     static ecc200_size_table table;
     ecc200_sizes(&table);
     const struct { uint16_t rows, columns; size_t length, count; } sets[] = {
