@@ -8,9 +8,10 @@ use dm_code::{encode, syndromes};
 use dm_layout::symbols::MOST_ROWS;
 use dm_layout::{Grid, LARGEST_SIDE, MOST_GRID_CODEWORDS, Size, Words, table};
 use dm_symbol::{
-    Extent, Message, NormalFault, Profile, ReadFault, ReadOptions, Reading, Symbol,
-    SymbolInspection, SymbolReading, SymbolSize, SymbolWords, TooLong, inspect_symbol_to,
-    light_grid, normal_symbol_to, read_symbol_to,
+    Extent, LetterReadFault, LetterReading, Message, NormalFault, Profile, ReadFault, ReadOptions,
+    Reading, SizeChoice, Symbol, SymbolInspection, SymbolReading, SymbolSize, SymbolWords, TooLong,
+    inspect_symbol_to, light_grid, normal_letter_to, normal_symbol_to, read_letter_to,
+    read_symbol_to, write_smallest_letter_to,
 };
 use gf301::{Poly, generator};
 
@@ -164,7 +165,7 @@ fn put(symbol: &mut Symbol, row: u16, column: u16, dark: bool) {
 }
 
 /// The symbol with the cells of a grid, where there is one of its size.
-fn symbol_of(grid: &Grid) -> Option<Symbol> {
+pub(crate) fn symbol_of(grid: &Grid) -> Option<Symbol> {
     let side = grid.size().side();
     let size = SymbolSize::of(side, side)?;
     // For the proof alone: what `rows` ensures says that there is room.
@@ -176,6 +177,15 @@ fn symbol_of(grid: &Grid) -> Option<Symbol> {
         }
     }
     Some(symbol)
+}
+
+/// How a symbol is read in an extent with no border fault and no doubtful module.
+pub(crate) fn strictly<'a>(extent: Extent) -> ReadOptions<'a, MOST_ROWS> {
+    ReadOptions {
+        extent,
+        border_limit: 0,
+        doubtful: None,
+    }
 }
 
 /// Reads a symbol into `reading`, and nothing where the doubtful modules are those of another size.
@@ -198,11 +208,6 @@ pub(crate) fn read_symbol(
 
 /// The normal symbol, in ASCII, of what a symbol says at `Wide` with no border fault, and none where it says nothing.
 pub(crate) fn normal_symbol(symbol: &Symbol) -> Option<Symbol> {
-    let how = ReadOptions {
-        extent: Extent::Wide,
-        border_limit: 0,
-        doubtful: None,
-    };
     let size = symbol.size();
     // For the proof alone: what these ensure says that there is room.
     let _room = (size.rows(), size.data_count(), size.check_count());
@@ -211,7 +216,7 @@ pub(crate) fn normal_symbol(symbol: &Symbol) -> Option<Symbol> {
     let mut normal = Symbol::light(size);
     match normal_symbol_to(
         symbol,
-        how,
+        strictly(Extent::Wide),
         Profile::Ascii,
         &mut words,
         &mut reading,
@@ -219,6 +224,65 @@ pub(crate) fn normal_symbol(symbol: &Symbol) -> Option<Symbol> {
     ) {
         Ok(()) => Some(normal),
         Err(_) => None,
+    }
+}
+
+/// Reads a symbol as a letter into `reading`, with no border fault.
+pub(crate) fn read_letter(
+    extent: Extent,
+    symbol: &Symbol,
+    reading: &mut LetterReading,
+) -> Result<(), LetterReadFault> {
+    let size = symbol.size();
+    // For the proof alone: what these ensure says that there is room.
+    let _room = (size.data_count(), size.check_count());
+    let mut words = SymbolWords::zeros(size);
+    read_letter_to(symbol, strictly(extent), &mut words, reading)
+}
+
+/// The normal symbol, in ASCII, of what a symbol says as a letter at `Wide` with no border fault, and none where it says
+/// nothing.
+pub(crate) fn normal_letter(symbol: &Symbol) -> Option<Symbol> {
+    let size = symbol.size();
+    // For the proof alone: what these ensure says that there is room.
+    let _room = (size.rows(), size.data_count(), size.check_count());
+    let mut words = SymbolWords::zeros(size);
+    let mut reading = LetterReading::new();
+    let mut normal = Symbol::light(size);
+    match normal_letter_to(
+        symbol,
+        strictly(Extent::Wide),
+        Profile::Ascii,
+        &mut words,
+        &mut reading,
+        &mut normal,
+    ) {
+        Ok(()) => Some(normal),
+        Err(_) => None,
+    }
+}
+
+/// The smallest square for readers of an extent of what a symbol says as a letter at `Wide` with no border fault, and
+/// none where there is none.
+pub(crate) fn smallest_letter(extent: Extent, symbol: &Symbol) -> Option<Symbol> {
+    let mut reading = LetterReading::new();
+    if read_letter(Extent::Wide, symbol, &mut reading).is_err() {
+        return None;
+    }
+    let size = symbol.size();
+    // For the proof alone: what these ensure says that there is room.
+    let _room = (size.rows(), size.check_count());
+    let mut words = SymbolWords::zeros(size);
+    let mut smallest = Symbol::light(size);
+    match write_smallest_letter_to(
+        extent,
+        &reading.letter,
+        SizeChoice::Square,
+        &mut words,
+        &mut smallest,
+    ) {
+        Ok(()) => Some(smallest),
+        Err(TooLong) => None,
     }
 }
 

@@ -17,6 +17,7 @@ mod doubt;
 mod extents;
 mod hostile;
 mod larger;
+mod letters;
 mod places;
 mod profiles;
 
