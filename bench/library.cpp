@@ -1,9 +1,9 @@
 // Times the calls of the library ecc200 in process, beside libdmtx, zint and zxing-cpp if they are compiled in
 // (WITH_DMTX, WITH_ZINT, WITH_ZXING), on the same symbols: microseconds of processor time a call, the best of some
 // rounds. Each answer is compared with what was written. Prints a line for each kind of work: the size by its rows and
-// columns, work, library, microseconds. Given a file of messages, each a line of hexadecimal digits, it writes them too,
-// as small as each encoder does, and prints another line for each encoder: the sizes among which it chooses, library,
-// microseconds a message, the modules of all symbols, and how many messages all encoders write.
+// columns, work, library, microseconds. Given a file of messages, each a line of hexadecimal digits, it writes these
+// too, as small as each encoder does, and prints another line for each encoder: the sizes among which it chooses,
+// library, microseconds a message, the modules of all symbols, and how many messages all encoders write.
 #include <ecc200.h>
 
 #include <algorithm>

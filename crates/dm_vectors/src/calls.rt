@@ -240,8 +240,8 @@ pub(crate) fn read_letter(
     read_letter_to(symbol, strictly(extent), &mut words, reading)
 }
 
-/// The normal symbol, in ASCII, of what a symbol says as a letter at `Wide` with no border fault, and none where it says
-/// nothing.
+/// The normal symbol, in ASCII, of what a symbol says as a letter at `Wide` with no border fault, and none where it
+/// says nothing.
 pub(crate) fn normal_letter(symbol: &Symbol) -> Option<Symbol> {
     let size = symbol.size();
     // For the proof alone: what these ensure says that there is room.

@@ -6,8 +6,8 @@ use dm_symbol::{
     Appended, Extent, Head, LetterFault, LetterReadFault, LetterReading, Mark, Symbol,
 };
 
-/// Data codewords at side 12; the head, the bytes and the marks that they say, these by place and number; and the number
-/// of the symbology identifier.
+/// Data codewords at side 12; the head, the bytes and the marks that they say, these by place and number; and the
+/// number of the symbology identifier.
 type Row = (
     &'static [u8],
     Option<Head>,
