@@ -179,15 +179,6 @@ pub(crate) fn symbol_of(grid: &Grid) -> Option<Symbol> {
     Some(symbol)
 }
 
-/// How a symbol is read in an extent with no border fault and no doubtful module.
-pub(crate) fn strictly<'a>(extent: Extent) -> ReadOptions<'a, MOST_ROWS> {
-    ReadOptions {
-        extent,
-        border_limit: 0,
-        doubtful: None,
-    }
-}
-
 /// Reads a symbol into `reading`, and nothing where the doubtful modules are those of another size.
 pub(crate) fn read_symbol(
     symbol: &Symbol,
@@ -208,6 +199,11 @@ pub(crate) fn read_symbol(
 
 /// The normal symbol, in ASCII, of what a symbol says at `Wide` with no border fault, and none where it says nothing.
 pub(crate) fn normal_symbol(symbol: &Symbol) -> Option<Symbol> {
+    let how = ReadOptions {
+        extent: Extent::Wide,
+        border_limit: 0,
+        doubtful: None,
+    };
     let size = symbol.size();
     // For the proof alone: what these ensure says that there is room.
     let _room = (size.rows(), size.data_count(), size.check_count());
@@ -216,7 +212,7 @@ pub(crate) fn normal_symbol(symbol: &Symbol) -> Option<Symbol> {
     let mut normal = Symbol::light(size);
     match normal_symbol_to(
         symbol,
-        strictly(Extent::Wide),
+        how,
         Profile::Ascii,
         &mut words,
         &mut reading,
@@ -236,13 +232,23 @@ pub(crate) fn read_letter(
     let size = symbol.size();
     // For the proof alone: what these ensure says that there is room.
     let _room = (size.data_count(), size.check_count());
+    let how = ReadOptions {
+        extent,
+        border_limit: 0,
+        doubtful: None,
+    };
     let mut words = SymbolWords::zeros(size);
-    read_letter_to(symbol, strictly(extent), &mut words, reading)
+    read_letter_to(symbol, how, &mut words, reading)
 }
 
 /// The normal symbol, in ASCII, of what a symbol says as a letter at `Wide` with no border fault, and none where it
 /// says nothing.
 pub(crate) fn normal_letter(symbol: &Symbol) -> Option<Symbol> {
+    let how = ReadOptions {
+        extent: Extent::Wide,
+        border_limit: 0,
+        doubtful: None,
+    };
     let size = symbol.size();
     // For the proof alone: what these ensure says that there is room.
     let _room = (size.rows(), size.data_count(), size.check_count());
@@ -251,7 +257,7 @@ pub(crate) fn normal_letter(symbol: &Symbol) -> Option<Symbol> {
     let mut normal = Symbol::light(size);
     match normal_letter_to(
         symbol,
-        strictly(Extent::Wide),
+        how,
         Profile::Ascii,
         &mut words,
         &mut reading,

@@ -2,7 +2,7 @@
 
 ghost use Rattle.std.specs.Prelude.{◌<◌};
 
-use crate::calls::{checks_of, inspect_symbol, normal_symbol, read_symbol, strictly};
+use crate::calls::{checks_of, inspect_symbol, normal_symbol, read_symbol};
 use crate::claims::holds;
 use crate::modules::words_of;
 use arrayvec::ArrayVec;
@@ -107,7 +107,12 @@ fn symbol_with(list: &List) -> Option<Symbol> {
 
 /// Reads the symbol of these codewords into `reading`.
 fn read(list: &List, extent: Extent, reading: &mut SymbolReading) -> Option<Result<(), ReadFault>> {
-    read_symbol(&symbol_with(list)?, strictly(extent), reading)
+    let how = ReadOptions {
+        extent,
+        border_limit: 0,
+        doubtful: None,
+    };
+    read_symbol(&symbol_with(list)?, how, reading)
 }
 
 /// Whether the items are the letters.
