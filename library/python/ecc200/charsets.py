@@ -1,5 +1,5 @@
-"""Text and its charsets: what bytes are as text, by their ECI marks, and which bytes and marks a text takes. ecc200.core
-has the code.
+"""Text and its charsets: what bytes are as text, by their ECI marks, and which bytes and marks a text takes. The code
+stands in ecc200.core.
 
     >>> from ecc200 import charsets
     >>> charsets.text_of(b"\\xcf\\xf0\\xe8\\xe2\\xe5\\xf2", [(0, 22)])

@@ -780,36 +780,87 @@ def _chosen(form: int, size: Optional[Tuple[int, int]], shape: Optional[int], ex
     return _how(wanted, _ONE, rows, columns, readers, numbers)
 
 
+def _of_text(text: str, gs1: bool, charset: Optional[str], marks: Iterable[Mark]) -> Tuple[bytes, Tuple[Mark, ...]]:
+    """The bytes of a text, and the marks that are given with it, or else its own, behind an FNC1 in front."""
+    data, own = letter_of(text, charset)
+    return data, tuple(marks) or tuple((place + gs1, number) for place, number in own)
+
+
+def _written(items: Any, marks: Tuple[Optional[bytes], int], how: bytes) -> Rows:
+    answer, address = room = _room(_symbols, _SymbolOut)
+    try:
+        _library.ecc200_write(items.buffer_info()[0], len(items), *marks, how, address)
+        return _drawn(answer)
+    finally:
+        _symbols.append(room)
+
+
+def _written_bytes(message: bytes, how: bytes) -> Rows:
+    answer, address = room = _room(_symbols, _SymbolOut)
+    try:
+        _call_write_bytes(message, len(message), how, address)
+        return _drawn(answer)
+    finally:
+        _symbols.append(room)
+
+
+_SIZES_OF: Dict[int, Callable[[Size], bool]] = {
+    Shape.SQUARE: lambda size: size.rows == size.columns, Shape.EXTENDED: lambda size: size.rows != size.columns,
+    Shape.RECTANGLE: lambda size: size.rows != size.columns and not size.extension, Shape.ANY: lambda size: True}
+
+
+def _larger(rows: Rows, shape: Optional[int]) -> List[Tuple[int, int]]:
+    """The sizes of a shape behind that of a symbol which has it."""
+    named = [(size.rows, size.columns) for size in sizes() if _SIZES_OF[shape or Shape.SQUARE](size)]
+    return named[named.index((len(rows), len(rows[0]))) + 1:]
+
+
+def _is_gs1(rows: Rows) -> bool:
+    """Whether the first codeword of a symbol, behind a head, is that of FNC1, and none of a run that says FNC1."""
+    return read(rows).symbology in ("]d2", "]d5")
+
+
+def _in_first(each: Iterable[Tuple[int, int]], written: Callable[[Tuple[int, int]], Rows]) -> Rows:
+    """The symbol in the first of these sizes in which it is GS1's, as it is where ASCII has room."""
+    for size in each:
+        try:
+            rows = written(size)
+        except Refused:  # a larger rectangle may hold less
+            continue
+        if _is_gs1(rows):
+            return rows
+    raise Refused(Code.TOO_LONG)
+
+
 def write(message: Message, gs1: bool = False, profile: Profile = Profile.ASCII, charset: Optional[str] = None,
           size: Optional[Tuple[int, int]] = None, shape: Optional[Shape] = None, marks: Iterable[Mark] = (),
           head: Head = None, form: Optional[Form] = None, extent: Extent = Extent.WIDE) -> Rows:
-    """The symbol of a message, given as bytes, as items, which are 0 to 255 or FNC1, or as text with the charset that
-    makes it bytes. With `gs1`, FNC1 stands in front and in place of each 0x1D. It is the normal grid, which is a
-    square, unless another `shape` is chosen, whose smallest symbol is written, or a `size` by its rows and columns.
+    """The symbol of a message, given as bytes, as items, which are 0 to 255 or FNC1, or as text, which becomes bytes
+    and marks as `charsets.letter_of` has it. With `gs1`, FNC1 stands in front and in place of each 0x1D. It is the
+    normal grid, which is a square, unless another `shape` is chosen, whose smallest symbol is written, or a `size` by
+    its rows and columns.
 
-    `marks` and a `head` are written beside the message; the places of marks count its items, an FNC1 in front too.
-    `form` stands for a profile: Form.SMALLEST takes the encodations by which what is said fits the smallest size, of
-    those that readers of an `extent` read; Extent.USUAL has no marks and no heads, which are then too long."""
+    `marks` and a `head` are written beside the message; the places of marks count its items, an FNC1 in front too. A
+    text that is given marks has no others. `form` stands for a profile: Form.SMALLEST takes the encodations by which
+    what is said fits the smallest size, of those that readers of an `extent` read; Extent.USUAL has no marks and no
+    heads, which are then too long. In each form an FNC1 in front is the first codeword, as GS1 asks."""
     if isinstance(message, str):
-        if charset is None:
-            raise TypeError("a message is bytes or items; for text name its charset, as in write(text, "
-                            "charset='iso-8859-1')")
-        message = message.encode(charset)
+        message, marks = _of_text(message, gs1, charset, marks)
     is_usual = profile is _ASCII and size is None and shape is None and head is None and form is None
     if form is None and profile == Form.SMALLEST.value:
         raise Refused(Code.PROFILE, profile)
     how = _USUAL if is_usual else _chosen(profile if form is None else form, size, shape, extent, head)
-    beside, mark_count = _packed(marks) if marks else (None, 0)
-    answer, address = room = _room(_symbols, _SymbolOut)
-    try:
-        if gs1 or mark_count or not isinstance(message, bytes):
-            items = _items(message, gs1)
-            _library.ecc200_write(items.buffer_info()[0], len(items), beside, mark_count, how, address)
-        else:
-            _call_write_bytes(message, len(message), how, address)
-        return _drawn(answer)
-    finally:
-        _symbols.append(room)
+    marks = tuple(marks) if marks else ()
+    beside = _packed(marks) if marks else (None, 0)
+    if not gs1 and not marks and isinstance(message, bytes):
+        return _written_bytes(message, how)
+    items = _items(message, gs1)
+    rows = _written(items, beside, how)
+    is_behind_mark = bool(marks) and marks[0][0] == 0
+    if form != Form.SMALLEST or items[:1].tolist() != [FNC1] or is_behind_mark or _is_gs1(rows):
+        return rows
+    return _in_first([] if size else _larger(rows, shape),
+                     lambda larger: _written(items, beside, _chosen(Form.SMALLEST, larger, None, extent, head)))
 
 
 def normal(grid: Grid, border_limit: BorderLimit = None, profile: Profile = Profile.ASCII,
@@ -875,8 +926,8 @@ def _size_of(rows: int, columns: int) -> Size:
 
 # ---- Text: of which charset bytes are, and how that is marked
 
-# The charsets of ECI assignments, by names that Python, IANA and iconv have in common. Of several numbers of one charset
-# the last is written.
+# The charsets of ECI assignments, by names that Python, IANA and iconv have in common. Where a charset has several
+# numbers the last is written.
 _CHARSETS = {
     0: "ibm437", 1: "iso-8859-1", 170: "us-ascii", 2: "ibm437",
     **{part + 2: f"iso-8859-{part}" for part in (*range(1, 12), *range(13, 17))}, 20: "shift_jis",
@@ -886,9 +937,8 @@ _CHARSETS = {
 }
 _BINARY = 899
 _LATIN_1, _UTF_8 = "iso-8859-1", "utf-8"
-# What some readers take for Shift JIS, where nothing is marked, and for UTF-16.
+# What zxing-cpp may take for Shift JIS where nothing is marked, as it does if there are few letters of other kinds.
 _LIKE_SHIFT_JIS = re.compile(rb"(?:[\0-\x7f\xa1-\xdf]|[\x81-\x9f\xe0-\xef][@-~\x80-\xfc])*")
-_LIKE_UTF_16 = (b"\xfe\xff", b"\xff\xfe")
 
 
 class Text(NamedTuple):
@@ -946,7 +996,7 @@ def _taken_for(data: bytes) -> Optional[str]:
     """The charset for which all readers take bytes without a mark; None where they differ."""
     if _decoded(data, _UTF_8) is not None:
         return _UTF_8
-    return None if _LIKE_SHIFT_JIS.fullmatch(data) or data.startswith(_LIKE_UTF_16) else _LATIN_1
+    return None if _LIKE_SHIFT_JIS.fullmatch(data) else _LATIN_1
 
 
 def letter_of(text: str, charset: Optional[str] = None) -> Tuple[bytes, Tuple[Mark, ...]]:
