@@ -33,6 +33,7 @@ WRITTEN = [
     ("20 \u00b0C", None, b"20 \xb0C", ((0, 3),)), ("20 \u00b0C", LATIN_1, b"20 \xb0C", ((0, 3),)),
     ("20 \u00b0C", UTF_8, b"20 \xc2\xb0C", ()), ("\u00c3\u00a9", None, b"\xc3\xa9", ((0, 3),)),
     ("\u00c3\u00a9", UTF_8, b"\xc3\x83\xc2\xa9", ()), ("\u00ef\u00bb\u00bfA", None, b"\xef\xbb\xbfA", ((0, 3),)),
+    ("\u00efx \u00b0", None, b"\xefx \xb0", ((0, 3),)),
     ("\u20ac", None, b"\xe2\x82\xac", ((0, 26),)), ("\u20ac", UTF_8, b"\xe2\x82\xac", ()),
     ("\u20ac", "latin-1", UnicodeEncodeError, None), ("\u20ac", "cp1252", b"\x80", ((0, 23),)),
     ("\u041f", "cyrillic", b"\xbf", ((0, 7),)), ("\u041f", "koi8-r", b"\xf0", ()), ("A", "utf-16-le", b"A\0", ((0, 33),)),
@@ -244,7 +245,7 @@ def unjoined(readings):
 def joined():
     """Parts in any order are put together; what is missing, doubled or of another file is named."""
     first, second, third = (part(number, 3, data) for number, data in enumerate((b"AB", b"", b"C\xe9"), 1))
-    for order in itertools.permutations((first, second, third, first)):
+    for order in itertools.permutations((first, second, third, part(1, 3, b"AB"))):
         got = ecc200.join(iter(order))
         yield same("parts in any order", (got.data, got.items, got.gs1, got.marks, got.parts, got.text, got.charset),
                    (b"ABC\xe9", (65, 66, 67, 233), False, (), (first, second, third), "ABC\u00e9", LATIN_1))
