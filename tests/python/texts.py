@@ -333,22 +333,23 @@ def some_elements(chance):
 
 
 def elements():
-    """GS1 symbols begin with FNC1 in each form, shape and extent, and are no larger than in ASCII."""
-    chance, larger, others = random.Random(7), 0, 0
-    for _ in range(400):
+    """GS1 symbols begin with FNC1, and not with a run that says it, in each shape and extent, also behind a head."""
+    chance, smaller = random.Random(7), 0
+    for _ in range(300):
         data = gs1.message(some_elements(chance))
-        for shape in Shape:
-            for extent in Extent:
-                symbol, plain = (ecc200.encode(data, gs1=True, shape=shape, **more)
-                                 for more in ({"extent": extent}, {"form": Form.ASCII}))
-                reading = ecc200.read(symbol)
-                yield same(f"{data}, {shape.name}", (reading.symbology, reading.data, reading.gs1), ("]d2", data, True))
-                yield holds(f"its size, {data}", symbol.size[0] * symbol.columns <= plain.size[0] * plain.columns)
-                others += symbol.size != plain.size
-                least = ecc200.core._written(ecc200.core._items(data, True), (None, 0), ecc200.core._chosen(
-                    Form.SMALLEST, None, shape, extent, None))
-                larger += ecc200.read(least).symbology != "]d2"
-    yield holds("most are smaller than in ASCII, and of some the smallest isn't GS1's", others > 800 and larger > 0,
-                f"{others}, {larger}")
+        for shape, extent in itertools.product(Shape, Extent):
+            symbol = ecc200.encode(data, gs1=True, shape=shape, extent=extent)
+            reading = ecc200.read(symbol, extent=extent)
+            yield same(f"{data}, {shape.name}, {extent.name}", (reading.symbology, reading.data, reading.gs1),
+                       ("]d2", data, True))
+            smaller += symbol.size != ecc200.encode(data, gs1=True, shape=shape, form=Form.ASCII).size
+        reading = ecc200.read(ecc200.encode(data, gs1=True, head=(1, 2, 3, 4), marks=[(1, 26)]))
+        yield same(f"{data}, behind a head", (reading.symbology, reading.data, reading.marks, reading.head),
+                   ("]d5", data, ((1, 26),), (1, 2, 3, 4)))
+    yield holds("most are smaller than in ASCII", smaller > 1200, f"{smaller} of 2400")
+    for rest in itertools.product((49, 65, 97, 31, 225, 256), repeat=4):
+        for length in range(1, 5):
+            items = [256, *rest[:length]]
+            yield same(f"{items}", ecc200.read(ecc200.encode(items)).symbology, "]d2")
 
 

@@ -786,81 +786,35 @@ def _of_text(text: str, gs1: bool, charset: Optional[str], marks: Iterable[Mark]
     return data, tuple(marks) or tuple((place + gs1, number) for place, number in own)
 
 
-def _written(items: Any, marks: Tuple[Optional[bytes], int], how: bytes) -> Rows:
-    answer, address = room = _room(_symbols, _SymbolOut)
-    try:
-        _library.ecc200_write(items.buffer_info()[0], len(items), *marks, how, address)
-        return _drawn(answer)
-    finally:
-        _symbols.append(room)
-
-
-def _written_bytes(message: bytes, how: bytes) -> Rows:
-    answer, address = room = _room(_symbols, _SymbolOut)
-    try:
-        _call_write_bytes(message, len(message), how, address)
-        return _drawn(answer)
-    finally:
-        _symbols.append(room)
-
-
-_SIZES_OF: Dict[int, Callable[[Size], bool]] = {
-    Shape.SQUARE: lambda size: size.rows == size.columns, Shape.EXTENDED: lambda size: size.rows != size.columns,
-    Shape.RECTANGLE: lambda size: size.rows != size.columns and not size.extension, Shape.ANY: lambda size: True}
-
-
-def _larger(rows: Rows, shape: Optional[int]) -> List[Tuple[int, int]]:
-    """The sizes of a shape behind that of a symbol which has it."""
-    named = [(size.rows, size.columns) for size in sizes() if _SIZES_OF[shape or Shape.SQUARE](size)]
-    return named[named.index((len(rows), len(rows[0]))) + 1:]
-
-
-def _is_gs1(rows: Rows) -> bool:
-    """Whether the first codeword of a symbol, behind a head, is that of FNC1, and none of a run that says FNC1."""
-    return read(rows).symbology in ("]d2", "]d5")
-
-
-def _in_first(each: Iterable[Tuple[int, int]], written: Callable[[Tuple[int, int]], Rows]) -> Rows:
-    """The symbol in the first of these sizes in which it is GS1's, as it is where ASCII has room."""
-    for size in each:
-        try:
-            rows = written(size)
-        except Refused:  # a larger rectangle may hold less
-            continue
-        if _is_gs1(rows):
-            return rows
-    raise Refused(Code.TOO_LONG)
-
-
 def write(message: Message, gs1: bool = False, profile: Profile = Profile.ASCII, charset: Optional[str] = None,
           size: Optional[Tuple[int, int]] = None, shape: Optional[Shape] = None, marks: Iterable[Mark] = (),
           head: Head = None, form: Optional[Form] = None, extent: Extent = Extent.WIDE) -> Rows:
     """The symbol of a message, given as bytes, as items, which are 0 to 255 or FNC1, or as text, which becomes bytes
-    and marks as `charsets.letter_of` has it. With `gs1`, FNC1 stands in front and in place of each 0x1D. It is the
-    normal grid, which is a square, unless another `shape` is chosen, whose smallest symbol is written, or a `size` by
-    its rows and columns.
+    and marks as `charsets.letter_of` has it. With `gs1`, FNC1 stands in front and in place of each 0x1D; the symbol then
+    begins with its codeword in each form. It is the normal grid, which is a square, unless another `shape` is chosen,
+    whose smallest symbol is written, or a `size` by its rows and columns.
 
     `marks` and a `head` are written beside the message; the places of marks count its items, an FNC1 in front too. A
     text that is given marks has no others. `form` stands for a profile: Form.SMALLEST takes the encodations by which
     what is said fits the smallest size, of those that readers of an `extent` read; Extent.USUAL has no marks and no
-    heads, which are then too long. In each form an FNC1 in front is the first codeword, as GS1 asks."""
+    heads, which are then too long."""
     if isinstance(message, str):
         message, marks = _of_text(message, gs1, charset, marks)
     is_usual = profile is _ASCII and size is None and shape is None and head is None and form is None
     if form is None and profile == Form.SMALLEST.value:
         raise Refused(Code.PROFILE, profile)
     how = _USUAL if is_usual else _chosen(profile if form is None else form, size, shape, extent, head)
-    marks = tuple(marks) if marks else ()
-    beside = _packed(marks) if marks else (None, 0)
-    if not gs1 and not marks and isinstance(message, bytes):
-        return _written_bytes(message, how)
-    items = _items(message, gs1)
-    rows = _written(items, beside, how)
-    is_behind_mark = bool(marks) and marks[0][0] == 0
-    if form != Form.SMALLEST or items[:1].tolist() != [FNC1] or is_behind_mark or _is_gs1(rows):
-        return rows
-    return _in_first([] if size else _larger(rows, shape),
-                     lambda larger: _written(items, beside, _chosen(Form.SMALLEST, larger, None, extent, head)))
+    beside, mark_count = _packed(marks) if marks else (None, 0)
+    answer, address = room = _room(_symbols, _SymbolOut)
+    try:
+        if gs1 or mark_count or not isinstance(message, bytes):
+            items = _items(message, gs1)
+            _library.ecc200_write(items.buffer_info()[0], len(items), beside, mark_count, how, address)
+        else:
+            _call_write_bytes(message, len(message), how, address)
+        return _drawn(answer)
+    finally:
+        _symbols.append(room)
 
 
 def normal(grid: Grid, border_limit: BorderLimit = None, profile: Profile = Profile.ASCII,
