@@ -790,9 +790,9 @@ def write(message: Message, gs1: bool = False, profile: Profile = Profile.ASCII,
           size: Optional[Tuple[int, int]] = None, shape: Optional[Shape] = None, marks: Iterable[Mark] = (),
           head: Head = None, form: Optional[Form] = None, extent: Extent = Extent.WIDE) -> Rows:
     """The symbol of a message, given as bytes, as items, which are 0 to 255 or FNC1, or as text, which becomes bytes
-    and marks as `charsets.letter_of` has it. With `gs1`, FNC1 stands in front and in place of each 0x1D; the symbol then
-    begins with its codeword in each form. It is the normal grid, which is a square, unless another `shape` is chosen,
-    whose smallest symbol is written, or a `size` by its rows and columns.
+    and marks as `charsets.letter_of` has it. With `gs1`, FNC1 stands in front, as the first codeword in each form, and
+    in place of each 0x1D. It is the normal grid, which is a square, unless another `shape` is chosen, whose smallest
+    symbol is written, or a `size` by its rows and columns.
 
     `marks` and a `head` are written beside the message; the places of marks count its items, an FNC1 in front too. A
     text that is given marks has no others. `form` stands for a profile: Form.SMALLEST takes the encodations by which
