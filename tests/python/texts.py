@@ -114,7 +114,8 @@ def read():
             yield same(f"{name}, {kind.__name__}", charsets.text_of(given, marks), (text, charset))
         reading = ecc200.read(ecc200.write(items, marks=marks))
         yield same(f"a reading of {name}", (reading.text, reading.charset), (text, charset))
-    for charset, text in ((LATIN_1, "\u00c3\u00a9"), ("cp437", "\u251c\u2310"), ("ascii", None), ("utf-16be", "\uc3a9")):
+    for charset, text in ((LATIN_1, "\u00c3\u00a9"), ("cp437", "\u251c\u2310"), ("ascii", None),
+                          ("utf-16be", "\uc3a9")):
         yield same(f"in {charset}", charsets.text_of(b"\xc3\xa9", [(0, 26)], charset), (text, charset))
     named = charsets.text_of([256, 65, 256, 0x82], [], "cp437")
     yield same("FNC1 in a charset that is named", named.text, "A\x1d\u00e9")
@@ -265,8 +266,8 @@ def joined():
         ([first, second, marked, third], ((), (1,), (), "with two contents: part 1")),
         ([third, other, first, more, second, alone, programming],
          ((), (), (1, 3, 5, 6), f"no part of {file}: reading 2, 4, 6, 7")),
-        ([alone, first, twice], ((2, 3), (1,), (0,), f"missing of {file}: part 2, 3; with two contents: part 1; no part "
-                                 f"of {file}: reading 1")),
+        ([alone, first, twice], ((2, 3), (1,), (0,), f"missing of {file}: part 2, 3; with two contents: part 1; "
+                                 f"no part of {file}: reading 1")),
         ([], ((), (), (), "there is no part of a structured append")),
         ([alone, programming], ((), (), (0, 1), "there is no part of a structured append")),
     ):
