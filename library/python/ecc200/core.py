@@ -891,7 +891,8 @@ _CHARSETS = {
 }
 _BINARY = 899
 _LATIN_1, _UTF_8 = "iso-8859-1", "utf-8"
-# What zxing-cpp may take for Shift JIS where nothing is marked, as it does if there are few letters of other kinds.
+# What zxing-cpp takes for UTF-8 where nothing is marked, and what it may take for Shift JIS, by the counts of its bytes.
+_LIKE_UTF_8 = rb"(?:[\0-\x7f]|[\xc0-\xdf][\x80-\xff]|[\xe0-\xef][\x80-\xff]{2}|[\xf0-\xf7][\x80-\xff]{3})*"
 _LIKE_SHIFT_JIS = rb"(?:[\0-\x7f\xa1-\xdf]|[\x81-\x9f\xe0-\xef][@-~\x80-\xfc])*"
 
 
@@ -950,7 +951,7 @@ def _taken_for(data: bytes) -> Optional[str]:
     """The charset for which all readers take bytes without a mark; None where they differ."""
     if _decoded(data, _UTF_8) is not None:
         return _UTF_8
-    return None if re.fullmatch(_LIKE_SHIFT_JIS, data) else _LATIN_1
+    return None if re.fullmatch(_LIKE_UTF_8, data) or re.fullmatch(_LIKE_SHIFT_JIS, data) else _LATIN_1
 
 
 def letter_of(text: str, charset: Optional[str] = None) -> Tuple[bytes, Tuple[Mark, ...]]:
