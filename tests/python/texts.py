@@ -39,6 +39,7 @@ WRITTEN = [
     ("\u00efx \u00b0", None, b"\xefx \xb0", ((0, 3),)), ("\u00c1\u00f3", None, b"\xc1\xf3", ((0, 3),)),
     ("\u00c1\u00f3", UTF_8, b"\xc3\x81\xc3\xb3", ()), ("\u00e4\u00f3\u00fc", None, b"\xe4\xf3\xfc", ((0, 3),)),
     ("\u00f4\u00f3\u00fc\u00fc", None, b"\xf4\xf3\xfc\xfc", ((0, 3),)), ("\u00e4\u00f3", None, b"\xe4\xf3", ()),
+    ("\u00ff", None, b"\xff", ()), ("\u0100", None, b"\xc4\x80", ((0, 26),)),
     ("\u20ac", None, b"\xe2\x82\xac", ((0, 26),)), ("\u20ac", UTF_8, b"\xe2\x82\xac", ()),
     ("\u20ac", "latin-1", UnicodeEncodeError, None), ("\u20ac", "cp1252", b"\x80", ((0, 23),)),
     ("\u041f", "cyrillic", b"\xbf", ((0, 7),)), ("\u041f", "koi8-r", b"\xf0", ()),
@@ -269,8 +270,8 @@ def joined():
         ([third, third], ((1, 2), (), (), f"missing of {file}: part 1, 2")),
         ([first, second, twice, third], ((), (1,), (), "with two contents: part 1")),
         ([first, second, marked, third], ((), (1,), (), "with two contents: part 1")),
-        ([third, other, first, more, second, alone, programming],
-         ((), (), (1, 3, 5, 6), f"no part of {file}: reading 2, 4, 6, 7")),
+        ([third, other, first, second, more, alone, programming],
+         ((), (), (1, 4, 5, 6), f"no part of {file}: reading 2, 5, 6, 7")),
         ([alone, first, twice], ((2, 3), (1,), (0,), f"missing of {file}: part 2, 3; with two contents: part 1; "
                                  f"no part of {file}: reading 1")),
         ([], ((), (), (), "there is no part of a structured append")),
