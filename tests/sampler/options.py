@@ -28,7 +28,8 @@ def options(folder, sampler):
     told = json.loads(run([sampler, "--json", path]).stdout)
     check("--json", {name: told[name] for name in told if name != "corners"}, {
         "file": path, "rows": 10, "columns": 10, "inverted": False, "mirrored": False, "message": "123456",
-        "corrected": [0], "erased": [0], "left": [5], "border_faults": 0, "border_limit": 2, "complete": True,
+        "identifier": "]d1", "corrected": [0], "erased": [0], "left": [5], "border_faults": 0, "border_limit": 2,
+        "complete": True,
         "grid": ["".join(map(str, row)) for row in grid]})
     check("corners in --json", [[round(c) for c in corner] for corner in told["corners"]],
           [[12, 12], [52, 12], [52, 52], [12, 52]])
