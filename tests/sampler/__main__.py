@@ -52,7 +52,7 @@ def spoilt(path, texts):
 
 def is_found(case, sampler):
     """Builds the sampler in this folder, and tells whether a case fails over it."""
-    Spoilt.plain = os.path.join(sampler, "out")
+    Spoilt.sources, Spoilt.plain = sampler, os.path.join(sampler, "out")
     Spoilt.sampler = Spoilt.careful = os.path.join(Spoilt.plain, "dm_sample")
     env = commands.environment(ECC200_FOLDER=places.BUILT)
     done = commands.run([os.path.join(sampler, "build"), Spoilt.plain], env=env, timeout=600)

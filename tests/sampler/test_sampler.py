@@ -12,6 +12,8 @@ from tests.support.case import Case
 @needs.program
 @needs.library
 class Sampler(Case):
+    sources = places.path("sampler")
+
     @classmethod
     def setUpClass(cls):
         cls.lacking = limits.missing()
@@ -189,7 +191,10 @@ class Sampler(Case):
         self.told(options.memory, self.room, self.sampler)
 
     def test_parts(self):
-        self.told(options.parts, self.room)
+        self.told(options.parts, self.room, self.sources)
+
+    def test_tracks(self):
+        self.told(options.tracks, self.room, self.sources)
 
     def test_the_set(self):
         self.told(reading.the_set, self.room, [self.sampler])
