@@ -269,9 +269,11 @@ def joined(folder):
     put(folder, "other 2", ecc("write", "--append", "2/3:001002", "other")[1])
     yield says("two contents", ecc("join", "1", "2", "3", "other 2", folder=folder), 1, "",
                ["part 2 of 3 of the file 001002 is there more than once", ": 2, symbol 1; other 2, symbol 1\n"])
+    put(folder, "other file", ecc("write", "--append", "2/3:009009", "other")[1])
+    got = ecc("join", "1", "2", "3", "other 2", "other file", folder=folder)
+    yield says("two contents beside another file", got, 1, "", [": 2, symbol 1; other 2, symbol 1\n", "file 009009"])
     yield same("two contents in JSON",
                json.loads(ecc("join", "--json", "1", "2", "3", "other 2", folder=folder)[1])["doubled"], [2])
-    put(folder, "other file", ecc("write", "--append", "2/3:009009", "other")[1])
     put(folder, "none", ecc("write", "none")[1])
     got = ecc("join", "1", "other file", "none", "2", "3", folder=folder)
     yield says("parts of another file, and no parts", got, 1, whole,

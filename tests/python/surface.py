@@ -32,7 +32,7 @@ def says(name, got, status=0, output=None, errors=None):
 
 def usage():
     status, output, _ = ecc("--help")
-    commands = ("read", "write", "check", "normal", "compare", "explain", "sizes")
+    commands = ("read", "write", "join", "check", "normal", "compare", "explain", "sizes")
     yield holds("--help", status == 0 and all(command in output for command in commands), output)
     with open(os.path.join(TOP, "packaging", "version"), encoding="ascii") as file:
         yield says("--version", ecc("--version"), output=f"ecc200 {file.read().strip()}\n")
@@ -137,9 +137,13 @@ def in_words():
     lost = ecc("read", given=text([bytes(10)] * 10))
     yield holds("no other border would help", lost[0] == 1 and "27 of the 36" in lost[2] and "--border" not in lost[2],
                 str(lost))
-    for word, part in [(241, "an ECI"), (233, "structured append"), (234, "reader programming")]:
-        yield holds(f"codeword {word}", part in advice.in_words(ecc200.Refused(8, word, 3), [bytes(10)] * 10)
-                    and "codeword 3" in advice.in_words(ecc200.Refused(8, word, 3), []))
+    for word, part in [(241, "an ECI"), (233, "structured append"), (234, "reader programming"), (236, "macro 05"),
+                       (237, "macro 06"), (240, "EDIFACT")]:
+        said = advice.in_words(ecc200.Refused(8, word, 3), [], ecc200.Extent.USUAL)
+        yield holds(f"codeword {word}, --usual", part in said and "codeword 3" in said and "leave out --usual" in said)
+    for word in (233, 234, 236, 237):
+        said = advice.in_words(ecc200.Refused(8, word, 3), [])
+        yield holds(f"codeword {word}", "codeword 3 begins" in said and "only stands in front" in said)
     for code in (7, 9, 10, 11, 12, 13):
         yield holds(f"code {code} in words",
                     "codeword 4: a codeword that no encoder writes"
