@@ -4,8 +4,8 @@ import json
 import os
 import re
 
-from tests.python.common import MARKS, has, holds, run, same, wanted_module
-from tests.python.sizes import every_size
+from tests.python.common import MARKS, has, has_sampler, holds, run, same, wanted_module
+from tests.python.sizes import every_size, outcome
 from tests.python.surface import ecc, says, text
 
 import ecc200
@@ -58,15 +58,18 @@ def vectors(folder):
         beside = [(mark["place"], mark["eci"]) for mark in one["marks"]]
         yield same(f"JSON of {name}", (beside, one["symbology"], one["charset"], one["dealing"], one["text"]),
                    (list(reading.marks), reading.symbology, reading.charset, 0, reading.text))
+    normals = [outcome(ecc200.normal, rows) for _, rows, _, _ in records]
+    kept = [rows for rows in normals if isinstance(rows, list)]
     status, output, errors = ecc("normal", file)
-    yield same("normal", (status, errors, grids(output)), (0, "", [grids(text(ecc200.normal(rows)))[0]
-                                                                   for _, rows, _, _ in records]))
-    yield same("normal grids are read", ecc("read", "--escapes", given=output)[1].splitlines(), lines)
-    for words in FORMS:
-        status, output, errors = ecc("write", "--escapes", *words, given="\n".join(lines))
-        yield same(f"write --escapes {words}", (status, errors), (0, ""))
-        yield same(f"what is written says the same, {words}", [ecc200.normal(rows) for rows in grids(output)],
-                   [ecc200.normal(rows) for _, rows, _, _ in records])
+    yield same("normal", (status, errors.count("longer than"), output),
+               (1, len(normals) - len(kept), "".join(map(text, kept))))
+    yield same("normal grids are read", ecc("read", "--escapes", given=output)[1].splitlines(),
+               [line for line, rows in zip(lines, normals) if isinstance(rows, list)])
+    status, output, errors = ecc("write", "--escapes", given="\n".join(lines))
+    yield same("write --escapes", (status, errors), (0, ""))
+    yield same("what is written is read", ecc("read", "--escapes", given=output)[1].splitlines(), lines)
+    status, output, errors = ecc("write", "--escapes", "--form", "ascii", given="\n".join(lines))
+    yield same("the normal form is the normal grid", output, "".join(map(text, kept)))
     yield same("check", [line.split(",")[0] for line in ecc("check", file)[1].splitlines()],
                [f"{len(rows)}x{len(rows[0])}" for _, rows, _, _ in records])
     status, output, errors = ecc("explain", file)
@@ -233,7 +236,7 @@ def heads(folder):
     yield same("a whole message in JSON", json.loads(ecc("read", "--json", whole)[1])["head"], None)
     got = ecc("compare", whole, setup)
     yield same("compare", (got[0], got[1].splitlines()[1:]),
-               (1, [f"{setup}: \\PA\u00e9 (10x10, 0 codewords corrected)",
+               (1, [f"{setup}: \\PA\u00e9 (12x12, 0 codewords corrected)",
                     "different: the first is a whole message, and the second an instruction to the reader (reader "
                     "programming)"]))
     yield says("normal", ecc("normal", part), output=text(ecc200.write(b"0109521234543213", True, head=(2, 4, 1, 2))))
@@ -289,7 +292,7 @@ def joined(folder):
     elements = ecc("write", "--append", "1/2", "--gs1", "(10)A")[1] + ecc("write", "--append", "2/2", "B")[1]
     yield says("GS1 data", ecc("join", given=elements), output="(10)AB\n")
     yield says("--hex", ecc("join", "--hex", given=elements), output="31304142\n")
-    if wanted_module("PIL.Image", "Pillow", "parts in a picture"):
+    if wanted_module("PIL.Image", "Pillow", "parts in a picture") and has_sampler("parts in a picture"):
         ecc("write", "--append", "1/3:001002", "--sheet", "100x60", "-o", "sheet.png", *some, folder=folder)
         yield same("parts in a picture", ecc("join", "--most", "3", "sheet.png", folder=folder)[1], whole)
 
@@ -312,10 +315,10 @@ def compared(folder):
         got = ecc("compare", *pair)
         yield same(f"{pair}", (got[0], got[1].splitlines()[-1], got[2]), (status, end, ""))
     yield holds("texts are shown", f"{coded}: \u00e9 (" in ecc("compare", plain, coded)[1])
-    second = [65, 256, *b"BCDEFGHIJKLMNOPQRST"]  # FNC1 is the second codeword, or a value of C40
-    got = ecc("compare", kept("in ASCII", second), kept("in C40", second, form=Form.SMALLEST))
+    second = [*b"[)>\x1e05\x1d", 256, *b"A\x1e\x04"]  # FNC1 is the second codeword behind a macro
+    got = ecc("compare", kept("in ASCII", second), kept("a macro", second, form=Form.SMALLEST))
     yield same("symbology identifiers", (got[0], got[1].splitlines()[2:], got[2]),
-               (0, ["their symbology identifiers differ, ]d3 and ]d1, which scanners tell beside what is said",
+               (0, ["their symbology identifiers differ, ]d1 and ]d3, which scanners tell beside what is said",
                     "the same"], ""))
 
 
@@ -337,7 +340,7 @@ def explained():
         yield holds(f"explain {items!r}, {marks}", got[0] == 0 and not got[2] and all(part in got[1] for part in parts),
                     str(got))
     for message, name in [(b"ABC.DEF-GHI/JKL+MNO*123", "EDIFACT"), (b"\xff" * 30, "Base 256"),
-                          (b"ABCDEFGHIJKL", "C40"), (b"abcdefghijkl", "Text")]:
+                          (b"ABCDEFGHIJKL" * 5, "C40"), (b"abcdefghijkl" * 5, "Text")]:
         words = json.loads(ecc("explain", "--json", given=text(ecc200.write(message, form=Form.SMALLEST)))[1])
         yield holds(f"{name} is named", name in {word["encodation"] for word in words["codewords"]}, str(words))
     told = json.loads(ecc("explain", "--json", given=text(ecc200.write(b"A", marks=[(0, 26)])))[1])

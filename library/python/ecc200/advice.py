@@ -72,9 +72,9 @@ def sizes_of(shape: Shape) -> List[Size]:
 
 
 def bytes_in(size: Size) -> int:
-    """How many bytes of any kind a symbol of this size holds: its data codewords but a latch and the length, which
-    takes two codewords from 250 on."""
-    return max(min(size.data_codewords - 2, 249), size.data_codewords - 3)
+    """How many bytes of any kind a symbol of this size holds: its data codewords but a latch, and the length that says
+    that they go to the end."""
+    return size.data_codewords - 2
 
 
 def _capitals_in(size: Size) -> int:

@@ -64,8 +64,9 @@ def spelled(items: Iterable[int], marks: Sequence[Mark] = (), head: Head = None)
     return _spelled_head(head) + "".join(each)
 
 
-def shown(items: Sequence[int], marks: Sequence[Mark] = (), charset: Optional[str] = None) -> str:
+def shown(items: Iterable[int], marks: Sequence[Mark] = (), charset: Optional[str] = None) -> str:
     """Items as text, with what isn't printable spelled, and all of it spelled where they are no text."""
+    items = tuple(items)
     if FNC1 in items or not marks and all(item < 128 for item in items):
         return spelled(items, marks)
     text, name = text_of(items, marks, charset)
