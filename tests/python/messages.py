@@ -58,6 +58,7 @@ def vectors(folder):
         beside = [(mark["place"], mark["eci"]) for mark in one["marks"]]
         yield same(f"JSON of {name}", (beside, one["symbology"], one["charset"], one["dealing"], one["text"]),
                    (list(reading.marks), reading.symbology, reading.charset, 0, reading.text))
+        yield same(f"its size in JSON, {name}", (one["rows"], one["columns"]), (len(rows), len(rows[0])))
     normals = [outcome(ecc200.normal, rows) for _, rows, _, _ in records]
     kept = [rows for rows in normals if isinstance(rows, list)]
     status, output, errors = ecc("normal", file)
