@@ -381,7 +381,8 @@ def spellings():
     """What is spelled is read as it was, with marks and heads."""
     for items, marks, head, wanted in [
         (b"AB", [(1, 26)], None, r"A\E{26}B"),
-        (b"AB", [(0, 3), (1, 26), (1, 9), (2, 0)], None, r"\E{3}A\E{26}\E{9}B\E{0}"), (b"", [(0, 3)], "programming", r"\P\E{3}"), ([256, 92], [], (2, 5, 1, 254), r"\A{2/5:001254}\F\\"),
+        (b"AB", [(0, 3), (1, 26), (1, 9), (2, 0)], None, r"\E{3}A\E{26}\E{9}B\E{0}"),
+        (b"", [(0, 3)], "programming", r"\P\E{3}"), ([256, 92], [], (2, 5, 1, 254), r"\A{2/5:001254}\F\\"),
     ]:
         yield same(f"spelled {wanted}", spelled(items, marks, head), wanted)
         yield same(f"spelled and back {wanted}", of_spelling(wanted, "ascii"), (list(items), marks, head))

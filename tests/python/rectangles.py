@@ -96,7 +96,7 @@ def chosen(folder):
     yield says("--size with --bytes", ecc("write", "--size", "8x18", "--bytes", "-", given=b"\xff\n"),
                output=text(ecc200.write(b"\xff\n", size=(8, 18), form=Form.SMALLEST)))
     small = [text(ecc200.write(letter, size=(8, 18), form=Form.SMALLEST)) for letter in (b"A", b"C")]
-    yield says("lines, one too long", ecc("write", "--size", "8x18", given="A\n" + "B" * 7 + "\nC\n"), 1, "".join(small),
+    yield says("lines, one too long", ecc("write", "--size", "8x18", given="A\nBBBBBBB\nC\n"), 1, "".join(small),
                ["line 2: the message is longer than a symbol of 8x18 holds: 10 digits, 6 capitals, or 3 bytes"])
     for shape, part in (("rectangle", "any rectangle of ISO/IEC 16022 holds; --shape extended has larger ones: 98"),
                         ("extended", "any rectangle holds: 236 digits"), ("any", "any symbol holds: 3116 digits"),
