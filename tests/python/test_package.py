@@ -17,10 +17,12 @@ PARTS = {
     "elements": "worked square faults table beside_zint beside_stdnum",
     "drawings": "png rendered unloadable taken saved in_files paged sheets symbols oriented sampled",
     "surface": "usage reading in_words otherwise writing files named_alike",
+    "messages": "vectors texts texts_by_others charsets read_charsets forms heads joined compared explained dealings "
+                "spellings",
     "comparing": "pages comparing explained spellings at_a_terminal completion",
     "batches": "numbered several walked side_by_side no_picture streams interrupted bad_lines locales round_trips "
                "blocks_of_json",
-    "rectangles": "read_by_command grids sizes_told chosen in_words otherwise doubtful drawn labels found "
+    "rectangles": "grids sizes_told chosen in_words otherwise doubtful drawn labels found "
                   "found_in_doubt without_sampler",
     "labels": "captions captions_on_sheets names output sizes first_symbols letters_of_dots terminal "
               "no_picture_on_a_terminal",

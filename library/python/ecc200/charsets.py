@@ -11,6 +11,6 @@ stands in ecc200.core.
     >>> charsets.assignment("shift_jis")
     20
 """
-from .core import Text, assignment, letter_of, text_of
+from .core import Text, assignment, charset_of, letter_of, text_of
 
-__all__ = ["Text", "assignment", "letter_of", "text_of"]
+__all__ = ["Text", "assignment", "charset_of", "letter_of", "text_of"]

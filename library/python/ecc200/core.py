@@ -240,6 +240,7 @@ class Inspection(NamedTuple):
     border_faults: int                    # how many border modules that aren't doubtful have the wrong colour
     erased: Tuple[int, ...]               # for each block as in a Reading, or 0 beyond correction
     left: Tuple[int, ...]                 # the same
+    dealing: int = 0                      # as in a Reading, of what is read
 
 
 class Kind(enum.IntEnum):
@@ -847,7 +848,7 @@ def inspect(grid: Grid, doubtful: Optional[Grid] = None) -> Inspection:
     blocks, words = out.block_count, out.codeword_count
     corrected = tuple(None if count == _BEYOND else count for count in out.corrected[:blocks])
     return Inspection(bytes(out.held)[:words], bytes(out.mended)[:words], corrected, out.border_faults,
-                      tuple(out.erased[:blocks]), tuple(out.left[:blocks]))
+                      tuple(out.erased[:blocks]), tuple(out.left[:blocks]), out.dealing)
 
 
 def places(rows: int, columns: Optional[int] = None) -> List[List[Place]]:
@@ -941,6 +942,11 @@ def text_of(items: Sequence[int], marks: Iterable[Mark] = (), charset: Optional[
 def _assignments() -> Dict[str, int]:
     """The numbers of charsets, by the names of Python's codecs."""
     return {codecs.lookup(name).name: number for number, name in _CHARSETS.items()}
+
+
+def charset_of(number: int) -> Optional[str]:
+    """The charset of an ECI assignment; None if it names none."""
+    return _CHARSETS.get(number)
 
 
 def assignment(charset: str) -> Optional[int]:
