@@ -79,7 +79,7 @@ def explained():
         size = next(size for size in ecc200.sizes() if (size.rows, size.columns) == (len(rows), len(rows[0])))
         yield same(f"codewords {number}", bytes(word.value for word in told.codewords), ecc200.inspect(rows).mended)
         has_meanings = all(word.meaning for word in told.codewords[:size.data_codewords])
-        yield holds(f"meanings {number}", told.refused is not None or told.items is not None and has_meanings)
+        yield holds(f"meanings {number}", told.refused is not None or told.reading is not None and has_meanings)
     status, output, _ = ecc("explain", given=text(ecc200.write(b"12A\xe9")))
     for part in ("1    142  ASCII       the digits 12", "2     66  ASCII       the character A", "Upper Shift",
                  "the byte 233", "a check codeword of block 1", "It says 12A\u00e9"):
@@ -98,11 +98,11 @@ def explained():
 
 def spellings():
     everything = [*range(256), 256]
-    yield same("spelled and back", of_spelling(spelled(everything), "latin-1"), everything)
+    yield same("spelled and back", of_spelling(spelled(everything), "latin-1"), (everything, [], None))
     for wrong in ("\\", "\\q", "\\x1", "\\xg0"):
         yield raises(f"the spelling {wrong}", Misspelled, "backslash",
                      lambda wrong=wrong: of_spelling(wrong, "latin-1"))
-    yield same("shown", [shown(b"A\\"), shown(b"\xe9"), shown("\u00e9".encode()), shown(b"\xe9", "cp1252"),
+    yield same("shown", [shown(b"A\\"), shown(b"\xe9"), shown("\u00e9".encode()), shown(b"\xe9", (), "cp1252"),
                          shown([256, 233])],
                ["A\\\\", "\u00e9", "\u00e9", "\u00e9", "\\F\\xE9"])
 
@@ -140,7 +140,8 @@ def at_a_terminal():
 def completion():
     if not wanted_module("argcomplete", "python3-argcomplete", "completion by the shell"):
         return
-    for line, wanted in (("co", ["compare"]), ("s", ["sizes"]), ("write --shape r", ["rectangle"]),
+    for line, wanted in (("co", ["compare"]), ("j", ["join"]), ("s", ["sizes"]), ("write --shape r", ["rectangle"]),
+                         ("write --form s", ["shorter", "smallest"]),
                          ("write --size 8x1", ["8x120", "8x144", "8x18"])):
         line = f"ecc200 {line}"
         told = {**environment(), "_ARGCOMPLETE": "1", "COMP_LINE": line, "COMP_POINT": str(len(line)),

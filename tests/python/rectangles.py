@@ -9,12 +9,11 @@ from tests.python.batches import made, saved
 from tests.python.common import PYTHON, has, has_sampler, holds, raises, run, same, wanted_module
 from tests.python.drawings import pixels
 from tests.python.labels import of_blocks
-from tests.python.sizes import KINDS, SIZES, changed, every_size, filling, marked, outcome, wanted
+from tests.python.sizes import KINDS, SIZES, changed, filling, marked
 from tests.python.surface import WORDS, ecc, environment, says, text, turned
 
 import ecc200
-from ecc200 import Shape, drawing
-from ecc200.spelling import of_spelling
+from ecc200 import Form, Shape, drawing
 
 GS1 = "(01)09521234543213(17)251231(10)ABC123"
 
@@ -29,30 +28,7 @@ def cells_of(size, bit=1):
             if place[::2] == (ecc200.Kind.BIT, bit)}
 
 
-# ---- Reading
-
-
-def read_by_command():
-    """The marks of zint through the command: what they say."""
-    marks = list(every_size())
-    grids = "".join("\n".join(rows) + "\n\n" for _, rows, *_ in marks)
-    status, output, errors = ecc("read", "--escapes", given=grids)
-    said = [wanted(said) for _, _, said, _ in marks]
-    yield same("marks of every size", (status, output.splitlines(), errors), (0, said, ""))
-    lines = [json.loads(line) for line in ecc("read", "--json", given=grids)[1].splitlines()]
-    got = [(line.get("message"), line.get("rows"), line.get("columns")) for line in lines]
-    yield same("the same in JSON", got, [(wanted(said), len(rows), len(rows[0])) for _, rows, said, _ in marks])
-    checked = ecc("check", given=grids)[1].splitlines()
-    yield same("check", [line.split(",")[0] for line in checked],
-               [f"{len(rows)}x{len(rows[0])}" for _, rows, *_ in marks])
-    normal = ecc("normal", given=grids)
-    again = ecc("read", "--escapes", given=normal[1])
-    held = [text for text in said if isinstance(outcome(ecc200.write, of_spelling(text, "ascii")), list)]
-    yield same("normal", (normal[0], again[0], again[1].splitlines()), (1, 0, held))
-    yield same("messages that no square holds in ASCII", normal[2].count("longer than any symbol holds"),
-               len(said) - len(held))
-    yield same("normal grids are squares", [len(grid.split()) == len(grid.split()[0])
-                                            for grid in normal[1].strip().split("\n\n")], [True] * len(held))
+# ---- Grids
 
 
 def grids(folder):
@@ -60,7 +36,8 @@ def grids(folder):
     here, messages = made(folder, "grids"), [filling(size).decode() for size in SIZES]
     drawn = [text(ecc200.write(message.encode(), size=size)) for message, size in zip(messages, SIZES)]
     for size, message, grid in zip(SIZES, messages, drawn):
-        yield says(f"write --size {named(size)}", ecc("write", "--size", named(size), message), output=grid)
+        yield says(f"write --size {named(size)}", ecc("write", "--form", "ascii", "--size", named(size), message),
+                   output=grid)
     yield says("read", ecc("read", given="".join(drawn)), output="".join(f"{message}\n" for message in messages))
     wanted_lines = [f"{named((size.rows, size.columns))}, 0 border modules wrong, codewords corrected in each block: "
                     f"{', '.join(['0'] * size.blocks)} (at most {size.limit})" for size in ecc200.sizes()]
@@ -92,12 +69,13 @@ def sizes_told():
                ecc200.sizes())
     for line in told:
         size = line["rows"], line["columns"]
-        for item, name, profile in ((b"7", "digits", 0), (b"A", "letters", 0), (b"\xff", "bytes", 1)):
+        for item, name, form in ((b"7", "digits", Form.SMALLEST), (b"A", "letters", Form.ASCII),
+                                 (b"\xff", "bytes", Form.SMALLEST)):
             count = line[name]
             yield same(f"{count} {name} in {named(size)}",
-                       ecc200.read(ecc200.write(item * count, profile=profile, size=size)).data, item * count)
+                       ecc200.read(ecc200.write(item * count, form=form, size=size)).data, item * count)
             yield raises(f"one more of {name}, {named(size)}", ecc200.Refused, "TOO_LONG",
-                         lambda: ecc200.write(item * (count + 1), profile=profile, size=size))
+                         lambda: ecc200.write(item * (count + 1), form=form, size=size))
 
 
 def chosen(folder):
@@ -106,17 +84,20 @@ def chosen(folder):
     for shape in Shape:
         for words, message, gs1 in ((["A1B2C3"], b"A1B2C3", False), (["--gs1", "(10)A(21)B"], b"10A\x1d21B", True)):
             yield says(f"--shape {shape.name.lower()}, {words}", ecc("write", "--shape", shape.name.lower(), *words),
+                       output=text(ecc200.write(message, gs1, shape=shape, form=Form.SMALLEST)))
+            yield says(f"--form ascii --shape {shape.name.lower()}, {words}",
+                       ecc("write", "--form", "ascii", "--shape", shape.name.lower(), *words),
                        output=text(ecc200.write(message, gs1, shape=shape)))
     yield same("the usual shape", ecc("write", "A" * 20), ecc("write", "--shape", "square", "A" * 20))
     yield says("--size with --hex", ecc("write", "--size", "12x26", "--hex", "00ff"),
-               output=text(ecc200.write(b"\0\xff", size=(12, 26))))
+               output=text(ecc200.write(b"\0\xff", size=(12, 26), form=Form.SMALLEST)))
     yield says("--size with --shorter", ecc("write", "--size", "12x26", "--shorter", "--hex", "80" * 9),
                output=text(ecc200.write(b"\x80" * 9, profile=1, size=(12, 26))))
     yield says("--size with --bytes", ecc("write", "--size", "8x18", "--bytes", "-", given=b"\xff\n"),
-               output=text(ecc200.write(b"\xff\n", size=(8, 18))))
-    yield says("lines, one too long", ecc("write", "--size", "8x18", given="A\n" + "B" * 6 + "\nC\n"), 1,
-               text(ecc200.write(b"A", size=(8, 18))) + text(ecc200.write(b"C", size=(8, 18))),
-               ["line 2: the message is longer than a symbol of 8x18 holds: 10 digits, 5 other characters"])
+               output=text(ecc200.write(b"\xff\n", size=(8, 18), form=Form.SMALLEST)))
+    small = [text(ecc200.write(letter, size=(8, 18), form=Form.SMALLEST)) for letter in (b"A", b"C")]
+    yield says("lines, one too long", ecc("write", "--size", "8x18", given="A\nBBBBBBB\nC\n"), 1, "".join(small),
+               ["line 2: the message is longer than a symbol of 8x18 holds: 10 digits, 6 capitals, or 3 bytes"])
     for shape, part in (("rectangle", "any rectangle of ISO/IEC 16022 holds; --shape extended has larger ones: 98"),
                         ("extended", "any rectangle holds: 236 digits"), ("any", "any symbol holds: 3116 digits"),
                         ("square", "any symbol holds: 3116 digits")):
@@ -124,7 +105,8 @@ def chosen(folder):
     yield holds("words of an unknown size say where all are", "'ecc200 sizes'" in ecc("write", "--size", "9x9", "A")[2])
     yield says("files by message", ecc("write", "--shape", "rectangle", "-o", "{}.txt", "A", "B", folder=here),
                output="")
-    yield same("one of them", open(os.path.join(here, "A.txt")).read(), text(ecc200.write(b"A", shape=1)))
+    yield same("one of them", open(os.path.join(here, "A.txt")).read(),
+               text(ecc200.write(b"A", shape=1, form=Form.SMALLEST)))
 
 
 # ---- Refusals in words
@@ -251,7 +233,8 @@ def drawn(folder):
         array = symbol.__array_interface__
         yield same(f"an array of {size}", (array["shape"], len(array["data"])),
                    ((size[0] + 2, size[1] + 2), (size[0] + 2) * (size[1] + 2)))
-        status, shown, _ = ecc("write", "--size", named(size), "--format", "blocks", "--quiet-zone", "2", "Rect")
+        status, shown, _ = ecc("write", "--form", "ascii", "--size", named(size), "--format", "blocks",
+                               "--quiet-zone", "2", "Rect")
         yield same(f"blocks of {size}", (status, of_blocks(shown.split("\n")[:(size[0] + 4) // 2], 2)),
                    (0, text(rows)))
         if not image:

@@ -23,6 +23,11 @@ def text(rows):
     return "".join("".join(map(str, row)) + "\n" for row in rows) + "\n"
 
 
+def smallest(message, gs1=False):
+    """The grid of the smallest symbol of a message, as `ecc200 write` writes it."""
+    return text(ecc200.write(message, gs1, form=ecc200.Form.SMALLEST))
+
+
 def says(name, got, status=0, output=None, errors=None):
     """That a run has this status, this output, and errors that have each of these parts."""
     has_output = output is None or got[1] == output
@@ -32,7 +37,7 @@ def says(name, got, status=0, output=None, errors=None):
 
 def usage():
     status, output, _ = ecc("--help")
-    commands = ("read", "write", "check", "normal", "compare", "explain", "sizes")
+    commands = ("read", "write", "join", "check", "normal", "compare", "explain", "sizes")
     yield holds("--help", status == 0 and all(command in output for command in commands), output)
     with open(os.path.join(TOP, "packaging", "version"), encoding="ascii") as file:
         yield says("--version", ecc("--version"), output=f"ecc200 {file.read().strip()}\n")
@@ -137,9 +142,13 @@ def in_words():
     lost = ecc("read", given=text([bytes(10)] * 10))
     yield holds("no other border would help", lost[0] == 1 and "27 of the 36" in lost[2] and "--border" not in lost[2],
                 str(lost))
-    for word, part in [(241, "an ECI"), (233, "structured append"), (234, "reader programming")]:
-        yield holds(f"codeword {word}", part in advice.in_words(ecc200.Refused(8, word, 3), [bytes(10)] * 10)
-                    and "codeword 3" in advice.in_words(ecc200.Refused(8, word, 3), []))
+    for word, part in [(241, "an ECI"), (233, "structured append"), (234, "reader programming"), (236, "macro 05"),
+                       (237, "macro 06"), (240, "EDIFACT")]:
+        said = advice.in_words(ecc200.Refused(8, word, 3), [], ecc200.Extent.USUAL)
+        yield holds(f"codeword {word}, --usual", part in said and "codeword 3" in said and "leave out --usual" in said)
+    for word in (233, 234, 236, 237):
+        said = advice.in_words(ecc200.Refused(8, word, 3), [])
+        yield holds(f"codeword {word}", "codeword 3 begins" in said and "only stands in front" in said)
     for code in (7, 9, 10, 11, 12, 13):
         yield holds(f"code {code} in words",
                     "codeword 4: a codeword that no encoder writes"
@@ -195,31 +204,31 @@ def otherwise():
 
 
 def writing(folder):
-    good = ecc200.write(b"123456")
-    yield says("write", ecc("write", "123456"), output=text(good))
+    yield says("write", ecc("write", "123456"), output=smallest(b"123456"))
     yield says("write lines", ecc("write", given="123456\n0\nA\n"),
-               output=text(good) + text(ecc200.write(b"0")) + text(ecc200.write(b"A")))
+               output=smallest(b"123456") + smallest(b"0") + smallest(b"A"))
     yield says("write GS1", ecc("write", "--gs1", "(01)09521234543213(10)A(21)B"),
-               output=text(ecc200.write(b"010952123454321310A\x1d21B", gs1=True)))
+               output=smallest(b"010952123454321310A\x1d21B", gs1=True))
     yield says("write faulty GS1", ecc("write", "--gs1", "(01)09521234543214"), 1, "",
                ["message 1: (01) GTIN: its check digit"])
     yield says("write unknown GS1", ecc("write", "--gs1", "--unknown", "(4327)A"),
-               output=text(ecc200.write(b"4327A", gs1=True)))
-    yield says("write --hex", ecc("write", "--hex", "00ff"), output=text(ecc200.write(b"\0\xff")))
+               output=smallest(b"4327A", gs1=True))
+    yield says("write --hex", ecc("write", "--hex", "00ff"), output=smallest(b"\0\xff"))
     yield says("write wrong --hex", ecc("write", "--hex", "0f0"), 1, "", ["hexadecimal"])
     yield says("write --escapes", ecc("write", "--escapes", "\\FA\\x80\\\\"),
-               output=text(ecc200.write([256, 65, 128, 92])))
+               output=smallest([256, 65, 128, 92]))
     yield says("write wrong --escapes", ecc("write", "--escapes", "\\q"), 1, "", ["'q'"])
     yield says("write --shorter", ecc("write", "--shorter", "--hex", "80" * 3),
                output=text(ecc200.write(b"\x80" * 3, profile=1)))
     yield says("write Latin-1", ecc("write", "--charset", "iso-8859-1", "caf\u00e9"),
-               output=text(ecc200.write(b"caf\xe9")))
-    yield says("write UTF-8", ecc("write", "caf\u00e9"), output=text(ecc200.write("caf\u00e9".encode())))
-    yield says("write bytes", ecc("write", "--bytes", "-", given=b"\xff\n"), output=text(ecc200.write(b"\xff\n")))
+               output=smallest(b"caf\xe9"))
+    yield says("write UTF-8", ecc("write", "--charset", "utf-8", "caf\u00e9"),
+               output=smallest("caf\u00e9".encode()))
+    yield says("write bytes", ecc("write", "--bytes", "-", given=b"\xff\n"), output=smallest(b"\xff\n"))
     yield says("bytes and a message", ecc("write", "--bytes", os.devnull, "A"), 2, "",
                ["--bytes", "'A' would be another"])
     yield says("one is refused", ecc("write", "--hex", "41", "x", "42"), 1,
-               text(ecc200.write(b"A")) + text(ecc200.write(b"B")), ["message 2"])
+               smallest(b"A") + smallest(b"B"), ["message 2"])
     for name, words, part in [("no width", ("--module", "x"), "--module x"),
                               ("half a dot", ("--module", "1.5"), "whole number"),
                               ("no kind", ("-o", "a.gif"), ".png, .svg"),
@@ -289,16 +298,17 @@ def files(folder):
                    output="(01)09521234543213(17)251231(10)ABC123\n")
         yield says("normal of it, drawn", ecc("normal", path, "-o", os.path.join(folder, "again.png")), output="")
         yield says("the two say the same", ecc("compare", path, os.path.join(folder, "again.png")), errors=None)
-    if pillow and has("zint", "what zint writes and isn't read"):
-        for words, basic, part in [(["--eci=3", "-d", "A"], [], "an ECI"),
-                                   (["--structapp=1,2", "-d", "A"], [], "structured append"),
-                                   (["--init", "-d", "A"], [], "reader programming"),
-                                   (["-d", "[)>\x1e05\x1dA\x1e\x04"], ["--usual"], "a macro 05"),
-                                   (["-d", "[)>\x1e06\x1dA\x1e\x04"], ["--usual"], "a macro 06"),
-                                   (["-d", "A.B-C/D*E"], ["--usual"], "EDIFACT")]:
+    if pillow and has("zint", "what zint writes and isn't read with --usual"):
+        for words, part, said in [(["--eci=3", "-d", "A"], "an ECI", "A"),
+                                  (["--structapp=1,2", "-d", "A"], "structured append", "\\A{1/2:001001}A"),
+                                  (["--init", "-d", "A"], "reader programming", "\\PA"),
+                                  (["-d", "[)>\x1e05\x1dA\x1e\x04"], "a macro 05", "[)>\\x1E05\\x1DA\\x1E\\x04"),
+                                  (["-d", "[)>\x1e06\x1dA\x1e\x04"], "a macro 06", "[)>\\x1E06\\x1DA\\x1E\\x04"),
+                                  (["-d", "A.B-C/D*E"], "EDIFACT", "A.B-C/D*E")]:
             path = os.path.join(folder, "other.png")
             run(["zint", "-b", "71", "--square", "-o", path, *words])
-            yield says(f"zint's {part}", ecc("read", *basic, path), 1, "", [part])
+            yield says(f"zint's {part}", ecc("read", path), output=said + "\n")
+            yield says(f"zint's {part}, --usual", ecc("read", "--usual", path), 1, "", [part])
     with open(os.path.join(folder, "broken.png"), "wb") as file:
         file.write(b"\x89PNG\r\n\x1a\nrubbish")
     yield says("a broken picture", ecc("read", os.path.join(folder, "broken.png")), 2, "",

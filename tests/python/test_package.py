@@ -6,19 +6,23 @@ import inspect
 import os
 from unittest import mock
 
+from tests.python import planted
 from tests.support import needs, package
 from tests.support.case import Case
 
 PARTS = {
     "module": "forms strange_grids readings messages refusals many shown by_threads loading",
     "sizes": "printed sides table chosen limits any_border doubtful doubtful_forms beside from_others",
+    "texts": "written read register scripts guessed pictured others made_anew joined continued smallest elements",
     "elements": "worked square faults table beside_zint beside_stdnum",
     "drawings": "png rendered unloadable taken saved in_files paged sheets symbols oriented sampled",
     "surface": "usage reading in_words otherwise writing files named_alike",
+    "messages": "vectors texts texts_by_others charsets read_charsets forms heads joined compared explained dealings "
+                "spellings",
     "comparing": "pages comparing explained spellings at_a_terminal completion",
     "batches": "numbered several walked side_by_side no_picture streams interrupted bad_lines locales round_trips "
                "blocks_of_json",
-    "rectangles": "read_by_command grids sizes_told chosen in_words otherwise doubtful drawn labels found "
+    "rectangles": "grids sizes_told chosen in_words otherwise doubtful drawn labels found "
                   "found_in_doubt without_sampler",
     "labels": "captions captions_on_sheets names output sizes first_symbols letters_of_dots terminal "
               "no_picture_on_a_terminal",
@@ -67,6 +71,11 @@ def class_of(source, names):
     """Gives the class of a module."""
     cases = {f"test_{name}": case_of(name) for name in names.split()}
     return needs.library(type(source.title(), (Package, Case), {"__module__": __name__, "source": source, **cases}))
+
+
+class Planted(Case):
+    def test_each_bug_can_be_planted(self):
+        self.all_sound((f"{name}, in {file}", problem) for name, _, file, _, problem in planted.bugs())
 
 
 globals().update({source.title(): class_of(source, names) for source, names in PARTS.items()})

@@ -5,11 +5,12 @@ import os
 import re
 import subprocess
 
-from tests.support import commands, needs, places
+from tests.support import commands, needs, package, places
 from tests.support.case import Case
 
 PAGE = places.path("docs", "INTERCHANGE.md")
-PATH = os.pathsep.join([os.path.dirname(places.PROGRAM), places.path("scripts"), os.environ["PATH"]])
+PATHS = (os.path.dirname(places.PROGRAM), places.path("scripts"), places.path("library", "python", "bin"))
+PATH = os.pathsep.join([*PATHS, os.environ["PATH"]])
 ZXING = "/usr/share/java/core.jar"
 # The Debian packages of what a command calls, and the program by which each is known to be there, where it has another
 # name.
@@ -86,7 +87,7 @@ class Shell(Case):
     def run_here(cls, command):
         """Status, output without LFs at its end, and whether anything was said on standard error."""
         done = commands.run(["bash", "-c", f"{functions()}\n{command}"], cwd=cls.room,
-                            env=commands.environment(PATH=PATH),
+                            env=commands.environment(PATH=PATH, **package.settings()),
                             stdin=subprocess.DEVNULL, timeout=120)
         return done.status, done.output.decode("utf-8", "surrogateescape").rstrip("\n"), done.errors != b""
 

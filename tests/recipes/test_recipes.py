@@ -5,6 +5,7 @@ from tests.recipes.shell import Shell, blocks, lacking, page
 from tests.support import needs
 
 
+@needs.library
 @needs.program
 class Recipes(Shell):
     @classmethod

@@ -12,15 +12,14 @@ from .core import BorderLimit, Code, Extent, Reading, Refused, Rows, Shape, Size
 __all__ = ["Righted", "bytes_in", "in_words", "reduced", "righted", "sizes_of", "why_not_written"]
 
 _BEGINS = {
-    233: "a part of a message that several symbols hold (structured append), which isn't read here; print each part as "
-         "a message of its own",
-    234: "an instruction to the reader that scanned it (reader programming), and no message",
-    236: "a macro 05, which isn't read with --usual: leave out --usual",
-    237: "a macro 06, which isn't read with --usual: leave out --usual",
-    240: "EDIFACT, which isn't read with --usual: leave out --usual, or let the encoder use another encodation",
-    241: "an ECI, which says how the bytes behind it are to be understood, and isn't read here; let the encoder write "
-         "without one",
+    233: "a part of a message that several symbols hold (structured append)",
+    234: "an instruction to the reader that scans it (reader programming)",
+    236: "a macro 05",
+    237: "a macro 06",
+    240: "EDIFACT",
+    241: "an ECI, which says how the bytes behind it are meant",
 }
+_WITHOUT_USUAL = "isn't read with --usual: leave out --usual"
 _DAMAGE = ("a codeword that no encoder writes there, so the symbol comes from a faulty encoder or was damaged into the "
            "codewords of another message")
 
@@ -60,7 +59,8 @@ def in_words(why: Refused, rows: Rows, extent: Extent = Extent.WIDE, doubtful: O
     if code == Code.BLOCK:
         return _block(why, rows, doubtful is not None)
     if code == Code.LEFT_OUT:
-        return f"codeword {place} begins {_BEGINS.get(why.value, 'something that is not read')}"
+        beyond = f"only stands in front of all else: {_DAMAGE}" if extent == Extent.WIDE else _WITHOUT_USUAL
+        return f"codeword {place} begins {_BEGINS[why.value]}, which {beyond}"
     return f"{core._library.ecc200_code_words(int(code)).decode()}, codeword {place}: {_DAMAGE}"
 
 
@@ -72,9 +72,15 @@ def sizes_of(shape: Shape) -> List[Size]:
 
 
 def bytes_in(size: Size) -> int:
-    """How many bytes of any kind a symbol of this size holds: its data codewords but a latch and the length, which
-    takes two codewords from 250 on."""
-    return max(min(size.data_codewords - 2, 249), size.data_codewords - 3)
+    """How many bytes of any kind a symbol of this size holds: its data codewords but a latch, and the length that says
+    that they go to the end."""
+    return size.data_codewords - 2
+
+
+def _capitals_in(size: Size) -> int:
+    """How many capitals a symbol of this size holds: three in two of its data codewords, behind a latch."""
+    pairs, one = divmod(size.data_codewords - 1, 2)
+    return 3 * pairs + one
 
 
 def why_not_written(why: Refused, wanted: Optional[Tuple[int, int]] = None, shape: Optional[Shape] = None) -> str:
@@ -88,8 +94,9 @@ def why_not_written(why: Refused, wanted: Optional[Tuple[int, int]] = None, shap
             holder = "any rectangle of ISO/IEC 16022 holds; --shape extended has larger ones"
     else:
         size, holder = core._size_of(*wanted), f"a symbol of {wanted[0]}x{wanted[1]} holds"
-    return (f"the message is longer than {holder}: {2 * size.data_codewords} digits, {size.data_codewords} other "
-            f"characters of ASCII, or with --shorter {bytes_in(size)} bytes of any kind")
+    return (f"the message is longer than {holder}: {2 * size.data_codewords} digits, {_capitals_in(size)} capitals, or "
+            f"{bytes_in(size)} bytes of any kind; of the normal form {size.data_codewords} characters of ASCII that "
+            "aren't digits")
 
 
 # ---- Grids that could be read if they stood otherwise

@@ -1,11 +1,11 @@
 """What each codeword of a symbol stands for. What the symbol says is read by the library; the meanings told here are
-compared with that."""
+compared with that: the items, the marks and the head."""
 from __future__ import annotations
 
 from typing import Iterator, List, NamedTuple, Optional, Sequence, Tuple
 
 from . import core
-from .core import BorderLimit, Extent, FNC1, Grid, Refused
+from .core import BorderLimit, Extent, FNC1, Grid, Head, Mark, Reading, Refused, charset_of
 from .spelling import spelled
 
 __all__ = ["Codeword", "Explanation", "explain"]
@@ -31,17 +31,20 @@ class Codeword(NamedTuple):
 class Explanation(NamedTuple):
     """The codewords of a symbol, and what it says, or why it isn't read."""
     codewords: List[Codeword]
-    items: Optional[Tuple[int, ...]]
+    reading: Optional[Reading]
     refused: Optional[Refused]
 
 
 class _Told:
-    """The meanings of data codewords, as far as they were told, and the items for which these stand."""
+    """The meanings of data codewords, as far as they were told, and the items, the marks and the head for which these
+    stand."""
 
     def __init__(self, data: bytes) -> None:
         self.data = data
         self.meanings: List[Tuple[str, str]] = []
         self.items: List[int] = []
+        self.marks: List[Mark] = []
+        self.head: Head = None
 
     @property
     def at(self) -> int:
@@ -88,7 +91,8 @@ def _tell_ascii(told: _Told) -> None:
     elif value == _ECI:
         _tell_mark(told)
     else:
-        told.say("ASCII", f"{_OTHERS[value]}, which isn't read here" if value in _OTHERS else "a reserved codeword")
+        told.say("ASCII", f"{_OTHERS[value]}, which only stands in front" if value in _OTHERS
+                 else "a reserved codeword")
 
 
 def _tell_mark(told: _Told) -> None:
@@ -101,22 +105,33 @@ def _tell_mark(told: _Told) -> None:
         number = (words[0] - 128) * 254 + 127 + words[1] - 1
     if count == 3:
         number = (words[0] - 192) * 64516 + 16383 + (words[1] - 1) * 254 + words[2] - 1
+    told.marks.append((len(told.items), number))
+    charset = charset_of(number)
+    meant = f"ECI {number}" + (f", {charset}" if charset else "")
     beside = {1: [""], 2: [", with the next codeword", ", with the codeword before"],
               3: [", with the next two codewords", ", with the codewords beside it", ", with the two codewords before"]}
     for which in beside[count][:told.left]:
-        told.say("ECI", f"the ECI {number}{which}")
+        told.say("ECI", f"{meant}{which}")
+
+
+def _tell_part(told: _Told) -> None:
+    """A structured append: which part, and the two numbers of the file."""
+    part, of, first, second = told.data[1] // 16 + 1, 17 - told.data[1] % 16, told.data[2], told.data[3]
+    told.head = part, of, first, second
+    told.say("ASCII", "structured append: the symbol is a part of what several say together")
+    told.say("", f"part {part} of {of}")
+    told.say("", f"the first number of their file, {first}")
+    told.say("", f"the second number of their file, {second}")
 
 
 def _tell_head(told: _Told) -> None:
     """A head, or the empty runs in front of a macro, and this."""
     data, start = told.data, 0
     if data[0] == _APPEND and len(data) > 3:
-        told.say("ASCII", "structured append: the symbol is a part of what several say together")
-        told.say("", f"part {data[1] // 16 + 1} of {17 - data[1] % 16}")
-        told.say("", f"the first number of their file, {data[2]}")
-        told.say("", f"the second number of their file, {data[3]}")
+        _tell_part(told)
         return
     if data[0] == _PROGRAMMING:
+        told.head = "programming"
         told.say("ASCII", "reader programming: the message is for the reader")
         return
     while data[start] in _TRIPLETS and data[start + 1:start + 3][:1] == bytes([_UNLATCH]) and start + 2 < len(data):
@@ -239,10 +254,11 @@ def _tell(data: bytes) -> _Told:
     return told
 
 
-def _meanings(data: bytes, items: Optional[Tuple[int, ...]], refused: Optional[Refused]) -> Iterator[Tuple[str, str]]:
+def _meanings(data: bytes, reading: Optional[Reading], refused: Optional[Refused]) -> Iterator[Tuple[str, str]]:
     """The meanings as far as the message was read: up to the fault, if there is one."""
     told = _tell(data)
-    if items is not None and tuple(told.items) != items:
+    said = told.head, tuple(told.items), tuple(told.marks)
+    if reading is not None and said != (reading.head, reading.items, reading.marks):
         raise AssertionError("the meanings told here aren't what the library reads")
     known = len(data) if refused is None else max(0, refused.place - 1)
     for place, meaning in enumerate(told.meanings):
@@ -257,9 +273,9 @@ def explain(grid: Grid, border_limit: BorderLimit = None, extent: Extent = Exten
     """The codewords of a grid with what each means: the data codewords, and then the check codewords. Beyond correction
     none has a meaning."""
     seen = core.inspect(grid, doubtful)
-    items, refused = None, None
+    reading, refused = None, None
     try:
-        items = core.read(grid, border_limit, extent, doubtful).items
+        reading = core.read(grid, border_limit, extent, doubtful)
     except Refused as why:
         refused = why
     _, rows, columns = core._modules(grid)
@@ -272,9 +288,9 @@ def explain(grid: Grid, border_limit: BorderLimit = None, extent: Extent = Exten
     elif refused is not None and refused.code == core.Code.BORDER:
         meanings = [("", "not read, since the border is wrong")] * len(data)
     else:
-        meanings = list(_meanings(data, items, refused))
-    meanings += [("", f"a check codeword of block {place % size.blocks + 1}")
-                 for place in range(len(data), len(seen.mended))]
+        meanings = list(_meanings(data, reading, refused))
+    first = 0 if seen.dealing else len(data)
+    meanings += [("", f"a check codeword of block {(first + place) % size.blocks + 1}")
+                 for place in range(len(seen.mended) - len(data))]
     return Explanation([Codeword(place + 1, seen.mended[place], seen.held[place], *meanings[place])
-                        for place in range(len(seen.mended))], items,
-                       refused)
+                        for place in range(len(seen.mended))], reading, refused)

@@ -4,11 +4,11 @@ from __future__ import annotations
 import argparse
 import os
 import re
-from typing import Iterator, List, NamedTuple, Optional, Tuple, Union
+from typing import Iterator, List, NamedTuple, Optional, Sequence, Tuple, Union
 
 from . import core, gs1
 from .advice import why_not_written
-from .core import Refused, Rows, Shape
+from .core import FNC1, Extent, Form, Head, Mark, Refused, Shape
 from .labels import Label, printed
 from .sources import Trouble, open_input
 from .spelling import of_spelling, shown, spelled
@@ -82,18 +82,85 @@ def _of_hexadecimal(text: str) -> bytes:
                        f"{len(''.join(text.split()))}: {text}") from None
 
 
-def _message(text: str, given: argparse.Namespace) -> Tuple[Union[bytes, List[int]], bool, Tuple[str, ...]]:
-    """The bytes or items of a message, whether it is GS1 data, and its text in parts."""
+class _Letter(NamedTuple):
+    """What a symbol is to say: items, marks among them, and a head; and its text in parts."""
+    items: Sequence[int]
+    marks: Tuple[Mark, ...]
+    head: Head
+    parts: Tuple[str, ...]
+
+
+def _charset(given: argparse.Namespace) -> str:
+    """The charset of text that is spelled, or stands behind the ECI that is asked for, which may name none."""
+    behind = "utf-8" if given.eci is None else core.charset_of(given.eci) or "ascii"
+    return str(given.charset or behind)
+
+
+def _unmarked(text: str) -> bytes:
+    """The bytes of a text without a mark: in ISO 8859-1 where they are read as it, else in UTF-8."""
+    data = text.encode("iso-8859-1", "replace")
+    return data if core.text_of(data).text == text else text.encode("utf-8")
+
+
+def _marked(text: str, given: argparse.Namespace) -> Tuple[bytes, Tuple[Mark, ...]]:
+    """The bytes of a text, and the marks by which they are read as it. In a part of what several symbols say the
+    charset of those before it would hold, so that its own is marked, unless it is ASCII."""
+    data, marks = core.letter_of(text, given.charset)
+    number = core.assignment(given.charset or "iso-8859-1")
+    is_alone = not isinstance(given.head, tuple) or data.isascii()
+    return data, marks if marks or is_alone or number is None else ((0, number),)
+
+
+def _of_text(text: str, given: argparse.Namespace) -> _Letter:
+    """What a text says: with the marks by which it is read as it was written, unless its charset is asked for by its
+    number, or its readers know no marks."""
+    marks: Tuple[Mark, ...] = ()
+    if given.eci is not None:
+        data = text.encode(_charset(given))
+    elif given.extent == Extent.WIDE:
+        data, marks = _marked(text, given)
+    else:
+        data = _unmarked(text) if given.charset is None else text.encode(given.charset)
+    return _Letter(data, marks, None, printed(text))
+
+
+def _of_spelling(text: str, given: argparse.Namespace) -> _Letter:
+    """What a text says that is spelled."""
+    items, marks, head = of_spelling(text, _charset(given))
+    if head is not None and given.head is not None:
+        raise _Unclear("it begins with a head, and --append and --programming are another")
+    return _Letter(items, tuple(marks), head, printed(spelled(items, marks)))
+
+
+def _letter(text: str, given: argparse.Namespace) -> _Letter:
+    """What a message says."""
     if given.gs1:
         elements = gs1.parse(text, given.unknown)
-        return gs1.message(elements), True, tuple(gs1.text([element]) for element in elements)
+        return _Letter(gs1.items(elements), (), None, tuple(gs1.text([element]) for element in elements))
     if given.hex:
         data = _of_hexadecimal(text)
-        return data, False, (data.hex(),)
-    if given.escapes:
-        items = of_spelling(text, given.charset)
-        return items, False, printed(spelled(items))
-    return text.encode(given.charset), False, printed(text)
+        return _Letter(data, (), None, (data.hex(),))
+    return _of_spelling(text, given) if given.escapes else _of_text(text, given)
+
+
+def _of_message(head: Head, number: int) -> Head:
+    """The head of a message: of parts this one is the first message's, and those that follow are the next ones'."""
+    if not isinstance(head, tuple):
+        return head
+    part, of, first, second = head
+    if part + number - 1 > of:
+        raise _Unclear(f"it would be part {part + number - 1}, and there are {of}")
+    return part + number - 1, of, first, second
+
+
+def _whole(letter: _Letter, number: int, given: argparse.Namespace) -> _Letter:
+    """What a symbol is to say with what the command line says of each."""
+    head, marks = letter.head or _of_message(given.head, number), letter.marks
+    if given.eci is not None:
+        marks = ((int(tuple(letter.items[:1]) == (FNC1,)), given.eci), *marks)
+    if given.extent == Extent.USUAL and (marks or head):
+        raise _Unclear("the readers that --basic is for know neither ECI nor structured append nor reader programming")
+    return letter._replace(marks=marks, head=head)
 
 
 def _size(given: argparse.Namespace) -> Optional[Tuple[int, int]]:
@@ -108,24 +175,28 @@ def _shape(given: argparse.Namespace) -> Optional[Shape]:
     return None if given.shape is None else Shape[given.shape.upper()]
 
 
-def _written(message: Union[bytes, List[int]], is_gs1: bool, given: argparse.Namespace) -> Rows:
-    return core.write(message, is_gs1, given.profile, size=_size(given), shape=_shape(given))
+def _labelled(letter: _Letter, number: int, given: argparse.Namespace) -> Label:
+    whole = _whole(letter, number, given)
+    rows = core.write(whole.items, size=_size(given), shape=_shape(given), marks=whole.marks, head=whole.head,
+                      form=Form[given.form.upper()], extent=given.extent)
+    return Label(number, whole.parts, rows)
 
 
 def _in_words(why: ValueError, given: argparse.Namespace) -> str:
     if isinstance(why, Refused):
         return why_not_written(why, _size(given), _shape(given))
     if isinstance(why, UnicodeEncodeError):
-        return f"the charset {given.charset} has no {why.object[why.start]!r}; name another by --charset, as utf-8"
+        return f"the charset {_charset(given)} has no {why.object[why.start]!r}; name another by --charset, as utf-8"
     return str(why)
 
 
 def _of_bytes(given: argparse.Namespace) -> Union[Label, Unwritten]:
     with open_input(given.bytes) as stream:
         data = stream.read()
+    marks = () if given.eci is None else ((0, given.eci),)
     try:
-        return Label(1, printed(shown(data)), _written(data, False, given))
-    except Refused as why:
+        return _labelled(_Letter(data, (), None, printed(shown(data, marks))), 1, given)
+    except ValueError as why:
         return Unwritten(given.bytes, _in_words(why, given))
 
 
@@ -143,7 +214,6 @@ def labels(given: argparse.Namespace) -> Iterator[Union[Label, Unwritten]]:
             if is_batch and not given.blank and not text.strip():
                 raise _Unclear("it is blank, and has no symbol; --blank makes symbols of blank lines too")
             _check(text, is_batch)
-            message, is_gs1, parts = _message(text, given)
-            yield Label(number, parts, _written(message, is_gs1, given))
+            yield _labelled(_letter(text, given), number, given)
         except ValueError as why:
             yield Unwritten(name, _in_words(why, given))

@@ -6,8 +6,9 @@ import re
 from typing import Callable, NamedTuple
 
 from . import core
-from .core import BorderLimit, Extent, Profile, Shape
+from .core import BorderLimit, Extent, Form, Head, Profile, Shape
 from .labels import KINDS
+from .spelling import Misspelled, of_part
 
 __all__ = ["SUBCOMMANDS", "Subcommand"]
 
@@ -41,6 +42,14 @@ def _resolution(text: str) -> float:
     return float(text)
 
 
+def _part(text: str) -> Head:
+    """A part of a structured append of the command line."""
+    try:
+        return of_part(text)
+    except Misspelled as why:
+        raise argparse.ArgumentTypeError(str(why)) from None
+
+
 def _size(text: str) -> str:
     """A size of the command line."""
     found = re.fullmatch("([0-9]+)x([0-9]+)", text)
@@ -53,8 +62,8 @@ def _size(text: str) -> str:
     return f"{rows}x{columns}"
 
 
-def _takes(parser: argparse.ArgumentParser) -> None:
-    """Files, how they are told apart, and what is known of their damage."""
+def _takes(parser: argparse.ArgumentParser) -> argparse._ArgumentGroup:
+    """Files, and what is known of their damage. Returns the options of several files."""
     parser.add_argument("files", nargs="*", metavar="FILE")
     parser.add_argument("--doubtful", metavar="FILE",
                         help="its grids, one for each symbol that is read and of as many rows and columns, have 1 "
@@ -66,6 +75,12 @@ def _takes(parser: argparse.ArgumentParser) -> None:
                          "folder where it runs")
     several.add_argument("--jobs", type=_number(1, 256), default=1, metavar="N",
                          help="search N pictures at a time, and print what they say in order (1)")
+    return several
+
+
+def _takes_named(parser: argparse.ArgumentParser) -> None:
+    """The same, and how the answers of files are told apart."""
+    several = _takes(parser)
     several.add_argument("-H", "--with-filename", dest="filename", action="store_true", default=None,
                          help="print the file's name and a colon before each answer, as for several files and with -r")
     several.add_argument("--no-filename", dest="filename", action="store_false", help="never print it")
@@ -104,6 +119,20 @@ def _reads(parser: argparse.ArgumentParser, most: int = 1) -> None:
     limit = max(size.limit for size in core.sizes())
     looks.add_argument("--margin", type=_number(0, limit), default=0, metavar="N",
                        help="refuse symbols whose blocks have fewer than N corrections left (0)")
+
+
+def _forms(parser: argparse.ArgumentParser) -> None:
+    """The encodations of what is written, and which of them its readers know."""
+    forms = parser.add_mutually_exclusive_group()
+    forms.add_argument("--form", choices=[form.name.lower() for form in Form], default="smallest",
+                       help="how characters become codewords: smallest, so that no symbol that says it is smaller (the "
+                       "usual); ascii, the normal form; shorter, the second normal form, one segment of Base 256 where "
+                       "that is shorter")
+    forms.add_argument("--shorter", dest="form", action="store_const", const="shorter",
+                       help=argparse.SUPPRESS)  # its old name
+    parser.add_argument("--basic", dest="extent", action="store_const", const=Extent.USUAL, default=Extent.WIDE,
+                        help="for readers that know neither EDIFACT nor macros: symbols without these, and without "
+                        "what --eci, --append and --programming write")
 
 
 def _profile(parser: argparse.ArgumentParser) -> None:
@@ -155,9 +184,10 @@ def _shows(parser: argparse.ArgumentParser) -> None:
     form.add_argument("--hex", action="store_true",
                       help="the message's bytes in hexadecimal, FNC1 in front left out, others as 1d")
     form.add_argument("--escapes", action="store_true",
-                      help="the message as dm_tool spells it, with \\F, \\xHH and \\\\")
+                      help="the message as dm_tool spells it, with \\F, \\xHH and \\\\; ECI 26 is \\E{26}")
     parser.add_argument("--charset", metavar="NAME",
-                        help="the charset of the bytes (utf-8, as write has it; where they aren't that, iso-8859-1)")
+                        help="the charset of all bytes (that of their ECI; without one utf-8, or iso-8859-1 where they "
+                        "aren't that)")
     parser.add_argument("--unknown", action="store_true", help="let identifiers of GS1 pass that aren't in the table")
 
 
@@ -176,33 +206,50 @@ def _writing(one: argparse.ArgumentParser) -> None:
                       "[01]09521234543213[17]251231[10]ABC, which are checked")
     form.add_argument("--hex", action="store_true", help="messages are bytes in hexadecimal")
     form.add_argument("--escapes", action="store_true",
-                      help="messages are spelled with \\F, \\xHH and \\\\, as dm_tool has it")
+                      help="messages are spelled with \\F, \\xHH and \\\\, as dm_tool has it, and \\E{26} for ECI 26")
     form.add_argument("--bytes", metavar="FILE", help="the bytes of a file are the message")
-    one.add_argument("--charset", default="utf-8", metavar="NAME",
-                     help="the charset in which text becomes bytes (utf-8, as read takes it; scanners that take bytes "
-                     "for Latin-1 want iso-8859-1)")
+    one.add_argument("--charset", metavar="NAME",
+                     help="the charset in which text becomes bytes, with its ECI in front (iso-8859-1 without one, and "
+                     "utf-8 for text that it hasn't, so that the text is read as it was written)")
+    one.add_argument("--eci", type=_number(0, 999999), metavar="N",
+                     help="put ECI N in front, which says how the bytes are meant: text is written in its charset, as "
+                     "utf-8 for 26")
     one.add_argument("--unknown", action="store_true", help="let identifiers of GS1 pass that aren't in the table")
     one.add_argument("--blank", action="store_true",
                      help="make symbols of blank lines of standard input too, which are named else")
-    _profile(one)
+    heads = one.add_mutually_exclusive_group()
+    heads.add_argument("--append", dest="head", type=_part, metavar="PART/OF[:FILE]",
+                       help="a part of what several symbols say together (structured append): as 2/5, or as "
+                       "2/5:001002 with two numbers from 001 to 254 that all parts have in common (001001); of several "
+                       "messages the first is this part, and the next ones are those that follow")
+    heads.add_argument("--programming", dest="head", action="store_const", const="programming",
+                       help="the message is an instruction to the reader that scans it (reader programming)")
+    _forms(one)
     _sized(one)
     _draws(one)
 
 
 def _reading(one: argparse.ArgumentParser) -> None:
-    _takes(one)
+    _takes_named(one)
     _shows(one)
     _reads(one)
 
 
-def _checking(one: argparse.ArgumentParser) -> None:
+def _joining(one: argparse.ArgumentParser) -> None:
     _takes(one)
+    one.set_defaults(filename=None)
+    _shows(one)
+    _reads(one, 64)
+
+
+def _checking(one: argparse.ArgumentParser) -> None:
+    _takes_named(one)
     _json(one)
     _reads(one)
 
 
 def _normalising(one: argparse.ArgumentParser) -> None:
-    _takes(one)
+    _takes_named(one)
     _profile(one)
     _reads(one)
     _draws(one)
@@ -210,7 +257,7 @@ def _normalising(one: argparse.ArgumentParser) -> None:
 
 def _comparing(one: argparse.ArgumentParser) -> None:
     one.add_argument("files", nargs=2, metavar="FILE")
-    one.set_defaults(recursive=False, doubtful=None, jobs=1)
+    one.set_defaults(recursive=False, doubtful=None, jobs=1, filename=None)
     _reads(one, 64)
 
 
@@ -234,32 +281,41 @@ SUBCOMMANDS = (
                "Prints what the symbols of grids and pictures say, each on a line: of a picture the first symbol "
                "that is found, and with --all all of them. A backslash is printed as \\\\, FNC1 as \\F, and a byte "
                "that is no printable character as \\xHH, but in JSON text is as it is. GS1 data that keeps its "
-               "rules is printed with its identifiers in brackets.",
+               "rules is printed with its identifiers in brackets. In front of a part of what several symbols say "
+               "stands \\A{2/5:001002}, which says that it is part 2 of 5 of the file 001002, and in front of an "
+               "instruction to the reader \\P.",
                _reading),
+    Subcommand("join", "parts", "what several symbols say together",
+               "Prints what the parts of a structured append say together, in whichever order they are found: on each "
+               "page of a picture up to 64. What is missing, what is there with two contents, and what is no part of "
+               "the first one's file is named on standard error.",
+               _joining),
     Subcommand("check", "reporting", "how much of symbols is wrong",
                "Prints for each symbol its rows and columns, how much of its border is wrong, and how many "
                "codewords were corrected.",
                _checking),
     Subcommand("normal", "reporting", "normal grids of what symbols say",
-               "Writes the normal grid of what each symbol says, which is a square.",
+               "Writes the normal grid of what each symbol says, which is a square. Two symbols say the same exactly "
+               "if their normal grids are equal.",
                _normalising),
     Subcommand("compare", "reporting", "whether two symbols say the same",
                "Compares what two symbols say, item by item. Status 0: the same; 1: different; 2 or more: a fault.",
                _comparing),
     Subcommand("explain", "reporting", "what each codeword means",
                "Prints each codeword of a symbol: its place, its value, the encodation in which it stands, and "
-               "what it means.",
+               "what it means; then what the symbol says, and its symbology identifier.",
                _checking),
     Subcommand("write", "writing", "symbols of messages",
-               "Writes the normal grid of each message, which is a square, or with --shape or --size another "
-               "symbol: of each line of standard input, if none is given. A line is UTF-8, and ends with LF or "
-               "with CR and LF. Neither a line end behind a message, also one of the command line, nor a byte "
-               "order mark in front of the first is part of it.",
+               "Writes a symbol of each message, or of each line of standard input, if none is given: the smallest "
+               "square, or with --shape or --size another symbol. Text that ISO 8859-1 has is written in that, and "
+               "other text in UTF-8 behind ECI 26, so that it is read as it was written. A line is UTF-8, and ends "
+               "with LF or with CR and LF. Neither a line end behind a message, also one of the command line, nor a "
+               "byte order mark in front of the first is part of it.",
                _writing),
     Subcommand("sizes", "reporting", "the sizes that there are",
                "Prints the table of sizes, by rising number of modules: rows and columns; regions, without their "
                "borders; data and check codewords; blocks, and how many wrong codewords can be corrected in each; "
-               "how many digits, other characters of ASCII or, with --shorter, bytes of any kind fit; and which "
-               "standard has it.",
+               "how many digits, other characters of ASCII, or bytes of any kind are sure to fit; and which standard "
+               "has it.",
                _sizing),
 )

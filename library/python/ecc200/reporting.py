@@ -3,19 +3,22 @@ from __future__ import annotations
 
 import argparse
 import sys
-from typing import Any, Dict, Iterator, List, NamedTuple, Optional, Tuple, Union
+from typing import Any, Dict, Iterator, List, NamedTuple, Optional, Sequence, Tuple, Union
 
 from . import core, explaining, gs1
 from .advice import bytes_in, in_words, righted, sizes_of, why_not_written
-from .core import FNC1, Code, Reading, Refused, Rows, Shape, Unsure, usual_limit
+from .core import FNC1, Code, Head, Mark, Reading, Refused, Rows, Shape, Unsure, text_of, usual_limit
+from .joining import Joined
 from .labels import Label, Output, printed
 from .progress import Progress
 from .sources import Search, Source, Trouble, doubts, known_charset, sources
-from .spelling import decoded, shown, spelled
+from .spelling import headed, shown, spelled
 
-__all__ = ["Answer", "answers", "check", "compare", "explain", "normal", "read", "sizes"]
+__all__ = ["Answer", "answers", "check", "compare", "complain", "explain", "json_line", "line_of", "marks_told",
+           "message_told", "normal", "read", "said", "sizes"]
 
 _EARLY = 3  # the status where a search ended early
+_OTHER_DEALING = "check codewords dealt into blocks from the first one, as libdmtx deals them"
 
 
 class Answer(NamedTuple):
@@ -55,7 +58,7 @@ def _unsure(why: Unsure, margin: int) -> str:
     """What a symbol may say, and why that isn't sure."""
     left = (f"fewer than {margin} corrections" if margin
             else "no correction, while its border is damaged or modules are doubtful")
-    return f"it may say {shown(why.reading.items)}, but its blocks leave {left}"
+    return f"it may say {said(why.reading)}, but its blocks leave {left}"
 
 
 def _answer(source: Source, given: argparse.Namespace, doubtful: Optional[Rows]) -> Answer:
@@ -70,8 +73,6 @@ def _answer(source: Source, given: argparse.Namespace, doubtful: Optional[Rows])
         border = found.border_limit if isinstance(found.answer, Reading) and border is None else border
     try:
         reading = core.read(rows, border, given.extent, doubtful)
-        if reading.marks or reading.head:
-            core.read(rows, border, core.Extent.USUAL, doubtful)  # which refuses them by name
         if border == "auto":
             border = max(usual_limit(*reading.size), reading.border_faults)
         return Answer(source, reading, rows, doubtful=doubtful, border=border)
@@ -116,7 +117,7 @@ def _print(answer: Answer, text: str, given: argparse.Namespace) -> None:
     print(f"{answer.source.file}:{text}" if _is_named(given) else text, flush=True)
 
 
-def _complain(answer: Answer, given: argparse.Namespace) -> int:
+def complain(answer: Answer, given: argparse.Namespace) -> int:
     """Says on standard error why a symbol isn't read. Returns the status that this makes."""
     source = answer.source
     file = "" if source.file == "-" and not _is_named(given) else source.file
@@ -141,12 +142,12 @@ def _place(source: Source, given: argparse.Namespace) -> str:
     return f"at {x:.0f}, {y:.0f}"
 
 
-def _elements(reading: Reading, unknown: bool) -> Union[List[gs1.Element], str, None]:
+def _elements(says: Union[Reading, Joined], unknown: bool) -> Union[List[gs1.Element], str, None]:
     """The elements of a GS1 message, or what is wrong with it, or None if it isn't one."""
-    if not reading.gs1:
+    if not says.gs1:
         return None
     try:
-        return gs1.split(reading.data, unknown)
+        return gs1.split(says.data, unknown)
     except gs1.Faulty as why:
         return str(why)
 
@@ -175,7 +176,9 @@ def _about(answer: Answer) -> Dict[str, Any]:
     else:
         reading = answer.reading
         told.update(rows=reading.rows, columns=reading.columns, border_faults=reading.border_faults,
-                    corrected=list(reading.corrected), erased=list(reading.erased), left=list(reading.left))
+                    corrected=list(reading.corrected), erased=list(reading.erased), left=list(reading.left),
+                    dealing=reading.dealing, symbology=reading.symbology, head=_head_told(reading.head),
+                    marks=marks_told(reading.marks))
         if found is not None:
             told["border_limit"] = found.border_limit if answer.border is None else answer.border
             if answer.doubtful is not None:
@@ -183,39 +186,69 @@ def _about(answer: Answer) -> Dict[str, Any]:
     return told
 
 
-def _json(told: Dict[str, Any]) -> str:
+def marks_told(marks: Sequence[Mark]) -> List[Dict[str, int]]:
+    """What JSON has of marks."""
+    return [{"place": place, "eci": number} for place, number in marks]
+
+
+def _head_told(head: Head) -> Union[Dict[str, Any], str, None]:
+    """What JSON has of a head."""
+    if head is None or isinstance(head, str):
+        return head
+    part, of, *file = head
+    return {"part": part, "of": of, "file": file}
+
+
+def json_line(told: Dict[str, Any]) -> str:
     """A line of JSON, in ASCII: other characters are \\u and four digits, whatever the locale."""
     import json  # (which would take a part of each start)
     return json.dumps(told)
 
 
+def message_told(says: Union[Reading, Joined], head: Head, given: argparse.Namespace) -> Dict[str, Any]:
+    """What JSON has of what is said."""
+    text, charset = text_of(says.items, says.marks, given.charset)
+    told: Dict[str, Any] = {"message": spelled(says.items, says.marks, head), "text": text, "charset": charset,
+                            "hex": says.data.hex(), "items": list(says.items), "gs1": says.gs1}
+    elements = _elements(says, given.unknown)
+    if isinstance(elements, str):
+        told["gs1_fault"] = elements
+    elif elements is not None:
+        table = gs1.identifiers()
+        told["elements"] = [{"identifier": identifier, "value": value,
+                             "title": table[identifier].title if identifier in table else None}
+                            for identifier, value in elements]
+    return told
+
+
 def _read_json(answer: Answer, given: argparse.Namespace) -> str:
-    told, reading = _about(answer), answer.reading
-    if reading is not None:
-        told.update(message=spelled(reading.items), text=decoded(reading.data, given.charset), hex=reading.data.hex(),
-                    items=list(reading.items), gs1=reading.gs1)
-        elements = _elements(reading, given.unknown)
-        if isinstance(elements, str):
-            told["gs1_fault"] = elements
-        elif elements is not None:
-            table = gs1.identifiers()
-            told["elements"] = [{"identifier": identifier, "value": value,
-                                 "title": table[identifier].title if identifier in table else None}
-                                for identifier, value in elements]
-    return _json(told)
+    told = {} if answer.reading is None else message_told(answer.reading, answer.reading.head, given)
+    return json_line({**_about(answer), **told})
+
+
+def line_of(says: Union[Reading, Joined], given: argparse.Namespace) -> str:
+    """What is said, as the command line asks for it, without a head."""
+    if given.hex:
+        return says.data.hex()
+    if given.escapes:
+        return spelled(says.items, says.marks)
+    elements = _elements(says, given.unknown)
+    return gs1.text(elements) if isinstance(elements, list) else shown(says.items, says.marks, given.charset)
+
+
+def said(reading: Reading) -> str:
+    """What a symbol says, as a line; in front, behind a backslash, what it is a part of, or that it programs the
+    reader."""
+    return spelled((), (), reading.head) + shown(reading.items, reading.marks)
 
 
 def _text(answer: Answer, reading: Reading, given: argparse.Namespace) -> str:
-    if given.hex:
-        return reading.data.hex()
-    if given.escapes:
-        return spelled(reading.items)
-    elements = _elements(reading, given.unknown)
-    if isinstance(elements, list):
-        return gs1.text(elements)
+    if given.hex and reading.head is not None:
+        complain(answer._replace(fault=f"it is {headed(reading.head)}"), given)
+    elements = None if given.hex or given.escapes else _elements(reading, given.unknown)
     if isinstance(elements, str):
-        _complain(answer._replace(fault=f"marked as GS1 data, but {elements}"), given)
-    return shown(reading.items, given.charset)
+        complain(answer._replace(fault=f"marked as GS1 data, but {elements}"), given)
+    return ("" if given.hex else spelled((), (), reading.head)) + line_of(reading, given)
 
 
 def read(given: argparse.Namespace) -> int:
@@ -225,7 +258,7 @@ def read(given: argparse.Namespace) -> int:
         known_charset(given.charset)
     for answer in answers(given, given.files):
         if answer.reading is None:
-            status = max(status, _complain(answer, given))
+            status = max(status, complain(answer, given))
         if given.json:
             print(_read_json(answer, given), flush=True)
         elif answer.reading is not None:
@@ -238,9 +271,9 @@ def check(given: argparse.Namespace) -> int:
     status = 0
     for answer in answers(given, given.files):
         if answer.reading is None:
-            status = max(status, _complain(answer, given))
+            status = max(status, complain(answer, given))
         if given.json:
-            print(_json(_about(answer)), flush=True)
+            print(json_line(_about(answer)), flush=True)
         elif answer.reading is not None:
             _print(answer, _checked(answer, answer.reading), given)
     return status
@@ -252,8 +285,9 @@ def _checked(answer: Answer, reading: Reading) -> str:
                                                                           reading.left))
     most = core._size_of(*reading.size).limit
     more = f" (at most {most})" if answer.doubtful is None else f", erased: {erased}, check codewords left: {left}"
+    dealt = f", {_OTHER_DEALING}" if reading.dealing else ""
     return (f"{answer.size}, {reading.border_faults} border modules wrong, codewords corrected in each block: "
-            f"{corrected}{more}")
+            f"{corrected}{more}{dealt}")
 
 
 def _parts(reading: Reading) -> Tuple[str, ...]:
@@ -261,7 +295,7 @@ def _parts(reading: Reading) -> Tuple[str, ...]:
     elements = _elements(reading, True)
     if isinstance(elements, list):
         return tuple(gs1.text([element]) for element in elements)
-    return printed(shown(reading.items))
+    return printed(shown(reading.items, reading.marks))
 
 
 def normal(given: argparse.Namespace) -> int:
@@ -276,7 +310,7 @@ def normal(given: argparse.Namespace) -> int:
                 continue
             except Refused as why:
                 answer = answer._replace(fault=why_not_written(why))
-        status = max(status, _complain(answer, given))
+        status = max(status, complain(answer, given))
     output.put(labels, count)
     return max(status, output.status)
 
@@ -291,7 +325,7 @@ def _only(given: argparse.Namespace, name: str) -> Tuple[Answer, int]:
     if found[0].reading is None:
         raise Trouble(f"{name}: {found[0].fault}")
     for end in ends:
-        _complain(end._replace(fault=f"{end.fault}; --most 1 takes the first that is found"), given)
+        complain(end._replace(fault=f"{end.fault}; --most 1 takes the first that is found"), given)
     return found[0], _EARLY if ends else 0
 
 
@@ -303,7 +337,7 @@ def _said(reading: Reading) -> Tuple[object, ...]:
 def _difference(first: Reading, second: Reading) -> str:
     """Where what two symbols say differs."""
     if first.head != second.head:
-        return "their heads differ, which say what a symbol is a part of, or that it programs the reader"
+        return f"the first is {headed(first.head)}, and the second {headed(second.head)}"
     if first.items == second.items:
         return "their ECI marks differ, which say how the bytes are meant"
     a, b = ([0x1D if item == FNC1 else item for item in reading.items] for reading in (first, second))
@@ -311,6 +345,8 @@ def _difference(first: Reading, second: Reading) -> str:
         return "they differ in their separators alone: where one has FNC1, the other has the byte 0x1D"
     if first.gs1 != second.gs1 and first.data == second.data:
         return "one is marked as GS1 data by FNC1 in front, and the other isn't"
+    if first.text is not None and first.text == second.text:
+        return f"they say the same text in other bytes, {first.charset} and {second.charset}"
     place = next((place for place, (x, y) in enumerate(zip(first.items, second.items)) if x != y),
                  min(len(first.items), len(second.items)))
     return f"they differ from item {place + 1} on"
@@ -323,8 +359,12 @@ def compare(given: argparse.Namespace) -> int:
     same = _said(first.reading) == _said(second.reading)
     for name, answer in zip(given.files, (first, second)):
         assert answer.reading is not None
-        print(f"{name}: {shown(answer.reading.items)} ({answer.size}, {sum(answer.reading.corrected)} codewords "
+        print(f"{name}: {said(answer.reading)} ({answer.size}, {sum(answer.reading.corrected)} codewords "
               "corrected)")
+    identifiers = [first.reading.symbology, second.reading.symbology]
+    if same and len(set(identifiers)) > 1:
+        print(f"their symbology identifiers differ, {' and '.join(identifiers)}, which scanners tell beside what is "
+              "said")
     print("the same" if same else f"different: {_difference(first.reading, second.reading)}")
     return max(early, other, 0 if same else 1)
 
@@ -341,23 +381,35 @@ def explain(given: argparse.Namespace) -> int:
     status = 0
     for answer in answers(given, given.files):
         if answer.reading is None:
-            status = max(status, _complain(answer, given))
+            status = max(status, complain(answer, given))
         try:
             explanation = explaining.explain(answer.rows, answer.border, given.extent, answer.doubtful)
         except Refused:
             if given.json:
-                print(_json(_about(answer)), flush=True)
+                print(json_line(_about(answer)), flush=True)
             continue
         if given.json:
             words = [codeword._asdict() for codeword in explanation.codewords]
-            print(_json({**_about(answer), "codewords": words}), flush=True)
+            print(json_line({**_about(answer), "codewords": words}), flush=True)
             continue
         if _is_named(given):
             print(f"{answer.source.file}, symbol {answer.source.number}:")
         print("\n".join(_table(explanation)), flush=True)
         if answer.reading is not None:
-            print(f"It says {shown(answer.reading.items)}", end="\n\n", flush=True)
+            print("\n".join(_below(answer.reading)), end="\n\n", flush=True)
     return status
+
+
+def _below(reading: Reading) -> Iterator[str]:
+    """What stands below the codewords of a symbol."""
+    yield f"It says {said(reading)}"
+    if reading.marks or not reading.data.isascii():
+        yield f"Its charset is {reading.charset}"
+    if reading.head is not None:
+        yield f"It is {headed(reading.head)}"
+    yield f"Its symbology identifier is {reading.symbology}"
+    if reading.dealing:
+        yield f"It has its {_OTHER_DEALING}"
 
 
 def sizes(given: argparse.Namespace) -> int:
@@ -370,7 +422,7 @@ def sizes(given: argparse.Namespace) -> int:
         named = f"{size.rows}x{size.columns}"
         if given.json:
             shape = Shape.SQUARE if size.rows == size.columns else Shape.EXTENDED if size.extension else Shape.RECTANGLE
-            print(_json({"size": named, "shape": shape.name.lower(), **size._asdict(), "digits": 2 * data,
+            print(json_line({"size": named, "shape": shape.name.lower(), **size._asdict(), "digits": 2 * data,
                          "letters": data, "bytes": bytes_in(size), "standard": standard}), flush=True)
             continue
         regions = f"{size.regions_down * size.regions_across} of {size.region_rows}x{size.region_columns}"

@@ -2,65 +2,102 @@
 from __future__ import annotations
 
 import re
-from typing import Iterable, List, Optional, Tuple
+from typing import Iterable, List, NamedTuple, Optional, Sequence, Tuple
 
-from .core import FNC1
+from .core import FNC1, Head, Mark, text_of
 
-__all__ = ["Misspelled", "decoded", "of_spelling", "shown", "spelled"]
+__all__ = ["Misspelled", "Spelled", "headed", "of_part", "of_spelling", "part_of", "shown", "spelled"]
 
-_ESCAPE = r"(?s)\\(\\|F|x[0-9A-Fa-f]{2})|\\(.?)|([^\\]+)"
+_HEAD = r"\\(?:(P)|A\{([^}]*)\})"
+_ESCAPE = r"(?s)\\(\\|F|x[0-9A-Fa-f]{2}|E\{[0-9]{1,6}\})|\\(.?)|([^\\]+)"
+_PART = "([0-9]{1,2})/([0-9]{1,2})(?::([0-9]{3})([0-9]{3}))?"
 
 
 class Misspelled(ValueError):
-    """A text with a backslash before something that isn't \\\\, \\F or \\xHH."""
+    """A text with a backslash before something that isn't spelled so."""
 
 
-def spelled(items: Iterable[int]) -> str:
+class Spelled(NamedTuple):
+    """What a text spells: items, marks among them, and a head."""
+    items: List[int]
+    marks: List[Mark]
+    head: Head
+
+
+def part_of(head: Tuple[int, int, int, int]) -> str:
+    """A part of what several symbols say, as the command line has it: 2/5:001002."""
+    return "{}/{}:{:03}{:03}".format(*head)
+
+
+def of_part(text: str) -> Tuple[int, int, int, int]:
+    """A part as the command line has it, as 2/5:001002, or as 2/5, whose file has the numbers 1 and 1."""
+    found = re.fullmatch(_PART, text)
+    part, of, first, second = (int(number or 1) for number in found.groups()) if found else (0, 0, 0, 0)
+    if not 1 <= part <= of or not 2 <= of <= 16 or not 1 <= first <= 254 or not 1 <= second <= 254:
+        raise Misspelled("a part of 2 to 16 is wanted, as 2/5, or as 2/5:001002 with two numbers from 001 to 254 that "
+                         f"all parts have in common, unlike {text!r}")
+    return part, of, first, second
+
+
+def headed(head: Head) -> str:
+    """What a symbol with this head is, in words."""
+    if head is None:
+        return "a whole message"
+    if isinstance(head, str):
+        return "an instruction to the reader (reader programming)"
+    part, of, *file = head
+    return f"part {part} of {of} of the file {file[0]:03}{file[1]:03} (structured append)"
+
+
+def _spelled_head(head: Head) -> str:
+    return "" if head is None else "\\P" if isinstance(head, str) else f"\\A{{{part_of(head)}}}"
+
+
+def spelled(items: Iterable[int], marks: Sequence[Mark] = (), head: Head = None) -> str:
     """Items as dm_tool spells them: \\F is FNC1, \\\\ a backslash, \\xHH a byte that isn't a printable character of
-    ASCII."""
-    return "".join("\\F" if item == FNC1 else "\\\\" if item == 92 else chr(item) if 32 <= item < 127
-                   else f"\\x{item:02X}" for item in items)
+    ASCII. Among them \\E{26} is the mark of ECI 26; in front of them \\A{2/5:001002} is a part of what several symbols
+    say, and \\P reader programming."""
+    each = ["\\F" if item == FNC1 else "\\\\" if item == 92 else chr(item) if 32 <= item < 127
+            else f"\\x{item:02X}" for item in items]
+    for place, number in reversed(marks):
+        each.insert(place, f"\\E{{{number}}}")
+    return _spelled_head(head) + "".join(each)
 
 
-def _decoded(data: bytes, charset: Optional[str]) -> Optional[Tuple[str, str]]:
-    """Bytes as text, and in which charset they are that. What isn't UTF-8 is ISO 8859-1, which has a character for each
-    byte."""
-    for name in [charset] if charset else ["utf-8", "iso-8859-1"]:
-        try:
-            return data.decode(name), name
-        except UnicodeError:
-            pass
-    return None
+def shown(items: Iterable[int], marks: Sequence[Mark] = (), charset: Optional[str] = None) -> str:
+    """Items as text, with what isn't printable spelled, and all of it spelled where they are no text."""
+    items = tuple(items)
+    if FNC1 in items or not marks and all(item < 128 for item in items):
+        return spelled(items, marks)
+    text, name = text_of(items, marks, charset)
+    if text is None or "," in name and not text.isprintable():
+        return spelled(items, marks)
+    return "".join("\\\\" if letter == "\\" else letter if letter.isprintable() else spelled(letter.encode(name))
+                   for letter in text)
 
 
-def decoded(data: bytes, charset: Optional[str] = None) -> Optional[str]:
-    """Bytes as text in a charset, by default UTF-8 where they are UTF-8, else ISO 8859-1; None if they are no text of
-    it."""
-    found = _decoded(data, charset)
-    return found and found[0]
+def _of_head(text: str) -> Tuple[Head, str]:
+    """The head that a text begins with, and the rest of the text."""
+    found = re.match(_HEAD, text)
+    if found is None:
+        return None, text
+    return "programming" if found[1] else of_part(found[2]), text[found.end():]
 
 
-def shown(items: Iterable[int], charset: Optional[str] = None) -> str:
-    """Items as `decoded` has their bytes, with what isn't printable spelled, and all of it where they are no text."""
-    items = list(items)
-    if any(item >= 128 for item in items) and FNC1 not in items:
-        found = _decoded(bytes(items), charset)
-        if found:
-            text, name = found
-            return "".join(letter if letter.isprintable() and letter != "\\" else spelled(letter.encode(name))
-                           for letter in text)
-    return spelled(items)
-
-
-def of_spelling(text: str, charset: str) -> List[int]:
-    """The items of a text that is spelled."""
+def of_spelling(text: str, charset: str) -> Spelled:
+    """What a text spells, with its characters in this charset."""
     items: List[int] = []
-    for found in re.finditer(_ESCAPE, text):
+    marks: List[Mark] = []
+    head, rest = _of_head(text)
+    for found in re.finditer(_ESCAPE, rest):
         escape, wrong, plain = found.groups()
         if plain is not None:
             items += plain.encode(charset)
         elif escape is None:
-            raise Misspelled(f"a backslash is followed by {wrong!r}; there are \\\\, \\F and \\xHH")
+            raise Misspelled(f"a backslash is followed by {wrong!r}; there are \\\\, \\F, \\xHH and \\E{{26}}, and in "
+                             "front \\A{2/5:001002} and \\P")
+        elif escape[0] == "E":
+            marks.append((len(items), int(escape[2:-1])))
         else:
             items.append(FNC1 if escape == "F" else 92 if escape == "\\" else int(escape[1:], 16))
-    return items
+    return Spelled(items, marks, head)

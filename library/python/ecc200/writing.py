@@ -15,7 +15,8 @@ __all__ = ["write"]
 
 def write(given: argparse.Namespace) -> int:
     """Writes the symbols of messages."""
-    known_charset(given.charset)
+    if given.charset:
+        known_charset(given.charset)
     output, progress = Output(given), Progress("symbols written")
     status, count, kept = 0, 0, []  # type: int, int, List[Label]
     for count, made in enumerate(labels(given), 1):
