@@ -28,7 +28,7 @@ GIVEN = """const opened = await Ecc200.load(libraryBytes, samplerBytes);
 const given = (name) => opened[name].bind(opened);
 export const read = given("read"), write = given("write"), readGrid = given("readGrid"), normal = given("normal");
 export const sizes = given("sizes");
-export { FNC1, Refused, luminanceOf };
+export { FNC1, Refused, joined, luminanceOf };
 """
 IMPORT = re.compile(r'^import (?:\{[^}]*\} from )?"\./([a-z0-9]+\.mjs)";\n', re.M)
 DECLARED = re.compile(r"^(?:export )?(?:async )?(?:const|let|function|class) "
