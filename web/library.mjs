@@ -2,8 +2,7 @@
 // lengths stay 64 bits wide, so they are BigInts; pages of its memory are counted in ordinary numbers. For everything
 // about Data Matrix symbols (sizes, places, codewords, correction, messages, borders, normal forms) the page asks it.
 import {
-  ABI, ANY, AUTO, BIT, BORDER_FAULT, EXTENDED, FNC1, MOST_COLUMNS, MOST_ITEMS, MOST_MARKS, MOST_ROWS, ONE, RECTANGLE,
-  SIZE_COUNT, SMALLEST, SQUARE, TOO_LONG, WIDE, isSameShape,
+  ABI, AUTO, BIT, BORDER_FAULT, MOST_COLUMNS, MOST_ITEMS, MOST_MARKS, MOST_ROWS, SIZE_COUNT, WIDE,
 } from "./common.mjs";
 import { LAYOUT } from "./layouts.mjs";
 import { headOf, kindOfHead, partOf } from "./letters.mjs";
@@ -35,11 +34,6 @@ const MOST_MODULES = MOST_ROWS * MOST_COLUMNS, DOUBTFUL = MOST_MODULES, HOW = 2 
 const aligned = (at) => Math.ceil(at / WORD) * WORD;
 const MARKS = aligned(HOW + LAYOUT.how.size), ITEMS = MARKS + LAYOUT.mark.size * (MOST_MARKS + 1);
 const OUT = aligned(ITEMS + 2 * (MOST_ITEMS + 1)), PAGES = Math.ceil((OUT + LAYOUT.place_table.size) / PAGE);
-/** @type {Record<number, (size: Size) => boolean>} */
-const IS_OF_SHAPE = {
-  [SQUARE]: ({ rows, columns }) => rows === columns, [EXTENDED]: ({ rows, columns }) => rows !== columns,
-  [RECTANGLE]: ({ rows, columns, isExtension }) => rows !== columns && !isExtension, [ANY]: () => true,
-};
 const CHECKS_OF_A_CORRECTION = 2; // codewords
 const NO_PART = { part: 0, parts: 0, file: [0, 0] };
 
@@ -146,32 +140,8 @@ export class Library {
     const [kind, part, parts] = this.numbers(at, 3), [a, b] = this.bytes(at + LAYOUT.head.file, 2);
     return headOf(kind, part, parts, [a, b]);
   }
-  // The symbol of a letter. An FNC1 in front is its first codeword, as GS1 asks, in the smallest form too, which may
-  // have it inside of a run: then the symbol has the first larger size in which it hasn't.
   /** @type {(letter: Letter, how: How) => Partial<Grid> & { fault?: Fault }} */
-  write(letter, how) {
-    const first = this.writeOnce(letter, how), isFirst = letter.items[0] === FNC1 && letter.marks[0]?.place !== 0;
-    const isRight = (symbol) => this.symbologyOf(symbol) === "]d2" || this.symbologyOf(symbol) === "]d5";
-    if (first.fault || how.form !== SMALLEST || !isFirst || isRight(first)) return first;
-    for (const { rows, columns } of this.largerThan(first, how.shape)) {
-      const symbol = this.writeOnce(letter, { ...how, shape: ONE, rows, columns });
-      if (!symbol.fault && isRight(symbol)) return symbol;
-    }
-    return { fault: { code: TOO_LONG, value: 0, place: 0 } };
-  }
-  /** @type {(symbol: Partial<Grid>) => string | undefined} */
-  symbologyOf(symbol) {
-    const grid = /** @type {Grid} */ (symbol);
-    return this.read(grid, this.usualLimit(grid)).symbology;
-  }
-  // The sizes of a shape that come behind one in the table.
-  /** @type {(shape: Partial<Grid>, shapes: number) => Size[]} */
-  largerThan({ rows, columns }, shapes) {
-    const all = [...this.sizes.values()].filter(IS_OF_SHAPE[shapes] ?? (() => false));
-    return all.slice(all.findIndex((size) => isSameShape(size, { rows, columns })) + 1);
-  }
-  /** @type {(letter: Letter, how: How) => Partial<Grid> & { fault?: Fault }} */
-  writeOnce({ items, marks, head }, { form, shape, rows, columns }) {
+  write({ items, marks, head }, { form, shape, rows, columns }) {
     // (one too many has the same effect as all of them)
     const some = items.slice(0, MOST_ITEMS + 1), few = marks.slice(0, MOST_MARKS + 1);
     this.numbers(this.itemsAt, some.length).set(some.map((item) => within(item, SHORTS, SHORTS)));

@@ -107,8 +107,7 @@ def the_smallest():
 
 
 def gs1_in_the_smallest():
-    """A GS1 symbol in the smallest form begins with FNC1, as GS1 asks: where a smaller one would have it inside of a
-    run it is larger."""
+    """A GS1 symbol in the smallest form begins with the codeword of FNC1, as GS1 asks."""
     for text in ("(01)09506000134352(17)271231(10)AB-42", "(21)ABCDEFGHIJKLMN", "(10)ABC", "(91)HELLO WORLD"):
         type_in(text)
         (answer,) = judged([asked_to_read(grid())])
