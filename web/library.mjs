@@ -145,7 +145,8 @@ export class Library {
     // (one too many has the same effect as all of them)
     const some = items.slice(0, MOST_ITEMS + 1), few = marks.slice(0, MOST_MARKS + 1);
     this.numbers(this.itemsAt, some.length).set(some.map((item) => within(item, SHORTS, SHORTS)));
-    const flat = few.flatMap(({ place, number }) => [number, place]);
+    const placed = (place) => (place <= items.length ? Math.min(place, some.length) : place);
+    const flat = few.flatMap(({ place, number }) => [number, placed(place)]);
     this.longs(this.marksAt, flat.length).set(flat.map((number) => within(number, LONGS, LONGS)));
     this.numbers(this.howAt, 5).set([form, shape, rows, columns, WIDE]);
     this.setHead(this.howAt + LAYOUT.how.head, head);
