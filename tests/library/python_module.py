@@ -337,7 +337,7 @@ NUMBERS = [
     ("ITEM", 300, 2)),
     ("negative behind FNC1", lambda: ecc200.write([65, -300], gs1=True),
     ("ITEM", 2)),
-    ("a letter", lambda: ecc200.write("A"), "TypeError"),
+    ("a text", lambda: ecc200.write("A") == ecc200.write(b"A"), True),
     ("letters", lambda: ecc200.write(["A"]), "TypeError"),
     ("a fraction", lambda: ecc200.write([65.5]), "TypeError"),
     ("None", lambda: ecc200.write(None), "TypeError"),

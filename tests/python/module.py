@@ -143,7 +143,7 @@ def messages():
         yield same(f"a message as {name}", ecc200.write(message), rows)
     yield same("text with its charset", ecc200.write("caf\u00e9", charset="latin-1"), rows)
     yield same("text in UTF-8", ecc200.read(ecc200.write("caf\u00e9", charset="utf-8")).data, b"caf\xc3\xa9")
-    yield raises("text without a charset", TypeError, "charset", lambda: ecc200.write("caf"))
+    yield same("text without a charset", ecc200.write("caf\u00e9"), rows)
     yield raises("text that the charset hasn't", UnicodeEncodeError, "",
                  lambda: ecc200.write("\u20ac", charset="latin-1"))
     yield raises("items that are text", TypeError, "", lambda: ecc200.write(["a"]))

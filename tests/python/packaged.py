@@ -31,10 +31,10 @@ from typing import List, Optional, Union
 
 
 def texts(path: str) -> List[str]:
-    said: List[str] = [reading.text for reading in decode(path) + decode(pathlib.Path(path)) + decode(b"")]
+    said: List[Optional[str]] = [reading.text for reading in decode(path) + decode(pathlib.Path(path)) + decode(b"")]
     with open(path, "rb") as file:
         said += [reading.text for reading in decode(file)]
-    return said
+    return [text for text in said if text is not None]
 
 
 def first(symbol: Symbol) -> Optional[Reading]:
@@ -59,6 +59,18 @@ first(encode(b"A", size=(8, 32)))
 square: List[Size] = [size for size in sizes() if size.rows == size.columns and not size.extension]
 grids: List[Rows] = [write(b"A", shape=Shape.RECTANGLE), write(b"A", size=(square[0].side, square[0].side))]
 elements: List[gs1.Element] = gs1.parse("(10)A")
+head: Head = (1, 2, 3, 4)
+marks: List[Mark] = [(0, 26)]
+parts: List[Reading] = [read(encode("A", marks=marks, head=head, extent=Extent.WIDE)),
+                        read(write(b"B", head=(2, 2, 3, 4), form=Form.SMALLEST))]
+try:
+    whole: Joined = join(parts)
+    print(whole.text, whole.charset, whole.marks, parts[0].symbology, parts[0].head, parts[0].charset)
+except Unjoined as why:
+    numbers: int = sum(why.missing + why.doubled + why.strange)
+told: charsets.Text = charsets.text_of(parts[0].items, parts[0].marks, "cp1252")
+data, own = charsets.letter_of("A")
+assigned: Optional[int] = charsets.assignment("utf-8")
 readings: Findings[Reading] = decode("a.png", most=9)
 ended: End = max(readings.ended, find("a.png").ended)
 answers: Findings[Union[Reading, Refused]] = decode("a.png", unread=True)

@@ -6,12 +6,14 @@ import inspect
 import os
 from unittest import mock
 
+from tests.python import planted
 from tests.support import needs, package
 from tests.support.case import Case
 
 PARTS = {
     "module": "forms strange_grids readings messages refusals many shown by_threads loading",
     "sizes": "printed sides table chosen limits any_border doubtful doubtful_forms beside from_others",
+    "texts": "written read register scripts guessed others made_anew joined continued smallest elements",
     "elements": "worked square faults table beside_zint beside_stdnum",
     "drawings": "png rendered unloadable taken saved in_files paged sheets symbols oriented sampled",
     "surface": "usage reading in_words otherwise writing files named_alike",
@@ -67,6 +69,11 @@ def class_of(source, names):
     """Gives the class of a module."""
     cases = {f"test_{name}": case_of(name) for name in names.split()}
     return needs.library(type(source.title(), (Package, Case), {"__module__": __name__, "source": source, **cases}))
+
+
+class Planted(Case):
+    def test_each_bug_can_be_planted(self):
+        self.all_sound((f"{name}, in {file}", problem) for name, _, file, _, problem in planted.bugs())
 
 
 globals().update({source.title(): class_of(source, names) for source, names in PARTS.items()})

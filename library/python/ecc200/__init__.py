@@ -10,17 +10,19 @@ compared by a library that is proved.
 
 `encode` and `decode` are for most; below them `read`, `write`, `normal`, `inspect` and `places` (ecc200.core) work on
 grids of modules, one call of the library each. `ecc200.gs1` has GS1 element strings, `ecc200.pictures` finds symbols in
-pictures, and `ecc200.drawing` draws them.
+pictures, `ecc200.charsets` knows which charset a mark names, and `ecc200.drawing` draws symbols. `join` puts the parts
+of a structured append together.
 """
-from . import core, drawing, gs1, pictures
+from . import charsets, core, drawing, gs1, pictures
 from .codec import Symbol, encode
 from .core import *
+from .joining import Joined, Unjoined, join
 
 # (a list of words, since checkers of types take no other)
 __all__ = ["ABI", "BorderLimit", "Code", "Corners", "End", "Extent", "FNC1", "Findings", "Form", "Found", "Grid",
-           "Head", "Inspection", "Kind", "MOST_ITEMS", "Mark", "Message", "Place", "Profile", "Reading", "Refused",
-           "Rows", "SamplerMissing", "Shape", "Size", "Symbol", "Unsure", "decode", "drawing", "encode", "find", "gs1",
-           "has_sampler", "inspect", "luminance", "normal", "pictures", "places", "read", "read_many", "sampler_fault",
-           "sizes", "usual_limit", "version", "write"]
+           "Head", "Inspection", "Joined", "Kind", "MOST_ITEMS", "Mark", "Message", "Place", "Profile", "Reading",
+           "Refused", "Rows", "SamplerMissing", "Shape", "Size", "Symbol", "Unjoined", "Unsure", "charsets", "decode",
+           "drawing", "encode", "find", "gs1", "has_sampler", "inspect", "join", "luminance", "normal", "pictures",
+           "places", "read", "read_many", "sampler_fault", "sizes", "usual_limit", "version", "write"]
 __version__ = version()
 _library = core._library

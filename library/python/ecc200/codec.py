@@ -3,10 +3,10 @@ from __future__ import annotations
 
 import functools
 import os
-from typing import Any, Callable, Dict, Optional, Tuple, Union
+from typing import Any, Callable, Dict, Iterable, Optional, Tuple, Union
 
 from . import core, drawing, files, gs1 as element_strings
-from .core import Message, Profile, Rows, Shape
+from .core import Extent, Form, Head, Mark, Message, Profile, Rows, Shape
 
 __all__ = ["Symbol", "encode"]
 
@@ -84,12 +84,18 @@ class Symbol:
         return self.svg().decode()
 
 
-def encode(message: Message, gs1: bool = False, profile: Profile = Profile.ASCII, charset: Optional[str] = None,
+def encode(message: Message, gs1: bool = False, profile: Optional[Profile] = None, charset: Optional[str] = None,
            unknown: bool = False, module: float = 0.5, quiet: int = 2, size: Optional[Tuple[int, int]] = None,
-           shape: Optional[Shape] = None) -> Symbol:
-    """The symbol of a message: its normal grid, which is a square, unless another `shape` is chosen, or a `size` by its
-    rows and columns. With `gs1` a text is an element string with its identifiers in brackets, which is checked (with
-    `unknown` those that aren't in the table pass); other text needs the name of its charset."""
+           shape: Optional[Shape] = None, marks: Iterable[Mark] = (), head: Head = None, form: Optional[Form] = None,
+           extent: Extent = Extent.WIDE) -> Symbol:
+    """The symbol of a message: the smallest square, unless another `shape` is chosen, or a `size` by its rows and
+    columns, with the encodations that readers of the wide extent read, as most readers are, or of another `extent`.
+    A `profile`, or a `form`, is written instead where one is named, and with Profile.ASCII the normal grid. With `gs1`
+    a text is an element string with its identifiers in brackets, which is checked (with `unknown` those that aren't in
+    the table pass); other text becomes bytes and marks as `charsets.letter_of` has it. `marks` and a `head` are those
+    of `write`."""
     if gs1 and isinstance(message, str):
         message = element_strings.message(element_strings.parse(message, unknown))
-    return Symbol(core.write(message, gs1, profile, charset, size, shape), module, quiet)
+    form = Form.SMALLEST if form is None and profile is None else form
+    profile = Profile.ASCII if profile is None else profile
+    return Symbol(core.write(message, gs1, profile, charset, size, shape, marks, head, form, extent), module, quiet)

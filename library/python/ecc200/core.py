@@ -38,13 +38,16 @@ when it is first needed.
 """
 from __future__ import annotations
 
+import codecs
 import ctypes
 import enum
 import functools
 import io
+import itertools
 import math
 import operator
 import os
+import re
 import struct
 import sys
 import warnings
@@ -216,12 +219,16 @@ class Reading(NamedTuple):
         return _side(self.rows, self.columns)
 
     @property
-    def text(self) -> str:
-        """The message as text: in UTF-8 where its bytes are that, else in ISO/IEC 8859-1."""
-        try:
-            return self.data.decode("utf-8")
-        except UnicodeDecodeError:
-            return self.data.decode("iso-8859-1")
+    def text(self) -> Optional[str]:
+        """The message as text, in the charsets that its marks name; without a mark in UTF-8 where its bytes are that,
+        else in ISO/IEC 8859-1. None where they are no text of these, as binary data."""
+        return text_of(self.items, self.marks).text
+
+    @property
+    def charset(self) -> str:
+        """The charset of the text, or several with commas between, by the names that Python has for them; "binary" or
+        "ECI n" for the bytes behind a mark that names no charset."""
+        return text_of(self.items, self.marks).charset
 
 
 class Inspection(NamedTuple):
@@ -583,6 +590,11 @@ def _limit(rows: int, columns: int, border_limit: Optional[int]) -> int:
     return usual_limit(rows, columns) if border_limit is None else max(0, min(border_limit, 65535))
 
 
+def _bytes_of(items: Iterable[int]) -> bytes:
+    """Items as bytes, FNC1 as 0x1D."""
+    return bytes(_GS if item == FNC1 else item for item in items)
+
+
 def _said(answer: memoryview) -> Reading:
     (code, value, place, rows, columns, border_faults, blocks, count, mark_count, identifier, dealing, kind, part, of,
      a, b, corrected, erased, left) = _read_head(answer)
@@ -591,7 +603,7 @@ def _said(answer: memoryview) -> Reading:
     raw = answer[_ITEMS:_ITEMS + 2 * count].tobytes()
     data, items, gs1 = raw[::2], struct.unpack(f"={count}H", raw), raw[:2] == b"\0\1"
     if b"\1" in raw[1::2]:  # the upper byte of an FNC1
-        data = bytes(_GS if item == FNC1 else item for item in items[gs1:])
+        data = _bytes_of(items[gs1:])
     counts: Tuple[Tuple[int, ...], ...]
     if blocks == 1:  # as mostly
         counts = (corrected[0],), (erased[0],), (left[0],)
@@ -768,21 +780,26 @@ def _chosen(form: int, size: Optional[Tuple[int, int]], shape: Optional[int], ex
     return _how(wanted, _ONE, rows, columns, readers, numbers)
 
 
+def _of_text(text: str, gs1: bool, charset: Optional[str], marks: Iterable[Mark]) -> Tuple[bytes, Tuple[Mark, ...]]:
+    """The bytes of a text, and the marks that are given with it, or else its own, behind an FNC1 in front."""
+    data, own = letter_of(text, charset)
+    return data, tuple(marks) or tuple((place + gs1, number) for place, number in own)
+
+
 def write(message: Message, gs1: bool = False, profile: Profile = Profile.ASCII, charset: Optional[str] = None,
           size: Optional[Tuple[int, int]] = None, shape: Optional[Shape] = None, marks: Iterable[Mark] = (),
           head: Head = None, form: Optional[Form] = None, extent: Extent = Extent.WIDE) -> Rows:
-    """The symbol of a message, given as bytes, as items, which are 0 to 255 or FNC1, or as text with the charset that
-    makes it bytes. With `gs1`, FNC1 stands in front and in place of each 0x1D. It is the normal grid, which is a
-    square, unless another `shape` is chosen, whose smallest symbol is written, or a `size` by its rows and columns.
+    """The symbol of a message, given as bytes, as items, which are 0 to 255 or FNC1, or as text, which becomes bytes
+    and marks as `charsets.letter_of` has it. With `gs1`, FNC1 stands in front, as the first codeword in each form, and
+    in place of each 0x1D. It is the normal grid, which is a square, unless another `shape` is chosen, whose smallest
+    symbol is written, or a `size` by its rows and columns.
 
-    `marks` and a `head` are written beside the message; the places of marks count its items, an FNC1 in front too.
-    `form` stands for a profile: Form.SMALLEST takes the encodations by which what is said fits the smallest size, of
-    those that readers of an `extent` read; Extent.USUAL has no marks and no heads, which are then too long."""
+    `marks` and a `head` are written beside the message; the places of marks count its items, an FNC1 in front too. A
+    text that is given marks has no others. `form` stands for a profile: Form.SMALLEST takes the encodations by which
+    what is said fits the smallest size, of those that readers of an `extent` read; Extent.USUAL has no marks and no
+    heads, which are then too long."""
     if isinstance(message, str):
-        if charset is None:
-            raise TypeError("a message is bytes or items; for text name its charset, as in write(text, "
-                            "charset='iso-8859-1')")
-        message = message.encode(charset)
+        message, marks = _of_text(message, gs1, charset, marks)
     is_usual = profile is _ASCII and size is None and shape is None and head is None and form is None
     if form is None and profile == Form.SMALLEST.value:
         raise Refused(Code.PROFILE, profile)
@@ -859,6 +876,94 @@ def _sizes_by_dimensions() -> Dict[Tuple[int, int], Size]:
 def _size_of(rows: int, columns: int) -> Size:
     """The size of so many rows and columns, which some symbol has."""
     return _sizes_by_dimensions()[rows, columns]
+
+
+# ---- Text: of which charset bytes are, and how that is marked
+
+# The charsets of ECI assignments, by names that Python, IANA and iconv have in common. Where a charset has several
+# numbers the last is written.
+_CHARSETS = {
+    0: "ibm437", 1: "iso-8859-1", 170: "us-ascii", 2: "ibm437",
+    **{part + 2: f"iso-8859-{part}" for part in (*range(1, 12), *range(13, 17))}, 20: "shift_jis",
+    21: "windows-1250", 22: "windows-1251", 23: "windows-1252", 24: "windows-1256", 25: "utf-16be", 26: "utf-8",
+    27: "us-ascii", 28: "big5", 29: "gb2312", 30: "euc-kr", 31: "gbk", 32: "gb18030", 33: "utf-16le", 34: "utf-32be",
+    35: "utf-32le",
+}
+_BINARY = 899
+_LATIN_1, _UTF_8 = "iso-8859-1", "utf-8"
+# What zxing-cpp may take for Shift JIS where nothing is marked, as it does if there are few letters of other kinds.
+_LIKE_SHIFT_JIS = rb"(?:[\0-\x7f\xa1-\xdf]|[\x81-\x9f\xe0-\xef][@-~\x80-\xfc])*"
+
+
+class Text(NamedTuple):
+    """What bytes are as text, None where they are none, and the charset by whose name they should be; of several the
+    names stand with commas between, in the order in which they come."""
+    text: Optional[str]
+    charset: str
+
+
+def _decoded(data: bytes, charset: str) -> Optional[str]:
+    try:
+        return data.decode(charset)
+    except UnicodeError:
+        return None
+
+
+def _charset(number: Optional[int], data: bytes) -> str:
+    """The charset of bytes behind the mark of an assignment, or without one; or what they are instead."""
+    if number is None:
+        return _LATIN_1 if _decoded(data, _UTF_8) is None else _UTF_8
+    return "binary" if number == _BINARY else _CHARSETS.get(number, f"ECI {number}")
+
+
+def text_of(items: Sequence[int], marks: Iterable[Mark] = (), charset: Optional[str] = None) -> Text:
+    """Items as text: those behind a mark in its charset, those that no mark stands before in UTF-8 where they are that,
+    else in ISO/IEC 8859-1; or all in `charset`, whatever is marked. An FNC1 in front is left out, any other is the
+    character U+001D."""
+    data, front = _bytes_of(items), int(tuple(items[:1]) == (FNC1,))
+    if charset is not None:
+        return Text(_decoded(data[front:], charset), charset)
+    starts: List[Tuple[int, Optional[int]]] = [(front, None), *((max(place, front), it) for place, it in marks)]
+    ends = [*(place for place, _ in starts[1:]), len(data)]
+    pieces = [(_charset(number, data[start:end]), data[start:end])
+              for (start, number), end in zip(starts, ends) if start < end]
+    runs = [(name, b"".join(piece for _, piece in run))
+            for name, run in itertools.groupby(pieces, operator.itemgetter(0))]
+    known = set(_CHARSETS.values())
+    texts = [_decoded(run, name) if name in known else None for name, run in runs]
+    names = dict.fromkeys(name for name, _ in runs)
+    return Text(None if None in texts else "".join(map(str, texts)), ", ".join(names) or _UTF_8)
+
+
+@functools.lru_cache(maxsize=None)
+def _assignments() -> Dict[str, int]:
+    """The numbers of charsets, by the names of Python's codecs."""
+    return {codecs.lookup(name).name: number for number, name in _CHARSETS.items()}
+
+
+def assignment(charset: str) -> Optional[int]:
+    """The number of the ECI assignment of a charset, by any name that Python has for it; None if there is none."""
+    return _assignments().get(codecs.lookup(charset).name)
+
+
+def _taken_for(data: bytes) -> Optional[str]:
+    """The charset for which all readers take bytes without a mark; None where they differ."""
+    if _decoded(data, _UTF_8) is not None:
+        return _UTF_8
+    return None if re.fullmatch(_LIKE_SHIFT_JIS, data) else _LATIN_1
+
+
+def letter_of(text: str, charset: Optional[str] = None) -> Tuple[bytes, Tuple[Mark, ...]]:
+    """The bytes of a text, and the marks by which they are read as it. What ISO/IEC 8859-1 has is that, and other text
+    UTF-8 behind its mark, unless a `charset` is named. Else the mark of the charset stands in front where some reader
+    would take the bytes for another text without it, as those of "20 \u00b0C" for Shift JIS; a charset that has no
+    ECI assignment is never marked."""
+    name = charset or (_LATIN_1 if all(letter < "\u0100" for letter in text) else _UTF_8)
+    data = text.encode(name)
+    taken = _taken_for(data)
+    is_clear = taken is not None and data.decode(taken) == text and (charset is not None or name == _LATIN_1)
+    number = None if is_clear else assignment(name)
+    return data, () if number is None else ((0, number),)
 
 
 # ---- Symbols in pictures, which the library ecc200_sample finds: the structs are those of ecc200_sample.h.

@@ -1,0 +1,362 @@
+"""Texts: written and read back in all charsets that a mark names, by zxing-cpp too; letters of other encoders; the
+parts of a structured append; the smallest symbol, also of GS1 data."""
+import copy
+import itertools
+import os
+import pickle
+import random
+import re
+
+from tests.marks.test_marks import lines_of
+from tests.python.common import MARKS, has, holds, left_out, raises, run, same
+
+import ecc200
+from ecc200 import Code, Extent, Form, Profile, Shape, charsets, gs1
+
+BWIPP, ZXING = "/usr/share/libpostscriptbarcode/barcode.ps", "/usr/share/java/core.jar"
+LATIN_1, UTF_8 = "iso-8859-1", "utf-8"
+# The register of ECI assignments, as far as it names charsets: other names for each than the package's own.
+REGISTER = {
+    0: "cp437", 1: "latin-1", 2: "437", 3: "l1", 4: "latin2", 5: "latin3", 6: "latin4", 7: "cyrillic", 8: "arabic",
+    9: "greek", 10: "hebrew", 11: "latin5", 12: "latin6", 13: "iso-8859-11", 15: "latin7", 16: "latin8", 17: "latin9",
+    18: "latin10", 20: "sjis", 21: "cp1250", 22: "cp1251", 23: "cp1252", 24: "cp1256", 25: "utf-16-be", 26: "u8",
+    27: "ascii", 28: "big5-tw", 29: "euc-cn", 30: "ks_x-1001", 31: "cp936", 32: "gb18030-2000", 33: "utf-16-le",
+    34: "utf-32-be", 35: "utf-32-le", 170: "646",
+}
+# Those that zxing-cpp 1.4.0 knows by their numbers.
+OF_ZXING = {number for number in REGISTER if number <= 30 or number == 170}
+# Texts with the charsets that are asked for, and the bytes and marks that they become.
+WRITTEN = [
+    ("", None, b"", ()), ("ABC\x1d\0", None, b"ABC\x1d\0", ()), ("caf\u00e9", None, b"caf\xe9", ()),
+    ("caf\u00e9", "latin-1", b"caf\xe9", ()), ("caf\u00e9", UTF_8, b"caf\xc3\xa9", ()),
+    ("caf\u00e9", "cp437", b"caf\x82", ((0, 2),)), ("caf\u00e9", "ascii", UnicodeEncodeError, None),
+    ("20 \u00b0C", None, b"20 \xb0C", ((0, 3),)), ("20 \u00b0C", LATIN_1, b"20 \xb0C", ((0, 3),)),
+    ("20 \u00b0C", UTF_8, b"20 \xc2\xb0C", ()), ("\u00c3\u00a9", None, b"\xc3\xa9", ((0, 3),)),
+    ("\u00c3\u00a9", UTF_8, b"\xc3\x83\xc2\xa9", ()), ("\u00ef\u00bb\u00bfA", None, b"\xef\xbb\xbfA", ((0, 3),)),
+    ("\u00efx \u00b0", None, b"\xefx \xb0", ((0, 3),)),
+    ("\u20ac", None, b"\xe2\x82\xac", ((0, 26),)), ("\u20ac", UTF_8, b"\xe2\x82\xac", ()),
+    ("\u20ac", "latin-1", UnicodeEncodeError, None), ("\u20ac", "cp1252", b"\x80", ((0, 23),)),
+    ("\u041f", "cyrillic", b"\xbf", ((0, 7),)), ("\u041f", "koi8-r", b"\xf0", ()),
+    ("A", "utf-16-le", b"A\0", ((0, 33),)),
+    ("A", "cp1251", b"A", ()), ("A", "none", LookupError, None), ("\ud800", None, UnicodeEncodeError, None),
+]
+# Items and marks with the text and the charset that they are.
+READ = [
+    (b"", [], "", UTF_8), (b"A\xff", [], "A\u00ff", LATIN_1), (b"\xc3\xa9", [], "\u00e9", UTF_8),
+    (b"\xc3\xa9", [(0, 3)], "\u00c3\u00a9", LATIN_1), (b"\xc3\xa9", [(2, 3)], "\u00e9", UTF_8),
+    (b"\xcf\xcf\xcf", [(1, 9), (2, 22)], "\u00cf\u039f\u041f", "iso-8859-1, iso-8859-7, windows-1251"),
+    (b"\xcf\xcf\xcf", [(0, 9), (1, 22), (2, 9)], "\u039f\u041f\u039f", "iso-8859-7, windows-1251"),
+    (b"\xe6\x97\xa5", [(0, 26), (1, 26), (2, 26)], "\u65e5", UTF_8), (b"A", [(0, 9), (0, 26)], "A", UTF_8),
+    (b"\xff", [(0, 26)], None, UTF_8), (b"\xff", [(0, 27)], None, "us-ascii"),
+    (b"A\xff", [(1, 899)], None, "utf-8, binary"),
+    (b"A", [(0, 899)], None, "binary"), (b"A", [(0, 14)], None, "ECI 14"), (b"A", [(0, 200)], None, "ECI 200"),
+    (b"A", [(1, 200)], "A", UTF_8), (b"A", [(0, 999_999)], None, "ECI 999999"),
+    (b"\xa4", [(0, 17)], "\u20ac", "iso-8859-15"),
+    ([256, 65, 256, 0xCF], [(0, 9)], "A\x1d\u039f", "iso-8859-7"), ([256, 0xCF], [(1, 9)], "\u039f", "iso-8859-7"),
+    ([256, 0xE9, 0xCF], [(2, 9)], "\u00e9\u039f", "iso-8859-1, iso-8859-7"), ([256], [], "", UTF_8),
+]
+
+
+def outcome(call, *given):
+    """What a call gives, or the kind of what it raises."""
+    try:
+        return call(*given)
+    except (LookupError, UnicodeError) as why:
+        return type(why)
+
+
+def texts():
+    """The texts of texts.txt."""
+    with open(os.path.join(MARKS, "texts.txt"), encoding="utf-8") as file:
+        return [line.rstrip("\n").split("\t") for line in file if not line.startswith("#")]
+
+
+def said_by_zxing(symbols, folder):
+    """The texts that zxing-cpp reads in pictures of symbols, in order; None for what it doesn't read."""
+    names = [f"{number:04}.png" for number in range(len(symbols))]
+    for name, symbol in zip(names, symbols):
+        symbol.save(os.path.join(folder, name), dpi=150)
+    told = run(["ZXingReader", "-format", "DataMatrix", *names], cwd=folder)[1]
+    said = dict(re.findall(r'^File: +(\S+)\nText: +"(.*)"$', told, re.MULTILINE))
+    return [said.get(name) for name in names]
+
+
+# ---- Charsets
+
+
+def written():
+    """Which bytes and marks a text becomes, and that it is written as these."""
+    for text, charset, data, marks in WRITTEN:
+        wanted = (data, marks) if marks is not None else data
+        name = f"{text!r} in {charset}"
+        yield same(name, outcome(charsets.letter_of, text, charset), wanted)
+        if marks is None:
+            for call in (ecc200.write, ecc200.encode):
+                yield same(f"{call.__name__}, {name}", outcome(lambda: call(text, charset=charset)), data)
+            continue
+        for call in (ecc200.write, ecc200.encode):
+            got = ecc200.read(call(text, charset=charset))
+            yield same(f"{call.__name__}, {name}", (got.data, got.marks), (data, marks))
+        got = ecc200.read(ecc200.write(text, charset=charset, marks=[(0, 899)]))
+        yield same(f"with marks that are given, {name}", (got.data, got.marks), (data, ((0, 899),)))
+    got = ecc200.read(ecc200.write("\u20ac\x1d1", gs1=True))
+    yield same("a mark of a text behind FNC1", (got.items, got.marks, got.symbology, got.text),
+               ((256, 0xE2, 0x82, 0xAC, 256, 49), ((1, 26),), "]d5", "\u20ac\x1d1"))
+    yield same("marks by an iterator", ecc200.read(ecc200.write("\u20ac", marks=iter([(3, 7)]))).marks, ((3, 7),))
+
+
+def read():
+    """Which text and charset items and marks are."""
+    for items, marks, text, charset in READ:
+        name = f"{items!r} behind {marks}"
+        for kind in (tuple, list, *([] if 256 in items else [bytes, bytearray, memoryview])):
+            given = kind(bytes(items)) if kind is memoryview else kind(items)
+            yield same(f"{name}, {kind.__name__}", charsets.text_of(given, marks), (text, charset))
+        reading = ecc200.read(ecc200.write(items, marks=marks))
+        yield same(f"a reading of {name}", (reading.text, reading.charset), (text, charset))
+    for charset, text in ((LATIN_1, "\u00c3\u00a9"), ("cp437", "\u251c\u2310"), ("ascii", None),
+                          ("utf-16be", "\uc3a9")):
+        yield same(f"in {charset}", charsets.text_of(b"\xc3\xa9", [(0, 26)], charset), (text, charset))
+    named = charsets.text_of([256, 65, 256, 0x82], [], "cp437")
+    yield same("FNC1 in a charset that is named", named.text, "A\x1d\u00e9")
+    yield raises("a charset that isn't there", LookupError, "none", lambda: charsets.text_of(b"A", [], "none"))
+
+
+def register():
+    """The charsets of the register, and their numbers."""
+    for number, name in REGISTER.items():
+        text = "A" * 4
+        told = charsets.text_of(text.encode(name), [(0, number)])
+        yield same(f"the mark {number}", (told.text, "".encode(told.charset)), (text, b""))
+        wanted = {0: 2, 1: 3, 170: 27}.get(number, number)
+        for each in (name, told.charset):
+            yield same(f"the number of {each}", charsets.assignment(each), wanted)
+    for number in {*range(1000), 999_999} - {*REGISTER}:
+        wanted = None, "binary" if number == 899 else f"ECI {number}"
+        yield same(f"the mark {number}", charsets.text_of(b"A", [(0, number)]), wanted)
+    for name in ("koi8-r", "cp1253", "utf-16", "utf-8-sig", "cp932"):
+        yield same(f"the number of {name}", charsets.assignment(name), None)
+    yield raises("the number of a charset that isn't there", LookupError, "none", lambda: charsets.assignment("none"))
+
+
+def scripts(folder):
+    """Each text of ten scripts is read as it was written, in every charset that has it, by zxing-cpp too."""
+    yield same("texts and scripts", (len(texts()), len({script for script, _ in texts()})), (200, 10))
+    symbols, wanted = [], []
+    for _, text in texts():
+        symbol = ecc200.encode(text)
+        reading = ecc200.decode(symbol)[0]
+        is_plain = all(letter < "\u0100" for letter in text)
+        yield same(f"{text!r}", (reading.text, reading.charset), (text, LATIN_1 if is_plain else UTF_8))
+        yield same(f"in its normal grid, {text!r}", ecc200.read(ecc200.normal(symbol)).text, text)
+        yield same(f"is it marked, {text!r}", set(reading.marks) - {(0, 3)}, set() if is_plain else {(0, 26)})
+        symbols, wanted = [*symbols, symbol], [*wanted, text]
+        for number, charset in REGISTER.items():
+            if outcome(text.encode, charset) == UnicodeEncodeError or text.encode(charset).decode(charset) != text:
+                continue
+            made = ecc200.encode(text, charset=charset)
+            yield same(f"{text!r} in {charset}", ecc200.read(made).text, text)
+            if number in OF_ZXING:
+                symbols, wanted = [*symbols, made], [*wanted, text]
+    if has("ZXingReader", "texts that zxing-cpp reads"):
+        for text, got in zip(wanted, said_by_zxing(symbols, folder)):
+            yield same(f"zxing-cpp, {text!r}", got, text)
+
+
+def guessed(folder):
+    """Texts of two letters of Latin-1, and longer ones at random, are read as they were written, by zxing-cpp too,
+    which without a mark takes some for UTF-8 or Shift JIS."""
+    chance = random.Random(3)
+    letters = [chr(code) for code in range(0xA0, 0x100)]
+    some = [*letters, *map("".join, chance.sample([*itertools.product(letters, letters)], 300)),
+            *("".join(chance.choice([*letters, *"abc 12"] * 2 + [*"abcdefgh "] * chance.randrange(9))
+                      for _ in range(chance.randrange(2, 12))) for _ in range(300))]
+    symbols = list(map(ecc200.encode, some))
+    for text, symbol in zip(some, symbols):
+        yield same(f"{text!r}", ecc200.read(symbol).text, text)
+    marked = sum(bool(ecc200.read(symbol).marks) for symbol in symbols)
+    yield holds("some are marked, and some are not", 1 / 9 < marked / len(some) < 8 / 9, f"{marked} of {len(some)}")
+    if has("ZXingReader", "Latin-1 that zxing-cpp reads"):
+        for text, got in zip(some, said_by_zxing(symbols, folder)):
+            yield same(f"zxing-cpp, {text!r}", got, text)
+
+
+# ---- Letters of other encoders
+
+
+def grids():
+    """The text of letters_grids.txt."""
+    with open(os.path.join(MARKS, "letters_grids.txt"), encoding="ascii") as file:
+        return file.read()
+
+
+def printed(records):
+    """Each letter of letters_made.txt, of which the grids are given: its encoder and options, its reading, and what it
+    has to say."""
+    for line, grid in zip(lines_of("letters_made.txt"), map(str.split, records.split("\n\n"))):
+        encoder, options, _, marks, head, identifier, text = line.split("\t")
+        numbers = [] if marks == "-" else [tuple(map(int, mark.split(":"))) for mark in marks.split(" ")]
+        part = None if head == "-" else head if head == "programming" else tuple(map(int, head.split()))
+        wanted = re.sub(r"\\x(..)", lambda it: chr(int(it[1], 16)), text)
+        yield f"{encoder} {options}, {text}", ecc200.read(grid), (tuple(numbers), part, identifier,
+                                                                  None if text == "-" else wanted)
+
+
+def others():
+    """What other encoders print is read as it was meant."""
+    names = [name for name, *_ in printed(grids())]
+    yield same("letters of others", (len(names), {name.split()[0] for name in names}), (56, {"zint", "bwipp", "zxing"}))
+    for name, reading, wanted in printed(grids()):
+        yield same(name, (reading.marks, reading.head, reading.symbology, reading.text), wanted)
+        smallest = ecc200.encode(reading.items, marks=reading.marks, head=reading.head)
+        again = ecc200.read(smallest)
+        yield same(f"written anew, {name}", (again.items, again.marks, again.head),
+                   (reading.items, reading.marks, reading.head))
+        yield holds(f"no smaller than that, {name}", smallest.side <= reading.rows, f"{smallest.side}")
+
+
+def made_anew():
+    """So is what the encoders print that are installed here."""
+    what = "letters of others, made anew"
+    if all([*(has(program, what) for program in ("zint", "gs", "java", "pngtopnm")), is_there(BWIPP, what),
+            is_there(ZXING, what)]):
+        status, records, errors = run([os.path.join(MARKS, "make"), "letters"])
+        yield same("tests/marks/make letters", (status, len(records.split("\n\n"))), (0, 56))
+        for name, reading, wanted in printed(records):
+            yield same(f"{name}, {errors}", (reading.marks, reading.head, reading.symbology, reading.text), wanted)
+
+
+def is_there(path, what):
+    """Whether a file of another package is installed; if it isn't, what it is needed for is left out."""
+    if not os.path.isfile(path):
+        left_out.append(f"{what} ({path} isn't installed)")
+    return os.path.isfile(path)
+
+
+# ---- The parts of a structured append
+
+
+def part(number, count, data, file=(1, 2), marks=()):
+    return ecc200.read(ecc200.write(data, marks=marks, head=(number, count, *file)))
+
+
+def unjoined(readings):
+    """The numbers of what is wrong with the parts that can't be joined, and in which words."""
+    try:
+        return ecc200.join(readings)
+    except ecc200.Unjoined as why:
+        return why.missing, why.doubled, why.strange, str(why)
+
+
+def joined():
+    """Parts in any order are put together; what is missing, doubled or of another file is named."""
+    first, second, third = (part(number, 3, data) for number, data in enumerate((b"AB", b"", b"C\xe9"), 1))
+    for order in itertools.permutations((first, second, third, part(1, 3, b"AB"))):
+        got = ecc200.join(iter(order))
+        yield same("parts in any order", (got.data, got.items, got.gs1, got.marks, got.parts, got.text, got.charset),
+                   (b"ABC\xe9", (65, 66, 67, 233), False, (), (first, second, third), "ABC\u00e9", LATIN_1))
+    other, more = part(1, 3, b"AB", (2, 1)), part(1, 4, b"AB")
+    alone, programming = ecc200.read(ecc200.write(b"AB")), ecc200.read(ecc200.write(b"AB", head="programming"))
+    twice, marked = part(1, 3, b"AC"), part(1, 3, b"AB", marks=[(0, 3)])
+    file = "the file 1 2 of 3 parts"
+    for given, wanted in (
+        ([first], ((2, 3), (), (), f"missing of {file}: part 2, 3")),
+        ([third, third], ((1, 2), (), (), f"missing of {file}: part 1, 2")),
+        ([first, second, twice, third], ((), (1,), (), "with two contents: part 1")),
+        ([first, second, marked, third], ((), (1,), (), "with two contents: part 1")),
+        ([third, other, first, more, second, alone, programming],
+         ((), (), (1, 3, 5, 6), f"no part of {file}: reading 2, 4, 6, 7")),
+        ([alone, first, twice], ((2, 3), (1,), (0,), f"missing of {file}: part 2, 3; with two contents: part 1; "
+                                 f"no part of {file}: reading 1")),
+        ([], ((), (), (), "there is no part of a structured append")),
+        ([alone, programming], ((), (), (0, 1), "there is no part of a structured append")),
+    ):
+        yield same(f"what is wrong: {wanted[3]}", unjoined(given), wanted)
+    try:
+        ecc200.join([first])
+    except ecc200.Unjoined as why:
+        for name, again in (("pickled", pickle.loads(pickle.dumps(why))), ("copied", copy.copy(why))):
+            yield same(name, (type(again), str(again), vars(again)), (type(why), str(why), vars(why)))
+        yield same("a ValueError", isinstance(why, ValueError), True)
+
+
+def continued():
+    """A charset holds to the next mark, in later parts too, and letters may be cut; FNC1 in front is GS1's."""
+    data = "\u041f\u65e5\u672c".encode("utf-8")
+    cut = [part(1, 3, data[:1], marks=[(0, 26)]), part(2, 3, data[1:4]),
+           part(3, 3, data[4:] + b"\xcf", marks=[(4, 22)])]
+    got = ecc200.join(cut)
+    yield same("letters that are cut", (got.text, got.charset, got.marks, got.data),
+               ("\u041f\u65e5\u672c\u041f", "utf-8, windows-1251", ((0, 26), (8, 22)), data + b"\xcf"))
+    elements = [part(1, 2, [256, *b"10A"]), part(2, 2, [256, *b"21B"])]
+    got = ecc200.join(elements)
+    yield same("GS1 data", (got.gs1, got.data, got.items[0], gs1.text(gs1.split(got.data))),
+               (True, b"10A\x1d21B", 256, "(10)A(21)B"))
+    binary = ecc200.join([part(1, 2, b"A", marks=[(0, 899)]), part(2, 2, b"B")])
+    yield same("no text", (binary.text, binary.charset, binary.data), (None, "binary", b"AB"))
+    letters = {}
+    for _, reading, _ in printed(grids()):
+        if isinstance(reading.head, tuple):
+            letters.setdefault(reading.head[1:], []).append(reading)
+    told = {file: ecc200.join(reversed(parts)).text for file, parts in letters.items()}
+    yield same("parts of zint", told, {(3, 12, 34): "Осторожно, хрупкое: 日本 7", (2, 254, 1): "日本",
+                                       (2, 1, 1): "010952123454321310ABC42"})
+
+
+# ---- The smallest symbol
+
+
+def smallest():
+    """`encode` writes the smallest symbol, unless a profile or a form is named."""
+    capitals, signs = b"ABCDEFGHIJKLMNOPQRSTUVWXY", b"-./-./-./-./-./-./-."
+    for given, side in (({}, 18), ({"form": Form.SMALLEST}, 18), ({"form": Form.ASCII}, 22),
+                        ({"profile": Profile.ASCII}, 22), ({"profile": Profile.SHORTER}, 22),
+                        ({"profile": Profile.ASCII, "form": Form.SMALLEST}, 18)):
+        yield same(f"letters, {given}", ecc200.encode(capitals, **given).side, side)
+        yield same(f"as they are read, {given}", ecc200.read(ecc200.encode(capitals, **given)).data, capitals)
+    for given, side in (({}, 18), ({"extent": Extent.WIDE}, 18), ({"extent": Extent.USUAL}, 20)):
+        symbol = ecc200.encode(signs, **given)
+        yield same(f"signs, {given}", (symbol.side, ecc200.read(symbol).data), (side, signs))
+    basic = ecc200.encode(signs, extent=Extent.USUAL)
+    yield same("for basic readers", ecc200.read(basic, extent=Extent.USUAL).data, signs)
+    yield same("by its place", ecc200.encode(b"\x80" * 3, False, Profile.SHORTER).side, 12)
+    for given, size in (({"shape": Shape.ANY}, (18, 18)), ({"shape": Shape.RECTANGLE}, (12, 36)),
+                        ({"size": (16, 36)}, (16, 36))):
+        yield same(f"letters, {given}", ecc200.encode(capitals, **given).size, size)
+    reading = ecc200.read(ecc200.encode(b"AB", marks=[(1, 26)], head=(2, 5, 1, 254)))
+    yield same("marks and a head", (reading.items, reading.marks, reading.head), ((65, 66), ((1, 26),), (2, 5, 1, 254)))
+    yield same("programming", ecc200.read(ecc200.encode(b"AB", head="programming")).head, "programming")
+    for more, code in (({"extent": Extent.USUAL, "marks": [(0, 26)]}, Code.TOO_LONG), ({"form": 3}, Code.PROFILE),
+                       ({"profile": 2}, Code.PROFILE), ({"extent": 2}, Code.EXTENT), ({"marks": [(3, 1)]}, Code.MARK),
+                       ({"head": (1, 1, 1, 1)}, Code.HEAD)):
+        yield raises(f"refused: {more}", ecc200.Refused, code.name, lambda more=more: ecc200.encode(b"AB", **more))
+
+
+def some_elements(chance):
+    """GS1 data at random: with few digits in front the smallest codewords begin with a run sooner."""
+    values = ["".join(chance.choice("ABCDEFGHIJKLMNOPQRSTUVWXYZ0123") for _ in range(chance.randrange(1, 21)))
+              for _ in range(chance.randrange(1, 4))]
+    return [gs1.Element(chance.choice(["10", "21", "240", "90", "91", "400"]), value) for value in values]
+
+
+def elements():
+    """GS1 symbols begin with FNC1, and not with a run that says it, in each shape and extent, also behind a head."""
+    chance, smaller = random.Random(7), 0
+    for _ in range(300):
+        data = gs1.message(some_elements(chance))
+        for shape, extent in itertools.product(Shape, Extent):
+            symbol = ecc200.encode(data, gs1=True, shape=shape, extent=extent)
+            reading = ecc200.read(symbol, extent=extent)
+            yield same(f"{data}, {shape.name}, {extent.name}", (reading.symbology, reading.data, reading.gs1),
+                       ("]d2", data, True))
+            smaller += symbol.size != ecc200.encode(data, gs1=True, shape=shape, form=Form.ASCII).size
+        reading = ecc200.read(ecc200.encode(data, gs1=True, head=(1, 2, 3, 4), marks=[(1, 26)]))
+        yield same(f"{data}, behind a head", (reading.symbology, reading.data, reading.marks, reading.head),
+                   ("]d5", data, ((1, 26),), (1, 2, 3, 4)))
+    yield holds("most are smaller than in ASCII", smaller > 1200, f"{smaller} of 2400")
+    for rest in itertools.product((49, 65, 97, 31, 225, 256), repeat=4):
+        for length in range(1, 5):
+            items = [256, *rest[:length]]
+            yield same(f"{items}", ecc200.read(ecc200.encode(items)).symbology, "]d2")
+
+
