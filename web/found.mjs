@@ -3,7 +3,7 @@
 import { plural } from "./common.mjs";
 import { $, hint, made, setUsable, shape, whenUsed } from "./dom.mjs";
 import { desks, take } from "./flow.mjs";
-import { gather } from "./gathered.mjs";
+import { gatherAll } from "./gathered.mjs";
 import { keyOfLetter } from "./letters.mjs";
 import { csvOf, jsonOf, remarksOn, saidBy, whyUnread } from "./listed.mjs";
 import { brokenWords, enter, isBroken, refuse, whenEntered } from "./order.mjs";
@@ -81,7 +81,7 @@ function drawView(view, { width, height }) {
 /** @type {(sights: Sights, chosen?: Sighted | null) => void} */
 export function showSights({ symbols, unread, isComplete, hasQrCode = false, width, height, view }, chosen = null) {
   if (view) drawView(view, { width, height });
-  for (const symbol of symbols) gather(symbol);
+  gatherAll(symbols);
   Object.assign(scene, { list: [...symbols, ...unread], isComplete, hasQrCode, chosen });
   drawList();
 }
@@ -91,7 +91,7 @@ export function addSights(symbols) {
   const known = new Set(scene.list.map(keyOfLetter));
   const fresh = symbols.filter((symbol) => !known.has(keyOfLetter(symbol)));
   if (!fresh.length) return fresh;
-  for (const symbol of fresh) gather(symbol);
+  gatherAll(fresh);
   scene.list.push(...fresh);
   scene.chosen = fresh[fresh.length - 1];
   drawList();

@@ -18,6 +18,12 @@ export function gather(letter) {
   const own = known && (!before || isSameLetter(before, letter)) ? known : new Map();
   files.set(name, own.set(part.part, letter));
 }
+// Keeps what is read of several symbols.
+/** @type {(letters: Letter[]) => void} */
+export function gatherAll(letters) {
+  for (const letter of letters) gather(letter);
+  drawGathered();
+}
 // What all parts of a file say together, or null while one is missing.
 /** @type {(part: import("./letters.mjs").Part) => Letter | null} */
 function wholeOf(part) {

@@ -44,8 +44,8 @@ export function unspelled(letter) {
 // The same, if each of its characters can be seen.
 /** @type {(letter: Letter) => string} */
 export function visibleTextOf(letter) {
-  const text = unspelled(letter);
-  return Array.from(text).every((character) => character === " " || !INVISIBLE.test(character)) ? text : "";
+  const text = unspelled(letter), isComposed = text === text.normalize("NFC") && !LONE_MARK.test(text);
+  return isComposed && Array.from(text).every((character) => character === " " || !UNSEEN.test(character)) ? text : "";
 }
 // Why a text is more than a field takes, or "".
 /** @type {(text: string, most?: number) => string} */
@@ -62,8 +62,11 @@ const doubled = (text) =>
   text.replace(/\\(?:\\|F|x[0-9A-Fa-f]{2}|E\{\d{1,6}\})|\\/g, (found) => (found.length > 1 ? found : "\\\\"));
 
 const CONTROLS = { 9: "a tab", 10: "a line break", 13: "a line break" };
-// Controls, formats, spaces, marks that stand on the letter before, and fillers.
+// Controls, formats, spaces and fillers; these and marks that stand on the letter before; and such a mark that stands on
+// no letter.
+const UNSEEN = /[\p{C}\p{Z}\u115F\u1160\u3164\uFFA0]/u;
 const INVISIBLE = /[\p{C}\p{Z}\p{M}\u115F\u1160\u3164\uFFA0]/u;
+const LONE_MARK = /(?:^|[^\p{L}\p{M}\p{N}\p{S}])\p{M}/u;
 const codePoint = (code) => `U+${code.toString(16).toUpperCase().padStart(4, "0")}`;
 export function named(code) {
   if (CONTROLS[code]) return CONTROLS[code];

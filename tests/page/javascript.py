@@ -73,7 +73,7 @@ def uses():
         "inverted": [["dark", True]],
         "transparent": ["on white"],
         "luminance": ["grey"],
-        "unread": [0, 24, BLOCK],
+        "unread": [0, 22, BLOCK],
     }.items():
         count.expect(name, near(came(name)), wanted)
     count.expect("shapes", [[came(name)["rows"], came(name)["columns"]] for name in ("rectangle", "a size")],
