@@ -4,7 +4,7 @@ import { textOf } from "./charsets.mjs";
 import { AUTO, BEYOND, FNC1, plural, shapeWords } from "./common.mjs";
 import { $, field, hint, made, setUsable, shape } from "./dom.mjs";
 import { drawElements, elementsOf, faultsOf } from "./elements.mjs";
-import { drawGathered } from "./gathered.mjs";
+import { drawGathered, missingWords } from "./gathered.mjs";
 import { elementString } from "./gs1.mjs";
 import { PROGRAMMING, isSameLetter, partOf } from "./letters.mjs";
 import { drawLesson } from "./lesson.mjs";
@@ -104,6 +104,7 @@ function charsetWords(letter) {
   const by = marks.length ? `, as ${marks.length > 1 ? "ECIs say" : `ECI ${marks[0].number} says`}` : "";
   return ` It is text in ${textOf(letter).charset.toUpperCase()}${by}, of these bytes: ${spelled(items)}`;
 }
+const TORN = "; more are taken here, since each block keeps a correction unused.";
 const INSTRUCTION = "It is an instruction to the reader that scans it, and no message.";
 // As what it is read.
 /** @type {(letter: Letter) => string} */
@@ -113,19 +114,27 @@ function readAs({ items, head }) {
   if (head) return "Read, as reader programming";
   return items[0] === FNC1 ? "Read, as GS1 data" : "Read";
 }
+// Where a symbol is one part of what several say, which parts of it aren't read yet.
+/** @type {(it: import("./state.mjs").Mark, letter: Letter) => string} */
+function missing(it, letter) {
+  const part = partOf(letter);
+  return part && it.name === "read" ? ` ${missingWords(part)}` : "";
+}
 // How many elements of a whole GS1 message are wrong. A part may have some that are cut.
 /** @type {(letter: Letter) => number} */
 const wrongElements = ({ items, head }) => (items[0] === FNC1 && !head ? faultsOf(elementsOf(items)) : 0);
 /** @type {(it: import("./state.mjs").Mark, answer: import("./library.mjs").Answer) => void} */
 function sayRead(it, { items, marks, head, corrected, erased, left, border }) {
   const letter = { items, marks, head }, faults = wrongElements(letter);
-  const words = borne({ corrected, erased, border }), isSpent = spentBy(erased, left);
+  const words = borne({ corrected, erased, border }), isSpent = spentBy(erased, left), { usual } = it.seen;
+  const torn = it.limit === AUTO && border > usual ? ` Usually ${usual} may${TORN}` : "";
   if (it.letter && !isSameLetter(it.letter, letter)) {
     say("other", "Read as another message", OTHER, letter);
     return;
   }
   const within = isSpent || !it.letter ? isSpent : " Damage within the limits never changes the message.";
-  const why = `${words ? `${words}.${within}` : "Nothing had to be corrected."}${charsetWords(letter)}`;
+  const mended = words ? `${words}.${torn}${within}` : "Nothing had to be corrected.";
+  const why = `${mended}${missing(it, letter)}${charsetWords(letter)}`;
   const wrong = `${plural(faults, "element is", "elements are")} wrong, as the table says.`;
   if (isSpent && !it.letter) say("other", "Read, but nothing shows that it is right", why, letter);
   else if (faults) say("other", "Read, but it isn’t right as GS1 data", `${wrong} ${why}`, letter);

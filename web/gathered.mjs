@@ -1,5 +1,6 @@
 // The parts of messages that several symbols say together (structured append), put together as they are read.
 import { $, made, setUsable, whenUsed } from "./dom.mjs";
+import { drawAll } from "./draw.mjs";
 import { readable, typed } from "./gs1.mjs";
 import { isSameLetter, nameOfFile, partOf, together } from "./letters.mjs";
 import { VALID, mark, store } from "./state.mjs";
@@ -18,11 +19,18 @@ export function gather(letter) {
   const own = known && (!before || isSameLetter(before, letter)) ? known : new Map();
   files.set(name, own.set(part.part, letter));
 }
-// Keeps what is read of several symbols.
+// Keeps what is read of several symbols, and shows what that changes.
 /** @type {(letters: Letter[]) => void} */
 export function gatherAll(letters) {
   for (const letter of letters) gather(letter);
-  drawGathered();
+  if (letters.some(partOf)) drawAll();
+}
+// Which parts of a message are missing, in words.
+/** @type {(part: import("./letters.mjs").Part) => string} */
+export function missingWords(part) {
+  const own = files.get(nameOfFile(part)) ?? new Map(), all = Array.from({ length: part.parts }, (_, k) => k + 1);
+  const missing = all.filter((number) => !own.has(number)), { length } = missing;
+  return length ? `Not read yet: ${length > 1 ? "parts" : "part"} ${missing.join(", ")}.` : "All parts are read.";
 }
 // What all parts of a file say together, or null while one is missing.
 /** @type {(part: import("./letters.mjs").Part) => Letter | null} */
@@ -64,7 +72,6 @@ export function wireGathered() {
   $("forget-parts").addEventListener("click", () => {
     const part = partAtHand(), { seen } = mark();
     files.delete(nameOfFile(part));
-    gather(letterRead(seen));
-    drawGathered();
+    gatherAll([letterRead(seen)]);
   });
 }

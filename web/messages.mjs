@@ -62,8 +62,8 @@ const doubled = (text) =>
   text.replace(/\\(?:\\|F|x[0-9A-Fa-f]{2}|E\{\d{1,6}\})|\\/g, (found) => (found.length > 1 ? found : "\\\\"));
 
 const CONTROLS = { 9: "a tab", 10: "a line break", 13: "a line break" };
-// Controls, formats, spaces and fillers; these and marks that stand on the letter before; and such a mark that stands on
-// no letter.
+// Controls, formats, spaces and fillers; these and marks that stand on the letter before; and such a mark that stands
+// on no letter.
 const UNSEEN = /[\p{C}\p{Z}\u115F\u1160\u3164\uFFA0]/u;
 const INVISIBLE = /[\p{C}\p{Z}\p{M}\u115F\u1160\u3164\uFFA0]/u;
 const LONE_MARK = /(?:^|[^\p{L}\p{M}\p{N}\p{S}])\p{M}/u;

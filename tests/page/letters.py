@@ -152,7 +152,7 @@ def texts_of_all_scripts():
 IN_CHARSETS = {
     0: ("ibm437", "Ünï ½ Ω"), 1: ("iso-8859-1", "Größe"), 2: ("ibm437", "▒ αß"), 3: ("iso-8859-1", "ÿ ½ é"),
     4: ("iso-8859-2", "Łódź"), 5: ("iso-8859-3", "Ħaġar"), 6: ("iso-8859-4", "Žemė ą"), 7: ("iso-8859-5", "Привет"),
-    8: ("iso-8859-6", "سلام"), 9: ("iso-8859-7", "Κρήτη"), 10: ("iso-8859-8", "שלום"), 11: ("iso-8859-9", "Iğdır Şirin"),
+    8: ("iso-8859-6", "سلام"), 9: ("iso-8859-7", "Κρήτη"), 10: ("iso-8859-8", "שלום"), 11: ("iso-8859-9", "Iğdır"),
     12: ("iso-8859-10", "Þorn ŋ"), 13: ("iso-8859-11", "สวัสด"), 15: ("iso-8859-13", "Žąsis"),
     16: ("iso-8859-14", "Ŵyth ŷ"), 17: ("iso-8859-15", "5 € œ"), 18: ("iso-8859-16", "Țară „€”"),
     20: ("shift_jis", "日本語 ｱ"), 21: ("windows-1250", "Łódź – €"), 22: ("windows-1251", "Київ №"),
@@ -331,8 +331,10 @@ def read_in_parts():
     count.expect("nothing whole is copied", usable("copy-whole"), False)
     put("grid", others[0])
     count.expect("another file", run(CARD)["title"], "A message in 3 symbols: 1 of them read")
+    count.expect("what is missing", "Not read yet: parts 2, 3." in shown()["why"], True)
     put("grid", grids[0])
     count.expect("two of three", run(CARD)["title"], "A message in 3 symbols: 2 of them read")
+    count.expect("one is missing", "Not read yet: part 2." in shown()["why"], True)
     put("grid", written("123456"))
     count.expect("none for a symbol that is no part", run(CARD), None)
     put("grid", grids[1])
@@ -356,8 +358,10 @@ def found_in_parts(grids):
     lines = side_by_side(grids)
     opened("parts.png", png(lines, 4, 2))
     card = run(CARD)
-    count.expect("parts in a picture", (card["title"], card["whole"]), ("A message in 3 symbols: all are read", MESSAGE))
+    wanted = "A message in 3 symbols: all are read", MESSAGE
+    count.expect("parts in a picture", (card["title"], card["whole"]), wanted)
     remarks = run("return [...document.querySelectorAll('#found-are small')].map((it) => it.textContent)")
+    count.expect("all in the verdict", "All parts are read." in shown()["why"], True)
     named = sorted(re.search(r"part \d of 3", it)[0] for it in remarks)
     count.expect("named in the list", named, [f"part {k} of 3" for k in (1, 2, 3)])
     kept = saved("found.json", "found-json").decode()
@@ -496,6 +500,8 @@ def any_border():
         seen = shown()
         wanted = "Read", line, f"{usual + 3} wrong, {usual + 3}"
         count.expect("a torn border", (seen["state"], seen["says"], seen["meters"][-1]), wanted)
+        said = f"have the wrong colour. Usually {usual} may; more are taken here, since each block keeps a correction"
+        count.expect("is said in the verdict", said in seen["why"], True)
         count.expect("is said", text_of("border-hint").startswith("Any number is accepted, if each block keeps"), True)
         count.expect("the way it stands", "mirrored" in text_of("grid-hint"), bool(way))
     linked()

@@ -119,7 +119,7 @@ def each_is_made():
         count.expect(f"{name} as it is written", grid(), written_in(line, name))
         count.expect(f"{name} by its pixels", drawn(columns, rows, 0.5), grid())
         facts = run("return [...document.querySelectorAll('#facts dd')].map((it) => it.textContent)")
-        wanted = [words_of(name), str(size["data"]), str(size["check"]), str(limit)]
+        wanted = [words_of(name), str(size["data"]), str(size["check"]), str(limit), "]d1"]
         count.expect(f"{name}: facts", facts, wanted)
         length = lambda modules: f"{round((modules + 4) * 0.5, 2):g}"
         said = f"{length(columns)} × {length(rows)} mm with 2 modules of quiet zone"

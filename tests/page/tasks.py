@@ -141,9 +141,9 @@ def text_and_gs1():
         line = line_of_text(text)
         wanted = line, written_in(line, "square")
         count.expect(f"{text!r} isn't all to be seen", (shown()["says"], grid()), wanted)
-    for text, told in (("\u00e9\\(01)", "ISO-8859-1, of"), ("\u20ac\\(01)", "UTF-8, as ECI 26 says, of")):
+    for text, told in (("\u00e9\\(01)", "ISO-8859-1, as ECI 3"), ("\u20ac\\(01)", "UTF-8, as ECI 26")):
         put("message", text)
-        said = f"It is text in {told} these bytes: " in shown()["why"]
+        said = f"It is text in {told} says, of these bytes: " in shown()["why"]
         wanted = text, True, written_in(line_of_text(text), "square")
         count.expect(f"a backslash in {text}", (shown()["says"], said, grid()), wanted)
     put("message", "~" * 25001)

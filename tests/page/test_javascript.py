@@ -19,7 +19,8 @@ LINES = [
     ("const text: string | null = readGrid(write([FNC1, 65])).text;", True),
     ("try { normal(write('a'), { form: 'ascii' }); } catch (why) { if (why instanceof Refused) why.code + 1; }", True),
     ("const one: number = sizes()[0].rows;", True),
-    ("const grid = write({ items: [65], marks: [{ place: 0, number: 26 }], head: 'programming' }, { form: 'smallest' });"
+    ("const marks = [{ place: 0, number: 26 }];"
+     " const grid = write({ items: [65], marks, head: 'programming' }, { form: 'smallest' });"
      " const { charset, head, symbology } = readGrid(grid, { limit: 'auto' });"
      " const named: string = charset + symbology; void named;"
      " if (head !== null && head !== 'programming') head.parts + 1;", True),
