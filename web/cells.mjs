@@ -1,5 +1,5 @@
 // Drawing codewords, and telling about the one that is pointed at.
-import { BIT, BORDER_DARK, BORDER_LIGHT } from "./common.mjs";
+import { BIT, BORDER_DARK, BORDER_LIGHT, blockOf } from "./common.mjs";
 import { $, made } from "./dom.mjs";
 import { mapOf, mark } from "./state.mjs";
 import { isWrong } from "./symbol.mjs";
@@ -67,8 +67,9 @@ function aboutModule(seen, k) {
   return [bold(placeOf(k, seen)), ` belongs to ${what}.${wrong}${doubt}`];
 }
 /** @type {(seen: Seen, w: number) => (Node | string)[]} */
-function aboutWord({ size, held, mended, states, isErased, told }, w) {
-  const block = size.blocks > 1 ? `, block ${(w % size.blocks) + 1}` : "", what = w < size.data ? "data" : "check";
+function aboutWord({ size, dealing, held, mended, states, isErased, told }, w) {
+  const what = w < size.data ? "data" : "check";
+  const block = size.blocks > 1 ? `, block ${blockOf(size, dealing, w) + 1}` : "";
   const value = (one, other) =>
     [bold(one), ", ", made("span", { className: "bits" }, ...bitsAgainst(one, other))];
   const mending = states[w] === 1 ? [", and is corrected to ", ...value(mended[w], held[w])] : [];

@@ -1,16 +1,19 @@
 // Two symbols compared: each is a message, a grid or a picture.
+import { textOf } from "./charsets.mjs";
 import { ASCII, SHORTER, isSame, isSameShape, shapeWords } from "./common.mjs";
 import { $, made, shape } from "./dom.mjs";
 import { bound, broughtBy, textOfFile } from "./dropping.mjs";
 import { C40, DAMAGED_GRID } from "./examples.mjs";
 import { desks } from "./flow.mjs";
 import { gridText, isGrid } from "./grids.mjs";
-import { itemsTyped, readable, whyNot } from "./gs1.mjs";
+import { readable, takenAsTyped, whyNot } from "./gs1.mjs";
+import { isSameLetter, letterOf, partOf } from "./letters.mjs";
 import { tooMuch } from "./messages.mjs";
 import { brokenWords, isBroken, settled } from "./order.mjs";
 import { lookAt } from "./source.mjs";
 import { VALID, mark, stamp } from "./state.mjs";
 import { drawSmall } from "./symbol.mjs";
+import { letterRead } from "./taking.mjs";
 import { borne, refusal } from "./words.mjs";
 
 /** @typedef {import("./common.mjs").Grid} Grid */
@@ -107,9 +110,9 @@ class Slot {
       return;
     }
     if (!text.trim()) { this.settle({ why: "is empty" }); return; }
-    const isRows = isGrid(text), read = isRows ? null : itemsTyped(text.replace(/\n+$/, ""));
-    if (read && !read.items) { this.settle({ why: "can’t be taken", words: whyNot(read) }); return; }
-    const question = isRows ? { grid: text } : { items: read.items };
+    const isRows = isGrid(text), read = isRows ? null : takenAsTyped(text.replace(/\n+$/, ""));
+    if (read && !read.letter) { this.settle({ why: "can’t be taken", words: whyNot(read) }); return; }
+    const question = isRows ? { grid: text } : { letter: read.letter };
     const judged = await desks.quick.ask("judge", question, `judge ${this.name}`);
     if (!judged || this.asked !== own) return;
     this.settle({ ...judgedOf(judged, isRows ? "isn’t a grid" : "isn’t written"), note });
@@ -132,8 +135,9 @@ class Slot {
     if (!seen || seen.answer.fault) return;
     const { answer } = seen, stands = how ? `, ${how}` : "";
     const mended = borne(answer) || "nothing had to be corrected";
-    const text = readable(answer.items) || "the empty message";
-    this.reads.append(`${shapeWords(seen)}${stands}; ${mended}: `, made("b", { textContent: text }));
+    const letter = letterRead(seen), text = readable(letter) || "the empty message";
+    const found = `${shapeWords(seen)}${stands}; ${mended}${headWords(letter)}: `;
+    this.reads.append(found, made("b", { textContent: text }));
   }
 }
 /** @type {(answer: any, why: string) => Judged} */
@@ -144,6 +148,13 @@ function judgedOf(answer, why) {
   const { fault } = answer.seen.answer;
   if (!fault) return answer;
   return { ...answer, why: "isn’t read", words: `Refused. ${refusal(fault, answer.seen)}` };
+}
+
+/** @type {(letter: import("./letters.mjs").Letter) => string} */
+function headWords({ head }) {
+  const part = partOf({ head });
+  if (part) return `; part ${part.part} of ${part.parts} of the file ${part.file.join(" ")}`;
+  return head ? "; reader programming" : "";
 }
 
 // ---- The verdict on both
@@ -178,8 +189,23 @@ function compare(slots) {
   const [a, b] = under, isEqual = (one, other) => isSameShape(one, other) && isSame(one.modules, other.modules);
   const isOne = isEqual(judged[0].seen, judged[1].seen);
   const both = isOne ? "Both" : "Their modules differ, but both";
-  if (!isEqual(a, b)) sayOnBoth("differ", "No, they say different things.", "Their normal grids differ:", [a, b]);
-  else sayOnBoth("", "Yes, they say the same.", `${both} have this one normal grid:`, [a]);
+  const words = `Their normal grids differ${likenessOf(judged.map(({ seen }) => letterRead(seen)))}:`;
+  if (!isEqual(a, b)) sayOnBoth("differ", "No, they say different things.", words, [a, b]);
+  else sayOnBoth("", "Yes, they say the same.", `${both} have this one normal grid${unlike(judged)}:`, [a]);
+}
+// What two letters have in common that aren't the same, in words, or "".
+/** @type {(letters: import("./letters.mjs").Letter[]) => string} */
+function likenessOf(letters) {
+  const [one, other] = letters.map(textOf), isAlike = one.text !== null && one.text === other.text;
+  const [head, otherHead] = letters.map((letter) => letterOf([], [], letter.head));
+  const isOfOneHead = isSameLetter(head, otherHead);
+  return isAlike && isOfOneHead ? ", though both are the same text, with other bytes or ECIs" : "";
+}
+// In what symbols that say the same differ that equal normal grids don't tell, in words, or "".
+/** @type {(judged: Judged[]) => string} */
+function unlike(judged) {
+  const [one, other] = judged.map(({ seen }) => seen.answer.symbology);
+  return one === other ? "" : `, though their symbology identifiers are ${one} and ${other}`;
 }
 export function wireCompare() {
   /** @type {Slot[]} */

@@ -1,7 +1,7 @@
 // Pointing at modules and codewords, and turning modules over: with the mouse, a finger, or keys. Only where one
 // learns; elsewhere the symbol is a picture.
 import { drawAbout, drawWords, spokenModule } from "./cells.mjs";
-import { BIT, limitIn } from "./common.mjs";
+import { AUTO, BIT, limitIn } from "./common.mjs";
 import { $, field, hint, setUsable, whenUsed } from "./dom.mjs";
 import { begin, damage, doubtDamage, look, redo, setLimit, undo, undoAll } from "./flow.mjs";
 import { afterThat, inTurn, settled } from "./order.mjs";
@@ -222,6 +222,7 @@ export function wireDamage() {
     "to-limit": () => damage("limit"), "one-more": () => damage("more"), scratch: () => damage("scratch"),
     undo, redo, "undo-all": undoAll, tell: doubtDamage,
     usual: () => inTurn(mark(), (it) => setLimit(it, null)),
+    "any-border": () => inTurn(mark(), (it) => setLimit(it, AUTO)),
   };
   for (const [id, act] of Object.entries(acts)) $(id).addEventListener("click", () => act());
   whenUsed("zoom-in", () => setZoom(zoom + 1));

@@ -1,11 +1,14 @@
 // Drawing what is read: the stage, facts, the verdict and the meters.
 import { drawAbout, drawWords } from "./cells.mjs";
-import { BEYOND, FNC1, plural, shapeWords } from "./common.mjs";
+import { textOf } from "./charsets.mjs";
+import { AUTO, BEYOND, FNC1, plural, shapeWords } from "./common.mjs";
 import { $, field, hint, made, setUsable, shape } from "./dom.mjs";
 import { drawElements, elementsOf, faultsOf } from "./elements.mjs";
+import { drawGathered, missingWords } from "./gathered.mjs";
 import { elementString } from "./gs1.mjs";
+import { PROGRAMMING, isSameLetter, partOf } from "./letters.mjs";
 import { drawLesson } from "./lesson.mjs";
-import { isPlain, spelled, spelledItem, visibleUtf8Of } from "./messages.mjs";
+import { spelled, spelledLetter, visibleTextOf } from "./messages.mjs";
 import { BAD, EMPTY, VALID, WORKING, isChanged, isDamaged, mark } from "./state.mjs";
 import { drawSymbol } from "./symbol.mjs";
 import { drawPrintSize } from "./taking.mjs";
@@ -13,7 +16,7 @@ import { borne, refusal, spentBy } from "./words.mjs";
 
 export function drawAll() {
   drawStage(); drawFacts(); drawSymbol(); drawVerdict(); drawMeters();
-  drawWords(); drawAbout(); drawElements(); drawLesson();
+  drawWords(); drawAbout(); drawElements(); drawGathered(); drawLesson();
 }
 
 const GIVING = ["copy", "save-svg", "save-png", "save-pdf", "print", "copy-link"];
@@ -32,7 +35,7 @@ export function drawStage() {
   const wasHidden = $("which").hidden;
   $("which").hidden = !(it.modules && isDamaged(it));
   if ($("which").hidden && !wasHidden) field("which-undamaged").checked = true;
-  $("which-first").textContent = it.items ? "take the undamaged symbol" : "take the symbol as it was opened";
+  $("which-first").textContent = it.letter ? "take the undamaged symbol" : "take the symbol as it was opened";
 }
 const fact = (number, what) =>
   made("div", {}, made("dt", { textContent: what }), made("dd", { textContent: number }));
@@ -40,7 +43,8 @@ function drawFacts() {
   const { seen } = mark(), { size } = seen ?? {};
   const each = size?.blocks > 1 ? ` in each of ${size.blocks} blocks` : "";
   const facts = !seen ? [] : [fact(shapeWords(seen), "modules"), fact(size.data, "data codewords"),
-    fact(size.check, "check codewords"), fact(size.limit, `wrong codewords can be corrected${each}`)];
+    fact(size.check, "check codewords"), fact(size.limit, `wrong codewords can be corrected${each}`),
+    ...(seen.answer.symbology ? [fact(seen.answer.symbology, "symbology identifier")] : [])];
   $("facts").replaceChildren(...facts);
   drawPrintSize();
 }
@@ -59,24 +63,26 @@ const iconOf = ([around, sign]) => shape("svg", { viewBox: "0 0 24 24", "aria-hi
   shape("path", { d: around, fill: "currentColor" }),
   shape("path", { d: sign, fill: "none", stroke: "var(--card)", "stroke-width": 2.6 }));
 
-// A message as people read it: GS1 data by its identifiers in brackets, text in UTF-8 as it is, all else as it is
-// spelled.
-/** @type {(items: number[]) => (Node | string)[]} */
-function shownItems(items) {
-  if (visibleUtf8Of(items)) return [visibleUtf8Of(items)];
-  if (!items.length) return [made("span", { className: "none", textContent: "the empty message" })];
-  const text = elementString(items);
-  if (text) return text.split(/(\(\d+\))/).map((part, k) => (k % 2 ? made("i", { textContent: part }) : part));
-  const isOdd = (item) => !isPlain(item);
-  return items.map((item) => (isOdd(item) ? made("i", { textContent: spelledItem(item) }) : spelledItem(item)));
+/** @typedef {import("./letters.mjs").Letter} Letter */
+const emphasised = (textContent) => made("i", { textContent });
+// A letter as people read it: GS1 data by its identifiers in brackets, text as it is, all else as it is spelled.
+/** @type {(letter: Letter) => (Node | string)[]} */
+function shownLetter(letter) {
+  const { items, marks } = letter, text = visibleTextOf(letter), elements = elementString(letter);
+  if (text) return [text];
+  if (elements) return elements.split(/(\(\d+\))/).map((part, k) => (k % 2 ? emphasised(part) : part));
+  if (!items.length && !marks.length) return [made("span", { className: "none", textContent: "the empty message" })];
+  const parts = spelledLetter(letter).split(/(\\\\|\\F|\\x..|\\E\{\d+\})/);
+  return parts.map((part, k) => (k % 2 ? emphasised(part) : part));
 }
-/** @type {(kind: string, state: string, why: string, items?: number[] | null) => void} */
-function say(kind, state, why, items = null) {
+/** @type {(kind: string, state: string, why: string, letter?: Letter | null) => void} */
+function say(kind, state, why, letter = null) {
   const none = kind === "refused" ? [made("span", { className: "none", textContent: "no message" })] : [];
   if ($("verdict").className !== `card verdict ${kind}`) $("verdict").className = `card verdict ${kind}`;
   $("state").replaceChildren(iconOf(ICONS[kind]), made("span", { textContent: state }));
-  $("says").replaceChildren(...(items ? shownItems(items) : none));
-  $("says").toggleAttribute("data-text", Boolean(items && visibleUtf8Of(items)));
+  $("says").replaceChildren(...(letter ? shownLetter(letter) : none));
+  if (letter && visibleTextOf(letter)) $("says").dataset.text = textOf(letter).charset;
+  else delete $("says").dataset.text;
   $("why").textContent = why;
 }
 const NONE = { [EMPTY]: "Nothing is entered yet", [WORKING]: "Working…" };
@@ -90,22 +96,50 @@ function drawVerdict() {
   else if (it.seen.answer.fault) say("refused", "Refused", refusal(it.seen.answer.fault, it.seen));
   else sayRead(it, it.seen.answer);
 }
+// Of text in which charset it is, and of which bytes.
+/** @type {(letter: Letter) => string} */
+function charsetWords(letter) {
+  const { items, marks } = letter, isOdd = marks.length > 0 || items.some((item) => item > 127);
+  if (!isOdd || !visibleTextOf(letter)) return "";
+  const by = marks.length ? `, as ${marks.length > 1 ? "ECIs say" : `ECI ${marks[0].number} says`}` : "";
+  return ` It is text in ${textOf(letter).charset.toUpperCase()}${by}, of these bytes: ${spelled(items)}`;
+}
+const TORN = "; more are taken here, since each block keeps a correction unused.";
+const INSTRUCTION = "It is an instruction to the reader that scans it, and no message.";
+// As what it is read.
+/** @type {(letter: Letter) => string} */
+function readAs({ items, head }) {
+  const part = partOf({ head });
+  if (part) return `Read, as part ${part.part} of ${part.parts}`;
+  if (head) return "Read, as reader programming";
+  return items[0] === FNC1 ? "Read, as GS1 data" : "Read";
+}
+// Where a symbol is one part of what several say, which parts of it aren't read yet.
+/** @type {(it: import("./state.mjs").Mark, letter: Letter) => string} */
+function missing(it, letter) {
+  const part = partOf(letter);
+  return part && it.name === "read" ? ` ${missingWords(part)}` : "";
+}
+// How many elements of a whole GS1 message are wrong. A part may have some that are cut.
+/** @type {(letter: Letter) => number} */
+const wrongElements = ({ items, head }) => (items[0] === FNC1 && !head ? faultsOf(elementsOf(items)) : 0);
 /** @type {(it: import("./state.mjs").Mark, answer: import("./library.mjs").Answer) => void} */
-function sayRead(it, { items, corrected, erased, left, border }) {
-  const isGs1 = items[0] === FNC1, faults = isGs1 ? faultsOf(elementsOf(items)) : 0;
-  const words = borne({ corrected, erased, border }), isSpent = spentBy(erased, left);
-  if (it.items && spelled(it.items) !== spelled(items)) {
-    say("other", "Read as another message", OTHER, items);
+function sayRead(it, { items, marks, head, corrected, erased, left, border }) {
+  const letter = { items, marks, head }, faults = wrongElements(letter);
+  const words = borne({ corrected, erased, border }), isSpent = spentBy(erased, left), { usual } = it.seen;
+  const torn = it.limit === AUTO && border > usual ? ` Usually ${usual} may${TORN}` : "";
+  if (it.letter && !isSameLetter(it.letter, letter)) {
+    say("other", "Read as another message", OTHER, letter);
     return;
   }
-  const isUtf8 = Boolean(visibleUtf8Of(items)) && items.some((item) => item > 127);
-  const asText = isUtf8 ? ` It is text in UTF-8, of these bytes: ${spelled(items)}` : "";
-  const within = isSpent || !it.items ? isSpent : " Damage within the limits never changes the message.";
-  const why = `${words ? `${words}.${within}` : "Nothing had to be corrected."}${asText}`;
+  const within = isSpent || !it.letter ? isSpent : " Damage within the limits never changes the message.";
+  const mended = words ? `${words}.${torn}${within}` : "Nothing had to be corrected.";
+  const why = `${mended}${missing(it, letter)}${charsetWords(letter)}`;
   const wrong = `${plural(faults, "element is", "elements are")} wrong, as the table says.`;
-  if (isSpent && !it.items) say("other", "Read, but nothing shows that it is right", why, items);
-  else if (faults) say("other", "Read, but it isn’t right as GS1 data", `${wrong} ${why}`, items);
-  else say("good", isGs1 ? "Read, as GS1 data" : "Read", why, items);
+  if (isSpent && !it.letter) say("other", "Read, but nothing shows that it is right", why, letter);
+  else if (faults) say("other", "Read, but it isn’t right as GS1 data", `${wrong} ${why}`, letter);
+  else if (head === PROGRAMMING) say("other", readAs(letter), `${INSTRUCTION} ${why}`, letter);
+  else say("good", readAs(letter), why, letter);
 }
 
 // ---- Meters
@@ -142,16 +176,18 @@ function meterOfBlock(name, { size, corrected, erased, left }, b) {
     : [String(wrong), ` wrong, ${erased[b]} doubtful; ${left[b]} of ${checks} checks left`];
   return meter(name, parts, words);
 }
+const ANY_BORDER = "Any number is accepted, if each block keeps a correction unused.";
 function drawMeters() {
   const it = mark();
   setUsable("usual", it.limit !== null);
+  setUsable("any-border", it.limit !== AUTO);
   if (!it.seen) { $("meters").replaceChildren(); return; }
   const { size, corrected, border, limit } = it.seen, name = (b) => (size.blocks > 1 ? `Block ${b + 1}` : "Codewords");
   const blocks = corrected.map((_, b) => meterOfBlock(name(b), it.seen, b));
   const ofBorder = meter("Border", { on: border, all: limit, isOver: border > limit },
     [String(border), ` wrong, ${limit} accepted`]);
   $("meters").replaceChildren(...blocks, ofBorder);
-  hint("border-hint", it.limitWhy, Boolean(it.limitWhy));
+  hint("border-hint", it.limitWhy || (it.limit === AUTO ? ANY_BORDER : ""), Boolean(it.limitWhy));
   if (document.activeElement !== $("border-limit")) {
     field("border-limit").value = String(limit);
     $("border-limit").removeAttribute("aria-invalid");

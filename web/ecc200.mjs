@@ -1,7 +1,9 @@
 // Data Matrix ECC 200 for programs in JavaScript: reads symbols in pictures and grids, writes messages as symbols, by
 // the proved library and the sampler in WebAssembly. docs/JAVASCRIPT.md tells how it is used. The page stands on it.
-import { ANY, ASCII, EXTENDED, FNC1, ONE, RECTANGLE, SHORTER, SQUARE } from "./common.mjs";
+import { bytesOf, letterOfText, textOf } from "./charsets.mjs";
+import { ANY, ASCII, EXTENDED, FNC1, ONE, RECTANGLE, SHORTER, SMALLEST, SQUARE } from "./common.mjs";
 import { CODE_WORDS, SAMPLER } from "./layouts.mjs";
+import { isSameLetter, letterOf, nameOfFile, partOf, together } from "./letters.mjs";
 import { Library } from "./library.mjs";
 import { Sampler } from "./sampler.mjs";
 
@@ -10,19 +12,22 @@ import { Sampler } from "./sampler.mjs";
 /** @typedef {import("./sampler.mjs").Found} Found */
 /** @typedef {{ data: ArrayLike<number>, width: number, height: number }} Picture as an ImageData has it: red, green,
     blue and opacity of each pixel; or its luminance alone, 0 black and 255 white */
-/** @typedef {{ items: number[], isGs1: boolean, bytes: Uint8Array, text: string | null }} Message its items, 0 to 255,
-    and 256 for FNC1; whether FNC1 is the first; its bytes without that, others as the byte 29; and these as text in
-    UTF-8, if they are that */
+/** @typedef {import("./letters.mjs").Letter} Letter */
+/** @typedef {import("./common.mjs").Limit} Limit */
+/** @typedef {Letter & { isGs1: boolean, bytes: Uint8Array, text: string | null, charset: string }} Message its items, 0
+    to 255, and 256 for FNC1, its marks and its head; whether FNC1 is the first item; its bytes without that, others as
+    the byte 29; and these as text, by the charsets of the marks, if they are that */
 /** @typedef {Found & Message} Symbol */
+/** @typedef {string | ArrayLike<number> | Partial<Letter>} Given to be written: a text, bytes or items, or a letter */
 /** @typedef {{ symbols: Symbol[], unread: Found[], isComplete: boolean }} Finding in reading order */
 /** @typedef {{ form?: string, shape?: string, rows?: number, columns?: number }} Form in which a message is written:
-    `ascii`, or `shorter` for bytes where that takes fewer codewords; in the smallest `square`, `rectangle` of ISO/IEC
-    16022, `extended` one of ISO/IEC 21471 too, or in `any`; or in the size of these rows and columns */
+    `smallest`, in the encodations that take the smallest size; `ascii`, or `shorter` for bytes where that takes fewer
+    codewords; in the smallest `square`, `rectangle` of ISO/IEC 16022, `extended` one of ISO/IEC 21471 too, or in `any`;
+    or in the size of these rows and columns */
 /** @type {Record<string, number>} */
-const FORMS = { ascii: ASCII, shorter: SHORTER };
+const FORMS = { ascii: ASCII, shorter: SHORTER, smallest: SMALLEST };
 /** @type {Record<string, number>} */
 const SYMBOL_SHAPES = { square: SQUARE, rectangle: RECTANGLE, extended: EXTENDED, any: ANY };
-const GROUP_SEPARATOR = 29;
 
 // What can't be read or written: a code of library/ecc200.h, with the value and the place that it tells.
 export class Refused extends Error {
@@ -48,17 +53,29 @@ export function luminanceOf({ data, width, height }) {
   }
   return grey;
 }
-/** @type {(items: number[]) => Message} */
-function messageIn(items) {
-  const isGs1 = items[0] === FNC1, own = isGs1 ? items.slice(1) : items;
-  const bytes = Uint8Array.from(own, (item) => (item === FNC1 ? GROUP_SEPARATOR : item));
-  let text = null;
-  try { text = new TextDecoder("utf-8", { fatal: true, ignoreBOM: true }).decode(bytes); } catch { /* it isn't */ }
-  return { items, isGs1, bytes, text };
+/** @type {(letter: Letter) => Message} */
+function messageIn({ items, marks, head }) {
+  const isGs1 = items[0] === FNC1, letter = { items, marks, head };
+  return { ...letter, isGs1, bytes: bytesOf(isGs1 ? items.slice(1) : items), ...textOf(letter) };
 }
-/** @type {(message: string | ArrayLike<number>) => number[]} */
-const itemsGiven = (message) =>
-  Array.from(typeof message === "string" ? new TextEncoder().encode(message) : message);
+/** @type {(given: Given) => Letter} */
+function letterGiven(given) {
+  if (typeof given === "string") return letterOfText(given);
+  if ("length" in given) return letterOf(Array.from(given));
+  const { items, marks, head } = given;
+  return letterOf(Array.from(items), marks, head);
+}
+// What readings say together that are the parts of one message, in any order, each of them there.
+/** @type {(readings: Letter[]) => Message} */
+export function joined(readings) {
+  const parts = readings.map(partOf), names = new Set(parts.map((part) => part && nameOfFile(part)));
+  const byPart = new Map(readings.map((letter, k) => [parts[k]?.part, letter]));
+  const letters = Array.from({ length: parts[0]?.parts ?? 0 }, (_, k) => byPart.get(k + 1));
+  const areAll = names.size === 1 && letters.length > 0 && letters.every(Boolean);
+  if (!areAll || !readings.every((letter, k) => isSameLetter(letter, byPart.get(parts[k].part))))
+    throw new RangeError("these aren't the parts of one message, each of them there");
+  return messageIn(together(letters));
+}
 
 export class Ecc200 {
   // From the library and the sampler: their bytes, or what is compiled of them.
@@ -81,29 +98,31 @@ export class Ecc200 {
       throw new RangeError(`a picture has 1 to ${SAMPLER.MOST_SIDE} pixels on each side`);
     const { symbols, unread, ended, hasNoMemory } = this.sampler.find(luminanceOf(picture), width, height, search);
     if (hasNoMemory) throw new RangeError("there is no memory for this picture");
-    return { symbols: symbols.map((it) => ({ ...it, ...messageIn(it.items) })), unread,
+    return { symbols: symbols.map((it) => ({ ...it, ...messageIn(it) })), unread,
       isComplete: ended === SAMPLER.WHOLE };
   }
-  // The modules of a message: of text, in UTF-8, of bytes, or of items.
-  /** @type {(message: string | ArrayLike<number>, form?: Form) => Grid} */
-  write(message, { form = "ascii", shape = "square", rows = 0, columns = 0 } = {}) {
+  // The symbol of a message: of text, of bytes or items, or of a letter.
+  /** @type {(message: Given, form?: Form) => Grid} */
+  write(message, { form = "smallest", shape = "square", rows = 0, columns = 0 } = {}) {
     const how = { form: FORMS[form], shape: rows || columns ? ONE : SYMBOL_SHAPES[shape], rows, columns };
-    const { fault, ...symbol } = this.library.write(itemsGiven(message), how);
+    const { fault, ...symbol } = this.library.write(letterGiven(message), how);
     if (fault) throw new Refused(fault);
     return /** @type {Grid} */ (symbol);
   }
   // What an upright grid says, of which these modules are doubtful, with at most so many wrong border modules.
-  /** @type {(grid: Grid, more?: { limit?: number, doubtful?: Uint8Array | null }) =>
+  /** @type {(grid: Grid, more?: { limit?: Limit, doubtful?: Uint8Array | null }) =>
       Message & import("./library.mjs").Answer} */
-  readGrid(grid, { limit = this.library.usualLimit(grid), doubtful = null } = {}) {
-    const { fault, ...answer } = this.library.read(grid, limit, doubtful);
+  readGrid(grid, { limit = null, doubtful = null } = {}) {
+    const { library } = this, most = library.limitOf(grid, limit, doubtful);
+    const { fault, ...answer } = library.read(grid, most, doubtful);
     if (fault) throw new Refused(fault);
-    return { ...answer, ...messageIn(answer.items) };
+    return { ...answer, ...messageIn(/** @type {Letter} */ (answer)) };
   }
   // The normal symbol of what an upright grid says.
-  /** @type {(grid: Grid, more?: { limit?: number, doubtful?: Uint8Array | null, form?: string }) => Grid} */
-  normal(grid, { limit = this.library.usualLimit(grid), doubtful = null, form = "ascii" } = {}) {
-    const { fault, ...symbol } = this.library.normal(grid, limit, FORMS[form], doubtful);
+  /** @type {(grid: Grid, more?: { limit?: Limit, doubtful?: Uint8Array | null, form?: string }) => Grid} */
+  normal(grid, { limit = null, doubtful = null, form = "ascii" } = {}) {
+    const { library } = this, most = library.limitOf(grid, limit, doubtful);
+    const { fault, ...symbol } = library.normal(grid, most, FORMS[form], doubtful);
     if (fault) throw new Refused(fault);
     return /** @type {Grid} */ (symbol);
   }

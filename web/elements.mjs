@@ -20,7 +20,8 @@ function rowOf({ identifier, name, items, note, fault }) {
   return row;
 }
 export function drawElements() {
-  const it = mark(), items = it.seen?.answer.items, isShown = it.stage === VALID && items?.[0] === FNC1;
+  const it = mark(), { items, head } = it.seen?.answer ?? {};
+  const isShown = it.stage === VALID && items?.[0] === FNC1 && !head;
   $("elements").hidden = !isShown;
   $("elements").querySelector("tbody").replaceChildren(...(isShown ? elementsOf(items).map(rowOf) : []));
 }

@@ -3,40 +3,45 @@ import { FNC1, plural } from "./common.mjs";
 import { field } from "./dom.mjs";
 import { elementsOf } from "./elements.mjs";
 import { desks } from "./flow.mjs";
+import { letterOf } from "./letters.mjs";
 import { isCsv, linesNow, whyNotYet } from "./lines.mjs";
 import { brokenWords, isBroken } from "./order.mjs";
+import { lettersTaken, partsNow } from "./parts.mjs";
 import { howIn } from "./sizes.mjs";
-import { itemsNow, profileNow } from "./source.mjs";
+import { formNow, takenNow } from "./source.mjs";
 import { tooLong } from "./words.mjs";
 
-/** @typedef {{ number: number, text: string, copies: number, items?: number[], grid?: import("./common.mjs").Grid,
-    why?: string }} Entry of the list, by its number there: the symbol with its text and its message, or why there is
+/** @typedef {import("./letters.mjs").Letter} Letter */
+/** @typedef {{ number: number, text: string, copies: number, letter: Letter, grid?: import("./common.mjs").Grid,
+    why?: string }} Entry of the list, by its number there: the symbol with its text and what it says, or why there is
     none */
 /** @typedef {import("./csv.mjs").Line} Line */
+/** @typedef {{ taken?: import("./messages.mjs").Taken, why: string }} Read of a line: what it stands for, or why it
+    isn't taken */
 const MOST_ON_SHEET = 500;
 
 // What is wrong with GS1 data, in words, or "".
-/** @type {(items: number[] | null) => string} */
-export function wrongGs1(items) {
-  const wrong = items?.[0] === FNC1 ? elementsOf(items).find(({ fault }) => fault) : null;
+/** @type {(letter: Letter | null) => string} */
+export function wrongGs1(letter) {
+  const isGs1 = letter?.items[0] === FNC1 && !letter.head;
+  const wrong = isGs1 ? elementsOf(letter.items).find(({ fault }) => fault) : null;
   if (!wrong) return "";
   const identifier = wrong.identifier && `(${wrong.identifier}) `;
   return `It isn’t right as GS1 data: ${identifier}${wrong.name}, ${wrong.fault}.`;
 }
-// What a line stands for, or why it isn't taken.
-/** @type {(line: Line) => { items?: number[], why: string }} */
+/** @type {(line: Line) => Read} */
 function readLine({ message, why }) {
   if (why) return { why: `${why}.` };
   if (!message.trim()) return { why: "its row has no message." };
-  const { items, column, why: fault } = itemsNow(message);
-  return items ? { items, why: wrongGs1(items) } : { why: column ? `column ${column} ${fault}` : fault };
+  const taken = takenNow(message), { letter, column, why: fault } = taken;
+  return letter ? { taken, why: wrongGs1(letter) } : { why: column ? `column ${column} ${fault}` : fault };
 }
 // Why the list as a whole isn't taken, or "".
 /** @type {(lines: Line[]) => string} */
 function whyNoList(lines) {
   const none = isCsv() ? "Enter headings, and below them a row for each message." : "Enter a message on each line.";
   if (!lines.length) return none;
-  const count = lines.reduce((sum, { copies }) => sum + copies, 0);
+  const count = partsNow() * lines.reduce((sum, { copies }) => sum + copies, 0);
   if (!count) return "Each row has 0 copies.";
   if (count <= MOST_ON_SHEET) return "";
   const all = count > lines.length ? "labels" : "messages";
@@ -50,16 +55,23 @@ export function faultIn(lines) {
   const faults = lines.map((line) => readLine(line).why), bad = faults.findIndex(Boolean);
   return bad < 0 ? "" : ofMessage(bad + 1, faults[bad]);
 }
+// The entries of a line, without their symbols: one for each part.
+/** @type {(line: Line, number: number) => Entry[]} */
+function entriesOfLine(line, number) {
+  const { taken, why } = readLine(line), { message, text, copies } = line;
+  const letters = why ? [letterOf([])] : lettersTaken(taken, partsNow());
+  const below = field("label-text").checked ? text ?? message : "", { length } = letters;
+  const textOfPart = (k) => (below && length > 1 ? `${below} (${k + 1}/${length})` : below);
+  return letters.map((letter, k) => ({ number, text: textOfPart(k), copies, letter, why }));
+}
 // What becomes of some of the lines, from this one on; or why there is no answer.
 /** @type {(lines: Line[], first: number, lane: string) => Promise<{ why?: string, entries?: Entry[] }>} */
 export async function entriesOf(lines, first, lane) {
-  const how = howIn(profileNow()), hasText = field("label-text").checked, reads = lines.map(readLine);
-  const messages = reads.map(({ items, why }) => (why ? [] : items));
-  const symbols = await desks.quick.ask("sheet", { messages, how }, lane);
+  const how = howIn(formNow()), entries = lines.flatMap((line, k) => entriesOfLine(line, first + k));
+  const symbols = await desks.quick.ask("sheet", { letters: entries.map(({ letter }) => letter), how }, lane);
   if (!symbols || isBroken(symbols)) return { why: brokenWords(symbols ?? { stopped: true }) };
-  return { entries: lines.map(({ message, text, copies }, k) => ({
-    number: first + k, text: hasText ? text ?? message : "", copies, items: messages[k], grid: symbols[k],
-    why: reads[k].why || (symbols[k] ? "" : tooLong(how)) })) };
+  return { entries: entries.map((entry, k) =>
+    ({ ...entry, grid: symbols[k], why: entry.why || (symbols[k] ? "" : tooLong(how)) })) };
 }
 // The symbols of all lines; or why there are none.
 /** @type {() => Promise<{ why?: string, entries?: Entry[] }>} */

@@ -1,5 +1,5 @@
 // Everything that is shown about modules, and damage to them; all by the library.
-import { BEYOND, BIT, MOST_ITEMS } from "./common.mjs";
+import { BEYOND, BIT, MOST_ITEMS, blockOf } from "./common.mjs";
 import { meanings } from "./codewords.mjs";
 
 /** @typedef {import("./common.mjs").Grid} Grid */
@@ -11,15 +11,17 @@ import { meanings } from "./codewords.mjs";
 
 // The state of a codeword: 0 as it should be, 1 corrected, 2 in a block beyond correction. One with a doubtful module
 // is erased.
-/** @type {(lib: Library, grid: Grid, doubtful: Uint8Array | null, givenLimit: number | null) => Seen} */
+/** @type {(lib: Library, grid: Grid, doubtful: Uint8Array | null, givenLimit: import("./common.mjs").Limit) =>
+    Seen} */
 export function examine(lib, { modules, rows, columns }, doubtful, givenLimit) {
   const grid = { modules, rows, columns }, size = lib.sizeOf(grid), usual = lib.usualLimit(grid);
-  const limit = givenLimit ?? usual, answer = lib.read(grid, limit, doubtful), inspected = lib.inspect(grid, doubtful);
-  const { held, mended, corrected } = inspected, isErased = erasedBy(lib, grid, doubtful);
-  const isRight = (w) => held[w] === mended[w], isBeyond = (w) => corrected[w % size.blocks] === BEYOND;
+  const limit = lib.limitOf(grid, givenLimit, doubtful), answer = lib.read(grid, limit, doubtful);
+  const inspected = lib.inspect(grid, doubtful), { held, mended, corrected, dealing } = inspected;
+  const isErased = erasedBy(lib, grid, doubtful), block = (w) => blockOf(size, dealing, w);
+  const isRight = (w) => held[w] === mended[w], isBeyond = (w) => corrected[block(w)] === BEYOND;
   const states = Array.from(held, (_, w) => (isBeyond(w) ? 2 : isRight(w) ? 0 : 1));
   const told = corrected.includes(BEYOND) ? null : meanings(mended.subarray(0, size.data));
-  const erased = corrected.map((_, b) => isErased.filter((is, w) => is && w % size.blocks === b).length);
+  const erased = corrected.map((_, b) => isErased.filter((is, w) => is && block(w) === b).length);
   return { ...grid, ...inspected, erased, doubtful, size, limit, usual, answer, states, isErased, told };
 }
 // Of each codeword whether one of its modules is doubtful.
@@ -49,9 +51,10 @@ class Spoiling {
   look() { this.held = this.lib.inspect(this.grid, this.doubtful); }
   // Turns over one module of a codeword of this block that is still right.
   spoilOne(block) {
-    const { held, mended } = this.held, truth = this.truth ?? mended, isBeyond = this.held.corrected[block] === BEYOND;
+    const { held, mended, corrected, dealing } = this.held, truth = this.truth ?? mended;
+    const isBeyond = corrected[block] === BEYOND;
     const isRight = (w) => !this.isErased[w] && held[w] === truth[w] && (isBeyond || held[w] === mended[w]);
-    const right = [...held.keys()].filter((w) => w % this.size.blocks === block && isRight(w));
+    const right = [...held.keys()].filter((w) => blockOf(this.size, dealing, w) === block && isRight(w));
     if (right.length) this.modules[any(this.map.modules[any(right)])] ^= 1;
     this.look();
   }
@@ -91,13 +94,15 @@ export function damaged(lib, act, grid, original, doubtful) {
   return spoiling.grid;
 }
 
-// How many of the items fit a symbol that is written so.
-/** @type {(lib: Library, items: number[], how: import("./library.mjs").How) => number} */
-export function mostThatFit(lib, items, how) {
+// How many of the items of a letter fit a symbol that is written so.
+/** @type {(lib: Library, letter: import("./letters.mjs").Letter, how: import("./library.mjs").How) => number} */
+export function mostThatFit(lib, { items, marks, head }, how) {
+  const beginning = (count) =>
+    ({ items: items.slice(0, count), marks: marks.filter(({ place }) => place <= count), head });
   let low = 0, high = Math.min(items.length, MOST_ITEMS);
   while (low < high) {
     const middle = Math.ceil((low + high) / 2);
-    if (lib.write(items.slice(0, middle), how).fault) high = middle - 1; else low = middle;
+    if (lib.write(beginning(middle), how).fault) high = middle - 1; else low = middle;
   }
   return low;
 }

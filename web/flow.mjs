@@ -3,12 +3,14 @@
 import { Desk } from "./desk.mjs";
 import { $, allOf, field, folded } from "./dom.mjs";
 import { drawAll } from "./draw.mjs";
+import { gather } from "./gathered.mjs";
 import { tellLink } from "./link.mjs";
 import { brokenWords, inTurn, isBroken, refuse, validate, work } from "./order.mjs";
-import { PANE_OF, TASKS, VALID, WORKING, isChanged, isDamaged, keepMap, mark, store } from "./state.mjs";
+import { PANE_OF, TASKS, VALID, WORKING, isChanged, isDamaged, keepMap, mark, panes, store } from "./state.mjs";
 
 /** @typedef {import("./state.mjs").Mark} Mark */
 /** @typedef {import("./state.mjs").Step} Step */
+/** @typedef {import("./common.mjs").Limit} Limit */
 const MOST_ACTS = 500; // that can be undone
 
 /** @type {{ quick: Desk | null, pictures: Desk | null, readsFiles: boolean }} */
@@ -20,14 +22,15 @@ export function openDesks(script, code) {
 }
 
 // Another symbol was written or opened; where it was found, it has doubtful modules and a limit of its own.
-/** @type {(it: Mark, symbol: import("./common.mjs").Grid & { items?: number[] | null, doubtful?: Uint8Array | null,
-    limit?: number | null, seen: any }) => void} */
-export function take(it, { items = null, doubtful = null, limit, seen, ...grid }) {
-  it.hold(grid, items, doubtful);
+/** @type {(it: Mark, symbol: import("./common.mjs").Grid & { letter?: import("./letters.mjs").Letter | null,
+    doubtful?: Uint8Array | null, limit?: Limit, seen: any }) => void} */
+export function take(it, { letter = null, doubtful = null, limit, seen, ...grid }) {
+  it.hold(grid, letter, doubtful);
   keepMap(seen, seen.map);
   if (limit !== undefined) [it.limit, it.limitWhy] = [limit, ""];
   else if (it.limit !== null) { it.seen = seen; look(it); return; }
   validate(it, seen);
+  if (it === panes.read && !seen.answer.fault) gather(seen.answer);
   if (it === mark()) { field("which-undamaged").checked = true; drawAll(); }
   tellLink();
 }
@@ -91,7 +94,7 @@ export const damage = (what) => inTurn(mark(), (it) => damageNow(it, what));
 /** @type {(it: Mark, what: string) => Promise<void>} */
 async function damageNow(it, what) {
   work(it);
-  const { entered } = it, original = it.items ? it.original : null;
+  const { entered } = it, original = it.letter ? it.original : null;
   const seen = await desks.quick.ask("damage", { act: what, original, ...asked(it) }, `damage ${it.name}`);
   if (it.entered !== entered) return;
   if (isBroken(seen)) { refuse(it, brokenWords(seen)); return; }
@@ -101,7 +104,7 @@ async function damageNow(it, what) {
   if (it === mark()) drawAll();
   tellLink();
 }
-/** @type {(it: Mark, limit: number | null, limitWhy?: string) => void} */
+/** @type {(it: Mark, limit: Limit, limitWhy?: string) => void} */
 export function setLimit(it, limit, limitWhy = "") {
   it.limit = limit;
   it.limitWhy = limitWhy;

@@ -3,6 +3,8 @@
 import { plural } from "./common.mjs";
 import { $, hint, made, setUsable, shape, whenUsed } from "./dom.mjs";
 import { desks, take } from "./flow.mjs";
+import { gatherAll } from "./gathered.mjs";
+import { keyOfLetter } from "./letters.mjs";
 import { csvOf, jsonOf, remarksOn, saidBy, whyUnread } from "./listed.mjs";
 import { brokenWords, enter, isBroken, refuse, whenEntered } from "./order.mjs";
 import { panes } from "./state.mjs";
@@ -79,14 +81,17 @@ function drawView(view, { width, height }) {
 /** @type {(sights: Sights, chosen?: Sighted | null) => void} */
 export function showSights({ symbols, unread, isComplete, hasQrCode = false, width, height, view }, chosen = null) {
   if (view) drawView(view, { width, height });
+  gatherAll(symbols);
   Object.assign(scene, { list: [...symbols, ...unread], isComplete, hasQrCode, chosen });
   drawList();
 }
 // Adds to the list what the camera sees for the first time; returns that.
 /** @type {(symbols: Sighted[]) => Sighted[]} */
 export function addSights(symbols) {
-  const known = new Set(scene.list.map(saidBy)), fresh = symbols.filter((symbol) => !known.has(saidBy(symbol)));
+  const known = new Set(scene.list.map(keyOfLetter));
+  const fresh = symbols.filter((symbol) => !known.has(keyOfLetter(symbol)));
   if (!fresh.length) return fresh;
+  gatherAll(fresh);
   scene.list.push(...fresh);
   scene.chosen = fresh[fresh.length - 1];
   drawList();

@@ -1,5 +1,5 @@
 // Grids: as text, and turned.
-import { MOST_COLUMNS, MOST_ROWS, MOST_TEXT, plural } from "./common.mjs";
+import { AUTO, MOST_COLUMNS, MOST_ROWS, MOST_TEXT, plural } from "./common.mjs";
 import { tooMuch } from "./messages.mjs";
 
 /** @typedef {import("./common.mjs").Grid} Grid */
@@ -87,11 +87,15 @@ export function standsHow({ quarters, mirrored, inverted }) {
 }
 
 // The first way to stand in which a grid is read, upright first; if there is none, the first one that it can have.
-/** @type {(lib: Library, grid: Grid) => Grid & { isRead: boolean, how: string }} */
+// Where it isn't read with a border as usual any border is taken, if each block keeps a correction unused.
+/** @type {(lib: Library, grid: Grid) => Grid & { isRead: boolean, how: string, limit?: "auto" }} */
 export function found(lib, grid) {
-  const limit = lib.usualLimit(grid), stands = standsOf(lib, grid);
-  const how = stands.find((stand) => !lib.read(upright(grid, stand), limit).fault);
-  return { ...upright(grid, how ?? stands[0]), isRead: Boolean(how), how: standsHow(how ?? stands[0]) };
+  const stands = standsOf(lib, grid), shown = stands.map((stand) => upright(grid, stand));
+  /** @type {(limit: import("./common.mjs").Limit) => number} */
+  const firstAt = (limit) => shown.findIndex((it) => !lib.read(it, lib.limitOf(it, limit)).fault);
+  const usual = firstAt(null), at = usual < 0 ? firstAt(AUTO) : usual, isRead = at >= 0, place = isRead ? at : 0;
+  const limit = isRead && usual < 0 ? { limit: AUTO } : {};
+  return { ...shown[place], isRead, how: standsHow(stands[place]), ...limit };
 }
 
 // Whether a grid has the border of a symbol, however it stands.

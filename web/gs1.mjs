@@ -1,12 +1,15 @@
 // GS1 messages: element strings as people write them, with identifiers in parentheses, and as a symbol holds them. The
 // identifiers are those of the library's table, which is packed into the page.
 import { FNC1, isSame, plural } from "./common.mjs";
-import { itemsOfText, parse, spelled, spelledItem, tooMuch, utf8Of, visibleUtf8Of } from "./messages.mjs";
+import { letterOf } from "./letters.mjs";
+import { parse, spelledItem, spelledLetter, takenAsText, tooMuch, unspelled, visibleTextOf } from "./messages.mjs";
 
 /** @typedef {{ charset: string, least: number, most: number, check?: string, mayLack: boolean }} Part of a value */
 /** @typedef {{ isFixed: boolean, hasDecimals: boolean, parts: Part[], name: string }} Entry of the table */
 /** @typedef {{ identifier: string, name: string, items: number[], note?: string, fault?: string }} Element */
+/** @typedef {import("./letters.mjs").Letter} Letter */
 /** @typedef {import("./messages.mjs").Taken} Taken */
+/** @typedef {import("./messages.mjs").Fault} Fault */
 const SEPARATOR = 29; // GS, which may stand in place of an FNC1 between elements
 /** @type {Map<string, Entry>} */
 const known = new Map();
@@ -123,7 +126,7 @@ function judgedValue(identifier, entry, text) {
 // ---- The identifiers
 
 /** @type {(words: string) => Part} */
-function partOf(words) {
+function valuePartOf(words) {
   const [, open, charset, range, count, check] = /^(\[?)([NXYZ])(\.\.)?(\d+)(?::([a-z-]+))?\]?$/.exec(words);
   return { charset, least: range ? 1 : Number(count), most: Number(count), check, mayLack: open === "[" };
 }
@@ -136,7 +139,7 @@ export function readIdentifiers(text) {
     const [, first, last, ending, parts, name] = ENTRY.exec(line) ?? [];
     if (!first) continue;
     const hasDecimals = first.length === 4 && last !== undefined;
-    const entry = { isFixed: ending === "fixed", hasDecimals, parts: parts.split("+").map(partOf), name };
+    const entry = { isFixed: ending === "fixed", hasDecimals, parts: parts.split("+").map(valuePartOf), name };
     for (let number = Number(first); number <= Number(last ?? first); number++)
       known.set(String(number).padStart(first.length, "0"), entry);
   }
@@ -152,21 +155,21 @@ const identifierAt = (text) => [2, 3, 4].map((length) => text.slice(0, length)).
 
 // ---- As a symbol holds them
 
-const textOf = (items) => items.map((item) => (item === FNC1 ? "\u001D" : String.fromCharCode(item))).join("");
+const asText = (items) => items.map((item) => (item === FNC1 ? "\u001D" : String.fromCharCode(item))).join("");
 /** @type {(items: number[]) => Element[]} */
 export function elementsIn(items) {
   const elements = [];
   for (let at = 0; at < items.length;) {
     const rest = items.slice(at), gap = rest.findIndex((item) => item === FNC1 || item === SEPARATOR);
     const whole = gap < 0 ? rest : rest.slice(0, gap);
-    const identifier = identifierAt(textOf(whole.slice(0, 4))), entry = known.get(identifier);
+    const identifier = identifierAt(asText(whole.slice(0, 4))), entry = known.get(identifier);
     if (!entry) {
       elements.push({ identifier: "", name: "no identifier begins here", items: whole, fault: "unknown" });
       at += whole.length + 1;
       continue;
     }
     const value = whole.slice(identifier.length).slice(0, entry.isFixed ? mostOf(entry.parts) : Infinity);
-    elements.push({ identifier, name: entry.name, items: value, ...judgedValue(identifier, entry, textOf(value)) });
+    elements.push({ identifier, name: entry.name, items: value, ...judgedValue(identifier, entry, asText(value)) });
     at += identifier.length + value.length;
     if (items[at] === FNC1 || items[at] === SEPARATOR) at++;
   }
@@ -180,33 +183,33 @@ export function elementsIn(items) {
 // for those that are spelled \x28 or \(. Square brackets may stand in place of all round ones, as zint has them.
 const isElements = (text) => text.startsWith("(") || /^\[\d{2,4}\]/.test(text);
 const ELEMENTS = { "(": /\((\d*)(\)?)((?:\\[^]?|[^(\\])*)/y, "[": /\[(\d*)(\]?)([^[]*)/y };
-/** @type {(text: string, at: number, why: string) => Taken} */
+/** @type {(text: string, at: number, why: string) => Fault} */
 function noElement(text, at, why) {
   const name = at ? "as part of the value" : "as plain text", bracket = text[at] === "(" ? "\\x28" : "\\x5B";
   return { column: at + 1, why, ways: [{ name, text: `${text.slice(0, at)}${bracket}${text.slice(at + 1)}` }] };
 }
 
-// Why a text has no items, in words.
+// Why a text isn't taken, in words.
 /** @type {(taken: Taken) => string} */
 export const whyNot = ({ column, why }) => (column ? `Column ${column} ${why}.` : why);
 
 // The element that is written at this place: { identifier, items, end }, or what is wrong.
-/** @type {(text: string, at: number) => Taken & { identifier?: string, end?: number }} */
+/** @type {(text: string, at: number) => Fault & { identifier?: string, items?: number[], end?: number }} */
 function elementAt(text, at) {
   const element = ELEMENTS[text[0]];
   element.lastIndex = at;
   const [all, identifier, closed, spelledValue] = element.exec(text), begin = at + identifier.length + 2;
   if (!closed) return noElement(text, at, "opens a bracket that holds no identifier, such as (01)");
-  const entry = known.get(identifier), value = parse(spelledValue, true);
+  const entry = known.get(identifier), { letter, ...fault } = parse(spelledValue, true);
   if (!entry) return noElement(text, at, `begins (${identifier}), which is no identifier of GS1’s table`);
-  if (!value.items) {
+  if (!letter) {
     const [before, after] = [text.slice(0, begin), text.slice(begin + spelledValue.length)];
-    const ways = value.ways?.map((way) => ({ ...way, text: before + way.text + after }));
-    return { ...value, column: begin + value.column, ways };
+    const ways = fault.ways?.map((way) => ({ ...way, text: before + way.text + after }));
+    return { ...fault, column: begin + fault.column, ways };
   }
-  if (value.items.some((item) => item === FNC1 || item === SEPARATOR))
+  if (letter.items.some((item) => item === FNC1 || item === SEPARATOR))
     return { why: `(${identifier}) ${entry.name} has a separator in its value: FNC1 is put in where one is due.` };
-  return { identifier, items: value.items, end: at + all.length };
+  return { identifier, items: letter.items, end: at + all.length };
 }
 // The items of elements: FNC1 in front, and at the end of each value of variable length that another element follows.
 function joinedItems(elements) {
@@ -217,21 +220,21 @@ function joinedItems(elements) {
   });
   return items;
 }
-// A message as an element string, or "" if it isn't what that would stand for.
-/** @type {(items: number[]) => string} */
-export function elementString(items) {
-  if (items[0] !== FNC1) return "";
+// A letter as an element string, or "" if it isn't what that would stand for.
+/** @type {(letter: Letter) => string} */
+export function elementString({ items, marks }) {
+  if (items[0] !== FNC1 || marks.length) return "";
   const elements = elementsIn(items.slice(1));
   if (elements.some(({ identifier }) => !identifier) || !isSame(joinedItems(elements), items)) return "";
   const valueOf = (value) => value.map((item) => (item === 40 ? "\\(" : spelledItem(item))).join("");
   return elements.map(({ identifier, items: value }) => `(${identifier})${valueOf(value)}`).join("");
 }
-// A message as people read it: as an element string, as text in UTF-8, or as it is spelled.
-/** @type {(items: number[]) => string} */
-export const readable = (items) => elementString(items) || visibleUtf8Of(items) || spelled(items);
+// A letter as people read it: as an element string, as text, or as it is spelled.
+/** @type {(letter: Letter) => string} */
+export const readable = (letter) => elementString(letter) || visibleTextOf(letter) || spelledLetter(letter);
 // The same as people would type it.
-/** @type {(items: number[]) => string} */
-export const typed = (items) => elementString(items) || utf8Of(items) || spelled(items);
+/** @type {(letter: Letter) => string} */
+export const typed = (letter) => elementString(letter) || unspelled(letter) || spelledLetter(letter);
 // What a reader would take apart otherwise than it was written, in words, or "": a value of fixed length runs into what
 // follows it if it has another.
 function misread(elements, items) {
@@ -254,21 +257,21 @@ function elementsOfText(text) {
     at = element.end;
   }
   const items = joinedItems(elements), why = misread(elements, items);
-  return why ? { why } : { items, isElements: true };
+  return why ? { why } : { letter: letterOf(items), isElements: true };
 }
 
-// The items of what is entered: of element strings, or of a spelled message. { items, isElements }, or what is wrong.
+// What a text stands for that is an element string, or a letter that is spelled.
 /** @type {(text: string) => Taken} */
-export function itemsOf(text) {
+export function takenAsSpelled(text) {
   const much = tooMuch(text);
   if (much) return { why: much, isTooMuch: true };
   return isElements(text) ? elementsOfText(text) : parse(text);
 }
-// The items of what is typed: of element strings, or of text as it stands, in UTF-8. Of the ways in which it could be
+// What a text stands for that is typed: an element string, or text as it stands. Of the ways in which it could be
 // spelled only those within a value count, since nothing else is spelled here.
 /** @type {(text: string) => Taken} */
-export function itemsTyped(text) {
-  if (!isElements(text) || tooMuch(text)) return itemsOfText(text);
+export function takenAsTyped(text) {
+  if (!isElements(text) || tooMuch(text)) return takenAsText(text);
   const taken = elementsOfText(text);
   return taken.ways ? { ...taken, ways: taken.ways.filter((way) => isElements(way.text)) } : taken;
 }

@@ -2,6 +2,7 @@
 // page saves, so that any of these can be opened again.
 import { field } from "./dom.mjs";
 import { columnsMeanNow, isCsv, listChanged, takeMeaning } from "./lines.mjs";
+import { chooseParts } from "./parts.mjs";
 import { chooseSize, sizeChosen } from "./sizes.mjs";
 import { keptIn } from "./pdf.mjs";
 import { filesIn } from "./zip.mjs";
@@ -10,12 +11,13 @@ import { filesIn } from "./zip.mjs";
     choices: Record<string, string | boolean> }} Labels of a version of this form */
 const VERSION = 1, NAME = "labels.json";
 const CHOICES = ["lines-as", "stock", "paper-size", "millimetres", "label-width", "label-height", "copies"];
-const CHOSEN = ["kind-typed", "kind-text", "kind-message", "profile-0", "profile-1"], HAS_TEXT = "label-text";
+const CHOSEN = ["kind-typed", "kind-text", "kind-message", "profile-0", "profile-1", "profile-2"];
+const HAS_TEXT = "label-text", PARTS = "parts";
 
 /** @type {() => Labels} */
 function labelsNow() {
   const checked = [HAS_TEXT, ...CHOSEN].map((id) => [id, field(id).checked]);
-  const choices = [...CHOICES.map((id) => [id, field(id).value]), ...checked];
+  const choices = [...[...CHOICES, PARTS].map((id) => [id, field(id).value]), ...checked];
   return { labels: VERSION, messages: field("messages").value, columns: isCsv() ? columnsMeanNow() : null,
     size: sizeChosen(), choices: Object.fromEntries(choices) };
 }
@@ -66,6 +68,7 @@ export function takeLabels({ messages, columns, size, choices }) {
   for (const id of CHOSEN) if (choices[id] === true) field(id).checked = true;
   field(HAS_TEXT).checked = choices[HAS_TEXT] !== false;
   chooseSize(size);
+  chooseParts(Number(choices[PARTS] ?? 1), 1);
   field("stock").dispatchEvent(new Event("change"));
   field("messages").value = messages;
   listChanged();

@@ -1,8 +1,10 @@
 // The lesson: from the message to codewords, blocks, check codewords and places, each with the numbers of the symbol at
 // hand.
 import { bitsOf, bold } from "./cells.mjs";
-import { BEYOND, plural, shapeWords } from "./common.mjs";
+import { nameOfEci } from "./charsets.mjs";
+import { BEYOND, blockOf, plural, shapeWords } from "./common.mjs";
 import { $, fieldOf, folded, made, setUsable, shape, whenUsed } from "./dom.mjs";
+import { partOf } from "./letters.mjs";
 import { isPlain, spelledItem } from "./messages.mjs";
 import { VALID, mapOf, mark } from "./state.mjs";
 import { numbersDrawn, runs, viewBox } from "./symbol.mjs";
@@ -20,14 +22,24 @@ const chips = (list) => made("div", { className: "chips" }, ...(list.length ? cu
 
 /** @type {(seen: Seen) => Content} */
 function messageStep({ answer }) {
-  const below = (item) => (isPlain(item) ? String.fromCharCode(item) : spelledItem(item));
-  const list = answer.items.map((item) => chip(item === 256 ? "FNC1" : item, below(item)));
-  const count = plural(answer.items.length, "character", "characters");
-  return [paragraph(`The message has ${count}: each is a number of 0 to 255, or the function character FNC1.`),
-    chips(list)];
+  const { items, marks } = answer, below = (item) => (isPlain(item) ? String.fromCharCode(item) : spelledItem(item));
+  const list = items.map((item) => chip(item === 256 ? "FNC1" : item, below(item)));
+  for (const { place, number } of [...marks].reverse())
+    list.splice(place, 0, chip(`ECI ${number}`, nameOfEci(number), "soft"));
+  const count = plural(items.length, "character", "characters");
+  return [paragraph(`The message has ${count}: each is a number of 0 to 255, or the function character FNC1.`
+    + `${marks.length ? ABOUT_MARKS : ""}${aboutHead(answer)}`), chips(list)];
+}
+const ABOUT_MARKS = " An ECI says in which charset the characters behind it are.";
+/** @type {(answer: import("./library.mjs").Answer) => string} */
+function aboutHead({ head }) {
+  const part = partOf({ head });
+  if (part) return ` It is part ${part.part} of ${part.parts} of what several symbols say together, whose file has the `
+    + `numbers ${part.file.join(" and ")}.`;
+  return head ? " It is an instruction to the reader." : "";
 }
 /** @type {(seen: Seen) => Content} */
-function codewordStep({ told, held, size }) {
+function codewordStep({ answer, told, held, size }) {
   const kindOf = (brief) => (brief === "pad" || brief === "end" ? "soft" : "");
   const list = told.map(({ brief }, w) => chip(held[w], brief || "·", kindOf(brief)));
   const end = told.findIndex(({ brief }) => brief === "end"), count = end < 0 ? told.length : end;
@@ -37,13 +49,15 @@ function codewordStep({ told, held, size }) {
       + "added that depends on its place.";
   return [paragraph(`They become ${plural(count, "data codeword", "data codewords")} of eight bits. `
     + "In ASCII encodation a character is its number and 1, two digits together are their value and 130, and FNC1 is "
-    + `232; latches change to another encodation. ${rest}`), chips(list)];
+    + `232; latches change to another encodation.${answer.marks.length ? ABOUT_DESIGNATORS : ""} ${rest}`),
+  chips(list)];
 }
+const ABOUT_DESIGNATORS = " An ECI is 241 and its designator, of one to three codewords.";
 /** @type {(seen: Seen) => Content} */
-function blockStep({ size, held }) {
+function blockStep({ size, dealing, held }) {
   const data = [...held.subarray(0, size.data)];
   const rows = Array.from({ length: size.blocks }, (_, b) => {
-    const own = data.filter((_word, w) => w % size.blocks === b);
+    const own = data.filter((_word, w) => blockOf(size, dealing, w) === b);
     const count = plural(own.length, "data codeword", "data codewords");
     return [paragraph(bold(`Block ${b + 1}`), `, ${count}`),
       chips(own.map((word, k) => chip(word, String(k * size.blocks + b + 1))))];
@@ -72,10 +86,11 @@ export function syndromes(words, count) {
   return values;
 }
 /** @type {(seen: Seen) => Content} */
-function checkStep({ size, mended, held }) {
+function checkStep({ size, dealing, mended, held }) {
   const each = size.check / size.blocks;
   const rows = Array.from({ length: size.blocks }, (_, b) => {
-    const own = (words) => [...words].filter((_word, w) => w % size.blocks === b), now = syndromes(own(held), each);
+    const own = (words) => [...words].filter((_word, w) => blockOf(size, dealing, w) === b);
+    const now = syndromes(own(held), each);
     const sums = made("span", { className: "sums", textContent: now.join(" ") });
     const verdict = now.some(Boolean) ? ", so it is damaged." : ": all 0, as they must be.";
     return [paragraph(bold(size.blocks > 1 ? `Block ${b + 1}` : "The block"), ": check codewords"),

@@ -1,29 +1,47 @@
 // The proved library, lowered from 64-bit memory to 32 bits, whose interface is that of library/ecc200.h. Addresses and
 // lengths stay 64 bits wide, so they are BigInts; pages of its memory are counted in ordinary numbers. For everything
 // about Data Matrix symbols (sizes, places, codewords, correction, messages, borders, normal forms) the page asks it.
-import { ABI, BIT, MOST_COLUMNS, MOST_ITEMS, MOST_ROWS, SIZE_COUNT, USUAL, WIDE } from "./common.mjs";
+import {
+  ABI, AUTO, BIT, BORDER_FAULT, MOST_COLUMNS, MOST_ITEMS, MOST_MARKS, MOST_ROWS, SIZE_COUNT, WIDE,
+} from "./common.mjs";
 import { LAYOUT } from "./layouts.mjs";
+import { headOf, kindOfHead, partOf } from "./letters.mjs";
 
 /** @typedef {import("./common.mjs").Shape} Shape */
 /** @typedef {import("./common.mjs").Grid} Grid */
+/** @typedef {import("./common.mjs").Limit} Limit */
+/** @typedef {import("./letters.mjs").Letter} Letter */
+/** @typedef {import("./letters.mjs").Head} Head */
+/** @typedef {import("./letters.mjs").Mark} Mark */
 /** @typedef {{ code: number, value: number, place: number }} Fault */
 /** @typedef {Shape & { regionRows: number, regionColumns: number, down: number, across: number, data: number,
     check: number, blocks: number, limit: number, isExtension: boolean }} Size */
 /** @typedef {{ form: number, shape: number } & Shape} How a message is written: its form, and the sizes that may be
     taken; rows and columns are those of one size */
 /** @typedef {{ fault?: Fault, border?: number, corrected?: number[], erased?: number[], left?: number[],
-    items?: number[] }} Answer to a symbol: of each block how many codewords were corrected, how many are erased, and
-    how many of its check codewords neither have used */
-/** @typedef {{ border: number, corrected: number[], erased: number[], left: number[], held: Uint8Array,
-    mended: Uint8Array }} Inspection */
+    symbology?: string, dealing?: number } & Partial<Letter>} Answer to a symbol: of each block how many codewords were
+    corrected, how many are erased, and how many of its check codewords neither have used; what it says, with its
+    symbology identifier; and 1 where 144 x 144 is dealt by the other dealing, else 0 */
+/** @typedef {{ border: number, dealing: number, corrected: number[], erased: number[], left: number[],
+    held: Uint8Array, mended: Uint8Array }} Inspection */
 /** @typedef {{ kind: Uint8Array, word: Uint16Array, bit: Uint8Array, modules: number[][] }} Places */
 
-// In the memory that the caller adds: after the modules of a symbol come its doubtful ones, how a message is written,
-// items, one more than a message has, and then what a call writes, of which a table of places is the largest.
-const MOST_MODULES = MOST_ROWS * MOST_COLUMNS, DOUBTFUL = MOST_MODULES, HOW = 2 * MOST_MODULES;
-const ITEMS = HOW + LAYOUT.how.size, WORD = 4, PAGE = 65536;
-const OUT = Math.ceil((ITEMS + 2 * (MOST_ITEMS + 1)) / WORD) * WORD;
-const PAGES = Math.ceil((OUT + LAYOUT.place_table.size) / PAGE);
+// In the memory that the caller adds: after the modules of a symbol come its doubtful ones, how something is written,
+// marks and items, one more of each than a symbol has, and then what a call writes, of which a table of places is the
+// largest.
+const MOST_MODULES = MOST_ROWS * MOST_COLUMNS, DOUBTFUL = MOST_MODULES, HOW = 2 * MOST_MODULES, WORD = 4, PAGE = 65536;
+/** @type {(at: number) => number} */
+const aligned = (at) => Math.ceil(at / WORD) * WORD;
+const MARKS = aligned(HOW + LAYOUT.how.size), ITEMS = MARKS + LAYOUT.mark.size * (MOST_MARKS + 1);
+const OUT = aligned(ITEMS + 2 * (MOST_ITEMS + 1)), PAGES = Math.ceil((OUT + LAYOUT.place_table.size) / PAGE);
+const CHECKS_OF_A_CORRECTION = 2; // codewords
+const NO_PART = { part: 0, parts: 0, file: [0, 0] };
+
+const BYTES = 0xff, SHORTS = 0xffff, LONGS = 0xffffffff; // the largest numbers of 8, 16 and 32 bits
+// A number that has so many bits, or else one that the library refuses.
+/** @type {(number: number, most: number, refused: number) => number} */
+const within = (number, most, refused) =>
+  (Number.isInteger(number) && number >= 0 && number <= most ? number : refused);
 
 /** @type {(shape: Shape) => string} */
 const keyOf = ({ rows, columns }) => `${rows} ${columns}`;
@@ -44,6 +62,7 @@ export class Library {
     this.modulesAt = start;
     this.doubtfulAt = start + DOUBTFUL;
     this.howAt = start + HOW;
+    this.marksAt = start + MARKS;
     this.itemsAt = start + ITEMS;
     this.outAt = start + OUT;
     /** @type {Map<string, Size>} */
@@ -51,6 +70,7 @@ export class Library {
   }
   bytes(at, count) { return new Uint8Array(this.c.memory.buffer, at, count); }
   numbers(at, count) { return new Uint16Array(this.c.memory.buffer, at, count); }
+  longs(at, count) { return new Uint32Array(this.c.memory.buffer, at, count); }
   get out() { return BigInt(this.outAt); }
   fault() { const [code, value, place] = this.numbers(this.outAt, 3); return { fault: { code, value, place } }; }
   // The arguments that give a symbol, and which of its modules are doubtful.
@@ -85,24 +105,59 @@ export class Library {
   sizeOf(shape) { return this.sizes.get(keyOf(shape)); }
   /** @type {(shape: Shape) => number} */
   usualLimit({ rows, columns }) { return this.c.ecc200_usual_limit(rows, columns); }
-  // What has a head or marks beside its items isn't shown, and so refused, as the usual extent refuses it.
+  // The border limit by which any border is taken, if each block then keeps a correction unused: the usual one, or as
+  // many modules as are wrong.
+  /** @type {(grid: Grid, doubtful?: Uint8Array | null) => number} */
+  autoLimit(grid, doubtful = null) {
+    const usual = this.usualLimit(grid), { fault } = this.read(grid, usual, doubtful);
+    if (fault?.code !== BORDER_FAULT) return usual;
+    const { left = [] } = this.read(grid, fault.value, doubtful);
+    return left.length && left.every((count) => count >= CHECKS_OF_A_CORRECTION) ? fault.value : usual;
+  }
+  // The limit that is meant: a number, AUTO, or null for the usual one.
+  /** @type {(grid: Grid, limit: Limit, doubtful?: Uint8Array | null) => number} */
+  limitOf(grid, limit, doubtful = null) {
+    return limit === AUTO ? this.autoLimit(grid, doubtful) : limit ?? this.usualLimit(grid);
+  }
   /** @type {(grid: Grid, limit: number, doubtful?: Uint8Array | null) => Answer} */
   read(grid, limit, doubtful = null) {
-    const given = this.given(grid, doubtful);
-    if (this.c.ecc200_read(...given, limit, WIDE, this.out)) return this.fault();
-    const { reading, head } = LAYOUT, [kind] = this.numbers(this.outAt + reading.head + head.kind, 1);
-    const [border, blocks, count, marks] = this.numbers(this.outAt + reading.border_faults, 4);
-    if ((kind || marks) && this.c.ecc200_read(...given, limit, USUAL, this.out)) return this.fault();
-    const items = Array.from(this.numbers(this.outAt + reading.items, count));
-    return { border, items, ...this.blockCounts(reading, blocks) };
+    if (this.c.ecc200_read(...this.given(grid, doubtful), limit, WIDE, this.out)) return this.fault();
+    const { reading } = LAYOUT, at = this.outAt;
+    const [border, blocks, count, marks, identifier, dealing] = this.numbers(at + reading.border_faults, 6);
+    const items = Array.from(this.numbers(at + reading.items, count));
+    return { border, items, marks: this.marksOf(at + reading.marks, marks), head: this.headOf(at + reading.head),
+      symbology: `]d${identifier}`, dealing, ...this.blockCounts(reading, blocks) };
   }
-  /** @type {(items: number[], how: How) => Partial<Grid> & { fault?: Fault }} */
-  write(items, { form, shape, rows, columns }) {
-    const some = items.slice(0, MOST_ITEMS + 1); // one item too many has the same effect as all of them
-    this.numbers(this.itemsAt, some.length).set(some);
-    this.numbers(this.howAt, 4).set([form, shape, rows, columns]);
-    const given = [BigInt(this.itemsAt), BigInt(some.length), 0n, 0n, BigInt(this.howAt), this.out]; // without marks
+  /** @type {(at: number, count: number) => Mark[]} */
+  marksOf(at, count) {
+    return Array.from({ length: count }, (_, k) => {
+      const [number, place] = this.longs(at + LAYOUT.mark.size * k, 2);
+      return { place, number };
+    });
+  }
+  /** @type {(at: number) => Head | null} */
+  headOf(at) {
+    const [kind, part, parts] = this.numbers(at, 3), [a, b] = this.bytes(at + LAYOUT.head.file, 2);
+    return headOf(kind, part, parts, [a, b]);
+  }
+  /** @type {(letter: Letter, how: How) => Partial<Grid> & { fault?: Fault }} */
+  write({ items, marks, head }, { form, shape, rows, columns }) {
+    // (one too many has the same effect as all of them)
+    const some = items.slice(0, MOST_ITEMS + 1), few = marks.slice(0, MOST_MARKS + 1);
+    this.numbers(this.itemsAt, some.length).set(some.map((item) => within(item, SHORTS, SHORTS)));
+    const placed = (place) => (place <= items.length ? Math.min(place, some.length) : place);
+    const flat = few.flatMap(({ place, number }) => [number, placed(place)]);
+    this.longs(this.marksAt, flat.length).set(flat.map((number) => within(number, LONGS, LONGS)));
+    this.numbers(this.howAt, 5).set([form, shape, rows, columns, WIDE]);
+    this.setHead(this.howAt + LAYOUT.how.head, head);
+    const given = [this.itemsAt, some.length, this.marksAt, few.length, this.howAt, this.outAt].map(BigInt);
     return this.c.ecc200_write(...given) ? this.fault() : this.symbol();
+  }
+  /** @type {(at: number, head: Head | null) => void} */
+  setHead(at, head) {
+    const { part, parts, file } = partOf({ head }) ?? NO_PART;
+    this.numbers(at, 3).set([kindOfHead(head), within(part, SHORTS, 0), within(parts, SHORTS, 0)]);
+    this.bytes(at + LAYOUT.head.file, 2).set([0, 1].map((k) => within(file[k], BYTES, 0)));
   }
   /** @type {(grid: Grid, limit: number, profile: number, doubtful?: Uint8Array | null) =>
       Partial<Grid> & { fault?: Fault }} */
@@ -114,9 +169,10 @@ export class Library {
   /** @type {(grid: Grid, doubtful?: Uint8Array | null) => Inspection} */
   inspect(grid, doubtful = null) {
     if (this.c.ecc200_inspect(...this.given(grid, doubtful), this.out)) throw new Error("no size has this shape");
-    const { inspection } = LAYOUT, [border, blocks, count] = this.numbers(this.outAt + inspection.border_faults, 3);
+    const { inspection } = LAYOUT;
+    const [border, blocks, count, dealing] = this.numbers(this.outAt + inspection.border_faults, 4);
     const list = (at) => this.bytes(this.outAt + at, count).slice();
-    return { border, ...this.blockCounts(inspection, blocks), held: list(inspection.held),
+    return { border, dealing, ...this.blockCounts(inspection, blocks), held: list(inspection.held),
       mended: list(inspection.mended) };
   }
   // What each module of a symbol of this shape is: its kind and, for a bit, its codeword and number; and the modules

@@ -108,8 +108,8 @@ function answerQuestion() {
   listChanged();
   hint("sheet-hint", why, Boolean(why));
 }
-const LOOKS = ["kind-typed", "kind-message", "kind-text", "profile-0", "profile-1", "shape", "size", "millimetres",
-  "paper-size", "stock", "label-width", "label-height", "label-text", "lines-as", "copies"];
+const LOOKS = ["kind-typed", "kind-message", "kind-text", "profile-0", "profile-1", "profile-2", "shape", "size",
+  "parts", "millimetres", "paper-size", "stock", "label-width", "label-height", "label-text", "lines-as", "copies"];
 export function wireLines() {
   $("messages").addEventListener("input", listChanged);
   for (const id of LOOKS) $(id).addEventListener("change", listChanged);

@@ -1,9 +1,10 @@
 // The link: the fragment of the address holds the task and what is entered, so that reload, Back and a bookmark keep
 // it. The browser sends fragments to no server. It begins with the task: read, make or learn. Its fields: message, as,
-// profile, size, damage, doubtful; grid, grid-damage, grid-doubtful; border and grid-border; and pane, which says whose
-// symbol is learnt about.
-import { MOST_TEXT, limitIn } from "./common.mjs";
+// profile, size, parts, part, damage, doubtful; grid, grid-damage, grid-doubtful; border and grid-border; and pane,
+// which says whose symbol is learnt about.
+import { ASCII, MOST_TEXT, SHORTER, SMALLEST, limitIn } from "./common.mjs";
 import { field } from "./dom.mjs";
+import { partNow, partsNow } from "./parts.mjs";
 import { isSize, sizeChosen } from "./sizes.mjs";
 import { PANE_OF, TASKS, VALID, WORKING, damageOf, doubtsOf, isDamaged, panes, store } from "./state.mjs";
 import { noLimit } from "./words.mjs";
@@ -54,14 +55,21 @@ function gridOf(rows, columns, letters) {
   return { modules, rows, columns };
 }
 
+// Forms by their names. In links of earlier pages none is named where it is ASCII.
+const FORM_NAMES = new Map([["shorter", SHORTER], ["smallest", SMALLEST]]);
+/** @type {(text: string | null) => number} */
+const countIn = (text) => (/^\d{1,2}$/.test(text ?? "") ? Number(text) : 1);
+
 // Whether there is a symbol of what is entered.
 const isThere = ({ stage, isEntering }) => stage === VALID || (stage === WORKING && !isEntering);
 function fragment() {
   const { write, read } = panes, fields = new URLSearchParams();
   if (field("message").value.length <= MOST_TEXT) fields.set("message", field("message").value);
   if (!field("kind-message").checked) fields.set("as", field("kind-text").checked ? "text" : "typed");
-  if (field("profile-1").checked) fields.set("profile", "shorter");
+  for (const [name, form] of FORM_NAMES) if (field(`profile-${form}`).checked) fields.set("profile", name);
   if (sizeChosen() !== "square") fields.set("size", sizeChosen());
+  if (partsNow() > 1) fields.set("parts", String(partsNow()));
+  if (partNow() > 1) fields.set("part", String(partNow()));
   if (isThere(write) && isDamaged(write)) fields.set("damage", gapsOf(damageOf(write)));
   if (isThere(write) && write.doubtful) fields.set("doubtful", gapsOf(doubtsOf(write)));
   if (write.limit !== null) fields.set("border", String(write.limit));
@@ -129,8 +137,10 @@ export function fromFragment(text) {
   return {
     message: fields.get("message") ?? "",
     kind: ["typed", "text"].find((kind) => kind === fields.get("as")) ?? "message",
-    isShorter: fields.get("profile") === "shorter",
+    form: FORM_NAMES.get(fields.get("profile")) ?? ASCII,
     size: fields.get("size") ?? "square",
+    parts: countIn(fields.get("parts")),
+    part: countIn(fields.get("part")),
     damage: (count) => placesOf(fields.get("damage"), count),
     doubtful: (count) => placesOf(fields.get("doubtful"), count),
     limit: limit("border"),

@@ -1,9 +1,11 @@
 // What is told of the symbols that were found: in words, and in files of their list. CSV is for tables; JSON has all
 // that is known of them, and can be opened again.
+import { textOf } from "./charsets.mjs";
 import { limitIn, shapeWords } from "./common.mjs";
 import { FOUND } from "./csv.mjs";
 import { gridText } from "./grids.mjs";
 import { typed } from "./gs1.mjs";
+import { partOf } from "./letters.mjs";
 import { borne, refusal } from "./words.mjs";
 
 /** @typedef {import("./pictures.mjs").Sighted & { seen?: import("./examine.mjs").Seen }} Sighted */
@@ -11,13 +13,14 @@ import { borne, refusal } from "./words.mjs";
 const LEAST_SPARE = "Too few corrections are left unused to tell whether that is right.";
 
 /** @type {(symbol: Sighted) => string} */
-export const saidBy = ({ items }) => typed(items);
+export const saidBy = ({ items, marks, head }) => typed({ items, marks, head });
 /** @type {(symbol: Sighted) => string} */
 export const whyUnread = ({ fault, seen }) => (fault ? refusal(fault, seen) : LEAST_SPARE);
 /** @type {(symbol: Sighted) => string} */
 export function remarksOn(symbol) {
-  const { how, isRead, corrected, erased, border } = symbol;
-  const parts = [shapeWords(symbol), how, isRead ? borne({ corrected, erased, border }) : ""];
+  const { how, isRead, head, corrected, erased, border } = symbol, part = partOf({ head });
+  const which = part ? `part ${part.part} of ${part.parts}` : head ? "reader programming" : "";
+  const parts = [shapeWords(symbol), which, how, isRead ? borne({ corrected, erased, border }) : ""];
   return parts.filter(Boolean).join("; ");
 }
 
@@ -33,13 +36,15 @@ export function csvOf(list) {
 }
 /** @type {(symbol: Sighted) => object} */
 const recordOf = (symbol) => {
-  const { rows, columns, isRead, items, how, limit, doubtful, corrected, erased, border } = symbol;
+  const { rows, columns, isRead, items, marks, head, symbology, how, limit, doubtful } = symbol;
+  const { corrected, erased, border } = symbol, { charset } = textOf({ items, marks, head });
   const corners = symbol.corners.map(({ x, y }) => [x, y].map((at) => Math.round(10 * at) / 10));
   const shown = { rows, columns, corners, stands: how, borderLimit: limit,
     doubtful: doubtful ? [...doubtful.keys()].filter((k) => doubtful[k]) : [],
     modules: gridText(symbol).trimEnd().split("\n") };
   if (!isRead) return { read: false, why: whyUnread(symbol), ...shown };
-  return { read: true, text: saidBy(symbol), items, ...shown, corrected, erased, border };
+  const said = { text: saidBy(symbol), charset, items, marks, head, symbology };
+  return { read: true, ...said, ...shown, corrected, erased, border };
 };
 /** @type {(list: Sighted[], isComplete: boolean) => string} */
 export const jsonOf = (list, isComplete) =>

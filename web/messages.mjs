@@ -1,45 +1,51 @@
-// How messages are spelled: \\ is the backslash, \F FNC1, \xHH a byte, and any other character of 32 to 126 itself; in
-// the values of element strings also \( a bracket.
+// How letters are spelled: \\ is the backslash, \F FNC1, \xHH a byte, \E{N} the ECI assignment N, and any other
+// character of 32 to 126 itself; in the values of element strings, which have no ECI, also \( a bracket.
+import { letterOfText, textOf } from "./charsets.mjs";
 import { FNC1, MOST_LINES, MOST_TEXT } from "./common.mjs";
+import { letterOf } from "./letters.mjs";
 
-/** @typedef {{ items?: number[], column?: number, why?: string, ways?: { name: string, text: string }[],
-    isTooMuch?: boolean, isElements?: boolean }} Taken what a text stands for, or why it isn't taken */
+/** @typedef {import("./letters.mjs").Letter} Letter */
+/** @typedef {{ column?: number, why?: string, ways?: { name: string, text: string }[], isTooMuch?: boolean,
+    isElements?: boolean, isText?: boolean }} Fault of a text: why it isn't taken, and where; and how else it may be
+    spelled */
+/** @typedef {Fault & { letter?: Letter }} Taken what a text stands for, or why it isn't taken */
 /** @type {(text: string, isValue?: boolean) => Taken} */
 export function parse(text, isValue = false) {
-  const items = [];
+  const letter = letterOf([]), { items, marks } = letter;
   for (let at = 0; at < text.length;) {
-    const code = text.codePointAt(at), rest = text.slice(at, at + 4);
+    const code = text.codePointAt(at), rest = text.slice(at, at + LONGEST_SPELLING);
+    const [hex] = /^\\x[0-9A-Fa-f]{2}/.exec(rest) ?? [], [eci, number] = (!isValue && ECI_SPELLED.exec(rest)) || [];
     if (rest.startsWith("\\\\")) { items.push(92); at += 2; }
     else if (rest.startsWith("\\F")) { items.push(FNC1); at += 2; }
     else if (isValue && rest.startsWith("\\(")) { items.push(40); at += 2; }
-    else if (/^\\x[0-9A-Fa-f]{2}$/.test(rest)) { items.push(parseInt(rest.slice(2), 16)); at += 4; }
+    else if (hex) { items.push(parseInt(hex.slice(2), 16)); at += hex.length; }
+    else if (eci) { marks.push({ place: items.length, number: Number(number) }); at += eci.length; }
     else if (code === 92) return { column: at + 1, why: STRAY, ways: [{ name: TWICE, text: doubled(text) }] };
     else if (code >= 32 && code <= 126) { items.push(code); at += 1; }
     else return { column: at + 1, why: `is ${named(code)}, which has no spelling of its own`, ways: respelled(text) };
   }
-  return { items };
+  return { letter };
 }
-const BACKSLASH = 92;
-const STRAY = "is a backslash that doesn’t begin a spelling; those are \\\\, \\F and \\xHH";
+const BACKSLASH = 92, ECI_SPELLED = /^\\E\{(\d{1,6})\}/, LONGEST_SPELLING = "\\E{999999}".length;
+const STRAY = "is a backslash that doesn’t begin a spelling; those are \\\\, \\F, \\xHH and \\E{N}";
 const TWICE = "with the backslash doubled";
-// A text that is taken as it stands, in UTF-8.
+// A text that is taken as it stands.
 /** @type {(text: string) => Taken} */
-export function itemsOfText(text) {
+export function takenAsText(text) {
   const much = tooMuch(text);
-  return much ? { why: much, isTooMuch: true } : { items: [...new TextEncoder().encode(text)] };
+  return much ? { why: much, isTooMuch: true } : { letter: letterOfText(text), isText: true };
 }
-// What bytes are as text in UTF-8, if they are that and otherwise spelled than it stands; else "".
-/** @type {(items: number[]) => string} */
-export function utf8Of(items) {
-  if (!items.some((item) => item > 127 || item === BACKSLASH) || items.includes(FNC1)) return "";
-  const decoder = new TextDecoder("utf-8", { fatal: true, ignoreBOM: true });
-  try { return decoder.decode(Uint8Array.from(items)); } catch { return ""; }
+// What a letter is as text, if it is that and otherwise spelled than it stands; else "".
+/** @type {(letter: Letter) => string} */
+export function unspelled(letter) {
+  const { items, marks } = letter, isOdd = marks.length || items.some((item) => item > 127 || item === BACKSLASH);
+  return isOdd && !items.includes(FNC1) ? textOf(letter).text ?? "" : "";
 }
 // The same, if each of its characters can be seen.
-/** @type {(items: number[]) => string} */
-export function visibleUtf8Of(items) {
-  const text = utf8Of(items);
-  return Array.from(text).every((character) => character === " " || !INVISIBLE.test(character)) ? text : "";
+/** @type {(letter: Letter) => string} */
+export function visibleTextOf(letter) {
+  const text = unspelled(letter), isComposed = text === text.normalize("NFC") && !LONE_MARK.test(text);
+  return isComposed && Array.from(text).every((character) => character === " " || !UNSEEN.test(character)) ? text : "";
 }
 // Why a text is more than a field takes, or "".
 /** @type {(text: string, most?: number) => string} */
@@ -53,11 +59,14 @@ export function tooMuch(text, most = MOST_TEXT) {
 
 // The text with each backslash that begins no spelling doubled.
 const doubled = (text) =>
-  text.replace(/\\(?:\\|F|x[0-9A-Fa-f]{2})|\\/g, (found) => (found.length > 1 ? found : "\\\\"));
+  text.replace(/\\(?:\\|F|x[0-9A-Fa-f]{2}|E\{\d{1,6}\})|\\/g, (found) => (found.length > 1 ? found : "\\\\"));
 
 const CONTROLS = { 9: "a tab", 10: "a line break", 13: "a line break" };
-// Controls, formats, spaces, marks that stand on the letter before, and fillers.
+// Controls, formats, spaces and fillers; these and marks that stand on the letter before; and such a mark that stands
+// on no letter.
+const UNSEEN = /[\p{C}\p{Z}\u115F\u1160\u3164\uFFA0]/u;
 const INVISIBLE = /[\p{C}\p{Z}\p{M}\u115F\u1160\u3164\uFFA0]/u;
+const LONE_MARK = /(?:^|[^\p{L}\p{M}\p{N}\p{S}])\p{M}/u;
 const codePoint = (code) => `U+${code.toString(16).toUpperCase().padStart(4, "0")}`;
 export function named(code) {
   if (CONTROLS[code]) return CONTROLS[code];
@@ -81,3 +90,6 @@ export const spelledItem = (item) =>
   (isPlain(item) ? String.fromCharCode(item) : item === 92 ? "\\\\" : item === FNC1 ? "\\F" : hexed(item));
 /** @type {(items: number[]) => string} */
 export const spelled = (items) => items.map(spelledItem).join("");
+/** @type {(letter: Letter) => string} */
+export const spelledLetter = ({ items, marks }) => spelled(items.slice(0, marks[0]?.place)) + marks
+  .map(({ place, number }, k) => `\\E{${number}}${spelled(items.slice(place, marks[k + 1]?.place))}`).join("");

@@ -23,12 +23,12 @@ CHARSET = '<meta charset="utf-8">'
 HEAD = """// Data Matrix ECC 200 for programs in JavaScript, with the proved library and the sampler inside.
 // Its types are in ecc200.d.mts; docs/JAVASCRIPT.md of Mitsubadoor tells how it is used.
 """
-OPENED = "\nconst bytesOf = (text) => Uint8Array.from(atob(text), (c) => c.charCodeAt(0));\n"
+OPENED = "\nconst bytesIn = (text) => Uint8Array.from(atob(text), (c) => c.charCodeAt(0));\n"
 GIVEN = """const opened = await Ecc200.load(libraryBytes, samplerBytes);
 const given = (name) => opened[name].bind(opened);
 export const read = given("read"), write = given("write"), readGrid = given("readGrid"), normal = given("normal");
 export const sizes = given("sizes");
-export { FNC1, Refused, luminanceOf };
+export { FNC1, Refused, joined, luminanceOf };
 """
 IMPORT = re.compile(r'^import (?:\{[^}]*\} from )?"\./([a-z0-9]+\.mjs)";\n', re.M)
 DECLARED = re.compile(r"^(?:export )?(?:async )?(?:const|let|function|class) "
@@ -106,7 +106,7 @@ def packed_module(library, sampler, modules):
     """The module for other programs: one file, which fetches nothing either."""
     given = {"library": library, "sampler": sampler}
     letters = {name: base64.b64encode(body).decode() for name, body in given.items()}
-    code = "".join(f'const {name}Bytes = bytesOf("{text}");\n' for name, text in letters.items())
+    code = "".join(f'const {name}Bytes = bytesIn("{text}");\n' for name, text in letters.items())
     return f"{HEAD}{joined(modules, 'ecc200.mjs')}{OPENED}{code}{GIVEN}"
 
 

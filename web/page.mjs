@@ -4,12 +4,14 @@
 import { wireCamera } from "./camera.mjs";
 import { wireCompare } from "./compare.mjs";
 import { wireDamage } from "./damage.mjs";
+import { letterOfText } from "./charsets.mjs";
 import { ASCII, SQUARE, messageOf } from "./common.mjs";
 import { isWorking, stopAll, whenChanged, workingSince } from "./desk.mjs";
 import { $ } from "./dom.mjs";
 import { wireDropping } from "./dropping.mjs";
 import { desks, openDesks, wireDetails } from "./flow.mjs";
 import { wireFound } from "./found.mjs";
+import { wireGathered } from "./gathered.mjs";
 import { readIdentifiers } from "./gs1.mjs";
 import { gridText } from "./grids.mjs";
 import { makeInstallable } from "./install.mjs";
@@ -59,9 +61,9 @@ async function startPage() {
   listSizes(loaded.sizes);
   wireBusy(); wireDetails(); wireDamage(); wireSource(); wireDropping();
   wireTaking(); wireLines(); wireSerial(); wirePreview(); wirePrinting(); wireLesson(); wireCamera(); wireFound();
-  const items = Array.from("Mitsubadoor", (c) => c.charCodeAt(0));
-  const how = { form: ASCII, shape: SQUARE, rows: 0, columns: 0 };
-  drawSmall($("logo"), await desks.quick.ask("write", { items, how, hasLook: false }, "logo"));
+  wireGathered();
+  const letters = [letterOfText("Mitsubadoor")], how = { form: ASCII, shape: SQUARE, rows: 0, columns: 0 };
+  drawSmall($("logo"), await desks.quick.ask("write", { letters, how, hasLook: false }, "logo"));
   await wireLink(restore, toast);
   wireCompare();
   makeInstallable();

@@ -8,12 +8,14 @@ import { qrCodeIn } from "./qr.mjs";
 
 /** @typedef {import("./ecc200.mjs").Ecc200} Ecc200 */
 /** @typedef {import("./common.mjs").Grid} Grid */
-/** @typedef {Grid & { corners: import("./sampler.mjs").Point[], isRead: boolean, how: string, items: number[],
-    border: number, corrected: number[], erased: number[], doubtful: Uint8Array | null, limit: number | null,
-    fault: any, isExact?: boolean }} Sighted a symbol in a picture; its limit is null where that is the usual one; it is
-    exact if the picture is its grid */
+/** @typedef {import("./letters.mjs").Letter} Letter */
+/** @typedef {import("./common.mjs").Limit} Limit */
+/** @typedef {Grid & Letter & { corners: import("./sampler.mjs").Point[], isRead: boolean, how: string,
+    symbology: string, border: number, corrected: number[], erased: number[], doubtful: Uint8Array | null, limit: Limit,
+    fault: any, isExact?: boolean }} Sighted a symbol in a picture, with what it says; its limit is null where that is
+    the usual one; it is exact if the picture is its grid */
 /** @typedef {Grid & { corners: import("./sampler.mjs").Point[], isRead: boolean, how: string,
-    doubtful: Uint8Array | null, limit: number | null }} Kept of a symbol in a list that was saved */
+    doubtful: Uint8Array | null, limit: Limit }} Kept of a symbol in a list that was saved */
 /** @typedef {{ grey: Uint8Array, width: number, height: number, scale: number, contrast: number,
     between: [number, number], isOneColour: boolean, view: ImageBitmap }} Look at a picture: `scale` of its pixels each
     way make one; by how much its greys differed, and between which they are now */
@@ -80,9 +82,10 @@ function standing({ corners, isInverted, isMirrored }) {
 /** @type {(lib: import("./library.mjs").Library, scale: number) => (symbol: import("./sampler.mjs").Found) =>
     Sighted} */
 const sightedBy = (lib, scale) => (symbol) => {
-  const { rows, columns, modules, doubtful, items, border, corrected, erased, fault, hasMargin, limit } = symbol;
+  const { rows, columns, modules, doubtful, border, corrected, erased, fault, hasMargin, limit } = symbol;
+  const { items, marks, head, symbology } = symbol;
   const corners = symbol.corners.map(({ x, y }) => ({ x: x * scale, y: y * scale }));
-  return { rows, columns, modules, doubtful, items, border, corrected, erased, fault, corners,
+  return { rows, columns, modules, doubtful, items, marks, head, symbology, border, corrected, erased, fault, corners,
     isRead: !fault && hasMargin, how: standing(symbol), limit: limit === lib.usualLimit(symbol) ? null : limit };
 };
 // The symbols of a look, as many as are wanted, in reading order; found by the time `end` at the latest.
@@ -105,17 +108,19 @@ function gridSymbol({ library }, { grey, width, scale, between }) {
   const some = all.map(({ grid, frame }) => ({ ...found(library, grid), grid, frame }));
   const symbol = some.find(({ isRead }) => isRead) ?? some.find(({ grid }) => hasBorder(library, grid));
   if (!symbol) return null;
-  const { frame: { left, top, width: wide, height: high }, isRead, how, rows, columns, modules } = symbol;
+  const { frame: { left, top, width: wide, height: high }, isRead, how, rows, columns, modules, limit = null } = symbol;
   const corners = [[left, top], [left + wide, top], [left + wide, top + high], [left, top + high]]
     .map(([x, y]) => ({ x: x * scale, y: y * scale }));
-  return readAs(library, { rows, columns, modules, corners, isRead, how, doubtful: null, limit: null });
+  return readAs(library, { rows, columns, modules, corners, isRead, how, doubtful: null, limit });
 }
 // A symbol with what the library says of it.
 /** @type {(library: import("./library.mjs").Library, symbol: Kept) => Sighted} */
 function readAs(library, symbol) {
-  const { items = [], border = 0, corrected = [], erased = [], fault = null } =
-    library.read(symbol, symbol.limit ?? library.usualLimit(symbol), symbol.doubtful);
-  return { ...symbol, isRead: symbol.isRead && !fault, items, border, corrected, erased, fault };
+  const limit = library.limitOf(symbol, symbol.limit, symbol.doubtful);
+  const answer = library.read(symbol, limit, symbol.doubtful), { fault = null } = answer;
+  const { items = [], marks = [], head = null, symbology = "" } = answer, said = { items, marks, head, symbology };
+  const { border = 0, corrected = [], erased = [] } = answer;
+  return { ...symbol, isRead: symbol.isRead && !fault, ...said, border, corrected, erased, fault };
 }
 // What a list that was saved has, as the library reads it now.
 /** @type {(library: import("./library.mjs").Library, list: import("./listed.mjs").List) => Sights} */

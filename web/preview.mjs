@@ -27,13 +27,13 @@ function labelDrawn({ grid, x, y, text, width: room }, { width, height }) {
 }
 /** @type {(entry: import("./entries.mjs").Entry) => Node} */
 function labelShown(entry) {
-  const { number, grid, text, items, copies } = entry, stand = entry.why ? {} : onLabel(entry, millimetres());
+  const { number, grid, text, letter, copies } = entry, stand = entry.why ? {} : onLabel(entry, millimetres());
   const told = `${number}${copies === 1 ? "" : `, ${plural(copies, "copy", "copies")}`}: `;
   const why = entry.why ? `${told}${entry.why}` : stand.why;
   if (why) return made("figure", {}, made("p", { className: "hint bad", textContent: why }));
   const { label, placed } = stand;
   const drawn = label ? [labelDrawn(placed, label)] : [drawingOf(grid), made("figcaption", { textContent: text })];
-  return made("figure", {}, ...drawn, made("p", {}, told, made("code", { textContent: readable(items) })));
+  return made("figure", {}, ...drawn, made("p", {}, told, made("code", { textContent: readable(letter) })));
 }
 /** @type {(lines: import("./csv.mjs").Line[]) => void} */
 function drawSteps(lines) {

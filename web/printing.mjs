@@ -4,12 +4,13 @@ import { SHORTER, plural, shapeName, shapeWords } from "./common.mjs";
 import { $, field, hint, made } from "./dom.mjs";
 import { copied, entriesNow, wrongGs1 } from "./entries.mjs";
 import { readable } from "./gs1.mjs";
+import { partOf } from "./letters.mjs";
 import { labelsFile, labelsText } from "./labelfile.mjs";
 import { laidOut, stockNow } from "./labels.mjs";
 import { versionNow } from "./lines.mjs";
 import { paperNow, setPage, setPageSize, tooWide } from "./paper.mjs";
 import { fittedText, isDrawable, pdfOf } from "./pdf.mjs";
-import { profileNow } from "./source.mjs";
+import { formNow } from "./source.mjs";
 import { VALID, WORKING, mark } from "./state.mjs";
 import { QUIET } from "./symbol.mjs";
 import { drawingOf, given, giving, millimetres, pageOf, pngOf, save, sizeNow, svgOf, toast } from "./taking.mjs";
@@ -54,10 +55,10 @@ function fillPaper() {
   if (isSheet) return;
   const why = whyNotPrinted();
   if (why) { layOut("one", [noteOf(why)], 100, 100); return; }
-  const { grid, isDamagedOne, items } = given(), { width, height } = sizeNow(grid);
-  const damage = isDamagedOne ? "; damaged" : "", wrong = wrongGs1(items);
+  const { grid, isDamagedOne, letter } = given(), { width, height } = sizeNow(grid);
+  const damage = isDamagedOne ? "; damaged" : "", wrong = wrongGs1(letter);
   const size = `${shapeWords(grid)} modules of ${millimetres()} mm, ${QUIET} of quiet zone${damage}`;
-  const text = items ? fitted(readable(items), height) || "the empty message" : "not read";
+  const text = letter ? fitted(readable(letter), height) || "the empty message" : "not read";
   const texts = [captionOf(text), noteOf(size), ...(wrong ? [noteOf(wrong)] : [])];
   layOut("one", [figure(grid, texts)], width, height);
 }
@@ -106,9 +107,9 @@ function layOutSheet(entries) {
   return "";
 }
 // What is given, in words: how many symbols, and how many rows want no copy.
-/** @type {(count: number, none: number, where: string, profile: number) => string} */
-function givenWords(count, none, where, profile) {
-  const how = profile === SHORTER ? ", stored as bytes where that is smaller" : "";
+/** @type {(count: number, none: number, where: string, form: number) => string} */
+function givenWords(count, none, where, form) {
+  const how = form === SHORTER ? ", stored as bytes where that is smaller" : "";
   const left = none ? ` ${plural(none, "row wants", "rows want")} 0 copies.` : "";
   return `${plural(count, "symbol is", "symbols are")} ${where}${how}.${left}`;
 }
@@ -123,10 +124,11 @@ function lacking(entries) {
 /** @type {(act: (entries: Entry[], pages: import("./pdf.mjs").Page[] | null) => any, where: string,
     how?: { hasCopies?: boolean, noteOn?: (entries: Entry[]) => string }) => any} */
 const withAll = (act, where, { hasCopies = true, noteOn = () => "" } = {}) => async () => {
-  const own = versionNow(), profile = profileNow(), { why, entries: lines = [] } = await entriesNow();
-  const wanted = lines.filter(({ copies }) => copies), entries = hasCopies ? copied(wanted) : wanted;
+  const own = versionNow(), form = formNow(), { why, entries: all = [] } = await entriesNow();
+  const wanted = all.filter(({ copies }) => copies), entries = hasCopies ? copied(wanted) : wanted;
   const laid = why ? { why } : pagesNow(entries), fault = laid.why || await act(entries, laid.pages);
-  const said = fault || givenWords(entries.length, lines.length - wanted.length, where, profile) + noteOn(entries);
+  const none = new Set(all.filter(({ copies }) => !copies).map(({ number }) => number)).size;
+  const said = fault || givenWords(entries.length, none, where, form) + noteOn(entries);
   if (own === versionNow()) hint("sheet-hint", said, Boolean(fault), "messages");
   return !fault;
 };
@@ -137,7 +139,10 @@ async function printSheet() {
   window.print();
 }
 /** @type {(entry: Entry, ending: string) => string} */
-const fileName = ({ number, grid }, ending) => `${String(number).padStart(3, "0")}-symbol-${shapeName(grid)}.${ending}`;
+const fileName = ({ number, letter, grid }, ending) => {
+  const part = partOf(letter), which = part ? `-${part.part}-of-${part.parts}` : "";
+  return `${String(number).padStart(3, "0")}${which}-symbol-${shapeName(grid)}.${ending}`;
+};
 // Saves a file for each symbol with its text, in one archive.
 /** @type {(ending: string, bytesOf: (grid: Grid, text: string) => Uint8Array | Promise<Uint8Array>) => any} */
 const zipping = (ending, bytesOf) => withAll(async (entries) => {

@@ -1,25 +1,27 @@
 // The sampler, which finds symbols in pictures: sampler/*.c, compiled for WebAssembly. It has a memory of its own, in
 // which its stack comes first, so that a stack that runs over traps; and it asks the proved library as natively.
 import { LAYOUT, SAMPLER } from "./layouts.mjs";
+import { headOf, letterOf } from "./letters.mjs";
 
 /** @typedef {import("./library.mjs").Library} Library */
 /** @typedef {import("./library.mjs").Fault} Fault */
 /** @typedef {import("./common.mjs").Grid} Grid */
 /** @typedef {{ x: number, y: number }} Point in pixels from the left and from the top of the picture */
-/** @typedef {Grid & { doubtful: Uint8Array | null, corners: Point[], isInverted: boolean, isMirrored: boolean,
-    limit: number, items: number[], border: number, corrected: number[], erased: number[], left: number[],
-    fault: Fault | null, hasMargin: boolean }} Found a symbol, upright: which of its modules are doubtful, if some are;
-    its corners from the top left one to the right; whether it is light on dark, and shown in a mirror; how many wrong
-    border modules it was read with, at most; what it says, how many are wrong, and of each block what was corrected, is
-    erased, and is left; or why it isn't read: by its fault, or since too few corrections are left unused */
+/** @typedef {Grid & import("./letters.mjs").Letter & { doubtful: Uint8Array | null, corners: Point[],
+    isInverted: boolean, isMirrored: boolean, limit: number, symbology: string, border: number, corrected: number[],
+    erased: number[], left: number[], fault: Fault | null, hasMargin: boolean }} Found a symbol, upright: which of its
+    modules are doubtful, if some are; its corners from the top left one to the right; whether it is light on dark, and
+    shown in a mirror; how many wrong border modules it was read with, at most; what it says, with its symbology
+    identifier; how many are wrong, and of each block what was corrected, is erased, and is left; or why it isn't read:
+    by its fault, or since too few corrections are left unused */
 /** @typedef {{ symbols: Found[], unread: Found[], ended: number, hasNoMemory: boolean }} Finding why the search ended:
     a number of SAMPLER, WHOLE if nothing was left out */
 /** @typedef {{ most?: number, mostUnread?: number, milliseconds?: number, effort?: number, leastSide?: number,
     margin?: number }} Search how many symbols to find at most, and to tell of that aren't read; how long to try by the
     clock, or if that isn't said, how much work to do, in percent of the usual; the fewest modules of a side; how many
     corrections each block must leave unused */
-const { sample: SAMPLE, sample_search: SEARCH, reading: READING, fault: FAULT, place_table: TABLE, place: PLACE,
-  size_table: SIZES, sample_point: POINT } = LAYOUT;
+const { sample: SAMPLE, sample_search: SEARCH, reading: READING, fault: FAULT, head: HEAD_AT, mark: MARK_AT,
+  place_table: TABLE, place: PLACE, size_table: SIZES, sample_point: POINT } = LAYOUT;
 const { READ, REFUSED, WHOLE } = SAMPLER;
 const NANOSECONDS = 1e6; // of a millisecond
 const MOST_BYTES = 2 ** 31; // of one piece of memory; more than that isn't there, and a length has 32 bits
@@ -131,10 +133,26 @@ export class Sampler {
       corners: [0, 1, 2, 3].map((k) => ({ x: coordinate(k, POINT.x), y: coordinate(k, POINT.y) })),
       isInverted: view.getUint8(at + SAMPLE.inverted) === 1, isMirrored: view.getUint8(at + SAMPLE.mirrored) === 1,
       limit: number(SAMPLE.border_limit), hasMargin: why === READ || why === REFUSED,
-      items: Array.from({ length: ofReading(READING.item_count) }, (_, k) => ofReading(READING.items + 2 * k)),
+      ...this.letterAt(view, at + SAMPLE.reading, isRefused),
       border: ofReading(READING.border_faults), corrected: inBlocks(READING.corrected),
       erased: inBlocks(READING.erased), left: inBlocks(READING.left),
       fault: isRefused ? { code: of(FAULT.code), value: of(FAULT.value), place: of(FAULT.place) } : null,
+    };
+  }
+  // What a reading says, with its symbology identifier; nothing, where it is refused.
+  /** @type {(view: DataView, at: number, isRefused: boolean) => import("./letters.mjs").Letter &
+      { symbology: string }} */
+  letterAt(view, at, isRefused) {
+    if (isRefused) return { ...letterOf([]), symbology: "" };
+    const number = (place) => view.getUint16(at + place, true), long = (place) => view.getUint32(at + place, true);
+    const markAt = (place) => ({ place: long(place + MARK_AT.place), number: long(place + MARK_AT.number) });
+    const list = (count, of) => Array.from({ length: number(count) }, (_, k) => of(k));
+    const file = [0, 1].map((k) => view.getUint8(at + READING.head + HEAD_AT.file + k));
+    const [kind, part, parts] = ["kind", "part", "parts"].map((name) => number(READING.head + HEAD_AT[name]));
+    return {
+      items: list(READING.item_count, (k) => number(READING.items + 2 * k)),
+      marks: list(READING.mark_count, (k) => markAt(READING.marks + k * MARK_AT.size)),
+      head: headOf(kind, part, parts, file), symbology: `]d${number(READING.identifier)}`,
     };
   }
 }

@@ -1,28 +1,33 @@
 // Where the symbol comes from: a message, a grid, or a picture.
 import { bitmapOf } from "./bitmap.mjs";
-import { ASCII, MOST_TEXT, SHORTER, TOO_LONG, plural, shapeWords } from "./common.mjs";
+import { ASCII, MOST_TEXT, SHORTER, SMALLEST, TOO_LONG, isSameShape, plural, shapeWords } from "./common.mjs";
 import { $, allOf, field, hint, made, withCode } from "./dom.mjs";
 import { C40, EDIFACT, TURNED } from "./examples.mjs";
 import { begin, desks, setLimit, showTask, take, whenShown } from "./flow.mjs";
 import { choose, clearSights, isShown, keepingSights, showSights } from "./found.mjs";
 import { gridText } from "./grids.mjs";
-import { itemsOf, itemsTyped, whyNot } from "./gs1.mjs";
+import { takenAsSpelled, takenAsTyped, whyNot } from "./gs1.mjs";
 import { beginEntry, tellLink } from "./link.mjs";
-import { itemsOfText, tooMuch } from "./messages.mjs";
+import { takenAsText, tooMuch } from "./messages.mjs";
 import { brokenWords, clear, enter, inTurn, isBroken, refuse, settled } from "./order.mjs";
+import { MOST_PARTS, chooseParts, lettersTaken, partNow, partsNow, showPart, wireParts } from "./parts.mjs";
 import { chooseSize, howIn, showChoice } from "./sizes.mjs";
 import { TASKS, VALID, panes } from "./state.mjs";
 import { drawnSvg } from "./svg.mjs";
 import { refusal, stood, tooLong } from "./words.mjs";
 
 /** @typedef {import("./state.mjs").Mark} Mark */
-export const profileNow = () => (field("profile-1").checked ? SHORTER : ASCII);
+/** @typedef {import("./common.mjs").Limit} Limit */
+const FORMS = [SMALLEST, ASCII, SHORTER];
+// The form that is chosen.
+/** @type {() => number} */
+export const formNow = () => FORMS.find((form) => field(`profile-${form}`).checked);
 // What a text that is entered as a message stands for, as it is to be taken.
-/** @type {(text: string) => any} */
-export const itemsNow = (text) => KINDS[kindNow()](text);
+/** @type {(text: string) => import("./messages.mjs").Taken} */
+export const takenNow = (text) => KINDS[kindNow()](text);
 // How what is entered can be taken, by the names of index.html and of links.
-/** @type {Record<string, (text: string) => any>} */
-const KINDS = { typed: itemsTyped, text: itemsOfText, message: itemsOf };
+/** @type {Record<string, (text: string) => import("./messages.mjs").Taken>} */
+const KINDS = { typed: takenAsTyped, text: takenAsText, message: takenAsSpelled };
 export const kindNow = () => Object.keys(KINDS).find((kind) => field(`kind-${kind}`).checked);
 const LIKEST = " What looks most like one is outlined, and listed with the reason.";
 const STILL = "The symbol that is shown is the one before, and isn’t read.";
@@ -48,7 +53,7 @@ function offer(ways) {
 const offerKind = (words, kind) => offerOne(words, () => { field(`kind-${kind}`).checked = true; });
 /** @type {(words: string, ways?: { name: string, text: string }[], mayBeText?: boolean) => void} */
 function refuseMessage(words, ways = [], mayBeText = ways.length > 0) {
-  for (const each of [ASCII, SHORTER, "now"]) $(`side-${each}`).textContent = "";
+  for (const each of [...FORMS, "now"]) $(`side-${each}`).textContent = "";
   hint("message-hint", `${words} ${panes.write.modules ? STILL : ""}`, true, "message");
   offer(ways);
   if (mayBeText) offerKind("Take it as text", "text");
@@ -56,11 +61,12 @@ function refuseMessage(words, ways = [], mayBeText = ways.length > 0) {
 }
 /** @type {(shapes: (import("./common.mjs").Shape | null)[]) => void} */
 function showShapes(shapes) {
-  for (const profile of [ASCII, SHORTER])
-    $(`side-${profile}`).textContent = shapes[profile] ? shapeWords(shapes[profile]) : "doesn’t fit";
-  $("side-now").textContent = $(`side-${profileNow()}`).textContent;
+  for (const form of FORMS) $(`side-${form}`).textContent = shapes[form] ? shapeWords(shapes[form]) : "doesn’t fit";
+  const own = shapes[formNow()], plain = shapes[ASCII], isSaving = own && plain && !isSameShape(own, plain);
+  const saved = isSaving ? ` in place of ${shapeWords(plain)}` : "";
+  $("side-now").textContent = `${$(`side-${formNow()}`).textContent}${saved}`;
 }
-const SPELLINGS = "`\\\\` is the backslash, `\\xHH` a byte, `\\F` FNC1.";
+const SPELLINGS = "`\\\\` is the backslash, `\\xHH` a byte, `\\F` FNC1, `\\E{26}` the ECI 26.";
 const AS_ELEMENTS = "Taken as GS1 data. To take it as plain text, spell the first bracket as a byte: `\\x28` is ( and "
   + "`\\x5B` is [.";
 const AS_TYPED = "A backslash is one here, and spells nothing.";
@@ -69,7 +75,7 @@ const AS_TYPED = "A backslash is one here, and spells nothing.";
 function hintOn(text, { isElements }) {
   const kind = kindNow();
   if (isElements) return kind === "typed" ? "Taken as GS1 data." : AS_ELEMENTS;
-  if (kind === "typed" && /\\(?:F|x[0-9A-Fa-f]{2})/.test(text)) return AS_TYPED;
+  if (kind === "typed" && /\\(?:F|x[0-9A-Fa-f]{2}|E\{\d+\})/.test(text)) return AS_TYPED;
   return kind === "message" && text.includes("\\") ? SPELLINGS : "";
 }
 // Offers what else a message may be meant as that is taken.
@@ -80,27 +86,36 @@ function offerOthers(text, { isElements }) {
   else if (hintOn(text, { isElements })) offerKind("Take it as spelled", "message");
 }
 
+// What isn't written, and by how much it is too long; and what could be written instead.
+/** @type {(written: any, letters: import("./letters.mjs").Letter[], how: import("./library.mjs").How) => void} */
+function refuseWritten({ fault, at, fits }, letters, how) {
+  const { length } = letters[at].items, which = letters.length > 1 ? `Part ${at + 1} of ${letters.length}: ` : "";
+  const over = plural(length - fits, "character", "characters");
+  const why = fault.code === TOO_LONG ? `${tooLong(how)} It is ${over} too long.` : refusal(fault);
+  refuseMessage(`${which}${why}`);
+  const all = letters.reduce((sum, { items }) => sum + items.length, 0);
+  const parts = fits ? Math.max(letters.length + 1, Math.ceil(all / fits)) : Infinity;
+  if (parts <= MOST_PARTS) offerOne(`Make ${parts} symbols of it`, () => chooseParts(parts, 1));
+}
 // Writes the message that is entered.
 export function writeMessage() {
-  const it = panes.write, text = field("message").value, read = itemsNow(text);
+  const it = panes.write, text = field("message").value, read = takenNow(text);
   fitHeight(field("message"));
-  if (!read.items) {
+  if (!read.letter) {
     const mayBeText = kindNow() === "typed" ? !read.isTooMuch : undefined;
     refuseMessage(`${whyNot(read)}${read.isTooMuch ? " The link doesn’t keep them." : ""}`, read.ways, mayBeText);
     return;
   }
-  const { items } = read, how = howIn(profileNow());
-  enter(it, () => desks.quick.ask("write", { items, how }, "write"), (written) => {
+  const letters = lettersTaken(read, partsNow()), how = howIn(formNow()), at = partNow() - 1;
+  showPart();
+  enter(it, () => desks.quick.ask("write", { letters, at, how }, "write"), (written) => {
     if (isBroken(written)) { refuseMessage(brokenWords(written)); return; }
-    if (written.fault) {
-      const over = plural(items.length - written.fits, "character", "characters");
-      const why = written.fault.code === TOO_LONG ? tooLong(how) : refusal(written.fault);
-      refuseMessage(`${why} It is ${over} too long.`);
-    } else {
+    if (written.fault) refuseWritten(written, letters, how);
+    else {
       const { modules, rows, columns, seen } = written;
       hint("message-hint", withCode(hintOn(text, read)), false, "message");
       offerOthers(text, read);
-      take(it, { modules, rows, columns, items, seen });
+      take(it, { modules, rows, columns, letter: letters[at], seen });
     }
     showShapes(written.shapes);
   });
@@ -242,7 +257,7 @@ export function takeSights(name, sights, note) {
 // ---- From a link
 
 // Turns modules over and marks others as doubtful, in one step, and sets the limit.
-/** @type {(it: Mark, turned: number[], doubtful: number[], limit: { limit: number | null, why: string }) => void} */
+/** @type {(it: Mark, turned: number[], doubtful: number[], limit: { limit: Limit, why: string }) => void} */
 function spoil(it, turned, doubtful, { limit, why }) {
   if (!turned.length && !doubtful.length && limit === null && !why) return;
   if (turned.length || doubtful.length) begin(it);
@@ -254,9 +269,9 @@ function spoil(it, turned, doubtful, { limit, why }) {
 }
 // What an address without a fragment holds.
 const begun = () => ({
-  message: field("message").defaultValue, kind: "typed", isShorter: false, size: "square", grid: null, task: "make",
-  pane: "write", damage: () => [], doubtful: () => [], gridDamage: () => [], gridDoubtful: () => [],
-  limit: { limit: null, why: "" }, gridLimit: { limit: null, why: "" },
+  message: field("message").defaultValue, kind: "typed", form: SMALLEST, size: "square", parts: 1, part: 1,
+  grid: null, task: "make", pane: "write", damage: () => [], doubtful: () => [], gridDamage: () => [],
+  gridDoubtful: () => [], limit: { limit: null, why: "" }, gridLimit: { limit: null, why: "" },
 });
 // Shows what a link holds. One that names a task alone keeps what is entered.
 /** @type {(linked: any, isFirst: boolean) => Promise<any>} */
@@ -265,8 +280,9 @@ export async function restore(linked, isFirst) {
   if (linked?.isBare && !isFirst) { showTask(linked.task); return; }
   field("message").value = held.message;
   field(`kind-${held.kind}`).checked = true;
-  field(held.isShorter ? "profile-1" : "profile-0").checked = true;
+  field(`profile-${held.form}`).checked = true;
   chooseSize(held.size);
+  chooseParts(held.parts, held.part);
   field("grid").value = held.grid ? gridText(held.grid) : "";
   readGrid();
   const count = (it) => it.modules.length;
@@ -285,6 +301,7 @@ function chooseTask(task, pane = undefined) {
   showTask(task, pane);
   tellLink();
 }
+const FORM_FIELDS = FORMS.map((form) => `profile-${form}`);
 const KEY_STEPS = { ArrowLeft: -1, ArrowRight: 1 };
 function wireTabs() {
   for (const [k, task] of TASKS.entries()) {
@@ -307,8 +324,9 @@ function wireMessage() {
   $("message").addEventListener("keydown", (event) => {
     if (event.key === "Enter" && kindNow() !== "text") event.preventDefault();
   });
-  for (const id of ["profile-0", "profile-1", "kind-typed", "kind-text", "kind-message", "shape", "size"])
+  for (const id of [...FORM_FIELDS, "kind-typed", "kind-text", "kind-message", "shape", "size"])
     $(id).addEventListener("change", () => writeMessage());
+  wireParts(writeMessage);
   $("shape").addEventListener("change", showChoice);
   for (const button of allOf("[data-message]")) {
     button.addEventListener("click", () => enterMessage(button.dataset.message));

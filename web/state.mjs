@@ -30,9 +30,9 @@ export class Mark {
   doubtful = null;
   /** @type {Uint8Array | null} which modules were doubtful as it was opened, if some were */
   doubted = null;
-  /** @type {number[] | null} the message that was written, if one was */
-  items = null;
-  /** @type {number | null} how many border modules may be wrong, if not as many as usual */
+  /** @type {import("./letters.mjs").Letter | null} what was written, if something was */
+  letter = null;
+  /** @type {import("./common.mjs").Limit} how many border modules may be wrong */
   limit = null;
   limitWhy = ""; // why another limit, which was entered or linked, isn't taken
   /** @type {Step[]} what was before each act, to be undone */
@@ -52,18 +52,18 @@ export class Mark {
   constructor(name) { this.name = name; }
   // The symbol goes, with all that was done to it.
   empty() {
-    [this.modules, this.original, this.doubtful, this.doubted, this.items, this.seen] = Array(6).fill(null);
+    [this.modules, this.original, this.doubtful, this.doubted, this.letter, this.seen] = Array(6).fill(null);
     [this.rows, this.columns] = [0, 0];
     [this.limit, this.limitWhy, this.past, this.future] = [null, "", [], []];
     [this.cursor, this.byKeys, this.module, this.word] = [0, false, null, null];
     [this.stage, this.why] = [EMPTY, ""];
   }
   // Another symbol takes its place.
-  /** @type {(grid: Grid, items: number[] | null, doubtful: Uint8Array | null) => void} */
-  hold({ modules, rows, columns }, items, doubtful) {
+  /** @type {(grid: Grid, letter: import("./letters.mjs").Letter | null, doubtful: Uint8Array | null) => void} */
+  hold({ modules, rows, columns }, letter, doubtful) {
     if (!isSameShape(this, { rows, columns })) [this.limit, this.limitWhy, this.cursor] = [null, "", 0];
     [this.rows, this.columns, this.modules, this.original] = [rows, columns, modules.slice(), modules.slice()];
-    [this.items, this.doubtful, this.doubted] = [items, doubtful, doubtful];
+    [this.letter, this.doubtful, this.doubted] = [letter, doubtful, doubtful];
     [this.past, this.future, this.module, this.word] = [[], [], null, null];
   }
   // What an act changes, as it is now, and as it was.

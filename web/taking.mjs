@@ -13,7 +13,8 @@ import { crcOf } from "./zip.mjs";
 
 /** @typedef {import("./common.mjs").Grid} Grid */
 /** @typedef {import("./common.mjs").Shape} Shape */
-/** @typedef {{ grid: Grid, isDamagedOne: boolean, items: number[] | null }} Given */
+/** @typedef {import("./letters.mjs").Letter} Letter */
+/** @typedef {{ grid: Grid, isDamagedOne: boolean, letter: Letter | null }} Given */
 let toasted = null; // the timer that ends it
 /** @type {(text: string) => void} */
 export function toast(text) {
@@ -23,13 +24,16 @@ export function toast(text) {
   toasted = setTimeout(() => $("toast").classList.remove("on"), 2500);
 }
 
+// What is read of a symbol, or null.
+/** @type {(seen: import("./examine.mjs").Seen) => Letter | null} */
+export const letterRead = ({ answer: { items, marks, head } }) => (items ? { items, marks, head } : null);
 // What is given: the symbol, and how it is called.
 const isDamagedChosen = () => !$("which").hidden && field("which-damaged").checked;
 /** @type {(it?: import("./state.mjs").Mark, isChosen?: boolean) => Given} */
 export function given(it = mark(), isChosen = isDamagedChosen()) {
   const isDamagedOne = isChosen && isDamaged(it);
   const { modules, rows, columns } = it, grid = isDamagedOne ? { modules, rows, columns } : it.undamaged();
-  return { grid, isDamagedOne, items: it.items ?? it.seen.answer.items ?? null };
+  return { grid, isDamagedOne, letter: it.letter ?? letterRead(it.seen) };
 }
 // Gives the symbol that is entered now, once there is an answer about it.
 /** @type {(give: (what: Given) => any) => () => Promise<void>} */
@@ -65,9 +69,8 @@ async function copySymbol({ grid, isDamagedOne }) {
 }
 // The message as a person would type it, if it is text; else as it is spelled.
 async function copyMessage() {
-  const { fault, items } = mark().seen.answer;
-  if (fault) return;
-  await copyText(typed(items), "Copied: the message");
+  const letter = letterRead(mark().seen);
+  if (letter) await copyText(typed(letter), "Copied: the message");
 }
 const LONG = 8000; // characters of a link that some programs don't take whole
 const LINK_NOT_COPIED = "This browser doesn’t let the page copy. The link is in the address bar.";

@@ -3,17 +3,7 @@ import {
   ANY, BLOCK_FAULT, BORDER_FAULT, EXTENDED, MOST_LIMIT, ONE, RECTANGLE, TOO_LONG, plural, shapeWords,
 } from "./common.mjs";
 
-const LEFT_OUT = {
-  233: "structured append: this symbol has one part of a message that several symbols share",
-  234: "reader programming: an instruction to the reader, and not a message",
-  236: "macro 05: the symbol stands for text that isn’t in its codewords",
-  237: "macro 06: the symbol stands for text that isn’t in its codewords",
-  240: "EDIFACT, an encodation that isn’t read here", 241: "an ECI, which changes how the bytes are to be interpreted",
-};
-const MISPLACED = {
-  236: "macro 05, which is read only as the first codeword", 237: "macro 06, which is read only as the first codeword",
-};
-const isMisplaced = (value, place) => value in MISPLACED && place > 1;
+const MISPLACED = { 233: "structured append", 234: "reader programming", 236: "macro 05", 237: "macro 06" };
 
 /** @typedef {import("./examine.mjs").Seen} Seen */
 // Why a block is beyond correction, which has doubtful codewords or not.
@@ -53,7 +43,7 @@ export function refusal({ code, value, place }, seen = undefined) {
     }
     case BLOCK_FAULT: return blockRefusal(seen, place);
     case 7: return `The value of ${at}, 0 or 242 to 255, is one that the standard reserves.`;
-    case 8: return `Data codeword ${place} begins ${isMisplaced(value, place) ? MISPLACED[value] : LEFT_OUT[value]}.`;
+    case 8: return `Data codeword ${place} begins ${MISPLACED[value]}, which is read only as the first codeword.`;
     case 9: return `No character follows the Upper Shift that ${at}, or the pair that begins there, holds.`;
     case 10: return `A pair of C40, Text or X12 codewords doesn’t stand for three values: ${at} and the next.`;
     case 11: return `A value in a pair of C40 or Text has no meaning: ${at} and the next.`;
@@ -62,6 +52,8 @@ export function refusal({ code, value, place }, seen = undefined) {
       const shift = `the Upper Shift that ${at}, or the pair that begins there, holds`;
       return `The run or the symbol ends before the character that is due after ${shift}.`;
     }
+    case 20: return `What follows the ECI that ${at} begins is no designator of a number.`;
+    case 21: return "The structured append that the first codewords begin is no part of 2 to 16.";
     case TOO_LONG: return "No square up to 144 × 144 modules holds this message in this form.";
     default: return `Refused: ${code} ${value} ${place}.`;
   }

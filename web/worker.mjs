@@ -1,7 +1,7 @@
 // The worker: it has the library, and answers the page's questions, one at a time. A question is { number, kind, given
 // }, its answer { number, answer } or, if something went wrong, { number, failed }.
 import { readsFiles } from "./bitmap.mjs";
-import { ASCII, SHORTER, SQUARE, TOO_LONG, messageOf } from "./common.mjs";
+import { ASCII, SHORTER, SMALLEST, SQUARE, TOO_LONG, messageOf } from "./common.mjs";
 import { Ecc200 } from "./ecc200.mjs";
 import { damaged, examine, mostThatFit, plainMap } from "./examine.mjs";
 import { found, gridFrom } from "./grids.mjs";
@@ -12,13 +12,14 @@ import { firstInPicture, foundBefore, restOfPicture } from "./pictures.mjs";
 let ecc200;
 /** @type {import("./library.mjs").Library} */
 let lib;
-const PROFILES = [ASCII, SHORTER];
+const PROFILES = [ASCII, SHORTER], ALL_FORMS = [...PROFILES, SMALLEST];
 const LARGE = 1.2e8; // bytes of the sampler's memory, which never shrinks: the worker is ended after more
 // In the smallest square.
 const squarely = (form) => ({ form, shape: SQUARE, rows: 0, columns: 0 });
 
 // What is shown of a symbol; the map of its shape goes along.
-/** @type {(grid: Grid, doubtful?: Uint8Array | null, limit?: number | null) => import("./examine.mjs").Seen} */
+/** @type {(grid: Grid, doubtful?: Uint8Array | null, limit?: import("./common.mjs").Limit) =>
+    import("./examine.mjs").Seen} */
 const seen = (grid, doubtful = null, limit = null) =>
   ({ ...examine(lib, grid, doubtful, limit), map: plainMap(lib.map(grid)) });
 const shownOf = (symbol) =>
@@ -57,13 +58,16 @@ const ANSWERS = {
     lib = ecc200.library;
     return { readsFiles: await readsFiles(), sizes: [...lib.sizes.values()] };
   },
-  // The symbol of items, the shapes that both profiles take, and if no size holds them how many would fit.
-  write({ items, how, hasLook = true }) {
-    const symbol = lib.write(items, how), isTooLong = symbol.fault?.code === TOO_LONG;
-    const shapes = PROFILES.map((form) => lib.write(items, { ...how, form }))
+  // The symbol of one of some letters, and the shapes that it has in each form; or of the first of them that no size
+  // holds why, and how many items would fit.
+  write({ letters, at = 0, how, hasLook = true }) {
+    const symbols = letters.map((letter) => lib.write(letter, how)), bad = symbols.findIndex(({ fault }) => fault);
+    const shown = bad < 0 ? at : bad, shapes = ALL_FORMS.map((form) => lib.write(letters[shown], { ...how, form }))
       .map(({ fault, rows, columns }) => (fault ? null : { rows, columns }));
-    if (symbol.fault) return { fault: symbol.fault, shapes, fits: isTooLong ? mostThatFit(lib, items, how) : null };
-    return { ...symbol, shapes, seen: hasLook ? seen(/** @type {Grid} */ (symbol)) : null };
+    if (bad < 0)
+      return { ...symbols[at], shapes, seen: hasLook ? seen(/** @type {Grid} */ (symbols[at])) : null };
+    const { fault } = symbols[bad], isTooLong = fault.code === TOO_LONG;
+    return { fault, at: bad, shapes, fits: isTooLong ? mostThatFit(lib, letters[bad], how) : null };
   },
   look: ({ grid, doubtful, limit }) => seen(grid, doubtful, limit),
   damage: ({ act, original, grid, doubtful, limit }) =>
@@ -72,16 +76,16 @@ const ANSWERS = {
   picture,
   rest: () => sightsShown(restOfPicture(ecc200), 0),
   again: (list) => sightsShown(foundBefore(lib, list), 1),
-  // What stands in one side of the comparison: items, the text of a grid, or a picture.
-  async judge({ items, grid, picture: image }) {
+  // What stands in one side of the comparison: a letter, the text of a grid, or a picture.
+  async judge({ letter, grid, picture: image }) {
     if (image) return judged(oneOf(await picture(image)));
     if (grid !== undefined) return judged(gridGiven(grid));
-    const symbol = PROFILES.map((form) => lib.write(items, squarely(form))).find(({ fault }) => !fault);
-    if (!symbol) return { fault: lib.write(items, squarely(ASCII)).fault };
+    const symbol = PROFILES.map((form) => lib.write(letter, squarely(form))).find(({ fault }) => !fault);
+    if (!symbol) return { fault: lib.write(letter, squarely(ASCII)).fault };
     return judged({ ...symbol, isRead: true, how: "" });
   },
-  // The symbols of many messages, or null for one that fits no size.
-  sheet: ({ messages, how }) => messages.map((items) => lib.write(items, how))
+  // The symbols of many letters, or null for one that fits no size.
+  sheet: ({ letters, how }) => letters.map((letter) => lib.write(letter, how))
     .map((symbol) => (symbol.fault ? null : symbol)),
 };
 

@@ -53,7 +53,8 @@ def small_symbol():
     count.expect(
         "facts",
         run("return [...document.querySelectorAll('#facts dd, #facts dt')].map((it) => it.textContent)"),
-        ["modules", "10 × 10", "data codewords", "3", "check codewords", "5", "wrong codewords can be corrected", "2"],
+        ["modules", "10 × 10", "data codewords", "3", "check codewords", "5", "wrong codewords can be corrected", "2",
+         "symbology identifier", "]d1"],
     )
     count.expect(
         "clean", [shown()[it] for it in ("state", "says", "why")], ["Read", "123456", "Nothing had to be corrected."]

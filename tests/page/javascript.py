@@ -4,11 +4,14 @@ import json
 import re
 import subprocess
 
-from tests.page.stage import count, on, written
+from tests.page.judge import SMALLEST, letter_of, line_of_text, written_in
+from tests.page.sizes import MARKS, marks, printed
+from tests.page.stage import count, flat, on, written
 from tests.support import places
 
 USES, TYPES = places.path("tests", "page", "uses.mjs"), places.path("web", "module", "ecc200.d.mts")
-TOO_LONG, NO_SIZE, BLOCK = 14, 4, 6  # codes of refusals
+TOO_LONG, NO_SIZE, BORDER, BLOCK, ITEM, MARK, HEAD = 14, 4, 5, 6, 15, 22, 23  # codes of refusals
+PART = {"part": 2, "parts": 3, "file": [9, 254]}
 GS1 = [256, *b"10AB", 256, *b"21C"]
 
 
@@ -24,6 +27,11 @@ def said(text, items=None, is_gs1=False, data=None, corrected=0):
             "corrected": [corrected]}
 
 
+def read_as(text, charset):
+    """What is read of a text that was written with a mark."""
+    return {**letter_of(line_of_text(text)), "text": text, "charset": charset, "symbology": "]d4"}
+
+
 def near(came):
     """With places in a picture to the pixel."""
     if isinstance(came, float):
@@ -34,17 +42,27 @@ def near(came):
 
 
 def uses():
-    done = subprocess.run(["node", USES, on.module], stdout=subprocess.PIPE, timeout=300, check=True)
+    done = subprocess.run(["node", USES, on.module, MARKS], stdout=subprocess.PIPE, timeout=300, check=True)
     answers = {answer.pop("name"): answer for answer in map(json.loads, done.stdout.splitlines())}
     came = lambda name: answers[name].get("came", answers[name])
     with open(TYPES, encoding="utf-8") as types:
         declared = re.findall(r"^export (?:class|function|const) (\w+)", types.read(), re.M)
     for name, wanted in {
         "exports": sorted(declared),
-        "text": symbol("Gr\\xC3\\xB6\\xC3\\x9Fe"),
+        "text": symbol("Gr\\xF6\\xDFe"),
         "bytes": symbol("Gr\\xC3\\xB6\\xC3\\x9Fe"),
         "gs1": said("10AB\x1d21C", GS1, True, [*b"10AB", 29, *b"21C"]),
-        "not UTF-8": said(None, [255, 65]),
+        "not UTF-8": said("\xffA", [255, 65]),
+        "text of another script": read_as("Größe 日本", "utf-8"),
+        "Latin-1 that may be UTF-8": read_as("Ã©", "iso-8859-1"),
+        "marks": {**letter_of("\\E{7}\\xBF\\xE0\\E{999999}A"), "text": None, "charset": "iso-8859-5, ECI 999999",
+                  "symbology": "]d4"},
+        "programming": {**letter_of("A", "programming"), "text": "A", "charset": "utf-8", "symbology": "]d1"},
+        "part": {**letter_of("two ", PART), "text": "two ", "charset": "utf-8", "symbology": "]d1"},
+        "joined": {**letter_of("\\E{26}one two three"), "text": "one two three", "charset": "utf-8"},
+        "a torn border": ["torn at its left side", 9, True],
+        "letter in a picture": [{**letter_of("two ", PART), "text": "two ", "charset": "utf-8", "symbology": "]d1"},
+                                read_as("日本", "utf-8")],
         "shorter": symbol("\\xE9" * 20, 1),
         "corrected": said("corrected", corrected=1),
         "doubtful": [1],
@@ -55,15 +73,21 @@ def uses():
         "inverted": [["dark", True]],
         "transparent": ["on white"],
         "luminance": ["grey"],
-        "unread": [0, 24, BLOCK],
+        "unread": [0, 22, BLOCK],
     }.items():
         count.expect(name, near(came(name)), wanted)
     count.expect("shapes", [[came(name)["rows"], came(name)["columns"]] for name in ("rectangle", "a size")],
                  [[8, 18], [16, 48]])
     count.expect("sizes", [came("sizes")[0], came("sizes")[1]["rows"], came("sizes")[1]["data"]], [48, 10, 3])
+    smallest = written_in("HELLO WORLD AND ALL THAT IS THERE", "square", SMALLEST)
+    count.expect("smallest", came("smallest")["modules"], flat(smallest))
+    count.expect("every size", came("every size"), [[head, printed(line)] for head, _, _, line, _ in marks()])
     for name, code in (("too long", TOO_LONG), ("too small a size", TOO_LONG), ("no size", NO_SIZE),
-                       ("normal of a blot that isn't told", BLOCK)):
+                       ("normal of a blot that isn't told", BLOCK), ("a torn border as usual", BORDER),
+                       ("a wrong mark", MARK), ("a wrong head", HEAD), ("a wrong item", ITEM)):
         count.expect(name, [answers[name].get(each) for each in ("thrown", "isRefused", "code")],
                      ["Refused", True, code])
-    for name, kind in (("of no pixels", "RangeError"), ("of other pixels", "TypeError")):
+    for name, kind in (("of no pixels", "RangeError"), ("of other pixels", "TypeError"),
+                       ("joined but one", "RangeError"), ("joined with another", "RangeError"),
+                       ("joined with a message", "RangeError"), ("joined of none", "RangeError")):
         count.expect(name, answers[name].get("thrown"), kind)

@@ -10,6 +10,7 @@ from tests.support import places
 JUDGE = ["node", places.path("tests", "page", "judge.mjs"), places.path("web", "out", "lowered.wasm")]
 SHAPES = {"square": 0, "rectangle": 1, "extended": 2, "any": 3}
 ONE = 4
+SMALLEST = 2  # the form
 
 
 def judged(questions):
@@ -17,6 +18,31 @@ def judged(questions):
     lines = "\n".join(map(json.dumps, questions))
     done = subprocess.run(JUDGE, input=lines.encode(), stdout=subprocess.PIPE, timeout=300, check=True)
     return [json.loads(line) for line in done.stdout.splitlines()]
+
+
+def letter_of(line, head=None):
+    """The letter of a line as the program spells messages, with \\E{26} for ECI 26."""
+    pieces = re.split(r"\\E\{(\d+)\}", line.replace("\\\\", "\0"))
+    items, marks = items_of(pieces[0].replace("\0", "\\\\")), []
+    for number, piece in zip(pieces[1::2], pieces[2::2]):
+        marks.append({"place": len(items), "number": int(number)})
+        items += items_of(piece.replace("\0", "\\\\"))
+    return {"items": items, "marks": marks, "head": head}
+
+
+def line_of_text(text):
+    """The line of a text, as the fronts write it: in ISO 8859-1, with a mark where UTF-8 or Shift JIS may be meant, or
+    else in UTF-8 behind its mark."""
+    try:
+        data = text.encode("iso-8859-1")
+    except UnicodeEncodeError:
+        return "\\E{26}" + line_of_items(text.encode())
+    shift_jis = re.fullmatch(rb"([\0-\x7f\xa1-\xdf]|[\x81-\x9f\xe0-\xef][\x40-\x7e\x80-\xfc])*", data)
+    try:
+        is_utf8 = data.decode() is not None
+    except UnicodeDecodeError:
+        is_utf8 = False
+    return ("" if data.isascii() or not (shift_jis or is_utf8) else "\\E{3}") + line_of_items(data)
 
 
 def items_of(line):
@@ -38,8 +64,8 @@ def how_in(size, profile=0):
     return {"form": profile, "shape": SHAPES.get(size, ONE), "rows": rows, "columns": columns}
 
 
-def asked_to_write(line, size, profile=0):
-    return {"items": items_of(line), "how": how_in(size, profile)}
+def asked_to_write(line, size, profile=0, head=None):
+    return {"letter": letter_of(line, head), "how": how_in(size, profile)}
 
 
 def asked_to_read(text, doubtful="", limit=None):
@@ -53,9 +79,9 @@ def in_lines(symbol):
     return "\n".join(symbol["text"][k : k + columns] for k in range(0, len(symbol["text"]), columns))
 
 
-def written_in(line, size, profile=0):
-    """The grid of a message in a size, or why there is none."""
-    (symbol,) = judged([asked_to_write(line, size, profile)])
+def written_in(line, size, profile=0, head=None):
+    """The grid of a letter in a size, or why there is none."""
+    (symbol,) = judged([asked_to_write(line, size, profile, head)])
     return symbol.get("fault") or in_lines(symbol)
 
 

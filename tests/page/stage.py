@@ -22,14 +22,7 @@ except ImportError:
 
 QUIET = 2
 LIBRARY = pathlib.Path(__file__).resolve().parents[2] / "library"
-LEFT_OUT = {
-    "structured append": 233,
-    "reader programming": 234,
-    "macro 05": 236,
-    "macro 06": 237,
-    "EDIFACT": 240,
-    "an ECI": 241,
-}
+LEFT_OUT = {"structured append": 233, "reader programming": 234, "macro 05": 236, "macro 06": 237}
 
 # What the page shows, as plain text: the verdict, the meters and the facts. Elements are told from a text that looks
 # like some by their identifiers, which have a colour.
@@ -38,7 +31,7 @@ SHOWN = """
     const meters = [...document.querySelectorAll("#meters .count")].map((it) => it.textContent);
     return { state: text("state"), says: text("says"), why: text("why"),
              areElements: one("#says i")?.textContent.startsWith("(") ?? false,
-             isText: one("#says").hasAttribute("data-text"),
+             charset: one("#says").dataset.text ?? null,
              side: parseInt(one("#facts dd")?.textContent),
              meters: meters.map((it) => it.replace(/ (can be corrected|accepted)$/, "")) };"""
 
@@ -99,9 +92,9 @@ def refused(line):
 
 
 def is_wide(answer):
-    """Whether the program leaves a grid out that the page reads: the page reads the wide extent, with EDIFACT and
-    macros."""
-    return re.match(r"refused 8 (236 1|237 1|240 \d+)$", answer[0]) is not None
+    """Whether the program leaves a grid out that the page may read: the page reads the wide extent, with EDIFACT,
+    macros, ECI and heads."""
+    return re.match(r"refused 8 (23[3467]|24[01]) \d+$", answer[0]) is not None
 
 
 def told(grids, *more):
@@ -158,7 +151,8 @@ def as_program(shown):
         assert not beyond, shown
         read = "" if shown["says"] == "the empty message" else shown["says"]
         corrected = " ".join(count for count, _ in bounds[:-1])
-        read = line_of(read) if shown["areElements"] else spelled(read.encode()) if shown["isText"] else read
+        charset = shown["charset"]
+        read = line_of(read) if shown["areElements"] else spelled(read.encode(charset)) if charset else read
         return read, f"ok {shown['side']} border {bounds[-1][0]} corrected {corrected}"
     assert shown["says"] == "no message", shown
     why = shown["why"]
@@ -187,7 +181,7 @@ REFUSALS = [
         r"(?:Its|The) \d+ check codewords correct no more",
     ),
     (7, r"The value of data codeword (\d+), 0 or 242 to 255, is one that the standard reserves\."),
-    (8, r"Data codeword (\d+) begins (structured append|reader programming|macro 05|macro 06|EDIFACT|an ECI)"),
+    (8, r"Data codeword (\d+) begins (structured append|reader programming|macro 05|macro 06), which is read only"),
     (9, r"No character follows the Upper Shift that data codeword (\d+), or the pair that begins there, holds\."),
     (10, r"A pair of C40, Text or X12 codewords doesn’t stand for three values: data codeword (\d+)"),
     (11, r"A value in a pair of C40 or Text has no meaning: data codeword (\d+)"),

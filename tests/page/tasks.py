@@ -2,6 +2,7 @@
 stands, what GS1 data looks like, and that only where one learns a symbol is damaged."""
 from tests.page.conduct import linked, started, verdict
 from tests.page.history import afresh, fields
+from tests.page.judge import line_of_text, written_in
 from tests.page.stage import (
     acting,
     agree,
@@ -106,17 +107,19 @@ def earlier_links():
 
 
 def text_and_gs1():
-    """Text is taken as it stands, in UTF-8; GS1 data has its identifiers in brackets, and FNC1 stands only where
-    codewords are shown. What is copied is what a person would type."""
+    """Text is taken as it stands; GS1 data has its identifiers in brackets, and FNC1 stands only where codewords are
+    shown. What is copied is what a person would type."""
+    push("profile-0")
     run(COLLECT)
     chips = {it.text: it for it in find("pane-make").find_elements("css selector", "[data-message]")}
     chips["Text"].click()
     settle()
-    count.expect("text", (grid(), find("kind-typed").is_selected()), (written(spelled(TEXT.encode())), True))
+    line = spelled(TEXT.encode("iso-8859-1"))
+    count.expect("text", (grid(), find("kind-typed").is_selected()), (written(line), True))
     agree("text, as it is read")
     count.expect(
         "text is said",
-        (shown()["says"], f"It is text in UTF-8, of these bytes: {spelled(TEXT.encode())}" in shown()["why"]),
+        (shown()["says"], f"It is text in ISO-8859-1, of these bytes: {line}" in shown()["why"]),
         (TEXT, True),
     )
     push("copy-message")
@@ -124,7 +127,7 @@ def text_and_gs1():
     count.expect("text in the link", (fields()["message"], fields()["as"]), (TEXT, "typed"))
     on.page.refresh()
     started()
-    wanted = written(spelled(TEXT.encode())), True
+    wanted = written(line), True
     count.expect("text after a reload", (grid(), find("kind-typed").is_selected()), wanted)
     push("kind-text")
     linked()
@@ -135,11 +138,14 @@ def text_and_gs1():
     )
     for text in ("\ufeff\u00e9", "\u00e9\n", "e\u0301", "\u00a0"):
         put("message", text)
-        count.expect(f"{text!r} isn't all to be seen", shown()["says"], spelled(text.encode()))
-        agree(f"{text!r}, as it is read")
-    put("message", "\u00e9\\(01) \u20ac")
-    count.expect("a backslash in text", shown()["says"], "\u00e9\\(01) \u20ac")
-    agree("a backslash in text, as it is read")
+        line = line_of_text(text)
+        wanted = line, written_in(line, "square")
+        count.expect(f"{text!r} isn't all to be seen", (shown()["says"], grid()), wanted)
+    for text, told in (("\u00e9\\(01)", "ISO-8859-1, as ECI 3"), ("\u20ac\\(01)", "UTF-8, as ECI 26")):
+        put("message", text)
+        said = f"It is text in {told} says, of these bytes: " in shown()["why"]
+        wanted = text, True, written_in(line_of_text(text), "square")
+        count.expect(f"a backslash in {text}", (shown()["says"], said, grid()), wanted)
     put("message", "~" * 25001)
     count.expect(
         "too much text", (verdict(), "25,001 characters" in text_of("message-hint")), (("Nothing is read", ""), True)
@@ -164,7 +170,7 @@ def text_and_gs1():
     buttons = {it.text: it for it in find("message-hint").find_elements("css selector", "button")}
     buttons["Take it as text"].click()
     settle()
-    count.expect("taken as text", (grid(), shown()["state"]), (written("caf\\xC3\\xA9"), "Read"))
+    count.expect("taken as text", (grid(), shown()["state"]), (written("caf\\xE9"), "Read"))
     run("delete navigator.clipboard.writeText")
     for line in (
         "\\F01095060001343521" + "0AB\\F",
@@ -186,13 +192,14 @@ def text_and_gs1():
 
 
 TYPED = [
-    # (what is typed, what the hint says, the program's line, what is read)
-    ("Gr\u00f6\u00dfe", "", "Gr\\xC3\\xB6\\xC3\\x9Fe", "Gr\u00f6\u00dfe"),
+    # (what is typed, what the hint says, its line, what is read)
+    ("Gr\u00f6\u00dfe", "", "Gr\\xF6\\xDFe", "Gr\u00f6\u00dfe"),
     ("C:\\new", "", "C:\\\\new", "C:\\new"),
     ("\\F01 \\x41", "A backslash is one here, and spells nothing. Take it as spelled", "\\\\F01 \\\\x41",
      "\\F01 \\x41"),
     ("a (b) [c]", "", "a (b) [c]", "a (b) [c]"),
-    ("\u20ac 5", "", "\\xE2\\x82\\xAC 5", "\u20ac 5"),
+    ("\u20ac 5", "", "\\E{26}\\xE2\\x82\\xAC 5", "\u20ac 5"),
+    ("\u00c3\u00a9", "", "\\E{3}\\xC3\\xA9", "\u00c3\u00a9"),
     ("(21)A\\(b", "Taken as GS1 data. Take it as text", "\\F21A(b", "(21)A\\(b"),
 ]
 
@@ -204,8 +211,8 @@ def typed():
     run(COLLECT)
     for text, hint, line, says in TYPED:
         put("message", text)
-        count.expect(f"{text!r}", (text_of("message-hint"), grid(), shown()["says"]), (hint, written(line), says))
-        agree(f"{text!r}, as it is read")
+        wanted = hint, written_in(line, "square"), says
+        count.expect(f"{text!r}", (text_of("message-hint"), grid(), shown()["says"]), wanted)
         push("copy-message")
     count.expect("what is copied", run("return copied"), [says for _, _, _, says in TYPED])
     put("message", "\\F01 \\x41")

@@ -19,6 +19,16 @@ LINES = [
     ("const text: string | null = readGrid(write([FNC1, 65])).text;", True),
     ("try { normal(write('a'), { form: 'ascii' }); } catch (why) { if (why instanceof Refused) why.code + 1; }", True),
     ("const one: number = sizes()[0].rows;", True),
+    ("const marks = [{ place: 0, number: 26 }];"
+     " const grid = write({ items: [65], marks, head: 'programming' }, { form: 'smallest' });"
+     " const { charset, head, symbology } = readGrid(grid, { limit: 'auto' });"
+     " const named: string = charset + symbology; void named;"
+     " if (head !== null && head !== 'programming') head.parts + 1;", True),
+    ("const text: string | null = joined([readGrid(write('a'))]).text; void text;", True),
+    ("write({ marks: [] });", False),
+    ("write({ items: [65], head: { part: 1 } });", False),
+    ("readGrid(write('a'), { limit: 'any' });", False),
+    ("const number: string = readGrid(write('a')).marks[0].number;", False),
     ("write('text', { form: 'binary' });", False),
     ("write(7);", False),
     ("read('picture.png');", False),
@@ -55,8 +65,8 @@ class JavaScript(Case):
         folder = pathlib.Path(self.folder())
         shutil.copy(TYPES, folder)
         (folder / "tsconfig.json").write_text(json.dumps(CONFIG))
-        names = "import { FNC1, Refused, normal, read, readGrid, sizes, write } from './ecc200.mjs';\n"
-        used = "void [FNC1, Refused, normal, read, readGrid, sizes, write];\n"
+        names = "import { FNC1, Refused, joined, normal, read, readGrid, sizes, write } from './ecc200.mjs';\n"
+        used = "void [FNC1, Refused, joined, normal, read, readGrid, sizes, write];\n"
         for k, (line, _) in enumerate(LINES):
             (folder / f"line{k}.mts").write_text(f"{names}{used}{line}\nexport {{}};\n")
         told = commands.said(["tsc", "-p", str(folder)])[1]

@@ -1,7 +1,9 @@
-// Uses the module for other programs as such would: node uses.mjs MODULE.mjs prints a line of JSON for each thing that
-// it does: its name, and what came of it, or what was thrown.
+// Uses the module for other programs as such would: node uses.mjs MODULE.mjs MARKS prints a line of JSON for each thing
+// that it does: its name, and what came of it, or what was thrown. MARKS is tests/marks/every-size.txt.
+import { readFileSync } from "node:fs";
+
 const module = await import(process.argv[2]);
-const { FNC1, Refused, luminanceOf, normal, read, readGrid, sizes, write } = module;
+const { FNC1, Refused, joined, luminanceOf, normal, read, readGrid, sizes, write } = module;
 const SCALE = 5, QUIET = 2;
 
 // A picture of symbols side by side, as an ImageData has it: dark and light are red, green, blue and opacity.
@@ -22,6 +24,11 @@ function pictureOf(grids, dark = [20, 30, 40, 255], light = [250, 240, 230, 255]
 }
 const plain = (grid) => ({ rows: grid.rows, columns: grid.columns, modules: grid.modules.join("") });
 const said = ({ text, items, isGs1, bytes, corrected }) => ({ text, items, isGs1, bytes: [...bytes], corrected });
+const letter = ({ text, charset, items, marks, head, symbology }) => ({ text, charset, items, marks, head, symbology });
+// The mark of a line of tests/marks/every-size.txt, which is given by its modules.
+const marksOf = (text) => text.split("\n\n").map((record) => record.split("\n").filter((line) => line[0] !== "#"))
+  .filter((lines) => lines.length > 3).map(([head, , , ...rows]) => ({ head, rows }));
+const ASCII = { form: "ascii" };
 const spoilt = (grid, count) => {
   const modules = grid.modules.slice();
   for (let k = 0; k < count; k++) modules[(k + 2) * grid.columns + 3] ^= 1;
@@ -33,11 +40,43 @@ function blotted(grid) {
   const doubtful = grid.modules.map((_, k) => (isCovered(k) ? 1 : 0));
   return { grid: { ...grid, modules: grid.modules.map((module, k) => (doubtful[k] ? 1 : module)) }, doubtful };
 }
+const PARTS = ["one ", "two ", "three"].map((text, k) => ({ items: [...Buffer.from(text)],
+  marks: k ? [] : [{ place: 0, number: 26 }], head: { part: k + 1, parts: 3, file: [9, 254] } }));
+const MARKED = { items: [0xbf, 0xe0, 65], marks: [{ place: 0, number: 7 }, { place: 2, number: 999999 }] };
+// A symbol whose left side is light to its eighth row.
+const torn = (grid) => ({ ...grid,
+  modules: grid.modules.map((it, k) => (k % grid.columns || k > grid.columns * 8 ? it : 0)) });
 const two = () => [write("one"), write("two", { shape: "rectangle" })];
 const TASKS = {
   exports: () => Object.keys(module).sort(),
-  text: () => plain(write("Größe")),
-  bytes: () => plain(write(Uint8Array.of(71, 114, 195, 182, 195, 159, 101))),
+  text: () => plain(write("Größe", ASCII)),
+  bytes: () => plain(write(Uint8Array.of(71, 114, 195, 182, 195, 159, 101), ASCII)),
+  smallest: () => plain(write("HELLO WORLD AND ALL THAT IS THERE")),
+  "text of another script": () => letter(readGrid(write("Größe 日本"))),
+  "Latin-1 that may be UTF-8": () => letter(readGrid(write("Ã©"))),
+  marks: () => letter(readGrid(write(MARKED))),
+  programming: () => letter(readGrid(write({ items: [65], head: "programming" }))),
+  part: () => letter(readGrid(write(PARTS[1]))),
+  joined: () => letter(joined([PARTS[2], PARTS[0], PARTS[1], PARTS[0]].map((it) => readGrid(write(it))))),
+  "joined but one": () => joined([PARTS[2], PARTS[0]]),
+  "joined with another": () => joined([...PARTS, { ...PARTS[0], items: [70] }]),
+  "joined with a message": () => joined([...PARTS, { items: [70], marks: [], head: null }]),
+  "joined of none": () => joined([]),
+  "a wrong mark": () => write({ items: [65], marks: [{ place: 2, number: 26 }] }),
+  "a wrong head": () => write({ items: [65], head: { part: 65537, parts: 3, file: [1, 1] } }),
+  "a wrong item": () => write([65536 + 65]),
+  "a torn border": () => {
+    const grid = write("torn at its left side", ASCII), { text, border } = readGrid(torn(grid), { limit: "auto" });
+    return [text, border, plain(normal(torn(grid), { limit: "auto" })).modules === plain(grid).modules];
+  },
+  "a torn border as usual": () => readGrid(torn(write("torn at its left side", ASCII))),
+  "every size": () => marksOf(readFileSync(process.argv[3], "latin1")).map(({ head, rows }) => {
+    const grid = { rows: rows.length, columns: rows[0].length, modules: Uint8Array.from(rows.join(""), Number) };
+    const { items, marks, head: part } = readGrid(grid);
+    return [head, { items, marks, head: part }];
+  }),
+  "letter in a picture": () => read(pictureOf([write("日本", { shape: "rectangle" }), write(PARTS[1])]), { most: 2 })
+    .symbols.map(letter).sort(({ text: one }, { text: other }) => (one < other ? -1 : 1)),
   gs1: () => said(readGrid(write([FNC1, ...Buffer.from("10AB"), FNC1, ...Buffer.from("21C")]))),
   "not UTF-8": () => said(readGrid(write([255, 65]))),
   rectangle: () => plain(write("Hello", { shape: "rectangle" })),

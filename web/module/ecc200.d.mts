@@ -6,17 +6,35 @@ export interface Picture { data: ArrayLike<number>; width: number; height: numbe
 export interface Grid { rows: number; columns: number; modules: Uint8Array }
 /** In pixels from the left and from the top edge of the picture. */
 export interface Point { x: number; y: number }
-export interface Message {
+/** An ECI assignment: its number, 0 to 999999 (26 is UTF-8), and how many items stand before it. */
+export interface Mark { place: number; number: number }
+/** One part of so many, 1 and 2 to 16, with two numbers that all of them have, 1 to 254: structured append. */
+export interface Part { part: number; parts: number; file: number[] }
+/** What a symbol says. */
+export interface Letter {
   /** 0 to 255, and 256 for FNC1. */
   items: number[];
+  /** In order. */
+  marks: Mark[];
+  /** Whether it is a part, or programs the reader; null for neither. */
+  head: "programming" | Part | null;
+}
+export interface Message extends Letter {
   /** Whether FNC1 is the first item. */
   isGs1: boolean;
   /** The items without a first FNC1; others as 29, GS. */
   bytes: Uint8Array;
-  /** The bytes as text, if they are UTF-8. */
+  /** The bytes as text, in the charsets of their marks; without a mark in UTF-8 where they are that, else in
+   * ISO 8859-1; null where they are none. */
   text: string | null;
+  /** The charset of the text: of several the names, with commas between; `binary` or `ECI n` for no charset. */
+  charset: string;
 }
 export interface Reading {
+  /** The symbology identifier of ISO/IEC 15424, `]d1` to `]d6`. */
+  symbology: string;
+  /** 1 where 144 x 144 is dealt by the other dealing, else 0. */
+  dealing: number;
   /** How many border modules have the wrong colour. */
   border: number;
   /** For each block: codewords that were corrected, that were erased, and check codewords that neither has used. */
@@ -24,10 +42,12 @@ export interface Reading {
   erased: number[];
   left: number[];
 }
+/** How many border modules may be wrong: so many; `auto`, any number if each block keeps a correction unused; or null
+ * for as many as usual. */
+export type Limit = number | "auto" | null;
 export interface Fault { code: number; value: number; place: number }
 /** A symbol in a picture, upright. */
-export interface Found extends Grid, Reading {
-  items: number[];
+export interface Found extends Grid, Letter, Omit<Reading, "dealing"> {
   /** 1 for each module that was taken for lost; null if none was. */
   doubtful: Uint8Array | null;
   /** Top left, top right, bottom right and bottom left of the upright symbol, where they are in the picture. */
@@ -58,8 +78,9 @@ export interface Search {
   margin?: number;
 }
 export interface Form {
-  /** `shorter` writes bytes as such where that takes fewer codewords; `ascii` if it isn't given. */
-  form?: "ascii" | "shorter";
+  /** `smallest`, if it isn't given: the encodations that take the smallest size. `ascii`; or `shorter`, which writes
+   * bytes as such where that takes fewer codewords. */
+  form?: "smallest" | "ascii" | "shorter";
   /** The smallest of these is taken: `square` if it isn't given. */
   shape?: "square" | "rectangle" | "extended" | "any";
   /** Or this size. */
@@ -77,13 +98,18 @@ export class Refused extends Error { code: number; value: number; place: number 
 /** The symbols in a picture. Throws a RangeError where there is no memory, or a side isn't 1 to 32767 pixels. */
 export function read(picture: Picture, search?: Search):
   { symbols: (Found & Message)[]; unread: Found[]; isComplete: boolean };
-/** The symbol of text, in UTF-8, of bytes, or of items. Throws Refused if no size holds it. */
-export function write(message: string | ArrayLike<number>, form?: Form): Grid;
+/** What is written: text, which is ISO 8859-1, or else UTF-8 behind its mark; bytes or items; or a letter. */
+export type Given = string | ArrayLike<number> | (Partial<Letter> & Pick<Letter, "items">);
+/** The symbol of what is given. Throws Refused if no size holds it. */
+export function write(given: Given, form?: Form): Grid;
 /** What an upright grid says. Throws Refused. */
-export function readGrid(grid: Grid, more?: { limit?: number; doubtful?: Uint8Array | null }): Message & Reading;
+export function readGrid(grid: Grid, more?: { limit?: Limit; doubtful?: Uint8Array | null }): Message & Reading;
+/** What readings say together that are the parts of one message, in any order. Throws a RangeError if one is missing,
+ * or isn't one of them. */
+export function joined(readings: Letter[]): Message;
 /** The normal symbol of what an upright grid says: symbols that say the same have the same one. Throws Refused. */
 export function normal(grid: Grid,
-  more?: { limit?: number; doubtful?: Uint8Array | null; form?: "ascii" | "shorter" }): Grid;
+  more?: { limit?: Limit; doubtful?: Uint8Array | null; form?: "ascii" | "shorter" }): Grid;
 /** The 48 sizes of symbols. */
 export function sizes(): SizeOfSymbol[];
 /** The luminance of each pixel, as `read` takes it. */

@@ -1,0 +1,548 @@
+"""What symbols say beside items, in the page: text of every script, in the smallest symbol, in several symbols that are
+put together as they are read, by the charsets that ECIs name; and any border that is sure."""
+import io
+import re
+import zipfile
+
+from tests.library.model import SIZE_OF, codewords, modules_of, padded
+from tests.page.conduct import linked, started
+from tests.page.history import fields
+from tests.page.judge import (
+    SMALLEST,
+    asked_to_read,
+    asked_to_write,
+    in_lines,
+    judged,
+    letter_of,
+    line_of_text,
+    written_in,
+)
+from tests.page.labels import chosen, pages_of, saved
+from tests.page.pictures import opened, png
+from tests.page.stage import (
+    choose,
+    count,
+    find,
+    fold,
+    grid,
+    on,
+    push,
+    put,
+    run,
+    settle,
+    shown,
+    text_of,
+    unfold,
+    unseen,
+    usable,
+    written,
+)
+from tests.page.tasks import COLLECT
+from tests.support import places
+
+TEXTS = places.path("tests", "marks", "texts.txt")
+
+
+def type_in(text, kind="typed", form=SMALLEST):
+    push("tab-make", f"kind-{kind}", f"profile-{form}")
+    put("message", text)
+
+
+def words_of(symbol):
+    return f"{symbol['rows']} × {symbol['columns']}"
+
+
+def as_usual():
+    choose("parts", "1")
+    choose("shape", "square")
+    push("tab-make", "kind-message", "profile-2")
+    put("message", "123456")
+
+
+# ---- The smallest symbol
+
+SHORTENED = [
+    # a line, and the shape of its symbol
+    ("HELLO WORLD AND ALL THAT IS THERE", "square"),
+    ("hello world and all that is there", "square"),
+    ("https://example.com/a/long/path?of=it", "any"),
+    ("ABC-123.DEF-456.GHI", "rectangle"),
+    ("\\xE9\\xE8\\xEA\\xEB\\xEC\\xED\\xEE\\xEF" * 3, "extended"),
+    ("123456", "square"),
+]
+
+
+def the_smallest():
+    """What is written at first is the smallest symbol that says it, and the page says in place of which; other forms
+    are chosen and linked as such."""
+    on.page.refresh()
+    started()
+    count.expect("chosen at first", run("return document.getElementById('profile-2').checked"), True)
+    unfold("form")
+    for line, shape in SHORTENED:
+        choose("shape", shape)
+        type_in(line, "message")
+        plain, shorter, smallest = judged([asked_to_write(line, shape, form) for form in (0, 1, SMALLEST)])
+        count.expect(f"{line[:20]}", grid(), in_lines(smallest))
+        sides = [text_of(f"side-{form}") for form in (0, 1, SMALLEST)]
+        count.expect(f"{line[:20]}: of each form", sides, [words_of(it) for it in (plain, shorter, smallest)])
+        saved_by = f" in place of {words_of(plain)}" if words_of(plain) != words_of(smallest) else ""
+        count.expect(f"{line[:20]}: what it saves", text_of("side-now"), words_of(smallest) + saved_by)
+        count.expect(f"{line[:20]}: as it is read", shown()["state"], "Read")
+    choose("shape", "square")
+    type_in("A" * 2000, "message")
+    (alone,) = judged([asked_to_write("A" * 2000, "square", SMALLEST)])
+    count.expect("where no other form fits", text_of("side-now"), words_of(alone))
+    linked()
+    count.expect("in the link", fields()["profile"], "smallest")
+    for form, name in ((0, None), (1, "shorter")):
+        push(f"profile-{form}")
+        linked()
+        count.expect(f"form {form} in the link", fields().get("profile"), name)
+    run("location.hash = '#make&message=AAAAAAAAAAAA&profile=toString'")
+    linked()
+    settle()
+    count.expect("an earlier link has ASCII", grid(), written("A" * 12))
+    as_usual()
+
+
+def gs1_in_the_smallest():
+    """A GS1 symbol in the smallest form begins with the codeword of FNC1, as GS1 asks."""
+    for text in ("(01)09506000134352(17)271231(10)AB-42", "(21)ABCDEFGHIJKLMN", "(10)ABC", "(91)HELLO-WORLD"):
+        type_in(text)
+        (answer,) = judged([asked_to_read(grid())])
+        seen = shown()
+        count.expect(text, (answer["symbology"], seen["says"], seen["state"]), ("]d2", text, "Read, as GS1 data"))
+    as_usual()
+
+
+# ---- Text
+
+READ = "const { items, marks, head } = mitsubadoor.mark.seen.answer; return { items, marks, head }"
+
+
+def texts():
+    """The texts of tests/marks, each with its script."""
+    with open(TEXTS, encoding="utf-8") as file:
+        return [line.rstrip("\n").split("\t") for line in file if not line.startswith("#")]
+
+
+def texts_of_all_scripts():
+    """Texts in ten scripts are written as Latin-1, or as UTF-8 behind its mark, and are read as what was typed."""
+    all_texts = texts()
+    count.expect("how many", len(all_texts), 200)
+    lines = [line_of_text(text) for _, text in all_texts]
+    grids = [in_lines(it) for it in judged([asked_to_write(line, "square", SMALLEST) for line in lines])]
+    run(COLLECT)
+    with unseen():
+        for (script, text), line, wanted in zip(all_texts, lines, grids):
+            type_in(text, "text")
+            count.expect(f"{script}: {text}", grid(), wanted)
+            count.expect(f"{script}: {text} as it is read", (shown()["says"], run(READ)), (text, letter_of(line)))
+        push("tab-read")
+        for (script, text), wanted in list(zip(all_texts, grids))[::7]:
+            put("grid", wanted)
+            push("copy-message")
+            count.expect(f"{script}: {text} in a grid", shown()["says"], text)
+    count.expect("as they are copied", run("return copied"), [text for _, text in all_texts[::7]])
+    as_usual()
+
+
+# Texts in the charsets of ECIs.
+IN_CHARSETS = {
+    0: ("ibm437", "Ünï ½ Ω"), 1: ("iso-8859-1", "Größe"), 2: ("ibm437", "▒ αß"), 3: ("iso-8859-1", "ÿ ½ é"),
+    4: ("iso-8859-2", "Łódź"), 5: ("iso-8859-3", "Ħaġar"), 6: ("iso-8859-4", "Žemė ą"), 7: ("iso-8859-5", "Привет"),
+    8: ("iso-8859-6", "سلام"), 9: ("iso-8859-7", "Κρήτη"), 10: ("iso-8859-8", "שלום"), 11: ("iso-8859-9", "Iğdır"),
+    12: ("iso-8859-10", "Þorn ŋ"), 13: ("iso-8859-11", "สวัสด"), 15: ("iso-8859-13", "Žąsis"),
+    16: ("iso-8859-14", "Ŵyth ŷ"), 17: ("iso-8859-15", "5 € œ"), 18: ("iso-8859-16", "Țară „€”"),
+    20: ("shift_jis", "日本語 ｱ"), 21: ("windows-1250", "Łódź – €"), 22: ("windows-1251", "Київ №"),
+    23: ("windows-1252", "„5 €“ Š"), 24: ("windows-1256", "پاكستان"), 25: ("utf-16be", "Aж日"), 26: ("utf-8", "😀 日本"),
+    27: ("us-ascii", "plain"), 28: ("big5", "中文字"), 29: ("gb2312", "汉字"), 30: ("euc-kr", "한국어"),
+    31: ("gbk", "漢字"), 32: ("gb18030", "汉字 ê"), 33: ("utf-16le", "Aж日"), 34: ("utf-32be", "A日"),
+    35: ("utf-32le", "A日"), 170: ("us-ascii", "A B"),
+}
+NO_TEXT = [
+    # what is spelled, and the charset
+    ("\\E{899}\\x80\\xFF", "binary"),
+    ("\\E{9999}ABC", "ECI 9999"),
+    ("\\E{26}\\xFF", "utf-8"),
+    ("\\E{27}\\x80", "us-ascii"),
+    ("\\E{25}ABC", "utf-16be"),
+    ("\\E{3}\\x80", "iso-8859-1"),  # a control character, and not the euro sign
+]
+
+
+def charsets():
+    """Bytes behind an ECI are shown as text in its charset, and named so; what is none as it is spelled."""
+    with unseen():
+        for number, (charset, text) in IN_CHARSETS.items():
+            data = text.encode(charset)
+            line = f"\\E{{{number}}}" + "".join(f"\\x{byte:02X}" for byte in data)
+            type_in(line, "message")
+            seen = shown()
+            told = f"It is text in {charset.upper()}, as ECI {number} says, of these bytes: " in seen["why"]
+            count.expect(f"ECI {number}", (seen["says"], seen["charset"], told), (text, charset, True))
+        for line, charset in NO_TEXT:
+            type_in(line, "message")
+            count.expect(line, (shown()["says"], shown()["charset"]), (line, None))
+        type_in("A\\E{7}\\xBF\\E{9}\\xD9\\E{26}", "message")
+        several = "A\u041f\u03a9", "utf-8, iso-8859-5, iso-8859-7"
+        count.expect("several in one", (shown()["says"], shown()["charset"]), several)
+        count.expect("said of several", "as ECIs say, of these bytes: A\\xBF\\xD9" in shown()["why"], True)
+    as_usual()
+
+
+# ---- Several symbols
+
+MESSAGE = "Größe und Maße: 12 × 34 × 56 mm, \u2264 7 kg, \u65e5\u672c\u8a9e"
+LATIN = "Größe 5 µm, Stück für Stück"
+CARD = """
+    const text = (id) => document.getElementById(id).textContent, card = document.getElementById("gathered");
+    return card.hidden ? null : { title: text("gathered-title"), whole: text("whole"),
+        parts: [...document.querySelectorAll("#gathered-are li")].map((it) => it.textContent) };"""
+
+
+def parts_of(text, count_of_them, kind="text"):
+    """The grids of the parts of a message, as the page shows them, and what is read of each."""
+    type_in(text, kind)
+    choose("parts", str(count_of_them))
+    grids, letters = [], []
+    for k in range(count_of_them):
+        count.expect(f"part {k + 1} is named", text_of("part-shown"), f"Part {k + 1} of {count_of_them}")
+        grids.append(grid())
+        letters.append(run(READ))
+        count.expect(f"part {k + 1} as it is read", shown()["state"], f"Read, as part {k + 1} of {count_of_them}")
+        push("part-on")
+    count.expect("after the last", (usable("part-on"), usable("part-back")), (False, True))
+    return grids, letters
+
+
+def decoded(letters):
+    """What parts say together, each in the charset of its one mark, or in ASCII."""
+    charset = {3: "iso-8859-1", 26: "utf-8"}
+    name = lambda it: charset[it["marks"][0]["number"]] if it["marks"] else "ascii"
+    return "".join(bytes(it["items"]).decode(name(it)) for it in letters)
+
+
+def made_in_parts():
+    """A message in several symbols: each has its head and its mark, no character is cut, and all together say it; the
+    link keeps how many there are and which is shown."""
+    for text, many in ((MESSAGE, 2), (MESSAGE, 16), (LATIN, 3), ("plain ASCII of some length", 4)):
+        grids, letters = parts_of(text, many)
+        heads = [it["head"] for it in letters]
+        file = heads[0]["file"]
+        count.expect("heads", heads, [{"part": k + 1, "parts": many, "file": file} for k in range(many)])
+        count.expect("numbers of the file", all(1 <= number <= 254 for number in file), True)
+        count.expect(f"{text[:8]} in {many}", decoded(letters), text)
+        lengths = [len(it["items"]) for it in letters]
+        count.expect("about equal parts", max(lengths) - min(lengths) <= 3, True)
+        answers = judged([asked_to_read(it) for it in grids])
+        count.expect("as the library reads them", [it["head"] for it in answers], heads)
+    type_in(MESSAGE, "text")
+    choose("parts", "3")
+    push("part-on")
+    linked()
+    count.expect("in the link", (fields()["parts"], fields()["part"]), ("3", "2"))
+    shown_part = grid()
+    on.page.refresh()
+    started()
+    settle()
+    count.expect("after a reload", (text_of("part-shown"), grid()), ("Part 2 of 3", shown_part))
+    for fragment in ("parts=17", "parts=x", "parts=0", "parts=3&part=9"):
+        run("location.hash = arguments[0]", f"#make&message=abcdef&as=typed&{fragment}")
+        linked()
+        settle()
+        wanted = "Part 3 of 3" if "part=9" in fragment else ""
+        got = text_of("part-shown") if run("return !document.getElementById('part-steps').hidden") else ""
+        count.expect(fragment, got, wanted)
+    choose("parts", "1")
+    type_in("(21)ABCDEFGHIJ(10)KLMNOPQRSTUV", "typed")
+    choose("parts", "2")
+    wrong = "It isn\u2019t right" in shown()["state"] or "element" in shown()["why"]
+    hidden = run("return document.getElementById('elements').hidden")
+    wanted = "Read, as part 1 of 2", False, True
+    count.expect("a part of GS1 data has no elements", (shown()["state"], wrong, hidden), wanted)
+    choose("parts", "1")
+    offered_in_parts()
+    as_usual()
+
+
+def offered_in_parts():
+    """What is too long for one symbol is offered in several, until it fits."""
+    choose("shape", "rectangle")
+    type_in("Too long for any rectangle of the first standard, and by far: " * 4, "text")
+    count.expect("too long", shown()["state"], "Nothing is read")
+    for _ in range(4):
+        offers = [it for it in on.page.find_elements("css selector", "#message-hint button") if "symbols" in it.text]
+        if not offers:
+            break
+        offers[0].click()
+        settle()
+    many = int(run("return document.getElementById('parts').value"))
+    count.expect("it fits in several", (many > 1, shown()["state"]), (True, f"Read, as part 1 of {many}"))
+    choose("parts", "2")
+    hint = text_of("message-hint")
+    count.expect("which part doesn't fit", hint.startswith("Part 1 of 2: No rectangle up to 16 × 48 modules"), True)
+    choose("parts", "1")
+    choose("shape", "square")
+
+
+def labels_in_parts():
+    """Each line of a list makes a label for each part, with its number; a list that is saved keeps how many."""
+    type_in("123456")
+    choose("parts", "2")
+    unfold("sheet")
+    put("messages", "Größe 5 µm\nA second line of text")
+    chosen("stock", "50x30")
+    pages = pages_of(saved("symbols.pdf", "many-pdf"))
+    texts_below = [below for _, _, below in pages]
+    wanted = [[f"{line} \\({k}/2\\)"] for line in ("Größe 5 µm", "A second line of text") for k in (1, 2)]
+    count.expect("texts below", texts_below, wanted)
+    answers = judged([asked_to_read(rows) for _, ((*_, rows),), _ in pages])
+    count.expect("their heads", [it["head"]["part"] for it in answers], [1, 2, 1, 2])
+    saved("labels.json", "save-list")
+    names = zipfile.ZipFile(io.BytesIO(saved("symbols-svg.zip", "many-svg"))).namelist()
+    wanted = [f"00{line}-{part}-of-2-symbol" for line in (1, 2) for part in (1, 2)]
+    count.expect("names in the archive", [name.rpartition("-")[0] for name in names[:-1]], wanted)
+    for parts in ("1", "4"):
+        choose("parts", parts)
+        put("messages", "")
+        find("lines").send_keys(str(on.folder / "labels.json"))
+        chosen_now = lambda: run("return document.getElementById('parts').value")
+        count.expect_soon(f"opened again, after {parts}", chosen_now, "2")
+        settle()
+    put("messages", "")
+    chosen("stock", "none")
+    fold("sheet")
+    as_usual()
+
+
+def read_in_parts():
+    """Parts are put together as they are read, in any order; what is missing is said; another file is another one."""
+    grids, _ = parts_of(MESSAGE, 3)
+    others, _ = parts_of(MESSAGE + "!", 3)
+    choose("parts", "1")
+    push("tab-read")
+    run(COLLECT)
+    put("grid", grids[2])
+    first = run(CARD)
+    count.expect("the last one alone", (first["title"], first["parts"][:2], first["whole"]),
+                 ("A message in 3 symbols: 1 of them read", ["not read yet"] * 2, ""))
+    count.expect("nothing whole is copied", usable("copy-whole"), False)
+    put("grid", others[0])
+    count.expect("another file", run(CARD)["title"], "A message in 3 symbols: 1 of them read")
+    count.expect("what is missing", "Not read yet: parts 2, 3." in shown()["why"], True)
+    put("grid", grids[0])
+    count.expect("two of three", run(CARD)["title"], "A message in 3 symbols: 2 of them read")
+    count.expect("one is missing", "Not read yet: part 2." in shown()["why"], True)
+    put("grid", written("123456"))
+    count.expect("none for a symbol that is no part", run(CARD), None)
+    put("grid", grids[1])
+    card = run(CARD)
+    count.expect("all", (card["title"], card["whole"]), ("A message in 3 symbols: all are read", MESSAGE))
+    count.expect("all parts", "".join(card["parts"]), MESSAGE)
+    push("copy-whole")
+    count.expect("the whole is copied", run("return copied"), [MESSAGE])
+    push("forget-parts")
+    count.expect("forgotten", run(CARD)["title"], "A message in 3 symbols: 1 of them read")
+    push("tab-make")
+    count.expect("only where symbols are read", run(CARD), None)
+    found_in_parts(grids)
+    other_content(grids, others)
+    as_usual()
+
+
+def found_in_parts(grids):
+    """Parts in one picture are put together, and named in the list; what is saved of it has their heads and marks."""
+    push("tab-read")
+    lines = side_by_side(grids)
+    opened("parts.png", png(lines, 4, 2))
+    card = run(CARD)
+    wanted = "A message in 3 symbols: all are read", MESSAGE
+    count.expect("parts in a picture", (card["title"], card["whole"]), wanted)
+    remarks = run("return [...document.querySelectorAll('#found-are small')].map((it) => it.textContent)")
+    count.expect("all in the verdict", "All parts are read." in shown()["why"], True)
+    named = sorted(re.search(r"part \d of 3", it)[0] for it in remarks)
+    count.expect("named in the list", named, [f"part {k} of 3" for k in (1, 2, 3)])
+    kept = saved("found.json", "found-json").decode()
+    said = ('"parts": 3', '"charset": "utf-8"', '"symbology": "]d4"')
+    count.expect("in JSON", [kept.count(it) for it in said], [3] * 3)
+
+
+def side_by_side(grids):
+    """Grids in one, with light between them."""
+    rows = [text.split("\n") for text in grids]
+    high = max(map(len, rows))
+    padded = [[*lines, *["0" * len(lines[0])] * (high - len(lines))] for lines in rows]
+    return ["000000".join(line) for line in zip(*padded)]
+
+
+def other_content(grids, others):
+    """A part with the numbers of a file that is known, and another content, begins another file."""
+    push("tab-read")
+    head = judged([asked_to_read(grids[0])])[0]["head"]
+    for text in grids:
+        put("grid", text)
+    put("grid", written_in("other", "square", 0, head))
+    count.expect("another content", run(CARD)["title"], "A message in 3 symbols: 1 of them read")
+
+
+def programs_the_reader():
+    """What programs the reader is no message, and has no green verdict."""
+    push("tab-read")
+    put("grid", written_in("CONFIG 1", "square", 0, "programming"))
+    seen = shown()
+    kind = run("return document.getElementById('verdict').className")
+    count.expect("reader programming", (seen["state"], seen["says"], kind),
+                 ("Read, as reader programming", "CONFIG 1", "card verdict other"))
+    count.expect("said so", seen["why"].startswith("It is an instruction to the reader that scans it"), True)
+    as_usual()
+
+
+# ---- Codewords and the lesson
+
+TOLD = "return mitsubadoor.mark.seen.told.map(({ brief }) => brief)"
+
+
+def told_of_marks():
+    """Designators and heads in the codewords and in the lesson."""
+    for line, head, briefs in (
+        ("\\E{26}\\xC3\\xA9", None, ["ECI", "26", "+128", "\\xC3", "+128"]),
+        ("A\\E{200}B", None, ["A", "ECI", "200", "\u21b2", "B"]),
+        ("\\E{20000}B", None, ["ECI", "20000", "\u21b2", "\u21b2", "B"]),
+        ("AB", {"part": 2, "parts": 5, "file": [7, 9]}, ["SA", "2/5", "#7", "#9", "A", "B"]),
+        ("AB", "programming", ["RP", "A", "B"]),
+    ):
+        push("tab-read")
+        put("grid", written_in(line, "square", 0, head))
+        count.expect(f"{line} {head}", run(TOLD)[: len(briefs)], briefs)
+    push("tab-read")
+    put("grid", written_in("AB\\E{7}\\xBF", "square", 0, {"part": 2, "parts": 5, "file": [7, 9]}))
+    push("tab-learn")
+    unfold("lesson")
+    while usable("step-back"):
+        push("step-back")
+    said = text_of("step")
+    chips = run("return [...document.querySelectorAll('#step .chip')].map((it) => it.textContent)")
+    count.expect("the lesson's message", chips, ["65A", "66B", "ECI 7iso-8859-5", "191\\xBF"])
+    count.expect("its head", "part 2 of 5" in said and "the numbers 7 and 9" in said, True)
+    push("step-on")
+    count.expect("its codewords", "An ECI is 241 and its designator" in text_of("step"), True)
+    fold("lesson")
+    as_usual()
+
+
+# ---- Compared
+
+BOTH = "return [...document.querySelectorAll('#same strong, #same p')].map((it) => it.textContent)"
+
+
+def fill(slot, text):
+    run(
+        """const area = document.querySelector(arguments[0]);
+           area.value = arguments[1];
+           area.dispatchEvent(new Event('input', { bubbles: true }))""",
+        f"#slot-{slot} textarea",
+        text,
+    )
+
+
+def letters_compared():
+    """Two symbols are compared by all that they say; where their texts are the same and their bytes aren't, or their
+    symbology identifiers differ, that is said."""
+    push("tab-read")
+    unfold("comparison")
+    alike = "Their normal grids differ, though both are the same text, with other bytes or ECIs:"
+    part = {"part": 1, "parts": 2, "file": [1, 1]}
+    differ, same = "No, they say different things.", "Yes, they say the same."
+    plain = "Their modules differ, but both have this one normal grid"
+    for name, a, b, wanted in (
+        ("Latin-1 and UTF-8", "\u00e9", written_in("\\E{26}\\xC3\\xA9", "square"), [differ, alike]),
+        ("a mark and none", "abc", written_in("\\E{26}abc", "square"), [differ, alike]),
+        ("a part and a message", "abc", written_in("abc", "square", 0, part), [differ, "Their normal grids differ:"]),
+        ("in two sizes", written_in("\\E{26}abc", "16"), written_in("\\E{26}abc", "8x32"), [same, plain + ":"]),
+        ("as text", "\u65e5", written_in("\\E{26}\\xE6\\x97\\xA5", "square"),
+         [same, "Both have this one normal grid:"]),
+    ):
+        fill("a", a)
+        fill("b", b)
+        settle()
+        count.expect(name, run(BOTH), wanted)
+    fill("a", written_in("\\F", "square"))
+    size = SIZE_OF[12, 12]
+    modules = "".join(map(str, modules_of(size, codewords(size, padded([230, 10, 121, 254], size.data)))))
+    fill("b", "\n".join(modules[k : k + 12] for k in range(0, 144, 12)))
+    settle()
+    said = [same, f"{plain}, though their symbology identifiers are ]d2 and ]d1:"]
+    count.expect("identifiers", run(BOTH), said)
+    fold("comparison")
+    as_usual()
+
+
+# ---- Borders
+
+def torn(text, many):
+    """A grid of which so many modules of the solid column on the left are light."""
+    rows = text.split("\n")
+    return "\n".join("0" + row[1:] if k < many else row for k, row in enumerate(rows))
+
+
+def any_border():
+    """A grid with more wrong border modules than usual is read where each block keeps a correction unused, and not
+    where it doesn't; by the button, in the link, in a comparison, and undone."""
+    line = "A border that is torn at its left side"
+    text = written(line)
+    usual = (2 * len(text.split("\n"))) // 8
+    push("tab-read")
+    for way in range(2):
+        lines = torn(text, usual + 3).split("\n")
+        put("grid", "\n".join(row[::-1] if way else row for row in lines))
+        seen = shown()
+        wanted = "Read", line, f"{usual + 3} wrong, {usual + 3}"
+        count.expect("a torn border", (seen["state"], seen["says"], seen["meters"][-1]), wanted)
+        said = f"have the wrong colour. Usually {usual} may; more are taken here, since each block keeps a correction"
+        count.expect("is said in the verdict", said in seen["why"], True)
+        count.expect("is said", text_of("border-hint").startswith("Any number is accepted, if each block keeps"), True)
+        count.expect("the way it stands", "mirrored" in text_of("grid-hint"), bool(way))
+    linked()
+    count.expect("in the link", fields()["grid-border"], "auto")
+    on.page.refresh()
+    started()
+    settle()
+    count.expect("after a reload", shown()["says"], line)
+    push("usual")
+    count.expect("as usual it is refused", shown()["state"], "Refused")
+    push("any-border")
+    count.expect("and read by the button", (shown()["state"], usable("any-border")), ("Read", False))
+    push("tab-learn", "to-limit")
+    count.expect("not where no correction is left", shown()["state"], "Refused")
+    push("undo")
+    count.expect("undone", shown()["state"], "Read")
+    push("tab-read")
+    put("grid", text)
+    count.expect("a whole one after it", (shown()["state"], shown()["meters"][-1]), ("Read", f"0 wrong, {usual}"))
+    unfold("comparison")
+    fill("a", torn(text, usual + 3))
+    fill("b", line)
+    settle()
+    count.expect("compared", run(BOTH)[0], "Yes, they say the same.")
+    fold("comparison")
+    lines = torn(text, usual + 3).split("\n")
+    opened("torn.png", png(lines, 1, 2))
+    count.expect("a picture that is a grid", (shown()["state"], shown()["says"]), ("Read", line))
+    as_usual()
+
+
+PARTS = [
+    the_smallest,
+    gs1_in_the_smallest,
+    texts_of_all_scripts,
+    charsets,
+    made_in_parts,
+    labels_in_parts,
+    read_in_parts,
+    programs_the_reader,
+    told_of_marks,
+    letters_compared,
+    any_border,
+]

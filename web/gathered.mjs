@@ -1,0 +1,77 @@
+// The parts of messages that several symbols say together (structured append), put together as they are read.
+import { $, made, setUsable, whenUsed } from "./dom.mjs";
+import { drawAll } from "./draw.mjs";
+import { readable, typed } from "./gs1.mjs";
+import { isSameLetter, nameOfFile, partOf, together } from "./letters.mjs";
+import { VALID, mark, store } from "./state.mjs";
+import { copyText, letterRead } from "./taking.mjs";
+
+/** @typedef {import("./letters.mjs").Letter} Letter */
+/** @type {Map<string, Map<number, Letter>>} the parts of each file, by their numbers */
+const files = new Map();
+
+// Keeps what is read, if it is a part. One with another content than before is of another file, which begins with it.
+/** @type {(letter: Letter) => void} */
+export function gather(letter) {
+  const part = partOf(letter);
+  if (!part) return;
+  const name = nameOfFile(part), known = files.get(name), before = known?.get(part.part);
+  const own = known && (!before || isSameLetter(before, letter)) ? known : new Map();
+  files.set(name, own.set(part.part, letter));
+}
+// Keeps what is read of several symbols, and shows what that changes.
+/** @type {(letters: Letter[]) => void} */
+export function gatherAll(letters) {
+  for (const letter of letters) gather(letter);
+  if (letters.some(partOf)) drawAll();
+}
+// Which parts of a message are missing, in words.
+/** @type {(part: import("./letters.mjs").Part) => string} */
+export function missingWords(part) {
+  const own = files.get(nameOfFile(part)) ?? new Map(), all = Array.from({ length: part.parts }, (_, k) => k + 1);
+  const missing = all.filter((number) => !own.has(number)), { length } = missing;
+  return length ? `Not read yet: ${length > 1 ? "parts" : "part"} ${missing.join(", ")}.` : "All parts are read.";
+}
+// What all parts of a file say together, or null while one is missing.
+/** @type {(part: import("./letters.mjs").Part) => Letter | null} */
+function wholeOf(part) {
+  const own = files.get(nameOfFile(part)) ?? new Map();
+  const letters = Array.from({ length: part.parts }, (_, k) => own.get(k + 1));
+  return letters.every(Boolean) ? together(letters) : null;
+}
+// The part that is at hand where symbols are read, or null.
+function partAtHand() {
+  const { seen, stage } = mark(), letter = stage === VALID && store.task === "read" ? letterRead(seen) : null;
+  return letter && partOf(letter);
+}
+/** @type {(part: import("./letters.mjs").Part) => Node[]} */
+function partsShown(part) {
+  const own = files.get(nameOfFile(part)) ?? new Map();
+  return Array.from({ length: part.parts }, (_, k) => {
+    const letter = own.get(k + 1), text = letter ? readable(letter) || "empty" : "not read yet";
+    const words = made(letter ? "code" : "span", { textContent: text });
+    const item = made("li", { className: letter ? "" : "missing" }, words);
+    if (k + 1 === part.part) item.setAttribute("aria-current", "true");
+    return item;
+  });
+}
+export function drawGathered() {
+  const part = partAtHand(), isPart = part !== null, whole = isPart ? wholeOf(part) : null;
+  $("gathered").hidden = !isPart;
+  if (!isPart) { $("gathered-are").replaceChildren(); $("whole").textContent = ""; return; }
+  const count = files.get(nameOfFile(part))?.size ?? 0;
+  const read = whole ? "all are read" : `${count} of them read`;
+  $("gathered-title").textContent = `A message in ${part.parts} symbols: ${read}`;
+  $("gathered-are").replaceChildren(...partsShown(part));
+  $("whole").textContent = whole ? readable(whole) || "the empty message" : "";
+  $("whole").hidden = !whole;
+  setUsable("copy-whole", whole !== null);
+}
+export function wireGathered() {
+  whenUsed("copy-whole", () => copyText(typed(wholeOf(partAtHand())), "Copied: the whole message"));
+  $("forget-parts").addEventListener("click", () => {
+    const part = partAtHand(), { seen } = mark();
+    files.delete(nameOfFile(part));
+    gatherAll([letterRead(seen)]);
+  });
+}

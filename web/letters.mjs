@@ -1,0 +1,79 @@
+// Letters: what symbols say. Items are 0 to 255, and 256 for FNC1; marks are ECI assignments, which say how the items
+// behind them are meant; a head says that a symbol is one part of what several say, or that it programs the reader.
+import { crcOf } from "./zip.mjs";
+
+/** @typedef {{ place: number, number: number }} Mark the number of an ECI assignment, behind so many items */
+/** @typedef {{ part: number, parts: number, file: number[] }} Part of so many, 2 to 16, with the two numbers that all
+    of them have, 1 to 254: structured append */
+/** @typedef {"programming" | Part} Head */
+/** @typedef {{ items: number[], marks: Mark[], head: Head | null }} Letter */
+/** @type {"programming"} */
+export const PROGRAMMING = "programming"; // the head of what programs the reader
+export const ECI_UTF_8 = 26;
+const MOST_OF_FILE = 254;
+
+const PART_KIND = 1, PROGRAMMING_KIND = 2; // of heads, in the library's interface: none is 0
+/** @type {(kind: number, part: number, parts: number, file: number[]) => Head | null} */
+export const headOf = (kind, part, parts, file) =>
+  (kind === PART_KIND ? { part, parts, file } : kind === PROGRAMMING_KIND ? PROGRAMMING : null);
+/** @type {(head: Head | null) => number} */
+export const kindOfHead = (head) => (head === null ? 0 : head === PROGRAMMING ? PROGRAMMING_KIND : PART_KIND);
+/** @type {(items: number[], marks?: Mark[], head?: Head | null) => Letter} */
+export const letterOf = (items, marks = [], head = null) => ({ items, marks, head });
+// Which part of what a letter is, or null if it is none.
+/** @type {(letter: { head?: Head | null }) => Part | null} */
+export const partOf = ({ head }) => (head && head !== PROGRAMMING ? head : null);
+// A name for each file: the same for all of its parts.
+/** @type {(part: Part) => string} */
+export const nameOfFile = ({ parts, file }) => [parts, ...file].join(" ");
+// A text for each letter: the same for the same.
+/** @type {(letter: Letter) => string} */
+export const keyOfLetter = ({ items, marks, head }) =>
+  JSON.stringify([items, marks.map(({ place, number }) => [place, number]), head]);
+/** @type {(one: Letter, other: Letter) => boolean} */
+export const isSameLetter = (one, other) => keyOfLetter(one) === keyOfLetter(other);
+
+// ---- Parts
+
+// The two numbers of the file that a letter makes when it is taken apart: the same for the same letter.
+/** @type {(letter: Letter) => number[]} */
+function fileOf(letter) {
+  const crc = crcOf(new TextEncoder().encode(keyOfLetter(letter)));
+  return [crc % MOST_OF_FILE, Math.floor(crc / MOST_OF_FILE) % MOST_OF_FILE].map((number) => number + 1);
+}
+// The number that is in force behind so many items, or undefined.
+const eciAt = (marks, at) => marks.filter(({ place }) => place <= at).at(-1)?.number;
+// The items of a letter from one place to another, with their marks, of which the one in force stands first.
+/** @type {(letter: Letter, from: number, to: number, isLast: boolean) => Letter} */
+function pieceOf({ items, marks }, from, to, isLast) {
+  const number = eciAt(marks, from), first = number === undefined ? [] : [{ place: 0, number }];
+  const own = marks.filter(({ place }) => place > from && (place < to || (isLast && place === to)));
+  return letterOf(items.slice(from, to), [...first, ...own.map((mark) => ({ ...mark, place: mark.place - from }))]);
+}
+// Whether a character in UTF-8 goes on at a place.
+/** @type {(letter: Letter, at: number) => boolean} */
+const isWithin = ({ items, marks }, at) => eciAt(marks, at) === ECI_UTF_8 && (items[at] & 0xc0) === 0x80;
+// A letter in so many parts of about equal length.
+/** @type {(letter: Letter, parts: number) => Letter[]} */
+export function takenApart(letter, parts) {
+  if (parts === 1) return [letter];
+  const { items } = letter, file = fileOf(letter), ends = [0];
+  for (let part = 1; part <= parts; part++) {
+    let end = Math.max(ends[part - 1], Math.round((items.length * part) / parts));
+    while (isWithin(letter, end)) end++;
+    ends.push(end);
+  }
+  return ends.slice(1).map((end, k) => ({
+    ...pieceOf(letter, ends[k], end, k + 1 === parts), head: { part: k + 1, parts, file } }));
+}
+// What letters say together that are parts, in this order. A mark that says what is in force already is left out.
+/** @type {(letters: Letter[]) => Letter} */
+export function together(letters) {
+  const whole = letterOf([]);
+  for (const { items, marks } of letters) {
+    for (const { place, number } of marks)
+      if (whole.marks.at(-1)?.number !== number) whole.marks.push({ place: place + whole.items.length, number });
+    whole.items.push(...items);
+  }
+  return whole;
+}

@@ -1,0 +1,39 @@
+// A message in several symbols (structured append): into how many it is taken apart, and which of them is shown.
+import { markedThroughout } from "./charsets.mjs";
+import { $, field, made, setUsable, whenUsed } from "./dom.mjs";
+import { takenApart } from "./letters.mjs";
+
+export const MOST_PARTS = 16;
+let part = 1; // that is shown
+
+/** @type {() => number} */
+export const partsNow = () => Number(field("parts").value);
+export const partNow = () => Math.min(part, partsNow());
+// The letters of what is taken, in so many parts.
+/** @type {(taken: import("./messages.mjs").Taken, parts: number) => import("./letters.mjs").Letter[]} */
+export const lettersTaken = ({ letter, isText }, parts) =>
+  takenApart(isText && parts > 1 ? markedThroughout(letter) : letter, parts);
+// Chooses what a link has; one symbol, if that is no number of parts.
+/** @type {(parts: number, shown: number) => void} */
+export function chooseParts(parts, shown) {
+  field("parts").value = String(parts >= 1 && parts <= MOST_PARTS ? parts : 1);
+  part = Math.max(1, Math.min(partsNow(), shown));
+  showPart();
+}
+export function showPart() {
+  const parts = partsNow(), shown = partNow();
+  $("part-steps").hidden = parts === 1;
+  $("part-shown").textContent = `Part ${shown} of ${parts}`;
+  setUsable("part-back", shown > 1);
+  setUsable("part-on", shown < parts);
+}
+/** @type {(write: () => void) => void} */
+export function wireParts(write) {
+  const options = Array.from({ length: MOST_PARTS }, (_, k) =>
+    made("option", { value: String(k + 1), textContent: k ? `${k + 1} symbols` : "one symbol" }));
+  $("parts").replaceChildren(...options);
+  const leaf = (by) => { chooseParts(partsNow(), partNow() + by); write(); };
+  $("parts").addEventListener("change", () => { chooseParts(partsNow(), 1); write(); });
+  whenUsed("part-back", () => leaf(-1));
+  whenUsed("part-on", () => leaf(1));
+}
