@@ -60,11 +60,11 @@ def checks_of_definitions():
     defined = set()
     for item in items(DEFINITIONS):
         found = ITEM.match(item)
-        if item.startswith("Inner: "):
-            for name, crate, path in re.findall(r"\[`(\w+)`\]\(\.\./crates/(\w+)/specs/((?:\w+/)?inner/\1)\.antt\)",
-                                                item):
-                defined.add((crate, path, name))
-                yield f"{crate}, specs, {path}", path in modules(crate, are_inner=True)
+        if inner := re.match(r"Inner, in \[`inner`\]\(\.\./crates/(\w+)/specs/((?:\w+/)?inner)\): (.*)", item):
+            crate, folder, names = inner.groups()
+            for name in QUOTED.findall(names):
+                defined.add((crate, f"{folder}/{name}", name))
+                yield f"{crate}, specs, {folder}/{name}", f"{folder}/{name}" in modules(crate, are_inner=True)
         elif found and found[4] == "specs":
             crate, inside = found[3], found[2].split("/", 3)[-1].removesuffix(".antt")
             source = modules(crate).get(inside)
@@ -109,13 +109,13 @@ def home(crate, name):
 
 def checks_of_uses():
     """Behind each crate the page has exactly the functions and types of other crates that it imports and names once
-    more, or calls by the crate's name, with the files they are in."""
+    more, or calls by the crate's name, with the crates that declare them."""
     listed = collections.defaultdict(set)
     for item in items(DEFINITIONS):
         upper, _, rest = item.partition(": ")
         if upper.strip("`") in crates():
-            links = re.findall(r"\[([^]]*)\]\(\.\./([^)]+)\)", rest)
-            listed[upper.strip("`")] |= {(name, path) for names, path in links for name in QUOTED.findall(names)}
+            for lower, names in re.findall(r"of `(\w+)` ((?:`\w+`(?:, )?)+)", rest):
+                listed[upper.strip("`")] |= {(name, lower) for name in QUOTED.findall(names)}
     for upper in crates():
         code = "\n".join(source for name, source in sources(upper).items() if name != "tests")
         imports = re.findall(rf"^(?:pub )?use (?!{upper}\b)({'|'.join(crates())})::([^;]*);", code, re.M)
@@ -129,11 +129,8 @@ def checks_of_uses():
             named[name].add(home(lower, name))
         for name in named if any(True for _ in public_functions(upper)) else ():
             yield f"docs/DEFINITIONS.md, {upper} uses {name}", any(name == there for there, _ in listed[upper])
-        for name, path in sorted(listed[upper]):
-            source = text(places.path(path)) if os.path.exists(places.path(path)) else ""
-            is_declared_there = re.search(rf"\b(?:fn|struct|enum|trait|type) {name}\b", source) is not None
-            is_there = path.split("/")[1] in named.get(name, ()) and is_declared_there
-            yield f"docs/DEFINITIONS.md, {upper} uses {name} of {path}", is_there
+        for name, lower in sorted(listed[upper]):
+            yield f"docs/DEFINITIONS.md, {upper} uses {name} of {lower}", lower in named.get(name, ())
 
 
 def checks_of_lemmas():
