@@ -51,7 +51,8 @@ push_items-requires g c =
           arith,
           c.requires.room,
           piece_fits c.args.items.now l.letter.items l.before
-              ((get_or c.args.marks.now l.mark-index nothing).place - l.before) l.invariant.before l.invariant.items_are,
+              ((get_or c.args.marks.now l.mark-index nothing).place - l.before) l.invariant.before
+              l.invariant.items_are,
         ),
       ),
     )
