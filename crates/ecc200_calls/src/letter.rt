@@ -14,16 +14,22 @@ use dm_symbol::{Head, Item, LARGEST_MARKS, LARGEST_ROOM, LetterIn};
 pub(crate) type Letter = LetterIn<LARGEST_ROOM, LARGEST_MARKS>;
 
 /// Gives the letter with this head, or none, and with the items and the marks of these numbers.
-pub(crate) fn letter_of_numbers(head: Option<Head>, items: &[u16], marks: &[MarkNumbers]) -> Letter
+pub(crate) fn letter_of_numbers<const ITEMS: usize, const MARKS: usize>(
+    head: Option<Head>,
+    items: &[u16],
+    marks: &[MarkNumbers],
+) -> LetterIn<ITEMS, MARKS>
     requires head { IsHead head }
     requires items { All (λ item. item ≤ 256) items.now }
-    requires room { length items.now ≤ LARGEST_ROOM }
+    requires room { length items.now ≤ ITEMS }
+    requires most { ITEMS ≤ LARGEST_ROOM }
     requires marks { AreMarks 0 (length items.now) (marks_of marks.now) }
-    requires mark_room { length marks.now ≤ LARGEST_MARKS }
+    requires mark_room { length marks.now ≤ MARKS }
+    requires few_marks { MARKS ≤ LARGEST_MARKS }
     ensures letter { IsLetter result }
     ensures of_numbers { IsLetterOf head items.now marks.now result }
 {
-    let mut letter = Letter::new();
+    let mut letter = LetterIn::new();
     letter.set_head(head);
     let mut before = 0;
     for mark in marks {
@@ -39,9 +45,12 @@ pub(crate) fn letter_of_numbers(head: Option<Head>, items: &[u16], marks: &[Mark
 }
 
 /// Adds the items of these numbers.
-fn push_items(letter: &mut Letter, numbers: &[u16])
+fn push_items<const ITEMS: usize, const MARKS: usize>(
+    letter: &mut LetterIn<ITEMS, MARKS>,
+    numbers: &[u16],
+)
     requires items { All (λ item. item ≤ 256) numbers.now }
-    requires room { length letter.old.items + length numbers.now ≤ LARGEST_ROOM }
+    requires room { length letter.old.items + length numbers.now ≤ ITEMS }
     ensures items { numbers_of letter.new.items ≡ numbers_of letter.old.items ++ numbers.now }
     ensures head { letter.new.head ≡ letter.old.head }
     ensures marks { letter.new.marks ≡ letter.old.marks }
@@ -52,13 +61,16 @@ fn push_items(letter: &mut Letter, numbers: &[u16])
 }
 
 /// Gives the letter with this head, or none, with these bytes as its items, and without marks.
-pub(crate) fn letter_of_bytes(head: Option<Head>, bytes: &[u8]) -> Letter
+pub(crate) fn letter_of_bytes<const ITEMS: usize, const MARKS: usize>(
+    head: Option<Head>,
+    bytes: &[u8],
+) -> LetterIn<ITEMS, MARKS>
     requires head { IsHead head }
-    requires room { length bytes.now ≤ LARGEST_ROOM }
+    requires room { length bytes.now ≤ ITEMS }
     ensures letter { IsLetter result }
     ensures of_numbers { IsLetterOf head bytes.now [] result }
 {
-    let mut letter = Letter::new();
+    let mut letter = LetterIn::new();
     letter.set_head(head);
     for byte in bytes {
         let _room = letter.push(Item::Byte(*byte));

@@ -17,8 +17,8 @@
 //! `Sizes`; `Laws` has the laws of these definitions, which the functions of [`laws`] prove. A caller's bytes are
 //! packed into rows of bits, and a symbol is unpacked over them, in `modules` alone; and `room` alone says how much
 //! room a call takes for a message. What has a head or marks is read, written and normalised in `letter_reading`,
-//! `letter_writing` and `letter_normalising`, and whatever is written in its smallest symbol in `smallest_writing`,
-//! with room for whatever any symbol says.
+//! `letter_writing` and `letter_normalising`, with room for whatever any symbol says, and whatever is written in its
+//! smallest symbol in `smallest_writing`.
 #![tactic(auto)]
 
 mod arrays;

@@ -3,7 +3,7 @@ use Rattle.ecc200_calls.specs.Items.{numbers_of}
 use Rattle.ecc200_calls.proofs.letter.letter_of_bytes.Given as goal
 
 abbrev pub invariant-loop-byte : goal.invariant-loop-byte
-invariant-loop-byte l = record {
+invariant-loop-byte g l = record {
   items : numbers_of l.letter.items ≡ take l.byte-index l.bytes;
   head : l.letter.head ≡ l.fn.head;
   marks : l.letter.marks ≡ [];

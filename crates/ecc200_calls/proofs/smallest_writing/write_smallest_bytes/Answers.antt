@@ -1,14 +1,8 @@
 use Rattle.std.proofs.Common.{[], ◌≤◌, inl, ◌∙◌, ap, arith}
 use Rattle.std.proofs.lemmas.List.Elements.{All-from_get_or}
 use Rattle.ecc200_calls.specs.Symbols.{no_symbol}
-use Rattle.ecc200_calls.specs.Writings.{IsWritingGiven}
 use Rattle.ecc200_calls.proofs.Written.{none_smallest_given}
 use Rattle.ecc200_calls.proofs.smallest_writing.write_smallest_bytes.Goals as goal
-
-pub returns-then-bytes-le-LARGEST_ROOM : goal.returns-then-bytes-le-LARGEST_ROOM
-returns-then-bytes-le-LARGEST_ROOM c =
-    let made = c.letter_of_bytes in
-    IsWritingGiven.letter made.result made.ensures.letter made.ensures.of_numbers c.write_letter.ensures
 
 pub returns-else-bytes-le-LARGEST_ROOM : goal.returns-else-bytes-le-LARGEST_ROOM
 returns-else-bytes-le-LARGEST_ROOM c =
