@@ -175,7 +175,10 @@ def read_charsets():
         (b"ABC", [(0, 200)], (), r"\E{200}ABC"), (b"\xff", [(0, 899)], (), r"\E{899}\xFF"),
         (b"\xe9", [(0, 26)], (), r"\E{26}\xE9"), (b"\xe9", [(0, 26)], ("--charset", "latin-1"), "\u00e9"),
         (b"A\x85", [(0, 3)], (), r"A\x85"), ([65, 256, 66], [(0, 26)], (), r"\E{26}A\FB"),
-        (b"\x00A\x00\n", [(0, 25)], (), r"A\x00\x0A"),
+        (b"\x00A\x00\n", [(0, 25)], (), r"A\x00\x0A"), (b"1\xa0kg\xad", [], (), "1\u00a0kg\u00ad"),
+        ("\u0645\u06cc\u200c\u062e \U0001f468\u200d\U0001f469".encode(), [(0, 26)], (),
+         "\u0645\u06cc\u200c\u062e \U0001f468\u200d\U0001f469"),
+        ("\u200fA\u202eB\u2028".encode(), [(0, 26)], (), "\u200fA" + r"\xE2\x80\xAEB\xE2\x80\xA8"),
     ]:
         grid = text(ecc200.write(items, marks=marks))
         yield says(f"read {words} of {items!r}, {marks}", ecc("read", *words, given=grid), output=wanted + "\n")
