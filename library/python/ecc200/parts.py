@@ -7,7 +7,7 @@ from typing import Any, Dict, Iterator, List, NamedTuple, Optional, Tuple
 
 from .core import Head, Reading
 from .joining import Joined, Unjoined, join as joined
-from .reporting import Answer, answers, complain, json_line, line_of, marks_told, message_told
+from .reporting import Answer, answers, complain, json_line, line_of, message_told
 from .spelling import headed
 
 __all__ = ["join"]
@@ -82,8 +82,8 @@ def _told(outcome: _Outcome, faults: List[str], symbols: List[_Symbol], given: a
                 "strange": strange}
     parts = [{**symbol.told, "part": _part(symbol.reading.head)} for part in outcome.whole.parts
              for symbol in symbols if symbol.reading is part]
-    said = {**message_told(outcome.whole, None, given), "marks": marks_told(outcome.whole.marks)}
-    return {**said, "parts": parts, "strange": strange}
+    said = message_told(outcome.whole, None, given)
+    return {**said, "marks": outcome.whole.marks, "parts": parts, "strange": strange}
 
 
 def _complain_of_strange(outcome: _Outcome, given: argparse.Namespace) -> int:

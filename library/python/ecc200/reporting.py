@@ -3,19 +3,19 @@ from __future__ import annotations
 
 import argparse
 import sys
-from typing import Any, Dict, Iterator, List, NamedTuple, Optional, Sequence, Tuple, Union
+from typing import Any, Dict, Iterator, List, NamedTuple, Optional, Tuple, Union
 
 from . import core, explaining, gs1
 from .advice import bytes_in, in_words, righted, sizes_of, why_not_written
-from .core import FNC1, Code, Head, Mark, Reading, Refused, Rows, Shape, Unsure, text_of, usual_limit
+from .core import FNC1, Code, Head, Reading, Refused, Rows, Shape, Unsure, text_of, usual_limit
 from .joining import Joined
 from .labels import Label, Output, printed
 from .progress import Progress
 from .sources import Search, Source, Trouble, doubts, known_charset, sources
 from .spelling import headed, shown, spelled
 
-__all__ = ["Answer", "answers", "check", "compare", "complain", "explain", "json_line", "line_of", "marks_told",
-           "message_told", "normal", "read", "said", "sizes"]
+__all__ = ["Answer", "answers", "check", "compare", "complain", "explain", "json_line", "line_of", "message_told",
+           "normal", "read", "said", "sizes"]
 
 _EARLY = 3  # the status where a search ended early
 _OTHER_DEALING = "check codewords dealt into blocks from the first one, as libdmtx deals them"
@@ -177,26 +177,12 @@ def _about(answer: Answer) -> Dict[str, Any]:
         reading = answer.reading
         told.update(rows=reading.rows, columns=reading.columns, border_faults=reading.border_faults,
                     corrected=list(reading.corrected), erased=list(reading.erased), left=list(reading.left),
-                    dealing=reading.dealing, symbology=reading.symbology, head=_head_told(reading.head),
-                    marks=marks_told(reading.marks))
+                    dealing=reading.dealing, symbology=reading.symbology, head=reading.head, marks=reading.marks)
         if found is not None:
             told["border_limit"] = found.border_limit if answer.border is None else answer.border
             if answer.doubtful is not None:
                 told["doubtful"] = ["".join(map(str, row)) for row in answer.doubtful]
     return told
-
-
-def marks_told(marks: Sequence[Mark]) -> List[Dict[str, int]]:
-    """What JSON has of marks."""
-    return [{"place": place, "eci": number} for place, number in marks]
-
-
-def _head_told(head: Head) -> Union[Dict[str, Any], str, None]:
-    """What JSON has of a head."""
-    if head is None or isinstance(head, str):
-        return head
-    part, of, *file = head
-    return {"part": part, "of": of, "file": file}
 
 
 def json_line(told: Dict[str, Any]) -> str:
