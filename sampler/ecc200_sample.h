@@ -28,7 +28,9 @@
  *
  * The library reads no file formats: a PICTURE is its luminance, a byte a pixel, row by row from the top, each row
  * `stride` bytes after the one before. The symbols may be turned by any angle, in perspective, bent, mirrored, or light
- * on dark. A grid comes out upright, as ecc200_read takes it.
+ * on dark. A grid comes out upright, as ecc200_read takes it. What a symbol says is read in ECC200_WIDE: beside the
+ * items of a message also ECI marks and a head, of structured append or reader programming, in `reading`. Whoever takes
+ * the items alone for a message looks first whether `reading.head.kind` and `reading.mark_count` are 0.
  *
  * Finding and sampling are tested, not proved. The sampler tries many candidates, and ecc200_read, which is proved,
  * judges each: the reading is what the grid says. A wrong grid gives no reading or, rarely, a wrong message, as damage
@@ -111,10 +113,11 @@ typedef struct ecc200_sample {
     uint8_t doubtful[ECC200_MOST_MODULES]; /* likewise: 1 for a module that lies outside of the picture, in a glare,
                                               beyond a torn edge or under a blot, where it wasn't read without knowing
                                               that; else 0 */
-    ecc200_reading reading;           /* what ecc200_read says of these modules: at the usual border limit, or,
-                                         if each block leaves a correction unused, at one of
+    ecc200_reading reading;           /* what ecc200_read says of these modules in ECC200_WIDE: at the usual border
+                                         limit, or, if each block leaves a correction unused, at one of
                                          (rows + columns) * 5 / 8 */
-    uint16_t border_limit;            /* that limit: with it and with `doubtful`, ecc200_read says the same again */
+    uint16_t border_limit;            /* that limit: with it, `doubtful` and ECC200_WIDE, ecc200_read says the same
+                                         again */
     uint16_t unread;                  /* one of ecc200_sample_unread; 0 for what was read */
 } ecc200_sample;
 

@@ -30,10 +30,12 @@ static double depth_at(const struct plane *dark, struct point at, struct point i
     return depth;
 }
 
-/* About how wide a module is along `inwards`: the solid border is one module deep wherever a light one follows. */
-static double module_width(const struct plane *dark, struct point from, struct point to, struct point inwards) {
-    enum { PLACES = 96, DEPTHS = 256 };
-    double whole = length(difference(to, from)), most = whole / 6;
+/* About how wide a module is along `inwards`, but no wider than `widest`: the solid border is one module deep wherever
+ * a light one follows. */
+static double module_width(const struct plane *dark, struct point from, struct point to, struct point inwards,
+                           double widest) {
+    enum { PLACES = 96, DEPTHS = 256, BEYOND = 3 };
+    double whole = length(difference(to, from)), most = fmin(whole / 6, widest + BEYOND);
     int histogram[DEPTHS] = {0}, counted = 0;
     for (int k = 0; k < PLACES; k++) {
         struct point at = sum(from, scale_by(difference(to, from), 0.05 + 0.9 * k / PLACES));
@@ -44,7 +46,7 @@ static double module_width(const struct plane *dark, struct point from, struct p
     int passed = 0, depth = 0;
     while (depth < DEPTHS - 1 && (passed += histogram[depth]) * 10 < counted * 3)
         depth++;
-    return fmax(1, 0.5 * depth + 0.25);
+    return fmin(fmax(1, 0.5 * depth + 0.25), widest);
 }
 
 /* ---- Elbows */
@@ -97,8 +99,8 @@ static void look_inside(const struct plane *dark, struct elbow *elbow) {
     double wide = length(along), high = length(up);
     elbow->is_long = fmin(wide, high) < LEAST_OF_SQUARE * fmax(wide, high);
     double widest = elbow->is_long ? WIDEST_OF_LONG : WIDEST_MODULE;
-    elbow->across = fmin(module_width(dark, elbow->corner, elbow->top, scale_by(along, 1 / wide)), widest * wide);
-    elbow->upwards = fmin(module_width(dark, elbow->corner, elbow->right, scale_by(up, 1 / high)), widest * high);
+    elbow->across = module_width(dark, elbow->corner, elbow->top, scale_by(along, 1 / wide), widest * wide);
+    elbow->upwards = module_width(dark, elbow->corner, elbow->right, scale_by(up, 1 / high), widest * high);
     double uneven = wide / elbow->across / (high / elbow->upwards), oblong = elbow->across / elbow->upwards;
     elbow->is_lively =
         (elbow->is_long ? is_between(oblong, MOST_OBLONG) : is_between(uneven, MOST_UNEVEN)) &&
@@ -136,17 +138,19 @@ static struct elbow elbow_of(const struct sought *in, const struct line *bottom,
     return elbow.is_lively || !elbow.is_long ? elbow : none;
 }
 
+static int by_places(const struct elbow *a, const struct elbow *b) {
+    int corner = by_place(a->corner, b->corner), top = by_place(a->top, b->top);
+    return corner != 0 ? corner : top != 0 ? top : by_place(a->right, b->right);
+}
+
 static int by_likelihood(const void *one, const void *other) {
     const struct elbow *a = one, *b = other;
-    int corner = by_place(a->corner, b->corner), top = by_place(a->top, b->top);
-    return a->is_lively != b->is_lively ? b->is_lively - a->is_lively
+    return a->is_lively != b->is_lively   ? b->is_lively - a->is_lively
            : a->is_joined != b->is_joined ? a->is_joined - b->is_joined
            : a->is_long != b->is_long     ? a->is_long - b->is_long
            : a->score < b->score          ? 1
            : a->score > b->score          ? -1
-           : corner                       ? corner
-           : top                          ? top
-                                          : by_place(a->right, b->right);
+                                          : by_places(a, b);
 }
 
 static bool alike(const struct elbow *one, const struct elbow *other) {

@@ -44,18 +44,11 @@ static int usual_limit(const ecc200_sample *trial) {
     return ecc200_usual_limit(trial->rows, trial->columns);
 }
 
-static uint16_t read_within(ecc200_sample *trial, const uint8_t *doubtful, int limit, uint16_t extent) {
-    size_t count = (size_t)trial->rows * (size_t)trial->columns;
-    return ecc200_read(trial->modules, count, doubtful, doubtful != NULL ? count : 0, trial->rows, trial->columns,
-                       (uint16_t)limit, extent, &trial->reading);
-}
-
-/* Reads the candidate. `doubtful`: which of its modules are, or NULL if none is. What has a head or marks beside its
- * items is refused, as the usual extent refuses it. */
+/* Reads the candidate. `doubtful`: which of its modules are, or NULL if none is. */
 static uint16_t read(ecc200_sample *trial, const uint8_t *doubtful, int limit) {
-    uint16_t code = read_within(trial, doubtful, limit, ECC200_WIDE);
-    if (code == ECC200_OK && (trial->reading.head.kind != ECC200_NO_HEAD || trial->reading.mark_count > 0))
-        code = read_within(trial, doubtful, limit, ECC200_USUAL);
+    size_t count = (size_t)trial->rows * (size_t)trial->columns;
+    uint16_t code = ecc200_read(trial->modules, count, doubtful, doubtful != NULL ? count : 0, trial->rows,
+                                trial->columns, (uint16_t)limit, ECC200_WIDE, &trial->reading);
     bool is_usual = code == ECC200_OK && trial->reading.border_faults <= usual_limit(trial);
     trial->border_limit = (uint16_t)(is_usual ? usual_limit(trial) : limit);
     return code;
@@ -218,8 +211,10 @@ static bool leaves_evidence(const ecc200_sample *trial, int margin) {
 }
 
 static bool says_the_same(const ecc200_reading *one, const ecc200_reading *other) {
-    return one->item_count == other->item_count &&
-           memcmp(one->items, other->items, one->item_count * sizeof *one->items) == 0;
+    return one->item_count == other->item_count && one->mark_count == other->mark_count &&
+           memcmp(&one->head, &other->head, sizeof one->head) == 0 &&
+           memcmp(one->items, other->items, one->item_count * sizeof *one->items) == 0 &&
+           memcmp(one->marks, other->marks, one->mark_count * sizeof *one->marks) == 0;
 }
 
 /* Lets the reader judge what is seen, as it is or in a mirror, with its doubtful modules. False if this says something

@@ -368,18 +368,27 @@ struct tiles {
     struct range *ranges;
 };
 
-/* The pixels of a tile below this are dark. */
-static uint8_t limit_of(const struct tiles *tiles, int column, int row) {
-    int least = 255, most = 0, around = tiles->around;
-    for (int y = row - around; y <= row + around; y++)
-        for (int x = column - around; x <= column + around; x++) {
-            if (x < 0 || y < 0 || x >= tiles->across || y >= tiles->down)
-                continue;
-            struct range tile = tiles->ranges[(size_t)y * (size_t)tiles->across + (size_t)x];
-            least = tile.least < least ? tile.least : least;
-            most = tile.most > most ? tile.most : most;
-        }
-    return (uint8_t)(most - least < LEAST_CONTRAST ? 0 : (most + least) / 2);
+/* The range of some ranges, `step` after one another: of those from `first` to `last` that are there. */
+static struct range joined(const struct range *ranges, size_t step, int first, int last, int count) {
+    struct range all = {255, 0};
+    for (int k = first < 0 ? 0 : first; k <= last && k < count; k++) {
+        struct range one = ranges[(size_t)k * step];
+        all = (struct range){least_of(all.least, one.least), most_of(all.most, one.most)};
+    }
+    return all;
+}
+
+/* The ranges of the surroundings of a row of tiles, but for those of its rows: of each column of tiles around it. */
+static void join_columns(const struct tiles *tiles, int row, struct range *out) {
+    size_t across = (size_t)tiles->across;
+    for (size_t column = 0; column < across; column++)
+        out[column] = joined(tiles->ranges + column, across, row - tiles->around, row + tiles->around, tiles->down);
+}
+
+/* The pixels of a tile below this are dark. `columns`: what join_columns makes of its row. */
+static uint8_t limit_of(const struct tiles *tiles, const struct range *columns, int column) {
+    struct range all = joined(columns, 1, column - tiles->around, column + tiles->around, tiles->across);
+    return (uint8_t)(all.most - all.least < LEAST_CONTRAST ? 0 : (all.most + all.least) / 2);
 }
 
 /* Marks what is dark in a row of pixels, by a limit for each. */
@@ -388,14 +397,21 @@ static void mark_row(const uint8_t *restrict row, const uint8_t *restrict limits
         to[x] = row[x] < limits[x];
 }
 
-/* Marks what is dark by the limits of the tiles. `limits` has room for a row of them, `to` is light all over. */
-static bool mark_dark(const struct plane *from, struct limit *limit, const struct tiles *tiles, uint8_t *limits,
-                      uint8_t *to, size_t stride) {
+/* The limits of the pixels of a row of tiles. `columns` has room for a range for each. */
+static void find_limits(const struct tiles *tiles, int row, struct range *columns, uint8_t *limits) {
+    join_columns(tiles, row, columns);
+    for (int column = 0; column < tiles->across; column++)
+        memset(limits + column * TILE, limit_of(tiles, columns, column), TILE);
+}
+
+/* Marks what is dark by the limits of the tiles. `limits` has room for those of a row, `columns` for a range for each
+ * of its tiles; `to` is light all over. */
+static bool mark_dark(const struct plane *from, struct limit *limit, const struct tiles *tiles, struct range *columns,
+                      uint8_t *limits, uint8_t *to, size_t stride) {
     int y = 0;
     for (; y < from->height && leaves(limit, y, from->width); y++, to += stride) {
         if (y % TILE == 0)
-            for (int column = 0; column < tiles->across; column++)
-                memset(limits + column * TILE, limit_of(tiles, column, y / TILE), TILE);
+            find_limits(tiles, y / TILE, columns, limits);
         mark_row(pixel_of(from, 0, y), limits, from->width, to);
     }
     return y == from->height;
@@ -404,10 +420,11 @@ static bool mark_dark(const struct plane *from, struct limit *limit, const struc
 bool plane_darken(const struct plane *from, int around, struct limit *limit, struct plane *out) {
     struct tiles tiles = {.across = tiles_in(from->width), .down = tiles_in(from->height), .around = around};
     uint8_t *to = plane_make(from->width, from->height, 1, out), *limits = malloc((size_t)tiles.across * TILE);
-    tiles.ranges = malloc((size_t)tiles.across * (size_t)tiles.down * sizeof *tiles.ranges);
+    size_t count = (size_t)tiles.across * (size_t)tiles.down;
+    tiles.ranges = malloc((count + (size_t)tiles.across) * sizeof *tiles.ranges); /* and one more row */
     bool is_whole = to != NULL && limits != NULL && tiles.ranges != NULL &&
                     find_ranges(from, limit, tiles.across, tiles.down, tiles.ranges) &&
-                    mark_dark(from, limit, &tiles, limits, to, out->stride);
+                    mark_dark(from, limit, &tiles, tiles.ranges + count, limits, to, out->stride);
     free(limits);
     free(tiles.ranges);
     return is_made(is_whole, out);

@@ -12,13 +12,24 @@ static bool has_doubt(const ecc200_sample *symbol) {
     return memchr(symbol->doubtful, 1, (size_t)symbol->rows * (size_t)symbol->columns) != NULL;
 }
 
+/* Why what a symbol says is no message, or NULL if it is one. */
+static const char *no_message(const ecc200_reading *reading) {
+    if (reading->head.kind == ECC200_PART)
+        return "is one part of several (structured append), which dm_tool doesn't read";
+    if (reading->head.kind == ECC200_PROGRAMMING)
+        return "programs the reader, which dm_tool doesn't read";
+    return reading->mark_count > 0 ? "has an ECI, which dm_tool doesn't read" : NULL;
+}
+
 const char *report_no_record(const ecc200_sample *symbol) {
     enum { MOST_OF_RECORDS = 104 };
     if (symbol->rows != symbol->columns)
         return "is no square";
     if (symbol->rows > MOST_OF_RECORDS)
         return "is larger than those of dm_tool";
-    return has_doubt(symbol) ? "was read without its doubtful modules, of which dm_tool knows nothing" : NULL;
+    if (has_doubt(symbol))
+        return "was read without its doubtful modules, of which dm_tool knows nothing";
+    return no_message(&symbol->reading);
 }
 
 void report_record(const ecc200_sample *symbol) {
@@ -92,6 +103,22 @@ static void put_message(const ecc200_reading *reading) {
     putchar('"');
 }
 
+/* A head, if there is one: a word, or the part, how many parts there are, and the two numbers of their file. */
+static void put_head(const ecc200_head *head) {
+    if (head->kind == ECC200_PROGRAMMING)
+        fputs(",\"head\":\"programming\"", stdout);
+    if (head->kind == ECC200_PART)
+        printf(",\"head\":[%d,%d,%d,%d]", head->part, head->parts, head->file[0], head->file[1]);
+}
+
+/* Marks, if there are any: of each how many items stand before it, and its number. */
+static void put_marks(const ecc200_reading *reading) {
+    for (int k = 0; k < reading->mark_count; k++)
+        printf("%s[%d,%d]", k > 0 ? "," : ",\"marks\":[", (int)reading->marks[k].place, (int)reading->marks[k].number);
+    if (reading->mark_count > 0)
+        putchar(']');
+}
+
 static void put_counts(const char *name, const uint8_t *counts, int count) {
     printf(",\"%s\":[", name);
     for (int k = 0; k < count; k++)
@@ -108,6 +135,9 @@ static void put_answer(const ecc200_sample *symbol) {
     }
     fputs("\"message\":", stdout);
     put_message(reading);
+    put_head(&reading->head);
+    put_marks(reading);
+    printf(",\"identifier\":\"]d%d\"", reading->identifier);
     put_counts("corrected", reading->corrected, reading->block_count);
     put_counts("erased", reading->erased, reading->block_count);
     put_counts("left", reading->left, reading->block_count);

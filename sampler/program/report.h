@@ -7,7 +7,7 @@
 #include "../ecc200_sample.h"
 
 /* Why a symbol is no record that dm_tool takes, after 'it', or NULL if it is one. Its records are squares of sides 10
- * to 104. */
+ * to 104 that say a message, without a head and without ECI marks. */
 const char *report_no_record(const ecc200_sample *symbol);
 
 /* As a record: a line of 0 and 1 for each row, from the top, and an empty line. To standard output. */

@@ -95,7 +95,7 @@ def symbols():
     yield same("equal symbols", (symbol == ecc200.encode(b"123456"), symbol == ecc200.encode(b"12345"),
                                  len({symbol, ecc200.encode(b"123456")})),
                (True, False, 1))
-    yield raises("text needs a charset", TypeError, "charset", lambda: ecc200.encode("A"))
+    yield same("text", ecc200.encode("A"), ecc200.encode(b"A"))
     yield same("decode a grid", ecc200.decode(symbol.rows)[0].data, b"123456")
     yield same("decode no symbol", ecc200.decode([bytes(10)] * 10), [])
     yield holds("as SVG in a notebook", symbol._repr_svg_().startswith("<svg "))

@@ -8,7 +8,7 @@ import random
 import re
 
 from tests.marks.test_marks import lines_of
-from tests.python.common import MARKS, has, holds, left_out, raises, run, same
+from tests.python.common import MARKS, has, has_sampler, holds, left_out, raises, run, same
 
 import ecc200
 from ecc200 import Code, Extent, Form, Profile, Shape, charsets, gs1
@@ -38,7 +38,7 @@ WRITTEN = [
     ("\u00c3\u00a9", UTF_8, b"\xc3\x83\xc2\xa9", ()), ("\u00ef\u00bb\u00bfA", None, b"\xef\xbb\xbfA", ((0, 3),)),
     ("\u00efx \u00b0", None, b"\xefx \xb0", ((0, 3),)), ("\u00c1\u00f3", None, b"\xc1\xf3", ((0, 3),)),
     ("\u00c1\u00f3", UTF_8, b"\xc3\x81\xc3\xb3", ()), ("\u00e4\u00f3\u00fc", None, b"\xe4\xf3\xfc", ((0, 3),)),
-    ("\u00f4\u00f3\u00fc\u00fc", None, b"\xf4\xf3\xfc\xfc", ((0, 3),)), ("\u00e4\u00f3", None, b"\xe4\xf3", ()),
+    ("\u00f4\u00f3\u00fc\u00fc", None, b"\xf4\xf3\xfc\xfc", ((0, 3),)), ("\u00e4\u00fd", None, b"\xe4\xfd", ()),
     ("\u00ff", None, b"\xff", ()), ("\u0100", None, b"\xc4\x80", ((0, 26),)),
     ("\u20ac", None, b"\xe2\x82\xac", ((0, 26),)), ("\u20ac", UTF_8, b"\xe2\x82\xac", ()),
     ("\u20ac", "latin-1", UnicodeEncodeError, None), ("\u20ac", "cp1252", b"\x80", ((0, 23),)),
@@ -185,6 +185,19 @@ def guessed(folder):
     if has("ZXingReader", "Latin-1 that zxing-cpp reads"):
         for text, got in zip(some, said_by_zxing(symbols, folder)):
             yield same(f"zxing-cpp, {text!r}", got, text)
+
+
+def pictured(folder):
+    """Texts in pictures."""
+    if not has_sampler("texts in pictures"):
+        return
+    path = os.path.join(folder, "text.png")
+    for script, text in dict(texts()).items():
+        ecc200.encode(text, quiet=4).save(path)
+        found = ecc200.find(path)[0].answer
+        yield same(f"{script} in a picture", (found.text, found.charset, found.marks, found.head),
+                   (text, UTF_8, ((0, 26),), None))
+        yield same(f"{script} in a picture that is decoded", [reading.text for reading in ecc200.decode(path)], [text])
 
 
 # ---- Letters of other encoders

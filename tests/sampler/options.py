@@ -28,7 +28,8 @@ def options(folder, sampler):
     told = json.loads(run([sampler, "--json", path]).stdout)
     check("--json", {name: told[name] for name in told if name != "corners"}, {
         "file": path, "rows": 10, "columns": 10, "inverted": False, "mirrored": False, "message": "123456",
-        "corrected": [0], "erased": [0], "left": [5], "border_faults": 0, "border_limit": 2, "complete": True,
+        "identifier": "]d1", "corrected": [0], "erased": [0], "left": [5], "border_faults": 0, "border_limit": 2,
+        "complete": True,
         "grid": ["".join(map(str, row)) for row in grid]})
     check("corners in --json", [[round(c) for c in corner] for corner in told["corners"]],
           [[12, 12], [52, 12], [52, 52], [12, 52]])
@@ -204,15 +205,23 @@ def memory(folder, sampler):
     check("allocations that fail are told", told > 12, True)
 
 
-def parts(folder):
-    """Points far outside of a picture, the usual work, and straight pieces that are joined."""
-    made = os.path.join(folder, "parts.out")
+def part(folder, sampler, name, files):
+    """Runs a C file of this folder over some of the sampler's, which stand in that folder. It prints what is wrong."""
+    made = os.path.join(folder, f"{name}.out")
     words = ["cc", "-std=c17", "-Wall", "-Wextra", "-Werror", *CAREFUL]
-    headers = [f"-I{places.path('sampler')}", f"-I{places.path('library')}"]
-    sources = [places.path("tests", "sampler", "parts.c"),
-               *(places.path("sampler", f"{name}.c") for name in ("geometry", "limit", "outline"))]
-    done = run([*words, *headers, "-D_POSIX_C_SOURCE=200809L", *sources, "-o", made, "-lm"])
-    check("parts.c compiles", done.stderr.decode(), "")
+    headers = [f"-I{sampler}", f"-I{places.path('library')}"]
+    sources = [places.path("tests", "sampler", f"{name}.c"), *(os.path.join(sampler, f"{file}.c") for file in files)]
+    done = run([*words, *headers, "-D_POSIX_C_SOURCE=200809L", *sources, "-o", made, places.ARCHIVE, "-lm"])
+    check(f"{name}.c compiles", done.stderr.decode(), "")
     done = run([made])
-    check("points far away, the work and pieces", (done.returncode, done.stdout, done.stderr.decode()[:600]),
-          (0, b"", ""))
+    check(name, (done.returncode, done.stdout, done.stderr.decode()[:600]), (0, b"", ""))
+
+
+def parts(folder, sampler):
+    """Points far outside of a picture, the usual work, and straight pieces that are joined."""
+    part(folder, sampler, "parts", ("geometry", "limit", "outline"))
+
+
+def tracks(folder, sampler):
+    """Alternating borders of which a part doesn't show."""
+    part(folder, sampler, "tracks", ("finder", "found", "geometry", "layout", "limit", "outline", "plane", "track"))

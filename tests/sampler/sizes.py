@@ -2,7 +2,6 @@
 import json
 import math
 import os
-import re
 import shutil
 import sys
 
@@ -20,7 +19,6 @@ for size in core.sizes():
         modules = core.write(message.encode(), size=(size.rows, size.columns))
         print(json.dumps([size.rows, size.columns, message, [list(row) for row in modules]]))
 """
-LETTERS_ONLY = re.compile(r"\\[EAP]")  # what a line has that says more than a message
 symbols_kept = []
 
 
@@ -107,21 +105,6 @@ def corners(sampler):
         said = told(sampler, picture)
         got = [tuple(round(place) for place in corner) for corner in said.get("corners", [])]
         check(f"corners of {rows} by {columns}, {way}", got, places_of)
-
-
-def marks(sampler):
-    """Marks of another encoder in all these sizes, drawn."""
-    with open(places.path("tests", "marks", "every-size.txt"), encoding="ascii") as file:
-        records = [record_of.split("\n") for record_of in file.read().split("\n\n")[1:] if record_of.strip()]
-    count = 0
-    for at, lines in enumerate(records):
-        number, rows, columns = map(int, lines[0].split()[:3])
-        message, grid = lines[2], [[int(module) for module in row] for row in lines[3:3 + rows]]
-        if LETTERS_ONLY.search(message.replace("\\\\", "")):
-            continue  # more than a message
-        said, count = told(sampler, pixels_of(grid, 3 + at % 3)), count + 1
-        check(f"mark {number}, {rows} by {columns}", seen(said), wanted(rows, columns, message, grid))
-    check("marks of which each is a message", count > 50, True)
 
 
 def zint(folder, sampler):

@@ -3,7 +3,7 @@ options, errors and statuses, hostile files, and the shared library from C and C
 library ecc200 under it is."""
 import os
 
-from tests.sampler import damage, hard, limits, options, reading, sheets, sizes, timing
+from tests.sampler import damage, hard, letters, limits, options, reading, sheets, sizes, timing
 from tests.sampler.pictures import CAREFUL, left_out, results
 from tests.support import commands, needs, places
 from tests.support.case import Case
@@ -12,6 +12,8 @@ from tests.support.case import Case
 @needs.program
 @needs.library
 class Sampler(Case):
+    sources = places.path("sampler")
+
     @classmethod
     def setUpClass(cls):
         cls.lacking = limits.missing()
@@ -65,14 +67,26 @@ class Sampler(Case):
     def test_corners(self):
         self.told(sizes.corners, self.sampler)
 
-    def test_marks(self):
-        self.told(sizes.marks, self.sampler)
-
     def test_zint(self):
         self.told(sizes.zint, self.room, self.sampler)
 
     def test_no_records(self):
         self.told(sizes.no_records, self.sampler)
+
+    def test_letters(self):
+        self.told(letters.read, self.sampler)
+
+    def test_marks(self):
+        self.told(letters.of_an_encoder, self.sampler)
+
+    def test_letters_are_no_records(self):
+        self.told(letters.no_records, self.sampler)
+
+    def test_letters_in_c(self):
+        self.told(letters.in_c, self.room, self.plain)
+
+    def test_letters_in_python(self):
+        self.told(letters.through_python, self.plain)
 
     def test_outside(self):
         self.told(damage.outside, self.sampler)
@@ -177,7 +191,10 @@ class Sampler(Case):
         self.told(options.memory, self.room, self.sampler)
 
     def test_parts(self):
-        self.told(options.parts, self.room)
+        self.told(options.parts, self.room, self.sources)
+
+    def test_tracks(self):
+        self.told(options.tracks, self.room, self.sources)
 
     def test_the_set(self):
         self.told(reading.the_set, self.room, [self.sampler])

@@ -2,7 +2,7 @@
 compared by a library that is proved.
 
     >>> import ecc200
-    >>> symbol = ecc200.encode("caf\\u00e9", charset="iso-8859-1")
+    >>> symbol = ecc200.encode("caf\\u00e9")
     >>> symbol.size
     (12, 12)
     >>> ecc200.decode(symbol)[0].text

@@ -18,7 +18,8 @@ picture keeps its margin there, and one bytes may be those of a rectangle too. A
 lost, of which twice as many can be restored as of wrong ones.
 
 A message is its bytes, and whether FNC1 stands in front, which marks GS1 messages; further FNC1s are the byte 0x1D, GS.
-To tell FNC1 from GS, use the items: 0 to 255, and FNC1. Text is a message only with the name of its charset.
+To tell FNC1 from GS, use the items: 0 to 255, and FNC1. Text is written in ISO/IEC 8859-1 where that has it, else in
+UTF-8, unless a charset is named, and marked where readers would take its bytes for another text.
 
 Beside its message a symbol may have marks, which say how the bytes behind them are meant: each is how many items stand
 before it, and the number of an ECI assignment, as (0, 26) for UTF-8 from the first byte on. And it may have a head:
@@ -892,7 +893,7 @@ _CHARSETS = {
 }
 _BINARY = 899
 _LATIN_1, _UTF_8 = "iso-8859-1", "utf-8"
-# What zxing-cpp takes for UTF-8 where nothing is marked, and what it may take for Shift JIS, by the counts of its bytes.
+# What zxing-cpp takes for UTF-8 where nothing is marked, and what it may take for Shift JIS, by counts of its bytes.
 _LIKE_UTF_8 = rb"(?:[\0-\x7f]|[\xc0-\xdf][\x80-\xff]|[\xe0-\xef][\x80-\xff]{2}|[\xf0-\xf7][\x80-\xff]{3})*"
 _LIKE_SHIFT_JIS = rb"(?:[\0-\x7f\xa1-\xdf]|[\x81-\x9f\xe0-\xef][@-~\x80-\xfc])*"
 

@@ -1,0 +1,26 @@
+"""Searches by the shared library, called from C, that may do more work than usual, or less."""
+import os
+
+from tests.sampler.limits import paths_for
+from tests.sampler.pictures import check, pgm, run
+from tests.support import places
+
+
+class Searches:
+    """A program over the library that is built in one folder, in another one."""
+
+    def __init__(self, folder, built):
+        self.made, self.env = os.path.join(folder, "searched.out"), paths_for(folder, built, places.BUILT)
+        libraries = [os.path.join(built, "libecc200_sample.so"), os.path.join(places.BUILT, "libecc200.so")]
+        done = run(["cc", "-std=c11", "-Wall", "-Wextra", "-Werror", f"-I{places.path('sampler')}",
+                    f"-I{places.path('library')}", places.path("tests", "sampler", "searched.c"), "-o", self.made,
+                    *libraries])
+        check("searched.c compiles", done.stderr.decode(), "")
+
+    def of(self, rows, room, percent=100):
+        """What the symbols of a picture say, at most so many, found with so many percent of the usual work, and how the
+        search ended."""
+        done = run([self.made, str(room), str(percent)], pgm(rows), env=self.env)
+        check("searched.c", (done.returncode, done.stderr), (0, b""))
+        *found, ended = done.stdout.decode().splitlines() or [""]
+        return found, ended
