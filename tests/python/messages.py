@@ -57,7 +57,7 @@ def vectors(folder):
         reading = ecc200.read(rows)
         head = list(reading.head) if isinstance(reading.head, tuple) else reading.head
         yield same(f"JSON of {name}", (one["marks"], one["head"]), ([*map(list, reading.marks)], head))
-        yield same(f"its text in JSON, {name}", (one["symbology"], one["charset"], one["dealing"], one["text"]),
+        yield same(f"its text in JSON, {name}", (one["identifier"], one["charset"], one["dealing"], one["text"]),
                    (reading.symbology, reading.charset, 0, reading.text))
         yield same(f"its size in JSON, {name}", (one["rows"], one["columns"]), (len(rows), len(rows[0])))
     normals = [outcome(ecc200.normal, rows) for _, rows, _, _ in records]
@@ -76,7 +76,7 @@ def vectors(folder):
                [f"{len(rows)}x{len(rows[0])}" for _, rows, _, _ in records])
     status, output, errors = ecc("explain", file)
     identifiers = re.findall("^Its symbology identifier is (.*)$", output, re.M)
-    yield same("explain", (status, errors, identifiers), (0, "", [one["symbology"] for one in told]))
+    yield same("explain", (status, errors, identifiers), (0, "", [one["identifier"] for one in told]))
     strange = [said for said in lines if re.match(r"\\[EAP]", said)]
     status, output, errors = ecc("read", "--usual", "--escapes", file)
     yield same("--usual refuses ECI and heads", (status, [said for said in output.splitlines() if said in strange],
@@ -235,7 +235,7 @@ def heads(folder):
                "41e9\n", ["part, symbol 1: it is part 2 of 4 of the file 001002 (structured append)\n",
                           "setup, symbol 1: it is an instruction to the reader (reader programming)\n"])
     first, second = (json.loads(line) for line in ecc("read", "--json", part, setup)[1].splitlines())
-    yield same("read --json", (first["head"], first["symbology"], first["elements"][0]["title"], second["head"]),
+    yield same("read --json", (first["head"], first["identifier"], first["elements"][0]["title"], second["head"]),
                ([2, 4, 1, 2], "]d2", "GTIN", "programming"))
     whole = put(folder, "whole", text(ecc200.write(b"A\xe9")))
     yield same("a whole message in JSON", json.loads(ecc("read", "--json", whole)[1])["head"], None)
@@ -349,7 +349,7 @@ def explained():
         words = json.loads(ecc("explain", "--json", given=text(ecc200.write(message, form=Form.SMALLEST)))[1])
         yield holds(f"{name} is named", name in {word["encodation"] for word in words["codewords"]}, str(words))
     told = json.loads(ecc("explain", "--json", given=text(ecc200.write(b"A", marks=[(0, 26)])))[1])
-    yield same("explain --json", (told["symbology"], told["marks"], told["head"], told["dealing"]),
+    yield same("explain --json", (told["identifier"], told["marks"], told["head"], told["dealing"]),
                ("]d4", [[0, 26]], None, 0))
 
 

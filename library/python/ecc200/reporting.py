@@ -177,7 +177,7 @@ def _about(answer: Answer) -> Dict[str, Any]:
         reading = answer.reading
         told.update(rows=reading.rows, columns=reading.columns, border_faults=reading.border_faults,
                     corrected=list(reading.corrected), erased=list(reading.erased), left=list(reading.left),
-                    dealing=reading.dealing, symbology=reading.symbology, head=reading.head, marks=reading.marks)
+                    dealing=reading.dealing, identifier=reading.symbology, head=reading.head, marks=reading.marks)
         if found is not None:
             told["border_limit"] = found.border_limit if answer.border is None else answer.border
             if answer.doubtful is not None:
