@@ -68,7 +68,7 @@ def spelled(items: Iterable[int], marks: Sequence[Mark] = (), head: Head = None)
 
 
 def _is_shown(letter: str) -> bool:
-    """Whether a letter is shown as it is: all but what ends a line, controls a terminal, or turns what follows around."""
+    """Whether a letter is shown as it is: all but what ends a line, controls a terminal, or turns letters around."""
     return (letter.isprintable() or unicodedata.category(letter) not in _CONTROLS
             and unicodedata.bidirectional(letter) not in _TURNS)
 
