@@ -291,6 +291,9 @@ def joined(folder):
     yield says("no part", ecc("join", "none", folder=folder), 1, "",
                ["none, symbol 1: it is a whole message", "there is no part of a structured append"])
     yield says("nothing", ecc("join"), 1, "", ["there is no part of a structured append"])
+    yield says("--charset", ecc("join", "--charset", "cp437", "1", "3", "other 2", folder=folder),
+               output="20 \u2591C, othercaf\u0398\n")
+    yield says("no such charset", ecc("join", "--charset", "x", "1", folder=folder), 2, "", ["no charset 'x'"])
     lost = put(folder, "lost", text([bytes(10)] * 10))
     yield says("one isn't read", ecc("join", lost, "1", "2", "3", folder=folder), 1, whole, ["lost, symbol 1: 27 of"])
     yield says("--usual", ecc("join", "--usual", "1", "2", "3", folder=folder), 1, "", ["leave out --usual"])
