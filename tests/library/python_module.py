@@ -91,7 +91,7 @@ def names():
         yield f"numbers of {kind.__name__}", {it.name: int(it) for it in kind}, wanted
     for kind, wanted in ((ecc200.Reading, "data gs1 items corrected border_faults rows columns erased left corners "
                           "marks head symbology dealing"),
-                         (ecc200.Inspection, "held mended corrected border_faults erased left"),
+                         (ecc200.Inspection, "held mended corrected border_faults erased left dealing"),
                          (ecc200.Place, "kind codeword bit"),
                          (ecc200.Size, "rows columns region_rows region_columns regions_down regions_across "
                           "mapping_rows mapping_columns data_codewords check_codewords blocks limit extension")):
@@ -415,8 +415,8 @@ def results():
         yield f"their types of {size.named}", types, {ecc200.Place, ecc200.Kind}
     seen = ecc200.inspect(WORKED)
     words = bytes([142, 164, 186, 114, 25, 5, 88, 102])
-    yield "an inspection", tuple(seen), (words, words, (0,), 0, (0,), (5,))
-    yield "its types", [type(part) for part in seen], [bytes, bytes, tuple, int, tuple, tuple]
+    yield "an inspection", tuple(seen), (words, words, (0,), 0, (0,), (5,), 0)
+    yield "its types", [type(part) for part in seen], [bytes, bytes, tuple, int, tuple, tuple, int]
     yield "beyond correction", ecc200.inspect(rows(hurt(FLAT, 0, 5))).corrected, (None,)
     yield "corrected", ecc200.read(rows(hurt(FLAT, 0, 2))).corrected, (2,)
     yield "sizes", [tuple(size) for size in ecc200.sizes()], [tuple(size) for size in SIZES]

@@ -55,9 +55,10 @@ def vectors(folder):
     yield same("read --json", (status, errors, [one["message"] for one in told]), (0, "", lines))
     for (name, rows, _, _), one in zip(records, told):
         reading = ecc200.read(rows)
-        beside = [(mark["place"], mark["eci"]) for mark in one["marks"]]
-        yield same(f"JSON of {name}", (beside, one["symbology"], one["charset"], one["dealing"], one["text"]),
-                   (list(reading.marks), reading.symbology, reading.charset, 0, reading.text))
+        head = list(reading.head) if isinstance(reading.head, tuple) else reading.head
+        yield same(f"JSON of {name}", (one["marks"], one["head"]), ([*map(list, reading.marks)], head))
+        yield same(f"its text in JSON, {name}", (one["identifier"], one["charset"], one["dealing"], one["text"]),
+                   (reading.symbology, reading.charset, 0, reading.text))
         yield same(f"its size in JSON, {name}", (one["rows"], one["columns"]), (len(rows), len(rows[0])))
     normals = [outcome(ecc200.normal, rows) for _, rows, _, _ in records]
     kept = [rows for rows in normals if isinstance(rows, list)]
@@ -75,7 +76,7 @@ def vectors(folder):
                [f"{len(rows)}x{len(rows[0])}" for _, rows, _, _ in records])
     status, output, errors = ecc("explain", file)
     identifiers = re.findall("^Its symbology identifier is (.*)$", output, re.M)
-    yield same("explain", (status, errors, identifiers), (0, "", [one["symbology"] for one in told]))
+    yield same("explain", (status, errors, identifiers), (0, "", [one["identifier"] for one in told]))
     strange = [said for said in lines if re.match(r"\\[EAP]", said)]
     status, output, errors = ecc("read", "--usual", "--escapes", file)
     yield same("--usual refuses ECI and heads", (status, [said for said in output.splitlines() if said in strange],
@@ -175,7 +176,10 @@ def read_charsets():
         (b"ABC", [(0, 200)], (), r"\E{200}ABC"), (b"\xff", [(0, 899)], (), r"\E{899}\xFF"),
         (b"\xe9", [(0, 26)], (), r"\E{26}\xE9"), (b"\xe9", [(0, 26)], ("--charset", "latin-1"), "\u00e9"),
         (b"A\x85", [(0, 3)], (), r"A\x85"), ([65, 256, 66], [(0, 26)], (), r"\E{26}A\FB"),
-        (b"\x00A\x00\n", [(0, 25)], (), r"A\x00\x0A"),
+        (b"\x00A\x00\n", [(0, 25)], (), r"A\x00\x0A"), (b"1\xa0kg\xad", [], (), "1\u00a0kg\u00ad"),
+        ("\u0645\u06cc\u200c\u062e \U0001f468\u200d\U0001f469".encode(), [(0, 26)], (),
+         "\u0645\u06cc\u200c\u062e \U0001f468\u200d\U0001f469"),
+        ("\u200fA\u202eB\u2028".encode(), [(0, 26)], (), "\u200fA" + r"\xE2\x80\xAEB\xE2\x80\xA8"),
     ]:
         grid = text(ecc200.write(items, marks=marks))
         yield says(f"read {words} of {items!r}, {marks}", ecc("read", *words, given=grid), output=wanted + "\n")
@@ -231,8 +235,8 @@ def heads(folder):
                "41e9\n", ["part, symbol 1: it is part 2 of 4 of the file 001002 (structured append)\n",
                           "setup, symbol 1: it is an instruction to the reader (reader programming)\n"])
     first, second = (json.loads(line) for line in ecc("read", "--json", part, setup)[1].splitlines())
-    yield same("read --json", (first["head"], first["symbology"], first["elements"][0]["title"], second["head"]),
-               ({"part": 2, "of": 4, "file": [1, 2]}, "]d2", "GTIN", "programming"))
+    yield same("read --json", (first["head"], first["identifier"], first["elements"][0]["title"], second["head"]),
+               ([2, 4, 1, 2], "]d2", "GTIN", "programming"))
     whole = put(folder, "whole", text(ecc200.write(b"A\xe9")))
     yield same("a whole message in JSON", json.loads(ecc("read", "--json", whole)[1])["head"], None)
     got = ecc("compare", whole, setup)
@@ -262,9 +266,9 @@ def joined(folder):
     yield says("--escapes", ecc("join", "--escapes", "1", "2", "3", folder=folder),
                output=r"\E{3}20 \xB0C, \E{26}\xE6\x97\xA5\xE6\x9C\xAC\xE8\xAA\x9E, \E{3}caf\xE9" + "\n")
     told = json.loads(ecc("join", "--json", "3", "1", "2", folder=folder)[1])
-    yield same("--json", (told["text"], told["parts"], told["strange"], told["marks"] if "marks" in told else None),
+    yield same("--json", (told["text"], told["parts"], told["strange"], told["marks"]),
                ("".join(some), [{"file": str(number), "symbol": 1, "part": number} for number in (1, 2, 3)], [],
-                [{"place": 0, "eci": 3}, {"place": 7, "eci": 26}, {"place": 18, "eci": 3}]))
+                [[0, 3], [7, 26], [18, 3]]))
     yield says("one is missing", ecc("join", "1", "3", folder=folder), 1, "",
                ["ecc200: part 2 of 3 of the file 001002 is missing\n"])
     told = json.loads(ecc("join", "--json", "3", folder=folder)[1])
@@ -287,6 +291,9 @@ def joined(folder):
     yield says("no part", ecc("join", "none", folder=folder), 1, "",
                ["none, symbol 1: it is a whole message", "there is no part of a structured append"])
     yield says("nothing", ecc("join"), 1, "", ["there is no part of a structured append"])
+    yield says("--charset", ecc("join", "--charset", "cp437", "1", "3", "other 2", folder=folder),
+               output="20 \u2591C, othercaf\u0398\n")
+    yield says("no such charset", ecc("join", "--charset", "x", "1", folder=folder), 2, "", ["no charset 'x'"])
     lost = put(folder, "lost", text([bytes(10)] * 10))
     yield says("one isn't read", ecc("join", lost, "1", "2", "3", folder=folder), 1, whole, ["lost, symbol 1: 27 of"])
     yield says("--usual", ecc("join", "--usual", "1", "2", "3", folder=folder), 1, "", ["leave out --usual"])
@@ -345,8 +352,8 @@ def explained():
         words = json.loads(ecc("explain", "--json", given=text(ecc200.write(message, form=Form.SMALLEST)))[1])
         yield holds(f"{name} is named", name in {word["encodation"] for word in words["codewords"]}, str(words))
     told = json.loads(ecc("explain", "--json", given=text(ecc200.write(b"A", marks=[(0, 26)])))[1])
-    yield same("explain --json", (told["symbology"], told["marks"], told["head"], told["dealing"]),
-               ("]d4", [{"place": 0, "eci": 26}], None, 0))
+    yield same("explain --json", (told["identifier"], told["marks"], told["head"], told["dealing"]),
+               ("]d4", [[0, 26]], None, 0))
 
 
 def dealt_anew(rows):

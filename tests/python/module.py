@@ -1,5 +1,6 @@
 """The module: grids and messages in all their forms, refusals, many grids, threads and processes."""
 import array
+import contextlib
 import copy
 import multiprocessing
 import os
@@ -194,8 +195,20 @@ def raising(number):
     raise ecc200.Refused(ecc200.Code.SIZE, number)
 
 
+@contextlib.contextmanager
+def two_processes():
+    """A pool whose processes SIGTERM ends by itself: a handler in Python loses one that comes right after the fork, and
+    the pool would wait for that process without end."""
+    before = signal.signal(signal.SIGTERM, signal.SIG_DFL)
+    try:
+        with multiprocessing.Pool(2) as pool:
+            yield pool
+    finally:
+        signal.signal(signal.SIGTERM, before)
+
+
 def raised_in_pool():
-    with multiprocessing.Pool(2) as pool:
+    with two_processes() as pool:
         return pool.map_async(raising, [11] * 4).get(timeout=60)
 
 
@@ -207,7 +220,7 @@ def many():
         return [(each.code, each.value, each.place) if isinstance(each, ecc200.Refused) else each for each in found]
     yield same("many at once", told(ecc200.read_many(grids)), wanted)
     yield same("many from an iterator", told(ecc200.read_many(iter(grids))), wanted)
-    with multiprocessing.Pool(2) as pool:
+    with two_processes() as pool:
         yield same("many by processes", told(pool.map_async(answer_or_refusal, grids).get(timeout=60)), wanted)
     yield raises("a refusal that a process raises", ecc200.Refused, "SIZE, value 11", raised_in_pool)
     numpy = wanted_module("numpy", "numpy", "many grids in an array")

@@ -278,10 +278,10 @@ class Subcommand(NamedTuple):
 
 SUBCOMMANDS = (
     Subcommand("read", "reporting", "what symbols say",
-               "Prints what the symbols of grids and pictures say, each on a line: of a picture the first symbol "
-               "that is found, and with --all all of them. A backslash is printed as \\\\, FNC1 as \\F, and a byte "
-               "that is no printable character as \\xHH, but in JSON text is as it is. GS1 data that keeps its "
-               "rules is printed with its identifiers in brackets. In front of a part of what several symbols say "
+               "Prints what the symbols of grids and pictures say, each on a line: of a picture the first symbol that "
+               "is found, and with --all all of them. A backslash is printed as \\\\, FNC1 as \\F, and each byte of a "
+               "control character, and of what isn't text, as \\xHH, but in JSON text is as it is. GS1 data that keeps "
+               "its rules is printed with its identifiers in brackets. In front of a part of what several symbols say "
                "stands \\A{2/5:001002}, which says that it is part 2 of 5 of the file 001002, and in front of an "
                "instruction to the reader \\P.",
                _reading),

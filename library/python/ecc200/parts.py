@@ -7,7 +7,8 @@ from typing import Any, Dict, Iterator, List, NamedTuple, Optional, Tuple
 
 from .core import Head, Reading
 from .joining import Joined, Unjoined, join as joined
-from .reporting import Answer, answers, complain, json_line, line_of, marks_told, message_told
+from .reporting import Answer, answers, complain, json_line, line_of, message_told
+from .sources import known_charset
 from .spelling import headed
 
 __all__ = ["join"]
@@ -59,7 +60,7 @@ def _part(head: Head) -> Optional[int]:
 
 
 def _faults(outcome: _Outcome, symbols: List[_Symbol]) -> Iterator[str]:
-    """Why parts make no whole, in words."""
+    """Why parts make no whole, in words, if they don't."""
     head = _first(symbols)
     if head is None:
         yield "there is no part of a structured append"
@@ -82,8 +83,8 @@ def _told(outcome: _Outcome, faults: List[str], symbols: List[_Symbol], given: a
                 "strange": strange}
     parts = [{**symbol.told, "part": _part(symbol.reading.head)} for part in outcome.whole.parts
              for symbol in symbols if symbol.reading is part]
-    said = {**message_told(outcome.whole, None, given), "marks": marks_told(outcome.whole.marks)}
-    return {**said, "parts": parts, "strange": strange}
+    said = message_told(outcome.whole, None, given)
+    return {**said, "marks": outcome.whole.marks, "parts": parts, "strange": strange}
 
 
 def _complain_of_strange(outcome: _Outcome, given: argparse.Namespace) -> int:
@@ -95,22 +96,29 @@ def _complain_of_strange(outcome: _Outcome, given: argparse.Namespace) -> int:
     return status
 
 
-def join(given: argparse.Namespace) -> int:
-    """Prints what the parts of a structured append say together."""
-    status, symbols = 0, []  # type: int, List[_Symbol]
+def _read(given: argparse.Namespace) -> Tuple[List[_Symbol], int]:
+    """The symbols that are read, and the status that the others make, which are named."""
+    symbols, status = [], 0  # type: List[_Symbol], int
     for answer in answers(given, given.files):
         if answer.reading is None:
             status = max(status, complain(answer, given))
         else:
             symbols.append(_Symbol(answer, answer.reading))
+    return symbols, status
+
+
+def join(given: argparse.Namespace) -> int:
+    """Prints what the parts of a structured append say together."""
+    if given.charset:
+        known_charset(given.charset)
+    symbols, status = _read(given)
     outcome = _outcome(symbols)
     status = max(status, _complain_of_strange(outcome, given))
-    faults = [] if outcome.whole is not None else list(_faults(outcome, symbols))
+    faults = list(_faults(outcome, symbols))
     for fault in faults:
-        status = max(status, 1)
         print(f"ecc200: {fault}", file=sys.stderr, flush=True)
     if given.json:
         print(json_line(_told(outcome, faults, symbols, given)), flush=True)
     elif outcome.whole is not None:
         print(line_of(outcome.whole, given), flush=True)
-    return status
+    return max(status, 1) if faults else status

@@ -3,19 +3,19 @@ from __future__ import annotations
 
 import argparse
 import sys
-from typing import Any, Dict, Iterator, List, NamedTuple, Optional, Sequence, Tuple, Union
+from typing import Any, Dict, Iterator, List, NamedTuple, Optional, Tuple, Union
 
 from . import core, explaining, gs1
 from .advice import bytes_in, in_words, righted, sizes_of, why_not_written
-from .core import FNC1, Code, Head, Mark, Reading, Refused, Rows, Shape, Unsure, text_of, usual_limit
+from .core import FNC1, Code, Head, Reading, Refused, Rows, Shape, Unsure, text_of, usual_limit
 from .joining import Joined
 from .labels import Label, Output, printed
 from .progress import Progress
 from .sources import Search, Source, Trouble, doubts, known_charset, sources
 from .spelling import headed, shown, spelled
 
-__all__ = ["Answer", "answers", "check", "compare", "complain", "explain", "json_line", "line_of", "marks_told",
-           "message_told", "normal", "read", "said", "sizes"]
+__all__ = ["Answer", "answers", "check", "compare", "complain", "explain", "json_line", "line_of", "message_told",
+           "normal", "read", "sizes"]
 
 _EARLY = 3  # the status where a search ended early
 _OTHER_DEALING = "check codewords dealt into blocks from the first one, as libdmtx deals them"
@@ -58,7 +58,7 @@ def _unsure(why: Unsure, margin: int) -> str:
     """What a symbol may say, and why that isn't sure."""
     left = (f"fewer than {margin} corrections" if margin
             else "no correction, while its border is damaged or modules are doubtful")
-    return f"it may say {said(why.reading)}, but its blocks leave {left}"
+    return f"it may say {_line(why.reading)}, but its blocks leave {left}"
 
 
 def _answer(source: Source, given: argparse.Namespace, doubtful: Optional[Rows]) -> Answer:
@@ -118,7 +118,7 @@ def _print(answer: Answer, text: str, given: argparse.Namespace) -> None:
 
 
 def complain(answer: Answer, given: argparse.Namespace) -> int:
-    """Says on standard error why a symbol isn't read. Returns the status that this makes."""
+    """Says on standard error what is wrong with a symbol, as why it isn't read. Returns the status that this makes."""
     source = answer.source
     file = "" if source.file == "-" and not _is_named(given) else source.file
     where = ", ".join(filter(None, (file, f"symbol {source.number}" if source.number else "", _place(source, given))))
@@ -177,26 +177,12 @@ def _about(answer: Answer) -> Dict[str, Any]:
         reading = answer.reading
         told.update(rows=reading.rows, columns=reading.columns, border_faults=reading.border_faults,
                     corrected=list(reading.corrected), erased=list(reading.erased), left=list(reading.left),
-                    dealing=reading.dealing, symbology=reading.symbology, head=_head_told(reading.head),
-                    marks=marks_told(reading.marks))
+                    dealing=reading.dealing, identifier=reading.symbology, head=reading.head, marks=reading.marks)
         if found is not None:
             told["border_limit"] = found.border_limit if answer.border is None else answer.border
             if answer.doubtful is not None:
                 told["doubtful"] = ["".join(map(str, row)) for row in answer.doubtful]
     return told
-
-
-def marks_told(marks: Sequence[Mark]) -> List[Dict[str, int]]:
-    """What JSON has of marks."""
-    return [{"place": place, "eci": number} for place, number in marks]
-
-
-def _head_told(head: Head) -> Union[Dict[str, Any], str, None]:
-    """What JSON has of a head."""
-    if head is None or isinstance(head, str):
-        return head
-    part, of, *file = head
-    return {"part": part, "of": of, "file": file}
 
 
 def json_line(told: Dict[str, Any]) -> str:
@@ -236,7 +222,7 @@ def line_of(says: Union[Reading, Joined], given: argparse.Namespace) -> str:
     return gs1.text(elements) if isinstance(elements, list) else shown(says.items, says.marks, given.charset)
 
 
-def said(reading: Reading) -> str:
+def _line(reading: Reading) -> str:
     """What a symbol says, as a line; in front, behind a backslash, what it is a part of, or that it programs the
     reader."""
     return spelled((), (), reading.head) + shown(reading.items, reading.marks)
@@ -359,7 +345,7 @@ def compare(given: argparse.Namespace) -> int:
     same = _said(first.reading) == _said(second.reading)
     for name, answer in zip(given.files, (first, second)):
         assert answer.reading is not None
-        print(f"{name}: {said(answer.reading)} ({answer.size}, {sum(answer.reading.corrected)} codewords "
+        print(f"{name}: {_line(answer.reading)} ({answer.size}, {sum(answer.reading.corrected)} codewords "
               "corrected)")
     identifiers = [first.reading.symbology, second.reading.symbology]
     if same and len(set(identifiers)) > 1:
@@ -402,7 +388,7 @@ def explain(given: argparse.Namespace) -> int:
 
 def _below(reading: Reading) -> Iterator[str]:
     """What stands below the codewords of a symbol."""
-    yield f"It says {said(reading)}"
+    yield f"It says {_line(reading)}"
     if reading.marks or not reading.data.isascii():
         yield f"Its charset is {reading.charset}"
     if reading.head is not None:
@@ -423,7 +409,7 @@ def sizes(given: argparse.Namespace) -> int:
         if given.json:
             shape = Shape.SQUARE if size.rows == size.columns else Shape.EXTENDED if size.extension else Shape.RECTANGLE
             print(json_line({"size": named, "shape": shape.name.lower(), **size._asdict(), "digits": 2 * data,
-                         "letters": data, "bytes": bytes_in(size), "standard": standard}), flush=True)
+                             "letters": data, "bytes": bytes_in(size), "standard": standard}), flush=True)
             continue
         regions = f"{size.regions_down * size.regions_across} of {size.region_rows}x{size.region_columns}"
         print(f"{named:7}  {regions:>12}  {data:5}  {size.check_codewords:5}  "

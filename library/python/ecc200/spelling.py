@@ -2,12 +2,15 @@
 from __future__ import annotations
 
 import re
+import unicodedata
 from typing import Iterable, List, NamedTuple, Optional, Sequence, Tuple
 
 from .core import FNC1, Head, Mark, text_of
 
 __all__ = ["Misspelled", "Spelled", "headed", "of_part", "of_spelling", "part_of", "shown", "spelled"]
 
+_CONTROLS = ("Cc", "Cs", "Zl", "Zp")
+_TURNS = ("LRE", "RLE", "LRO", "RLO", "PDF", "LRI", "RLI", "FSI", "PDI")
 _HEAD = r"\\(?:(P)|A\{([^}]*)\})"
 _ESCAPE = r"(?s)\\(\\|F|x[0-9A-Fa-f]{2}|E\{[0-9]{1,6}\})|\\(.?)|([^\\]+)"
 _PART = "([0-9]{1,2})/([0-9]{1,2})(?::([0-9]{3})([0-9]{3}))?"
@@ -64,15 +67,21 @@ def spelled(items: Iterable[int], marks: Sequence[Mark] = (), head: Head = None)
     return _spelled_head(head) + "".join(each)
 
 
+def _is_shown(letter: str) -> bool:
+    """Whether a letter is shown as it is: all but what ends a line, controls a terminal, or turns letters around."""
+    return (letter.isprintable() or unicodedata.category(letter) not in _CONTROLS
+            and unicodedata.bidirectional(letter) not in _TURNS)
+
+
 def shown(items: Iterable[int], marks: Sequence[Mark] = (), charset: Optional[str] = None) -> str:
-    """Items as text, with what isn't printable spelled, and all of it spelled where they are no text."""
+    """Items as text, with controls spelled, and all of it spelled where they are no text."""
     items = tuple(items)
     if FNC1 in items or not marks and all(item < 128 for item in items):
         return spelled(items, marks)
     text, name = text_of(items, marks, charset)
-    if text is None or "," in name and not text.isprintable():
+    if text is None or "," in name and not all(map(_is_shown, text)):
         return spelled(items, marks)
-    return "".join("\\\\" if letter == "\\" else letter if letter.isprintable() else spelled(letter.encode(name))
+    return "".join("\\\\" if letter == "\\" else letter if _is_shown(letter) else spelled(letter.encode(name))
                    for letter in text)
 
 
