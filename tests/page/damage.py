@@ -411,7 +411,7 @@ def sizes():
         push("undo-all", "scratch")
         agree(f"side {side} scratched")
         facts = run("return [...document.querySelectorAll('#facts dd')].map((it) => it.textContent)")
-        count.expect(f"side {side}, facts", facts, [f"{side} × {side}", str(data), str(check), str(limit)])
+        count.expect(f"side {side}, facts", facts, [f"{side} × {side}", str(data), str(check), str(limit), "]d1"])
 
 
 MUCH_DAMAGE = (
