@@ -99,10 +99,10 @@ def the_smallest():
         push(f"profile-{form}")
         linked()
         count.expect(f"form {form} in the link", fields().get("profile"), name)
-    run("location.hash = '#make&message=AAAAAAAAAAAA&profile=toString'")
+    run(f"location.hash = '#make&message={'A' * 30}&profile=toString'")
     linked()
     settle()
-    count.expect("an earlier link has ASCII", grid(), written("A" * 12))
+    count.expect("an earlier link has ASCII", grid(), written("A" * 30))
     as_usual()
 
 
@@ -169,6 +169,7 @@ NO_TEXT = [
     ("\\E{27}\\x80", "us-ascii"),
     ("\\E{25}ABC", "utf-16be"),
     ("\\E{3}\\x80", "iso-8859-1"),  # a control character, and not the euro sign
+    ("\\E{11}\\x80", "iso-8859-9"),
 ]
 
 
@@ -244,6 +245,11 @@ def made_in_parts():
     linked()
     count.expect("in the link", (fields()["parts"], fields()["part"]), ("3", "2"))
     shown_part = grid()
+    side = len(shown_part.split("\n"))
+    count.expect("the name of its file", saved(f"symbol-{side}-2-of-3.svg", "save-svg")[:4], b"<svg")
+    push("print")
+    printed = run("dispatchEvent(new Event('beforeprint')); return document.getElementById('paper').textContent")
+    count.expect("on paper", f"Part 2 of 3. {side} × {side} modules of" in printed, True)
     on.page.refresh()
     started()
     settle()
