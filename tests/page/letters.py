@@ -1,5 +1,6 @@
 """What symbols say beside items, in the page: text of every script, in the smallest symbol, in several symbols that are
 put together as they are read, by the charsets that ECIs name; and any border that is sure."""
+import base64
 import io
 import re
 import zipfile
@@ -18,6 +19,7 @@ from tests.page.judge import (
     written_in,
 )
 from tests.page.labels import chosen, pages_of, saved
+from tests.page.photographs import CAMERA, LISTED
 from tests.page.pictures import opened, png
 from tests.page.stage import (
     choose,
@@ -376,6 +378,25 @@ def found_in_parts(grids):
     count.expect("in JSON", [kept.count(it) for it in said], [3] * 3)
 
 
+def parts_by_camera():
+    """Parts that a camera sees one after the other are put together, those with the same text too."""
+    grids, letters = parts_of("twice twice ", 2)
+    count.expect("two with one text", len({str(it["items"]) for it in letters}), 1)
+    choose("parts", "1")
+    push("tab-read")
+    files = [base64.b64encode(png(text.split("\n"), 12, 3)).decode() for text in grids]
+    run(CAMERA, files, False)
+    for k, title in enumerate(("1 of them read", "all are read")):
+        run("globalThis.shown = [arguments[0]]", k)
+        seen = lambda: (run(CARD) or {}).get("title")
+        count.expect_soon(f"part {k + 1}", seen, f"A message in 2 symbols: {title}")
+    count.expect("the whole", run(CARD)["whole"], "twice twice ")
+    count.expect("each is listed", len(run(LISTED)), 2)
+    run("document.getElementById('camera-off').click(); clearInterval(painter); delete navigator.mediaDevices")
+    settle()
+    as_usual()
+
+
 def side_by_side(grids):
     """Grids in one, with light between them."""
     rows = [text.split("\n") for text in grids]
@@ -548,6 +569,7 @@ PARTS = [
     made_in_parts,
     labels_in_parts,
     read_in_parts,
+    parts_by_camera,
     programs_the_reader,
     told_of_marks,
     letters_compared,
