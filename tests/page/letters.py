@@ -379,19 +379,20 @@ def found_in_parts(grids):
 
 
 def parts_by_camera():
-    """Parts that a camera sees one after the other are put together, those with the same text too."""
-    grids, letters = parts_of("twice twice ", 2)
-    count.expect("two with one text", len({str(it["items"]) for it in letters}), 1)
+    """Parts that a camera sees at once, and after one another, are put together, those with the same text too."""
+    grids, letters = parts_of("once " * 4, 4)
+    count.expect("all with one text", len({str(it["items"]) for it in letters}), 1)
     choose("parts", "1")
     push("tab-read")
     files = [base64.b64encode(png(text.split("\n"), 12, 3)).decode() for text in grids]
     run(CAMERA, files, False)
-    for k, title in enumerate(("1 of them read", "all are read")):
-        run("globalThis.shown = [arguments[0]]", k)
+    run("globalThis.shown = [0, 1]")
+    for title in ("2 of them read", "all are read"):
         seen = lambda: (run(CARD) or {}).get("title")
-        count.expect_soon(f"part {k + 1}", seen, f"A message in 2 symbols: {title}")
-    count.expect("the whole", run(CARD)["whole"], "twice twice ")
-    count.expect("each is listed", len(run(LISTED)), 2)
+        count.expect_soon(title, seen, f"A message in 4 symbols: {title}")
+        run("globalThis.pictures = [...pictures.slice(2), ...pictures.slice(0, 2)]")
+    count.expect("the whole", run(CARD)["whole"], "once " * 4)
+    count.expect("each is listed", len(run(LISTED)), 4)
     run("document.getElementById('camera-off').click(); clearInterval(painter); delete navigator.mediaDevices")
     settle()
     as_usual()
