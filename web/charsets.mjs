@@ -77,7 +77,7 @@ function decoderOf(charset) {
   if (charset.startsWith("iso-8859-")) return decodedInIso8859;
   return charset.startsWith("utf-32") ? decodedInUtf32 : decodedBy;
 }
-// What bytes are as text in a charset, or null.
+// What bytes are as text in a charset, or null; so where it is the name of none.
 /** @type {(bytes: Uint8Array, charset: string) => string | null} */
 function textBy(bytes, charset) {
   try { return decoderOf(charset)(bytes, charset); } catch { return null; }
@@ -102,11 +102,10 @@ function stretchesOf({ items, marks }) {
   });
   return stretches;
 }
-const isCharset = (name) => Object.values(CHARSET_OF).includes(name);
 /** @type {(letter: Letter) => Text} */
 export function textOf(letter) {
   const stretches = stretchesOf(letter), names = [...new Set(stretches.map(({ charset }) => charset))];
-  const texts = stretches.map(({ charset, items }) => (isCharset(charset) ? textBy(bytesOf(items), charset) : null));
+  const texts = stretches.map(({ charset, items }) => textBy(bytesOf(items), charset));
   return { text: texts.includes(null) ? null : texts.join(""), charset: names.join(", ") || UTF_8 };
 }
 

@@ -13,7 +13,9 @@ import { fittedText, isDrawable, pdfOf } from "./pdf.mjs";
 import { formNow } from "./source.mjs";
 import { VALID, WORKING, mark } from "./state.mjs";
 import { QUIET } from "./symbol.mjs";
-import { drawingOf, given, giving, millimetres, pageOf, pngOf, save, sizeNow, svgOf, toast } from "./taking.mjs";
+import {
+  drawingOf, given, giving, millimetres, pageOf, partInName, pngOf, save, sizeNow, svgOf, toast,
+} from "./taking.mjs";
 import { zipOf } from "./zip.mjs";
 
 const LINE = 5.5, CHARACTER = 2.5; // millimetres of the text below a symbol, a little more than they are
@@ -57,7 +59,8 @@ function fillPaper() {
   if (why) { layOut("one", [noteOf(why)], 100, 100); return; }
   const { grid, isDamagedOne, letter } = given(), { width, height } = sizeNow(grid);
   const damage = isDamagedOne ? "; damaged" : "", wrong = wrongGs1(letter);
-  const size = `${shapeWords(grid)} modules of ${millimetres()} mm, ${QUIET} of quiet zone${damage}`;
+  const part = letter && partOf(letter), which = part ? `Part ${part.part} of ${part.parts}. ` : "";
+  const size = `${which}${shapeWords(grid)} modules of ${millimetres()} mm, ${QUIET} of quiet zone${damage}`;
   const text = letter ? fitted(readable(letter), height) || "the empty message" : "not read";
   const texts = [captionOf(text), noteOf(size), ...(wrong ? [noteOf(wrong)] : [])];
   layOut("one", [figure(grid, texts)], width, height);
@@ -139,10 +142,8 @@ async function printSheet() {
   window.print();
 }
 /** @type {(entry: Entry, ending: string) => string} */
-const fileName = ({ number, letter, grid }, ending) => {
-  const part = partOf(letter), which = part ? `-${part.part}-of-${part.parts}` : "";
-  return `${String(number).padStart(3, "0")}${which}-symbol-${shapeName(grid)}.${ending}`;
-};
+const fileName = ({ number, letter, grid }, ending) =>
+  `${String(number).padStart(3, "0")}${partInName(letter)}-symbol-${shapeName(grid)}.${ending}`;
 // Saves a file for each symbol with its text, in one archive.
 /** @type {(ending: string, bytesOf: (grid: Grid, text: string) => Uint8Array | Promise<Uint8Array>) => any} */
 const zipping = (ending, bytesOf) => withAll(async (entries) => {

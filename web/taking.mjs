@@ -3,6 +3,7 @@ import { shapeName } from "./common.mjs";
 import { $, field, hint, made, shape } from "./dom.mjs";
 import { gridText } from "./grids.mjs";
 import { typed } from "./gs1.mjs";
+import { partOf } from "./letters.mjs";
 import { linkNow } from "./link.mjs";
 import { settled } from "./order.mjs";
 import { tooWide, wirePaper } from "./paper.mjs";
@@ -42,8 +43,14 @@ export const giving = (give) => async () => {
   await settled(it);
   if (it.stage === VALID) give(given(it, isChosen));
 };
-const nameOf = ({ grid, isDamagedOne }, ending) =>
-  `symbol-${shapeName(grid)}${isDamagedOne ? "-damaged" : ""}.${ending}`;
+// Which part a letter is, in the name of a file.
+/** @type {(letter: Letter | null) => string} */
+export function partInName(letter) {
+  const part = letter && partOf(letter);
+  return part ? `-${part.part}-of-${part.parts}` : "";
+}
+const nameOf = ({ grid, isDamagedOne, letter }, ending) =>
+  `symbol-${shapeName(grid)}${partInName(letter)}${isDamagedOne ? "-damaged" : ""}.${ending}`;
 
 // Whether a text went to the clipboard.
 async function isCopied(text) {

@@ -411,7 +411,7 @@ def sizes():
         push("undo-all", "scratch")
         agree(f"side {side} scratched")
         facts = run("return [...document.querySelectorAll('#facts dd')].map((it) => it.textContent)")
-        count.expect(f"side {side}, facts", facts, [f"{side} × {side}", str(data), str(check), str(limit)])
+        count.expect(f"side {side}, facts", facts, [f"{side} × {side}", str(data), str(check), str(limit), "]d1"])
 
 
 MUCH_DAMAGE = (
@@ -430,14 +430,18 @@ MUCH_DAMAGE = (
         while (out.length < 600) {
             const k = out.length, length = k %% 20 ? 1 + any(60) : 200 + any(500), wide = any(2) ? 256 : 128;
             const items = Array.from({ length }, () => (chance() < 0.02 ? 256 : any(wide)));
-            const how = { form: k %% 2, shape: 0, rows: 0, columns: 0 };
+            const how = { form: k %% 2, shape: 0, rows: 0, columns: 0 }, letters = [{ items, marks: [], head: null }];
             const { fault, modules, rows, columns } =
-                await desks.quick.ask("write", { items, how, hasLook: false }, "test");
+                await desks.quick.ask("write", { letters, how, hasLook: false }, "test");
             if (fault || rows > 104) continue; // the program reads no larger ones
             for (let turns = any(rows * (k %% 20 ? 0.9 : 1.5)); turns; turns--) modules[any(modules.length)] ^= 1;
             area.value = gridText({ modules, rows, columns });
             area.dispatchEvent(new Event("input"));
             await idle();
+            if (mitsubadoor.mark.limit === "auto") { // which the program hasn't
+                document.getElementById("usual").click();
+                await idle();
+            }
             const { seen } = mitsubadoor.mark;
             const standsFor = seen.answer.fault ? null : spelled(seen.told.flatMap((it) => it.items));
             out.push([area.value, shown(), standsFor]);

@@ -140,6 +140,7 @@ def as_the_library_says():
     gs1 = rules()
     maker = Strings(3, gs1)
     texts = [*EDGES, *(maker.right() for _ in range(150)), *(maker.faulty() for _ in range(250))]
+    push("profile-0")
     with unseen():
         taken = on.page.execute_async_script(TAKEN, texts)
     accepted = 0

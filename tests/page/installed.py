@@ -60,7 +60,7 @@ def opened_at(address):
 
 def made_and_read(message):
     """Whether the page makes a symbol of a message and reads one."""
-    push("tab-make", "kind-message")
+    push("tab-make", "kind-message", "profile-0")
     put("message", message)
     count.expect(f"{message!r} is made", (grid(), shown()["says"]), (written(message), message))
     push("tab-read")

@@ -5,10 +5,11 @@ import re
 import subprocess
 
 from tests.page.judge import SMALLEST, letter_of, line_of_text, written_in
-from tests.page.sizes import MARKS, marks, printed
+from tests.page.sizes import marks, printed
 from tests.page.stage import count, flat, on, written
 from tests.support import places
 
+MARKS = places.path("tests", "marks")
 USES, TYPES = places.path("tests", "page", "uses.mjs"), places.path("web", "module", "ecc200.d.mts")
 TOO_LONG, NO_SIZE, BORDER, BLOCK, ITEM, MARK, HEAD = 14, 4, 5, 6, 15, 22, 23  # codes of refusals
 PART = {"part": 2, "parts": 3, "file": [9, 254]}
@@ -30,6 +31,22 @@ def said(text, items=None, is_gs1=False, data=None, corrected=0):
 def read_as(text, charset):
     """What is read of a text that was written with a mark."""
     return {**letter_of(line_of_text(text)), "text": text, "charset": charset, "symbology": "]d4"}
+
+
+def lines_of_others():
+    """How each mark of another encoder was made, and what it says: its ECI marks, its head, its symbology identifier
+    and its text."""
+    with open(f"{MARKS}/letters_made.txt", encoding="utf-8") as file:
+        return [line.rstrip("\n").split("\t") for line in file if not line.startswith("#")]
+
+
+def got_of(letter):
+    """A letter as these lines have it."""
+    head, text = letter["head"], letter["text"]
+    part = "{} {} {} {}".format(head["part"], head["parts"], *head["file"]) if isinstance(head, dict) else head
+    marks_there = " ".join(f"{mark['place']}:{mark['number']}" for mark in letter["marks"])
+    spelt = text and re.sub(r"[\0-\x1f\x7f-\x9f]", lambda it: f"\\x{ord(it[0]):02X}", text)
+    return [marks_there or "-", part or "-", letter["symbology"], spelt or "-"]
 
 
 def near(came):
@@ -82,6 +99,14 @@ def uses():
     smallest = written_in("HELLO WORLD AND ALL THAT IS THERE", "square", SMALLEST)
     count.expect("smallest", came("smallest")["modules"], flat(smallest))
     count.expect("every size", came("every size"), [[head, printed(line)] for head, _, _, line, _ in marks()])
+    count.expect("texts", (len(came("texts")), [text for text, read in came("texts") if text != read]), (200, []))
+    for line, got in zip(lines_of_others(), came("letters of others")):
+        count.expect(f"letter of another, {line[:3]}", got_of(got), line[3:])
+    count.expect("letters of others", len(came("letters of others")), len(lines_of_others()))
+    letter_in = lambda it: [it["items"], it["marks"], it["head"]]
+    for one, other in came("written anew"):
+        count.expect(f"written anew, {one['text']}", letter_in(other), letter_in(one))
+    count.expect("joined in one charset", came("joined in one charset"), [2, "日本"])
     for name, code in (("too long", TOO_LONG), ("too small a size", TOO_LONG), ("no size", NO_SIZE),
                        ("normal of a blot that isn't told", BLOCK), ("a torn border as usual", BORDER),
                        ("a wrong mark", MARK), ("a wrong head", HEAD), ("a wrong item", ITEM)):

@@ -608,7 +608,7 @@ def other_letters():
                           text_of("sheet-hint")), (f"message;text\n{message};{text}", f"The lines of other.csv.{note}"))
         count.expect(f"its text, in {coding}", texts_in(), [text])
         symbols = [rows for _, some, _ in pages_of(saved("symbols.pdf", "many-pdf")) for *_, rows in some]
-        count.expect(f"its symbol, in {coding}", symbols, [written(spelled(message.encode()))])
+        count.expect(f"its symbol, in {coding}", symbols, [written(spelled(message.encode("iso-8859-1")))])
     chosen("lines-as", "messages")
     put("messages", "plain\na → b\n→")
     count.expect("letters that a PDF lacks", (texts_in(), text_of("sheet-hint")), (["plain", "a ? b", "?"],

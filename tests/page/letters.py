@@ -1,5 +1,6 @@
 """What symbols say beside items, in the page: text of every script, in the smallest symbol, in several symbols that are
 put together as they are read, by the charsets that ECIs name; and any border that is sure."""
+import base64
 import io
 import re
 import zipfile
@@ -18,6 +19,7 @@ from tests.page.judge import (
     written_in,
 )
 from tests.page.labels import chosen, pages_of, saved
+from tests.page.photographs import CAMERA, LISTED
 from tests.page.pictures import opened, png
 from tests.page.stage import (
     choose,
@@ -99,10 +101,10 @@ def the_smallest():
         push(f"profile-{form}")
         linked()
         count.expect(f"form {form} in the link", fields().get("profile"), name)
-    run("location.hash = '#make&message=AAAAAAAAAAAA&profile=toString'")
+    run(f"location.hash = '#make&message={'A' * 30}&profile=toString'")
     linked()
     settle()
-    count.expect("an earlier link has ASCII", grid(), written("A" * 12))
+    count.expect("an earlier link has ASCII", grid(), written("A" * 30))
     as_usual()
 
 
@@ -169,6 +171,7 @@ NO_TEXT = [
     ("\\E{27}\\x80", "us-ascii"),
     ("\\E{25}ABC", "utf-16be"),
     ("\\E{3}\\x80", "iso-8859-1"),  # a control character, and not the euro sign
+    ("\\E{11}\\x80", "iso-8859-9"),
 ]
 
 
@@ -244,6 +247,11 @@ def made_in_parts():
     linked()
     count.expect("in the link", (fields()["parts"], fields()["part"]), ("3", "2"))
     shown_part = grid()
+    side = len(shown_part.split("\n"))
+    count.expect("the name of its file", saved(f"symbol-{side}-2-of-3.svg", "save-svg")[:4], b"<svg")
+    push("print")
+    printed = run("dispatchEvent(new Event('beforeprint')); return document.getElementById('paper').textContent")
+    count.expect("on paper", f"Part 2 of 3. {side} × {side} modules of" in printed, True)
     on.page.refresh()
     started()
     settle()
@@ -332,12 +340,13 @@ def read_in_parts():
     put("grid", others[0])
     count.expect("another file", run(CARD)["title"], "A message in 3 symbols: 1 of them read")
     count.expect("what is missing", "Not read yet: parts 2, 3." in shown()["why"], True)
-    put("grid", grids[0])
-    count.expect("two of three", run(CARD)["title"], "A message in 3 symbols: 2 of them read")
-    count.expect("one is missing", "Not read yet: part 2." in shown()["why"], True)
+    put("grid", grids[1])
+    card = run(CARD)
+    count.expect("two of three", (card["title"], card["whole"]), ("A message in 3 symbols: 2 of them read", ""))
+    count.expect("one is missing", "Not read yet: part 1." in shown()["why"], True)
     put("grid", written("123456"))
     count.expect("none for a symbol that is no part", run(CARD), None)
-    put("grid", grids[1])
+    put("grid", grids[0])
     card = run(CARD)
     count.expect("all", (card["title"], card["whole"]), ("A message in 3 symbols: all are read", MESSAGE))
     count.expect("all parts", "".join(card["parts"]), MESSAGE)
@@ -367,6 +376,26 @@ def found_in_parts(grids):
     kept = saved("found.json", "found-json").decode()
     said = ('"parts": 3', '"charset": "utf-8"', '"symbology": "]d4"')
     count.expect("in JSON", [kept.count(it) for it in said], [3] * 3)
+
+
+def parts_by_camera():
+    """Parts that a camera sees at once, and after one another, are put together, those with the same text too."""
+    grids, letters = parts_of("once " * 4, 4)
+    count.expect("all with one text", len({str(it["items"]) for it in letters}), 1)
+    choose("parts", "1")
+    push("tab-read")
+    files = [base64.b64encode(png(text.split("\n"), 12, 3)).decode() for text in grids]
+    run(CAMERA, files, False)
+    run("globalThis.shown = [0, 1]")
+    for title in ("2 of them read", "all are read"):
+        seen = lambda: (run(CARD) or {}).get("title")
+        count.expect_soon(title, seen, f"A message in 4 symbols: {title}")
+        run("globalThis.pictures = [...pictures.slice(2), ...pictures.slice(0, 2)]")
+    count.expect("the whole", run(CARD)["whole"], "once " * 4)
+    count.expect("each is listed", len(run(LISTED)), 4)
+    run("document.getElementById('camera-off').click(); clearInterval(painter); delete navigator.mediaDevices")
+    settle()
+    as_usual()
 
 
 def side_by_side(grids):
@@ -541,6 +570,7 @@ PARTS = [
     made_in_parts,
     labels_in_parts,
     read_in_parts,
+    parts_by_camera,
     programs_the_reader,
     told_of_marks,
     letters_compared,

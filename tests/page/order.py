@@ -175,7 +175,8 @@ PLAY = (
     const look = () => {
         const isColoured = !document.body.hasAttribute("data-entering") && !at("pane-make").hidden;
         const isGreen = isColoured && at("verdict").className.includes("good");
-        if (isGreen && at("says").textContent !== (at("message").value || "the empty message"))
+        const said = at("message").value.replace(/\\\\x(..)/g, (_, hex) => String.fromCharCode(parseInt(hex, 16)));
+        if (isGreen && at("says").textContent !== (said || "the empty message"))
             wrong.push([at("message").value, at("says").textContent, document.body.dataset.stage]);
     };
     const shown = () => { %s };

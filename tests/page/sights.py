@@ -60,7 +60,9 @@ def handed_on():
     message = "A border that is damaged"
     rows = written(message).split("\n")
     for wrong in (8, 12):
-        said = opened("border.png", png(spoilt_border(rows, wrong), 6, 2, 220, 40))
+        # (with a speck beside it, so that the picture as a whole is no grid)
+        speckled = [row + f"00000{int(not k)}" for k, row in enumerate(spoilt_border(rows, wrong))]
+        said = opened("border.png", png(speckled, 6, 2, 220, 40))
         count.expect(f"{wrong} wrong border modules", (shown()["state"], shown()["says"], marks()),
                      ("Read", message, [LIMIT, None]))
         count.expect("are told", (shown()["why"].startswith(f"{wrong} modules of the border have the wrong colour"),

@@ -136,7 +136,7 @@ def text_and_gs1():
     count.expect(
         "nothing is spelled in text", (shown()["says"], text_of("message-hint")), ("a\\\\b (01) \\\\F\\x0A2", "")
     )
-    for text in ("\ufeff\u00e9", "\u00e9\n", "e\u0301", "\u00a0"):
+    for text in ("\ufeff\u00e9", "\u00e9\n", "e\u0301", "\u00a0", "\u00c3\u00a0"):
         put("message", text)
         line = line_of_text(text)
         wanted = line, written_in(line, "square")

@@ -1,5 +1,5 @@
 // Uses the module for other programs as such would: node uses.mjs MODULE.mjs MARKS prints a line of JSON for each thing
-// that it does: its name, and what came of it, or what was thrown. MARKS is tests/marks/every-size.txt.
+// that it does: its name, and what came of it, or what was thrown. MARKS is the folder tests/marks.
 import { readFileSync } from "node:fs";
 
 const module = await import(process.argv[2]);
@@ -25,9 +25,13 @@ function pictureOf(grids, dark = [20, 30, 40, 255], light = [250, 240, 230, 255]
 const plain = (grid) => ({ rows: grid.rows, columns: grid.columns, modules: grid.modules.join("") });
 const said = ({ text, items, isGs1, bytes, corrected }) => ({ text, items, isGs1, bytes: [...bytes], corrected });
 const letter = ({ text, charset, items, marks, head, symbology }) => ({ text, charset, items, marks, head, symbology });
-// The mark of a line of tests/marks/every-size.txt, which is given by its modules.
-const marksOf = (text) => text.split("\n\n").map((record) => record.split("\n").filter((line) => line[0] !== "#"))
-  .filter((lines) => lines.length > 3).map(([head, , , ...rows]) => ({ head, rows }));
+const fileOf = (name) => readFileSync(`${process.argv[3]}/${name}`, "utf8");
+// The records of a file, each its lines without comments.
+const recordsOf = (name) => fileOf(name).split("\n\n")
+  .map((record) => record.split("\n").filter((line) => line && line[0] !== "#")).filter((lines) => lines.length > 3);
+const gridIn = (rows) =>
+  ({ rows: rows.length, columns: rows[0].length, modules: Uint8Array.from(rows.join(""), Number) });
+const others = () => recordsOf("letters_grids.txt").map((rows) => readGrid(gridIn(rows)));
 const ASCII = { form: "ascii" };
 const spoilt = (grid, count) => {
   const modules = grid.modules.slice();
@@ -70,11 +74,18 @@ const TASKS = {
     return [text, border, plain(normal(torn(grid), { limit: "auto" })).modules === plain(grid).modules];
   },
   "a torn border as usual": () => readGrid(torn(write("torn at its left side", ASCII))),
-  "every size": () => marksOf(readFileSync(process.argv[3], "latin1")).map(({ head, rows }) => {
-    const grid = { rows: rows.length, columns: rows[0].length, modules: Uint8Array.from(rows.join(""), Number) };
-    const { items, marks, head: part } = readGrid(grid);
-    return [head, { items, marks, head: part }];
+  "every size": () => recordsOf("every-size.txt").map(([name, , , ...rows]) => {
+    const { items, marks, head } = readGrid(gridIn(rows));
+    return [name, { items, marks, head }];
   }),
+  texts: () => fileOf("texts.txt").split("\n").filter((line) => line && line[0] !== "#")
+    .map((line) => line.split("\t")[1]).map((text) => [text, readGrid(write(text)).text]),
+  "letters of others": () => others().map(letter),
+  "written anew": () => others().map((reading) => [letter(reading), letter(readGrid(write(reading)))]),
+  "joined in one charset": () => {
+    const parts = others().filter(({ head }) => head?.file?.join() === "254,1");
+    return [parts.length, joined(parts).text];
+  },
   "letter in a picture": () => read(pictureOf([write("日本", { shape: "rectangle" }), write(PARTS[1])]), { most: 2 })
     .symbols.map(letter).sort(({ text: one }, { text: other }) => (one < other ? -1 : 1)),
   gs1: () => said(readGrid(write([FNC1, ...Buffer.from("10AB"), FNC1, ...Buffer.from("21C")]))),
