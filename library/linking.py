@@ -43,7 +43,8 @@ def archive(folder, archiver, run, *objects):
 
 def for_linux(folder, compiler, archiver, run, note=""):
     """Makes the shared library, and the static one, whose names are hidden: a shared library that is linked with it
-    exports none of them. `note`: what both say of the processor that they need, in the words of an assembler."""
+    exports none of them. It hasn't the names of functions that aren't exported, which the shared one has. `note`: what
+    both say of the processor that they need, in the words of an assembler."""
     number, names = interface()
     shared = os.path.join(folder, "libecc200.so")
     hidden = "".join(f".globl {name}\n.hidden {name}\n" for name in names)
@@ -55,7 +56,7 @@ def for_linux(folder, compiler, archiver, run, note=""):
     run([compiler, "-shared", "-o", shared, "-Wl,-z,now,-z,relro,-z,noexecstack,-z,defs",
          f"-Wl,-soname,libecc200.so.{number}", "ecc200.o", "about.o", "processor.o"])
     os.makedirs(os.path.join(folder, "hidden"), exist_ok=True)
-    run([compiler, "-r", "-nostdlib", "-o", "hidden/ecc200.o", "ecc200.o", "about.o", "hidden.o"])
+    run([compiler, "-r", "-nostdlib", "-Wl,--discard-all", "-o", "hidden/ecc200.o", "ecc200.o", "about.o", "hidden.o"])
     archive(folder, archiver, run, "hidden/ecc200.o")
     for name in glob.glob(f"{glob.escape(shared)}.*"):
         os.remove(name)

@@ -89,14 +89,16 @@ def names(system):
 
 
 def unwound(system):
-    """Each function of the static library has an unwind table; under Windows such tables are there."""
+    """Each function of the static library has an unwind table; under Windows such tables are there. The shared library
+    has the same functions, and those by name that aren't exported too."""
     if system.is_windows:
         yield "unwind tables", None if " .pdata " in said([system.objdump, "-h", system.shared])[1] else "aren't there"
         return
     tables = said(["readelf", "--debug-dump=frames", system.archive])[1].count(" FDE ")
-    functions = [words for words in listed(system.nm, "--defined-only", system.archive)
-                 if len(words) == 3 and words[1] in "tT" and re.match(r"[A-Za-z_]", words[2])]
-    yield "unwind tables", None if tables >= len(functions) > 0 else f"{tables} of {len(functions)} functions"
+    functions = [words for words in listed(system.nm, "--defined-only", system.shared)
+                 if len(words) == 3 and words[1] in "tT" and ("::" in words[2] or words[2] in EXPORTS)]
+    is_enough = tables >= len(functions) > len(EXPORTS)
+    yield "unwind tables", None if is_enough else f"{tables} of {len(functions)} functions"
 
 
 # What Windows' objects have a name for, each of which is empty.
