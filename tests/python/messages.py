@@ -351,6 +351,8 @@ def explained():
                           (b"ABCDEFGHIJKL" * 5, "C40"), (b"abcdefghijkl" * 5, "Text")]:
         words = json.loads(ecc("explain", "--json", given=text(ecc200.write(message, form=Form.SMALLEST)))[1])
         yield holds(f"{name} is named", name in {word["encodation"] for word in words["codewords"]}, str(words))
+    words = json.loads(ecc("explain", "--json", given=text(ecc200.write(b"A", size=(12, 12))))[1])["codewords"]
+    yield same("pads stand in ASCII", [word["encodation"] for word in words], ["ASCII"] * 5 + [""] * 7)
     told = json.loads(ecc("explain", "--json", given=text(ecc200.write(b"A", marks=[(0, 26)])))[1])
     yield same("explain --json", (told["identifier"], told["marks"], told["head"], told["dealing"]),
                ("]d4", [[0, 26]], None, 0))
