@@ -115,7 +115,7 @@ def texts():
 
 
 def texts_by_others(folder):
-    """zxing-cpp reads texts as they were written."""
+    """zxing-cpp reads texts as they were written, and heads, and GS1 data behind an ECI."""
     if not has("ZXingReader", "texts read by zxing-cpp"):
         return
     some = all_texts()
@@ -124,6 +124,14 @@ def texts_by_others(folder):
         _, output, _ = run(["ZXingReader", "-format", "DataMatrix", f"text-{number:03}.png"], cwd=folder)
         found = re.search(r'^Text: +"(.*)"$', output, re.M)
         yield same(f"text {number}", found and found[1], one)
+    for words, told in [
+        (("--append", "2/5:001002", "Gr\u00f6\u00dfe"), "Structured Append: symbol 2 of 5 (parity/id: '258')"),
+        (("--programming", "SETUP"), "Reader Initialisation/Programming"),
+        (("--eci", "26", "--gs1", "(10)A"), "Content:    GS1"),
+    ]:
+        ecc("write", "-o", "head.png", "--module", "5", *words, folder=folder)
+        output = run(["ZXingReader", "-format", "DataMatrix", "head.png"], cwd=folder)[1]
+        yield holds(f"{words} by zxing-cpp", told in output.splitlines(), output)
 
 
 def charsets():
