@@ -2,6 +2,7 @@
 explained."""
 import json
 import os
+import random
 import re
 
 from tests.python.common import MARKS, has, has_sampler, holds, run, same, wanted_module
@@ -9,7 +10,7 @@ from tests.python.sizes import every_size, outcome
 from tests.python.surface import ecc, says, text
 
 import ecc200
-from ecc200 import Extent, Form
+from ecc200 import Extent, Form, explaining
 from ecc200.spelling import Misspelled, of_part, of_spelling, shown, spelled
 
 FORMS = {(): Form.SMALLEST, ("--form", "smallest"): Form.SMALLEST, ("--form", "ascii"): Form.ASCII,
@@ -114,7 +115,7 @@ def texts():
 
 
 def texts_by_others(folder):
-    """zxing-cpp reads texts as they were written."""
+    """zxing-cpp reads texts as they were written, and heads, and GS1 data behind an ECI."""
     if not has("ZXingReader", "texts read by zxing-cpp"):
         return
     some = all_texts()
@@ -123,6 +124,14 @@ def texts_by_others(folder):
         _, output, _ = run(["ZXingReader", "-format", "DataMatrix", f"text-{number:03}.png"], cwd=folder)
         found = re.search(r'^Text: +"(.*)"$', output, re.M)
         yield same(f"text {number}", found and found[1], one)
+    for words, told in [
+        (("--append", "2/5:001002", "Gr\u00f6\u00dfe"), "Structured Append: symbol 2 of 5 (parity/id: '258')"),
+        (("--programming", "SETUP"), "Reader Initialisation/Programming"),
+        (("--eci", "26", "--gs1", "(10)A"), "Content:    GS1"),
+    ]:
+        ecc("write", "-o", "head.png", "--module", "5", *words, folder=folder)
+        output = run(["ZXingReader", "-format", "DataMatrix", "head.png"], cwd=folder)[1]
+        yield holds(f"{words} by zxing-cpp", told in output.splitlines(), output)
 
 
 def charsets():
@@ -351,9 +360,38 @@ def explained():
                           (b"ABCDEFGHIJKL" * 5, "C40"), (b"abcdefghijkl" * 5, "Text")]:
         words = json.loads(ecc("explain", "--json", given=text(ecc200.write(message, form=Form.SMALLEST)))[1])
         yield holds(f"{name} is named", name in {word["encodation"] for word in words["codewords"]}, str(words))
+    words = json.loads(ecc("explain", "--json", given=text(ecc200.write(b"A", size=(12, 12))))[1])["codewords"]
+    yield same("pads stand in ASCII", [word["encodation"] for word in words], ["ASCII"] * 5 + [""] * 7)
     told = json.loads(ecc("explain", "--json", given=text(ecc200.write(b"A", marks=[(0, 26)])))[1])
     yield same("explain --json", (told["identifier"], told["marks"], told["head"], told["dealing"]),
                ("]d4", [[0, 26]], None, 0))
+
+
+def some_letter(chance):
+    """Items, marks and a head by chance, of characters that are encoded in each encodation."""
+    kinds = (range(48, 58), range(65, 91), range(97, 123), range(32, 95), range(256), (256, 65, 48, 29, 200))
+    items = [chance.choice(chance.choice(kinds)) for _ in range(chance.randrange(4))]
+    items += chance.choices(chance.choice(kinds), k=chance.choice((0, 1, 3, 8, 30)))
+    items = [*b"[)>\x1e05\x1d", *items, *b"\x1e\x04"] if chance.random() < 0.1 else items
+    numbers = [chance.choice((3, 26, 899, chance.randrange(16383), chance.randrange(1000000)))
+               for _ in range(chance.choice((0, 0, 1, 3)))]
+    of = chance.randint(2, 16)
+    part = chance.randint(1, of), of, chance.randint(1, 254), chance.randint(1, 254)
+    return items, sorted((chance.randint(0, len(items)), number) for number in numbers), chance.choice(
+        (None, "programming", part))
+
+
+def letters():
+    """Letters by chance are spelled, written in each form, read and explained as they are."""
+    chance = random.Random(16022)
+    for number in range(150):
+        items, marks, head = some_letter(chance)
+        yield same(f"letter {number}, spelled", of_spelling(spelled(items, marks, head), "ascii"), (items, marks, head))
+        for form in Form:
+            rows = ecc200.write(items, marks=marks, head=head, form=form)
+            reading = explaining.explain(rows).reading
+            yield same(f"letter {number}, {form.name}", reading and (list(reading.items), list(reading.marks),
+                                                                     reading.head), (items, marks, head))
 
 
 def dealt_anew(rows):

@@ -17,8 +17,8 @@ PARTS = {
     "elements": "worked square faults table beside_zint beside_stdnum",
     "drawings": "png rendered unloadable taken saved in_files paged sheets symbols oriented sampled",
     "surface": "usage reading in_words otherwise writing files named_alike",
-    "messages": "vectors texts texts_by_others charsets read_charsets forms heads joined compared explained dealings "
-                "spellings",
+    "messages": "vectors texts texts_by_others charsets read_charsets forms heads joined compared explained letters "
+                "dealings spellings",
     "comparing": "pages comparing explained spellings at_a_terminal completion",
     "batches": "numbered several walked side_by_side no_picture streams interrupted bad_lines locales round_trips "
                "blocks_of_json",

@@ -250,7 +250,7 @@ def _tell(data: bytes) -> _Told:
     if told.left:
         told.say("ASCII", "the end of the message, and the first pad")
     while told.left:
-        told.say("", "a pad")
+        told.say("ASCII", "a pad")
     return told
 
 
