@@ -3,7 +3,7 @@ options, errors and statuses, hostile files, and the shared library from C and C
 library ecc200 under it is."""
 import os
 
-from tests.sampler import damage, hard, letters, limits, options, reading, sheets, sizes, timing
+from tests.sampler import damage, efforts, hard, letters, limits, options, reading, sheets, sizes, timing
 from tests.sampler.pictures import CAREFUL, left_out, results
 from tests.support import commands, needs, places
 from tests.support.case import Case
@@ -193,6 +193,9 @@ class Sampler(Case):
     def test_parts(self):
         self.told(options.parts, self.room, self.sources)
 
+    def test_judged(self):
+        self.told(options.judged, self.room, self.sources)
+
     def test_tracks(self):
         self.told(options.tracks, self.room, self.sources)
 
@@ -216,6 +219,12 @@ class Sampler(Case):
 
     def test_shares(self):
         self.told(timing.shares, self.sampler)
+
+    def test_blanked(self):
+        self.told(efforts.blanked, self.room, self.plain)
+
+    def test_neighbours(self):
+        self.told(efforts.neighbours, self.room, self.plain)
 
     def test_deadline(self):
         self.told(timing.deadline, self.room, self.sampler)

@@ -76,7 +76,8 @@ static const struct hidden HIDDEN[] = {{0, 11, ALL_LIGHT}, {4, 8, ALL_LIGHT}, {7
 int main(void) {
     int lost = 0;
     for (size_t k = 0; k < sizeof HIDDEN / sizeof *HIDDEN; k++)
-        for (struct hidden hidden = {HIDDEN[k].first, 0, HIDDEN[k].look}; hidden.count <= HIDDEN[k].count; hidden.count++)
+        for (struct hidden hidden = {HIDDEN[k].first, 0, HIDDEN[k].look}; hidden.count <= HIDDEN[k].count;
+             hidden.count++)
             if (!is_followed(hidden))
                 lost += printf("%d modules from %d on as %d\n", hidden.count, hidden.first, hidden.look) > 0;
     return lost;
