@@ -138,6 +138,7 @@ static struct elbow elbow_of(const struct sought *in, const struct line *bottom,
     return elbow.is_lively || !elbow.is_long ? elbow : none;
 }
 
+/* The order of those that are equally likely, so that it is always the same. */
 static int by_places(const struct elbow *a, const struct elbow *b) {
     int corner = by_place(a->corner, b->corner), top = by_place(a->top, b->top);
     return corner != 0 ? corner : top != 0 ? top : by_place(a->right, b->right);

@@ -111,12 +111,14 @@ export function textOf(letter) {
 
 // ---- From text
 
-// What some readers take for Shift JIS, where nothing is marked.
+// What some readers take for UTF-8 and for Shift JIS, where nothing is marked.
+const LIKE_UTF_8 =
+  /^(?:[\0-\x7f]|[\xc0-\xdf][\x80-\xff]|[\xe0-\xef][\x80-\xff]{2}|[\xf0-\xf7][\x80-\xff]{3})*$/;
 const LIKE_SHIFT_JIS = /^(?:[\0-\x7f\xa1-\xdf]|[\x81-\x9f\xe0-\xef][@-~\x80-\xfc])*$/;
-// Whether all readers take the bytes of a text in ISO 8859-1 for that text, where nothing is marked.
-/** @type {(text: string, bytes: Uint8Array) => boolean} */
-const isClear = (text, bytes) => bytes.every((byte) => byte <= MOST_OF_ASCII)
-  || !(isUtf8(bytes) || LIKE_SHIFT_JIS.test(text));
+// Whether all readers take a text in ISO 8859-1 for that text, where nothing is marked.
+/** @type {(text: string) => boolean} */
+const isClear = (text) => ALL_ASCII.test(text) || !(LIKE_UTF_8.test(text) || LIKE_SHIFT_JIS.test(text));
+const ALL_ASCII = /^[\0-\x7f]*$/;
 // The letter of a text: in ISO 8859-1, if that has all of its characters, with a mark where some reader would take the
 // bytes for another text; else in UTF-8 behind its mark.
 /** @type {(text: string) => Letter} */
@@ -125,7 +127,7 @@ export function letterOfText(text) {
   const marked = (number) => [{ place: 0, number }];
   if (units.some((unit) => unit > MOST_OF_LATIN_1))
     return letterOf([...new TextEncoder().encode(text)], marked(ECI_UTF_8));
-  return letterOf(units, isClear(text, Uint8Array.from(units)) ? [] : marked(ECI_LATIN_1));
+  return letterOf(units, isClear(text) ? [] : marked(ECI_LATIN_1));
 }
 // The letter of a text that is to be taken apart. A part of it is clear by itself: it has a mark, unless all is ASCII.
 /** @type {(letter: Letter) => Letter} */

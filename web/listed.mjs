@@ -1,5 +1,5 @@
 // What is told of the symbols that were found: in words, and in files of their list. CSV is for tables; JSON has all
-// that is known of them, and can be opened again.
+// that is known of them, with heads and marks as dm_sample has them, and can be opened again.
 import { textOf } from "./charsets.mjs";
 import { limitIn, shapeWords } from "./common.mjs";
 import { FOUND } from "./csv.mjs";
@@ -43,7 +43,9 @@ const recordOf = (symbol) => {
     doubtful: doubtful ? [...doubtful.keys()].filter((k) => doubtful[k]) : [],
     modules: gridText(symbol).trimEnd().split("\n") };
   if (!isRead) return { read: false, why: whyUnread(symbol), ...shown };
-  const said = { text: saidBy(symbol), charset, items, marks, head, symbology };
+  const part = partOf({ head }), ofPart = part && [part.part, part.parts, ...part.file];
+  const said = { text: saidBy(symbol), charset, items, head: ofPart ?? head, identifier: symbology,
+    marks: marks.map(({ place, number }) => [place, number]) };
   return { read: true, ...said, ...shown, corrected, erased, border };
 };
 /** @type {(list: Sighted[], isComplete: boolean) => string} */

@@ -1,8 +1,9 @@
 // How letters are spelled: \\ is the backslash, \F FNC1, \xHH a byte, \E{N} the ECI assignment N, and any other
-// character of 32 to 126 itself; in the values of element strings, which have no ECI, also \( a bracket.
+// character of 32 to 126 itself; in front of them \A{2/5:001002} a part of what several symbols say, with the numbers
+// of its file, and \P reader programming. The values of element strings have no ECI and no head, but \( a bracket.
 import { letterOfText, textOf } from "./charsets.mjs";
 import { FNC1, MOST_LINES, MOST_TEXT } from "./common.mjs";
-import { letterOf } from "./letters.mjs";
+import { PROGRAMMING, letterOf } from "./letters.mjs";
 
 /** @typedef {import("./letters.mjs").Letter} Letter */
 /** @typedef {{ column?: number, why?: string, ways?: { name: string, text: string }[], isTooMuch?: boolean,
@@ -11,8 +12,8 @@ import { letterOf } from "./letters.mjs";
 /** @typedef {Fault & { letter?: Letter }} Taken what a text stands for, or why it isn't taken */
 /** @type {(text: string, isValue?: boolean) => Taken} */
 export function parse(text, isValue = false) {
-  const letter = letterOf([]), { items, marks } = letter;
-  for (let at = 0; at < text.length;) {
+  const { head, length } = isValue ? NO_HEAD : headIn(text), letter = letterOf([], [], head), { items, marks } = letter;
+  for (let at = length; at < text.length;) {
     const code = text.codePointAt(at), rest = text.slice(at, at + LONGEST_SPELLING);
     const [hex] = /^\\x[0-9A-Fa-f]{2}/.exec(rest) ?? [], [eci, number] = (!isValue && ECI_SPELLED.exec(rest)) || [];
     if (rest.startsWith("\\\\")) { items.push(92); at += 2; }
@@ -25,6 +26,15 @@ export function parse(text, isValue = false) {
     else return { column: at + 1, why: `is ${named(code)}, which has no spelling of its own`, ways: respelled(text) };
   }
   return { letter };
+}
+const HEAD_SPELLED = /^\\(?:P|A\{(\d{1,2})\/(\d{1,2}):(\d{3})(\d{3})\})/;
+const NO_HEAD = { head: null, length: 0 };
+// The head that a text begins with, if it does, and how many characters that has.
+/** @type {(text: string) => { head: import("./letters.mjs").Head | null, length: number }} */
+function headIn(text) {
+  const [all, ...numbers] = HEAD_SPELLED.exec(text) ?? [], [part, parts, ...file] = numbers.map(Number);
+  if (!all) return NO_HEAD;
+  return { head: numbers[0] ? { part, parts, file } : PROGRAMMING, length: all.length };
 }
 const BACKSLASH = 92, ECI_SPELLED = /^\\E\{(\d{1,6})\}/, LONGEST_SPELLING = "\\E{999999}".length;
 const STRAY = "is a backslash that doesn’t begin a spelling; those are \\\\, \\F, \\xHH and \\E{N}";
@@ -58,8 +68,8 @@ export function tooMuch(text, most = MOST_TEXT) {
 }
 
 // The text with each backslash that begins no spelling doubled.
-const doubled = (text) =>
-  text.replace(/\\(?:\\|F|x[0-9A-Fa-f]{2}|E\{\d{1,6}\})|\\/g, (found) => (found.length > 1 ? found : "\\\\"));
+const doubled = (text) => text.replace(SPELLING_OR_NONE, (found) => (found.length > 1 ? found : "\\\\"));
+const SPELLING_OR_NONE = /^\\(?:P|A\{[\d/:]+\})|\\(?:\\|F|x[0-9A-Fa-f]{2}|E\{\d{1,6}\})|\\/g;
 
 const CONTROLS = { 9: "a tab", 10: "a line break", 13: "a line break" };
 // Controls, formats, spaces and fillers; these and marks that stand on the letter before; and such a mark that stands

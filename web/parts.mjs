@@ -9,10 +9,10 @@ let part = 1; // that is shown
 /** @type {() => number} */
 export const partsNow = () => Number(field("parts").value);
 export const partNow = () => Math.min(part, partsNow());
-// The letters of what is taken, in so many parts.
+// The letters of what is taken, in so many parts; of what has a head of its own, that alone.
 /** @type {(taken: import("./messages.mjs").Taken, parts: number) => import("./letters.mjs").Letter[]} */
 export const lettersTaken = ({ letter, isText }, parts) =>
-  takenApart(isText && parts > 1 ? markedThroughout(letter) : letter, parts);
+  (letter.head ? [letter] : takenApart(isText && parts > 1 ? markedThroughout(letter) : letter, parts));
 // Chooses what a link has; one symbol, if that is no number of parts.
 /** @type {(parts: number, shown: number) => void} */
 export function chooseParts(parts, shown) {
@@ -20,8 +20,8 @@ export function chooseParts(parts, shown) {
   part = Math.max(1, Math.min(partsNow(), shown));
   showPart();
 }
-export function showPart() {
-  const parts = partsNow(), shown = partNow();
+export function showPart(parts = partsNow()) {
+  const shown = partNow();
   $("part-steps").hidden = parts === 1;
   $("part-shown").textContent = `Part ${shown} of ${parts}`;
   setUsable("part-back", shown > 1);

@@ -106,8 +106,9 @@ export function writeMessage() {
     refuseMessage(`${whyNot(read)}${read.isTooMuch ? " The link doesn’t keep them." : ""}`, read.ways, mayBeText);
     return;
   }
-  const letters = lettersTaken(read, partsNow()), how = howIn(formNow()), at = partNow() - 1;
-  showPart();
+  const letters = lettersTaken(read, partsNow()), how = howIn(formNow());
+  const at = Math.min(partNow(), letters.length) - 1;
+  showPart(letters.length);
   enter(it, () => desks.quick.ask("write", { letters, at, how }, "write"), (written) => {
     if (isBroken(written)) { refuseMessage(brokenWords(written)); return; }
     if (written.fault) refuseWritten(written, letters, how);

@@ -54,6 +54,7 @@ export function refusal({ code, value, place }, seen = undefined) {
     }
     case 20: return `What follows the ECI that ${at} begins is no designator of a number.`;
     case 21: return "The structured append that the first codewords begin is no part of 2 to 16.";
+    case 23: return "A part is one of 2 to 16, and its file has two numbers from 1 to 254.";
     case TOO_LONG: return "No square up to 144 × 144 modules holds this message in this form.";
     default: return `Refused: ${code} ${value} ${place}.`;
   }

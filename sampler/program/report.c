@@ -84,21 +84,37 @@ static void put_string(const char *text) {
     putchar('"');
 }
 
-/* A message as dm_tool spells it, in quotes, so that each of its backslashes becomes two. */
+/* An item as dm_tool spells it. Within quotes each of its backslashes becomes two. */
+static void put_item(uint16_t item) {
+    if (item == ECC200_FNC1)
+        fputs("\\\\F", stdout);
+    else if (item == '\\')
+        fputs("\\\\\\\\", stdout);
+    else if (item == '"')
+        fputs("\\\"", stdout);
+    else if (item >= 32 && item <= 126)
+        putchar(item);
+    else
+        printf("\\\\x%02X", item);
+}
+
+static void spell_head(const ecc200_head *head) {
+    if (head->kind == ECC200_PROGRAMMING)
+        fputs("\\\\P", stdout);
+    if (head->kind == ECC200_PART)
+        printf("\\\\A{%d/%d:%03d%03d}", head->part, head->parts, head->file[0], head->file[1]);
+}
+
+/* What a symbol says, in quotes: the head in front, and each ECI mark at its place, so that neither a part nor bytes
+ * that aren't meant as usual are taken for a message. */
 static void put_message(const ecc200_reading *reading) {
     putchar('"');
-    for (int k = 0; k < reading->item_count; k++) {
-        uint16_t item = reading->items[k];
-        if (item == ECC200_FNC1)
-            fputs("\\\\F", stdout);
-        else if (item == '\\')
-            fputs("\\\\\\\\", stdout);
-        else if (item == '"')
-            fputs("\\\"", stdout);
-        else if (item >= 32 && item <= 126)
-            putchar(item);
-        else
-            printf("\\\\x%02X", item);
+    spell_head(&reading->head);
+    for (int k = 0, mark = 0; k <= reading->item_count; k++) {
+        for (; mark < reading->mark_count && (int)reading->marks[mark].place == k; mark++)
+            printf("\\\\E{%d}", (int)reading->marks[mark].number);
+        if (k < reading->item_count)
+            put_item(reading->items[k]);
     }
     putchar('"');
 }

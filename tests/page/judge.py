@@ -37,12 +37,12 @@ def line_of_text(text):
         data = text.encode("iso-8859-1")
     except UnicodeEncodeError:
         return "\\E{26}" + line_of_items(text.encode())
-    shift_jis = re.fullmatch(rb"([\0-\x7f\xa1-\xdf]|[\x81-\x9f\xe0-\xef][\x40-\x7e\x80-\xfc])*", data)
-    try:
-        is_utf8 = data.decode() is not None
-    except UnicodeDecodeError:
-        is_utf8 = False
-    return ("" if data.isascii() or not (shift_jis or is_utf8) else "\\E{3}") + line_of_items(data)
+    looks = (
+        rb"([\0-\x7f\xa1-\xdf]|[\x81-\x9f\xe0-\xef][\x40-\x7e\x80-\xfc])*",
+        rb"([\0-\x7f]|[\xc0-\xdf][\x80-\xff]|[\xe0-\xef][\x80-\xff]{2}|[\xf0-\xf7][\x80-\xff]{3})*",
+    )
+    is_clear = data.isascii() or not any(re.fullmatch(look, data) for look in looks)
+    return ("" if is_clear else "\\E{3}") + line_of_items(data)
 
 
 def items_of(line):

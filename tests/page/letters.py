@@ -2,6 +2,7 @@
 put together as they are read, by the charsets that ECIs name; and any border that is sure."""
 import base64
 import io
+import json
 import re
 import zipfile
 
@@ -271,8 +272,29 @@ def made_in_parts():
     wanted = "Read, as part 1 of 2", False, True
     count.expect("a part of GS1 data has no elements", (shown()["state"], wrong, hidden), wanted)
     choose("parts", "1")
+    spelled_heads()
     offered_in_parts()
     as_usual()
+
+
+def spelled_heads():
+    """A head in front of what is spelled, and one that there isn't; so many symbols are made of it as it says."""
+    choose("parts", "3")
+    for line, head, state in (
+        ("\\A{2/5:007209}AB", {"part": 2, "parts": 5, "file": [7, 209]}, "Read, as part 2 of 5"),
+        ("\\P\\E{26}AB", "programming", "Read, as reader programming"),
+    ):
+        type_in(line, "message")
+        marks = [{"place": 0, "number": 26}] if "E{" in line else []
+        wanted = state, {"items": [65, 66], "marks": marks, "head": head}
+        count.expect(line, (shown()["state"], run(READ)), wanted)
+    choose("parts", "1")
+    for line in ("\\A{6/5:001001}A", "\\A{1/17:001001}A", "\\A{1/2:000001}A", "\\A{1/2:001255}A"):
+        type_in(line, "message")
+        begin = "A part is one of 2 to 16, and its file has two numbers from 1 to 254."
+        count.expect(line, (shown()["state"], text_of("message-hint").startswith(begin)), ("Nothing is read", True))
+    type_in("A\\P", "message")
+    count.expect("not behind something", text_of("message-hint").startswith("Column 2 is a backslash that"), True)
 
 
 def offered_in_parts():
@@ -374,8 +396,12 @@ def found_in_parts(grids):
     named = sorted(re.search(r"part \d of 3", it)[0] for it in remarks)
     count.expect("named in the list", named, [f"part {k} of 3" for k in (1, 2, 3)])
     kept = saved("found.json", "found-json").decode()
-    said = ('"parts": 3', '"charset": "utf-8"', '"symbology": "]d4"')
-    count.expect("in JSON", [kept.count(it) for it in said], [3] * 3)
+    listed = sorted(json.loads(kept)["symbols"], key=lambda it: it["head"])
+    file = judged([asked_to_read(grids[0])])[0]["head"]["file"]
+    heads = [[k, 3, *file] for k in (1, 2, 3)]
+    count.expect("heads in JSON", [it["head"] for it in listed], heads)
+    said = [(it["marks"], it["charset"], it["identifier"]) for it in listed]
+    count.expect("marks in JSON", said, [([[0, 26]], "utf-8", "]d4")] * 3)
 
 
 def parts_by_camera():

@@ -256,7 +256,7 @@ def wide_marks():
         stands = run("return mitsubadoor.spelled(mitsubadoor.mark.seen.told.flatMap((it) => it.items))")
         count.expect(
             f"wide mark {message[:20]}",
-            (shown()["state"].split(",")[0], shown()["says"], stands),
+            (shown()["state"].split(",")[0], as_program(shown())[0], stands),
             ("Read", message, message),
         )
 

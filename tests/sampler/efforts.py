@@ -1,4 +1,5 @@
-"""What a part of the usual work is enough for: what has been found costs no more, and shows where its neighbours are."""
+"""What a part of the usual work is enough for: what has been found costs no more, and shows where its neighbours
+are."""
 import random
 
 from tests.sampler.pictures import check, grid_of

@@ -39,10 +39,12 @@ def grid(letter, named=None):
     return [modules[at:at + size.columns] for at in range(0, size.rows * size.columns, size.columns)]
 
 
-def spelled(items):
-    """A message as dm_tool spells it."""
-    return "".join("\\F" if item == FNC1 else "\\\\" if item == 92 else chr(item) if 32 <= item < 127
-                   else f"\\x{item:02X}" for item in items)
+def spelled(letter):
+    """A letter as the command spells it: items as dm_tool does, ECI marks among them, and the head in front."""
+    head = "\\A{{{}/{}:{:03}{:03}}}".format(*letter.head) if isinstance(letter.head, tuple) else ""
+    return head + "\\P" * (letter.head == PROGRAMMING) + "".join(
+        f"\\E{{{token[0]}}}" if isinstance(token, tuple) else "\\F" if token == FNC1 else "\\\\" if token == 92
+        else chr(token) if 32 <= token < 127 else f"\\x{token:02X}" for token in letter.tokens())
 
 
 def identifier(letter):
@@ -51,7 +53,7 @@ def identifier(letter):
 
 def wanted(letter, symbology):
     """What is told of a symbol that says this."""
-    told = {"message": spelled(letter.items), "identifier": symbology}
+    told = {"message": spelled(letter), "identifier": symbology}
     if letter.head:
         told["head"] = letter.head if letter.head == PROGRAMMING else list(letter.head)
     if letter.marks:

@@ -222,6 +222,12 @@ def parts(folder, sampler):
     part(folder, sampler, "parts", ("geometry", "limit", "outline"))
 
 
+def judged(folder, sampler):
+    """Readings that say the same, and others."""
+    files = [name.removesuffix(".c") for name in sorted(os.listdir(sampler)) if name.endswith(".c")]
+    part(folder, sampler, "judged", [name for name in files if name != "judge"])
+
+
 def tracks(folder, sampler):
     """Alternating borders of which a part doesn't show."""
     part(folder, sampler, "tracks", ("finder", "found", "geometry", "layout", "limit", "outline", "plane", "track"))

@@ -193,6 +193,9 @@ class Sampler(Case):
     def test_parts(self):
         self.told(options.parts, self.room, self.sources)
 
+    def test_judged(self):
+        self.told(options.judged, self.room, self.sources)
+
     def test_tracks(self):
         self.told(options.tracks, self.room, self.sources)
 
