@@ -33,9 +33,13 @@ GROUP = re.compile(r"^attributes #(\d+) = \{ (.*)\}$", re.M)
 OWN = '"target-cpu"='
 
 
+# A table of addresses takes more room than comparisons, since each entry of it needs a relocation.
+NO_TABLES = '"no-jump-tables"="true"'
+
+
 def marks_of(name):
     """The marks of a function beside that for its unwind table."""
-    marks = {"optsize": FOR_SIZE, "noinline": ONCE}
+    marks = {f"optsize {NO_TABLES}": FOR_SIZE, "noinline": ONCE}
     return "".join(f"{mark} " for mark, names in marks.items() if any(map(name.startswith, names)))
 
 

@@ -14,6 +14,8 @@ import os
 import re
 import subprocess
 
+from marking import NO_TABLES
+
 TRIPLE = "x86_64-unknown-linux-gnu"
 PROCESSOR = '"target-cpu"="x86-64-v2"'
 # Each frame is touched page by page, so that no call passes the page that guards a stack. The compiler does so on every
@@ -120,9 +122,9 @@ def retarget(text, triple, layout):
     own, processor = head(text, "datalayout"), triple.split("-")[0]
     if facts(own) != facts(layout):
         raise Foreign(f"the data layout {own}, which doesn't agree with {layout}")
-    known = {f"@{PSHUFB}", PROCESSOR}
+    known = {f"@{PSHUFB}", PROCESSOR, NO_TABLES}
     if processor != TRIPLE.split("-")[0]:
-        known = {f"@{TBL}"} if processor == "aarch64" else set()
+        known = {NO_TABLES, *([f"@{TBL}"] if processor == "aarch64" else [])}
         text = with_functions(text.replace(f" {PROCESSOR}", ""), replaced(processor))
     if left := list(dict.fromkeys(unknown(text, known))):
         raise Foreign("; ".join(left))

@@ -54,7 +54,7 @@ class Marked(Case):
 
     def test_all_else_stays(self):
         was = attributes(self.text)
-        ours = {"uwtable", "optsize", "noinline"}
+        ours = {"uwtable", "optsize", "noinline", marking.NO_TABLES}
         self.assertEqual({name: [word for word in asked if word not in ours] for name, asked in self.got.items()}, was)
 
     def test_a_name_that_no_function_has_ends_the_build(self):
