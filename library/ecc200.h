@@ -154,7 +154,7 @@ enum {
     ECC200_FNC1 = 256,            /* an item */
     ECC200_ANY_LIMIT = 65535,     /* a border limit that refuses nothing */
     ECC200_BEYOND = 255,          /* in ecc200_inspection.corrected: this block is beyond correction */
-    ECC200_STACK = 98304          /* bytes */
+    ECC200_STACK = 49152          /* bytes */
 };
 
 /* What is read. USUAL: ASCII, C40, Text, X12 and Base 256, as the program reads. WIDE: these, and

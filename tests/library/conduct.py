@@ -10,7 +10,7 @@ from tests.library.library import EXAMPLES, compiled, module
 from tests.support import commands, places
 from tests.support.commands import said
 
-STACK = 98_304
+STACK = 49_152
 # How many calls threads.c measures.
 MEASURED = 16
 # The code of each call that written.c makes, and how many bytes of its arrays are written.

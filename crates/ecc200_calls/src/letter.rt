@@ -13,7 +13,9 @@ use dm_symbol::{Head, Item, LARGEST_MARKS, LARGEST_ROOM, LetterIn};
 /// A letter with room for what any symbol says.
 pub(crate) type Letter = LetterIn<LARGEST_ROOM, LARGEST_MARKS>;
 
-/// Gives the letter with this head, or none, and with the items and the marks of these numbers.
+/// Gives the letter with this head, or none, and with the items and the marks of these numbers. It stands by itself,
+/// so that the room in which the letter is made isn't taken beside the room in which it is kept.
+#[inline(never)]
 pub(crate) fn letter_of_numbers<const ITEMS: usize, const MARKS: usize>(
     head: Option<Head>,
     items: &[u16],
@@ -60,7 +62,9 @@ fn push_items<const ITEMS: usize, const MARKS: usize>(
     }
 }
 
-/// Gives the letter with this head, or none, with these bytes as its items, and without marks.
+/// Gives the letter with this head, or none, with these bytes as its items, and without marks. It stands by itself,
+/// likewise.
+#[inline(never)]
 pub(crate) fn letter_of_bytes<const ITEMS: usize, const MARKS: usize>(
     head: Option<Head>,
     bytes: &[u8],
