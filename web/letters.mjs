@@ -66,7 +66,8 @@ export function takenApart(letter, parts) {
   return ends.slice(1).map((end, k) => ({
     ...pieceOf(letter, ends[k], end, k + 1 === parts), head: { part: k + 1, parts, file } }));
 }
-// What letters say together that are parts, in this order. A mark that says what is in force already is left out.
+// What letters say together that are parts, in this order. A mark in front of one that says what is in force already is
+// left out.
 /** @type {(letters: Letter[]) => Letter} */
 export function together(letters) {
   const whole = letterOf([]);
