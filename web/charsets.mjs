@@ -95,7 +95,7 @@ function stretchesOf({ items, marks }) {
   const behind = marks.map(({ place, number }) => ({ place: Math.max(place, front), number }));
   const begins = [{ place: front, number: null }, ...behind];
   begins.forEach(({ place, number }, k) => {
-    const own = items.slice(place, begins[k + 1]?.place), last = stretches.at(-1);
+    const own = items.slice(place, begins[k + 1]?.place), last = stretches[stretches.length - 1];
     if (!own.length) return;
     const charset = number !== null ? nameOfEci(number) : isUtf8(bytesOf(own)) ? UTF_8 : LATIN_1;
     if (last?.charset === charset) last.items.push(...own); else stretches.push({ charset, items: own });

@@ -42,7 +42,7 @@ function fileOf(letter) {
   return [crc % MOST_OF_FILE, Math.floor(crc / MOST_OF_FILE) % MOST_OF_FILE].map((number) => number + 1);
 }
 // The number that is in force behind so many items, or undefined.
-const eciAt = (marks, at) => marks.filter(({ place }) => place <= at).at(-1)?.number;
+const eciAt = (marks, at) => marks.filter(({ place }) => place <= at).pop()?.number;
 // The items of a letter from one place to another, with their marks, of which the one in force stands first.
 /** @type {(letter: Letter, from: number, to: number, isLast: boolean) => Letter} */
 function pieceOf({ items, marks }, from, to, isLast) {
@@ -66,13 +66,15 @@ export function takenApart(letter, parts) {
   return ends.slice(1).map((end, k) => ({
     ...pieceOf(letter, ends[k], end, k + 1 === parts), head: { part: k + 1, parts, file } }));
 }
-// What letters say together that are parts, in this order. A mark that says what is in force already is left out.
+// What letters say together that are parts, in this order. A mark in front of one that says what is in force already is
+// left out.
 /** @type {(letters: Letter[]) => Letter} */
 export function together(letters) {
   const whole = letterOf([]);
   for (const { items, marks } of letters) {
     for (const { place, number } of marks)
-      if (whole.marks.at(-1)?.number !== number) whole.marks.push({ place: place + whole.items.length, number });
+      if (eciAt(whole.marks, whole.items.length) !== number || place > 0)
+        whole.marks.push({ place: place + whole.items.length, number });
     whole.items.push(...items);
   }
   return whole;

@@ -16,7 +16,7 @@ export const lettersTaken = ({ letter, isText }, parts) =>
 // Chooses what a link has; one symbol, if that is no number of parts.
 /** @type {(parts: number, shown: number) => void} */
 export function chooseParts(parts, shown) {
-  field("parts").value = String(parts >= 1 && parts <= MOST_PARTS ? parts : 1);
+  field("parts").value = String(Number.isInteger(parts) && parts >= 1 && parts <= MOST_PARTS ? parts : 1);
   part = Math.max(1, Math.min(partsNow(), shown));
   showPart();
 }
