@@ -139,6 +139,7 @@ fn may_be_said(items: usize, marks: usize) -> bool
 }
 
 /// Shows the smallest symbol of a letter, or that it fits no size of the choice.
+#[inline(never)]
 fn write_letter<const ITEMS: usize, const MARKS: usize>(
     letter: &LetterIn<ITEMS, MARKS>,
     extent: Extent,
