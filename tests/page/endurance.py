@@ -90,9 +90,11 @@ WATCHED = 1.5  # seconds
 
 
 def begin_camera():
+    asked = lambda: run("return mitsubadoor.desks.pictures.count")
+    before = asked()
     run(SLOW_CAMERA)
     run("document.getElementById('camera').click(); for (const each of allowed.splice(0)) each()")
-    wait_for(lambda: find("viewfinder").is_displayed())
+    wait_for(lambda: find("viewfinder").is_displayed() and asked() > before)
     run("clearInterval(painter)")
 
 
