@@ -148,7 +148,7 @@ export class Library {
     const placed = (place) => (place <= items.length ? Math.min(place, some.length) : place);
     const flat = few.flatMap(({ place, number }) => [number, placed(place)]);
     this.longs(this.marksAt, flat.length).set(flat.map((number) => within(number, LONGS, LONGS)));
-    this.numbers(this.howAt, 5).set([form, shape, rows, columns, WIDE]);
+    this.numbers(this.howAt, 5).set([form, shape, rows, columns, WIDE].map((number) => within(number, SHORTS, SHORTS)));
     this.setHead(this.howAt + LAYOUT.how.head, head);
     const given = [this.itemsAt, some.length, this.marksAt, few.length, this.howAt, this.outAt].map(BigInt);
     return this.c.ecc200_write(...given) ? this.fault() : this.symbol();
@@ -162,7 +162,8 @@ export class Library {
   /** @type {(grid: Grid, limit: number, profile: number, doubtful?: Uint8Array | null) =>
       Partial<Grid> & { fault?: Fault }} */
   normal(grid, limit, profile, doubtful = null) {
-    const isFault = this.c.ecc200_normal(...this.given(grid, doubtful), limit, WIDE, profile, this.out);
+    const symbol = this.given(grid, doubtful), form = within(profile, SHORTS, SHORTS);
+    const isFault = this.c.ecc200_normal(...symbol, limit, WIDE, form, this.out);
     return isFault ? this.fault() : this.symbol();
   }
   // The grid has a size that there is, so that there is no fault.

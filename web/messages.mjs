@@ -69,7 +69,7 @@ export function tooMuch(text, most = MOST_TEXT) {
 
 // The text with each backslash that begins no spelling doubled.
 const doubled = (text) => text.replace(SPELLING_OR_NONE, (found) => (found.length > 1 ? found : "\\\\"));
-const SPELLING_OR_NONE = /^\\(?:P|A\{[\d/:]+\})|\\(?:\\|F|x[0-9A-Fa-f]{2}|E\{\d{1,6}\})|\\/g;
+const SPELLING_OR_NONE = /^\\(?:P|A\{\d{1,2}\/\d{1,2}:\d{6}\})|\\(?:\\|F|x[0-9A-Fa-f]{2}|E\{\d{1,6}\})|\\/g;
 
 const CONTROLS = { 9: "a tab", 10: "a line break", 13: "a line break" };
 // Controls, formats, spaces and fillers; these and marks that stand on the letter before; and such a mark that stands

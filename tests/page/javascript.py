@@ -12,6 +12,7 @@ from tests.support import places
 MARKS = places.path("tests", "marks")
 USES, TYPES = places.path("tests", "page", "uses.mjs"), places.path("web", "module", "ecc200.d.mts")
 TOO_LONG, NO_SIZE, BORDER, BLOCK, ITEM, MARK, HEAD = 14, 4, 5, 6, 15, 22, 23  # codes of refusals
+FORM, SHAPE = 16, 18
 PART = {"part": 2, "parts": 3, "file": [9, 254]}
 GS1 = [256, *b"10AB", 256, *b"21C"]
 
@@ -109,7 +110,9 @@ def uses():
     count.expect("joined in one charset", came("joined in one charset"), [2, "日本"])
     for name, code in (("too long", TOO_LONG), ("too small a size", TOO_LONG), ("no size", NO_SIZE),
                        ("normal of a blot that isn't told", BLOCK), ("a torn border as usual", BORDER),
-                       ("a wrong mark", MARK), ("a wrong head", HEAD), ("a wrong item", ITEM)):
+                       ("a wrong mark", MARK), ("a wrong head", HEAD), ("a wrong item", ITEM),
+                       ("no such form", FORM), ("no such form of a normal symbol", FORM), ("no such shape", SHAPE),
+                       ("rows that no size has", TOO_LONG)):
         count.expect(name, [answers[name].get(each) for each in ("thrown", "isRefused", "code")],
                      ["Refused", True, code])
     for name, kind in (("of no pixels", "RangeError"), ("of other pixels", "TypeError"),

@@ -83,6 +83,10 @@ def words_and_looks():
         (find("message").get_attribute("value"), verdict()[1], on.page.switch_to.active_element.get_attribute("id")),
         ("C:\\\\new", "C:\\new", "message"),
     )
+    write("\\A{1/2}")
+    find("message-hint").find_element(By.TAG_NAME, "button").click()
+    settle()
+    count.expect("so is one that begins no head", find("message").get_attribute("value"), "\\\\A{1/2}")
     for text, name in (
         ("a\u200bb", "the invisible character U+200B"),
         ("a\u00a0b", "the invisible character U+00A0"),

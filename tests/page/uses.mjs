@@ -106,6 +106,10 @@ const TASKS = {
   "normal of a blot that isn't told": () => normal(blotted(write("a blot on it")).grid),
   "too long": () => write("7".repeat(4000)),
   "too small a size": () => write("Hello, world, once more", { rows: 10, columns: 10 }),
+  "no such form": () => write("A", { form: "binary" }),
+  "no such form of a normal symbol": () => normal(write("A"), { form: "binary" }),
+  "no such shape": () => write("A", { shape: "round" }),
+  "rows that no size has": () => write("A", { rows: 65546, columns: 10 }),
   "no size": () => readGrid({ rows: 11, columns: 11, modules: new Uint8Array(121) }),
   sizes: () => [sizes().length, sizes()[0]],
   picture: () => read(pictureOf(two()), { most: 8 }).symbols.map(({ text, corners }) => [text, corners[0]])
