@@ -16,21 +16,24 @@ const LEAST_SPARE = "Too few corrections are left unused to tell whether that is
 export const saidBy = ({ items, marks, head }) => typed({ items, marks, head });
 /** @type {(symbol: Sighted) => string} */
 export const whyUnread = ({ fault, seen }) => (fault ? refusal(fault, seen) : LEAST_SPARE);
+// What a symbol is besides its shape, if it says no whole message.
 /** @type {(symbol: Sighted) => string} */
-export function remarksOn(symbol) {
-  const { how, isRead, head, corrected, erased, border } = symbol, part = partOf({ head });
-  const which = part ? `part ${part.part} of ${part.parts}` : head ? "reader programming" : "";
-  const parts = [shapeWords(symbol), which, how, isRead ? borne({ corrected, erased, border }) : ""];
-  return parts.filter(Boolean).join("; ");
+function keptFor({ head }) {
+  const part = partOf({ head });
+  return part ? `part ${part.part} of ${part.parts}` : head ? "reader programming" : "";
 }
+const inWords = (parts) => parts.filter(Boolean).join("; ");
+/** @type {(symbol: Sighted) => string} */
+export const remarksOn = (symbol) => inWords([shapeWords(symbol), keptFor(symbol), symbol.how,
+  symbol.isRead ? borne(symbol) : ""]);
 
 // ---- Files
 
 const quoted = (field) => (/[",\n]/.test(field) ? `"${field.replace(/"/g, '""')}"` : field);
 /** @type {(list: Sighted[]) => string} */
 export function csvOf(list) {
-  const rows = list.map((symbol, k) => [String(k + 1), symbol.isRead ? saidBy(symbol) : "", shapeWords(symbol),
-    symbol.isRead ? "" : whyUnread(symbol)]);
+  const rows = list.map((symbol, k) => [String(k + 1), symbol.isRead ? saidBy(symbol) : "",
+    inWords([shapeWords(symbol), keptFor(symbol)]), symbol.isRead ? "" : whyUnread(symbol)]);
   const all = [FOUND, ...rows];
   return all.map((row) => `${row.map(quoted).join(",")}\n`).join("");
 }

@@ -1,6 +1,7 @@
 """What symbols say beside items, in the page: text of every script, in the smallest symbol, in several symbols that are
 put together as they are read, by the charsets that ECIs name; and any border that is sure."""
 import base64
+import csv
 import io
 import json
 import re
@@ -402,6 +403,9 @@ def found_in_parts(grids):
     count.expect("heads in JSON", [it["head"] for it in listed], heads)
     said = [(it["marks"], it["charset"], it["identifier"]) for it in listed]
     count.expect("marks in JSON", said, [([[0, 26]], "utf-8", "]d4")] * 3)
+    table = list(csv.reader(io.StringIO(saved("found.csv", "found-csv").decode())))[1:]
+    named = sorted(row[2].rsplit("; ", 1)[-1] for row in table)
+    count.expect("parts in CSV", named, [f"part {k} of 3" for k in (1, 2, 3)])
 
 
 def parts_by_camera():
