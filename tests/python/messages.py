@@ -161,6 +161,9 @@ def charsets():
     for words, part in [
         (("--eci", "200", "\u00e9"), "the charset ascii has no '\u00e9'"),
         (("--eci", "3", "\u65e5"), "the charset iso-8859-1 has no '\u65e5'"),
+        (("--eci", "20", "A\u00a5"), "the charset shift_jis has no '\u00a5'"),
+        (("--charset", "shift_jis", "A\u00a5"), "the charset shift_jis has no '\u00a5'"),
+        (("--escapes", "--charset", "shift_jis", "A\u00a5"), "the charset shift_jis has no '\u00a5'"),
         (("--basic", "--eci", "3", "A"), "--basic is for know neither ECI"),
         (("--basic", "--form", "ascii", "--programming", "A"), "--basic is for know neither ECI"),
         (("--basic", "--escapes", r"\E{3}A"), "--basic is for know neither ECI"),

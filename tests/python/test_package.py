@@ -13,7 +13,8 @@ from tests.support.case import Case
 PARTS = {
     "module": "forms strange_grids readings messages refusals many shown by_threads loading",
     "sizes": "printed sides table chosen limits any_border doubtful doubtful_forms beside from_others",
-    "texts": "written read register scripts guessed pictured others made_anew joined continued smallest elements",
+    "texts": "written unmarked read register scripts guessed pictured others made_anew joined continued smallest "
+             "elements",
     "elements": "worked square faults table beside_zint beside_stdnum",
     "drawings": "png rendered unloadable taken saved in_files paged sheets symbols oriented sampled",
     "surface": "usage reading in_words otherwise writing files named_alike",

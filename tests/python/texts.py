@@ -43,8 +43,15 @@ WRITTEN = [
     ("\u20ac", None, b"\xe2\x82\xac", ((0, 26),)), ("\u20ac", UTF_8, b"\xe2\x82\xac", ()),
     ("\u20ac", "latin-1", UnicodeEncodeError, None), ("\u20ac", "cp1252", b"\x80", ((0, 23),)),
     ("\u041f", "cyrillic", b"\xbf", ((0, 7),)), ("\u041f", "koi8-r", b"\xf0", ()),
-    ("A", "utf-16-le", b"A\0", ((0, 33),)),
+    ("A", "utf-16-le", b"A\0", ((0, 33),)), ("A\u00a5", "sjis", UnicodeEncodeError, None),
+    ("A\u3164", "euc-kr", UnicodeEncodeError, None),
     ("A", "cp1251", b"A", ()), ("A", "none", LookupError, None), ("\ud800", None, UnicodeEncodeError, None),
+]
+# Texts with the charsets that are asked for, and the bytes that they become for readers that know no marks.
+UNMARKED = [
+    ("20 \u00b0C", None, b"20 \xb0C"), ("20 \u00b0C", LATIN_1, b"20 \xb0C"),
+    ("\u00c3\u00a9", None, b"\xc3\x83\xc2\xa9"), ("\u041f", None, b"\xd0\x9f"), ("\u041f", "cp1251", b"\xcf"),
+    ("\u20ac", LATIN_1, UnicodeEncodeError),
 ]
 # Items and marks with the text and the charset that they are.
 READ = [
@@ -109,6 +116,14 @@ def written():
     yield same("a mark of a text behind FNC1", (got.items, got.marks, got.symbology, got.text),
                ((256, 0xE2, 0x82, 0xAC, 256, 49), ((1, 26),), "]d5", "\u20ac\x1d1"))
     yield same("marks by an iterator", ecc200.read(ecc200.write("\u20ac", marks=iter([(3, 7)]))).marks, ((3, 7),))
+
+
+def unmarked():
+    """Which bytes a text becomes for readers of the usual extent."""
+    for text, charset, data in UNMARKED:
+        got = outcome(lambda: ecc200.read(ecc200.encode(text, charset=charset, extent=Extent.USUAL), None,
+                                          Extent.USUAL).data)
+        yield same(f"{text!r} in {charset}", got, data)
 
 
 def read():

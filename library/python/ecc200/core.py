@@ -782,9 +782,11 @@ def _chosen(form: int, size: Optional[Tuple[int, int]], shape: Optional[int], ex
     return _how(wanted, _ONE, rows, columns, readers, numbers)
 
 
-def _of_text(text: str, gs1: bool, charset: Optional[str], marks: Iterable[Mark]) -> Tuple[bytes, Tuple[Mark, ...]]:
-    """The bytes of a text, and the marks that are given with it, or else its own, behind an FNC1 in front."""
-    data, own = letter_of(text, charset)
+def _of_text(text: str, gs1: bool, charset: Optional[str], marks: Iterable[Mark],
+             extent: Extent) -> Tuple[bytes, Tuple[Mark, ...]]:
+    """The bytes of a text, and the marks that are given with it, or else its own, behind an FNC1 in front; readers of
+    the usual extent know none."""
+    data, own = (unmarked(text, charset), ()) if extent == Extent.USUAL else letter_of(text, charset)
     return data, tuple(marks) or tuple((place + gs1, number) for place, number in own)
 
 
@@ -797,11 +799,11 @@ def write(message: Message, gs1: bool = False, profile: Profile = Profile.ASCII,
     symbol is written, or a `size` by its rows and columns.
 
     `marks` and a `head` are written beside the message; the places of marks count its items, an FNC1 in front too. A
-    text that is given marks has no others. `form` stands for a profile: Form.SMALLEST takes the encodations by which
-    what is said fits the smallest size, of those that readers of an `extent` read; Extent.USUAL has no marks and no
-    heads, which are then too long."""
+    text that is given marks has no others, and for Extent.USUAL it has none. `form` stands for a profile: Form.SMALLEST
+    takes the encodations by which what is said fits the smallest size, of those that readers of an `extent` read;
+    Extent.USUAL has no marks and no heads, which are then too long."""
     if isinstance(message, str):
-        message, marks = _of_text(message, gs1, charset, marks)
+        message, marks = _of_text(message, gs1, charset, marks, extent)
     is_usual = profile is _ASCII and size is None and shape is None and head is None and form is None
     if form is None and profile == Form.SMALLEST.value:
         raise Refused(Code.PROFILE, profile)
@@ -912,6 +914,16 @@ def _decoded(data: bytes, charset: str) -> Optional[str]:
         return None
 
 
+def encoded(text: str, charset: str) -> bytes:
+    """The bytes of a text in a charset that has all of it: not only another character that is written for one of its
+    own, as Python's Shift JIS writes a backslash for a yen sign."""
+    data = text.encode(charset)
+    if _decoded(data, charset) != text:
+        place = next((it for it, letter in enumerate(text) if _decoded(letter.encode(charset), charset) != letter), 0)
+        raise UnicodeEncodeError(charset, text, place, place + 1, "it is read as another character")
+    return data
+
+
 def _charset(number: Optional[int], data: bytes) -> str:
     """The charset of bytes behind the mark of an assignment, or without one; or what they are instead."""
     if number is None:
@@ -961,13 +973,22 @@ def _taken_for(data: bytes) -> Optional[str]:
     return None if re.fullmatch(_LIKE_UTF_8, data) or re.fullmatch(_LIKE_SHIFT_JIS, data) else _LATIN_1
 
 
+def unmarked(text: str, charset: Optional[str] = None) -> bytes:
+    """The bytes of a text without a mark: in a charset that is named, else in ISO/IEC 8859-1 where they are read as it,
+    else in UTF-8."""
+    if charset is not None:
+        return encoded(text, charset)
+    data = text.encode(_LATIN_1, "replace")
+    return data if text_of(data).text == text else text.encode(_UTF_8)
+
+
 def letter_of(text: str, charset: Optional[str] = None) -> Tuple[bytes, Tuple[Mark, ...]]:
     """The bytes of a text, and the marks by which they are read as it. What ISO/IEC 8859-1 has is that, and other text
     UTF-8 behind its mark, unless a `charset` is named. Else the mark of the charset stands in front where some reader
     would take the bytes for another text without it, as those of "20 \u00b0C" for Shift JIS; a charset that has no
     ECI assignment is never marked."""
     name = charset or (_LATIN_1 if all(letter < "\u0100" for letter in text) else _UTF_8)
-    data = text.encode(name)
+    data = encoded(text, name)
     taken = _taken_for(data)
     is_clear = taken is not None and data.decode(taken) == text and (charset is not None or name == _LATIN_1)
     number = None if is_clear else assignment(name)

@@ -96,12 +96,6 @@ def _charset(given: argparse.Namespace) -> str:
     return str(given.charset or behind)
 
 
-def _unmarked(text: str) -> bytes:
-    """The bytes of a text without a mark: in ISO 8859-1 where they are read as it, else in UTF-8."""
-    data = text.encode("iso-8859-1", "replace")
-    return data if core.text_of(data).text == text else text.encode("utf-8")
-
-
 def _marked(text: str, given: argparse.Namespace) -> Tuple[bytes, Tuple[Mark, ...]]:
     """The bytes of a text, and the marks by which they are read as it. In a part of what several symbols say the
     charset of those before it would hold, so that its own is marked, unless it is ASCII."""
@@ -116,11 +110,11 @@ def _of_text(text: str, given: argparse.Namespace) -> _Letter:
     number, or its readers know no marks."""
     marks: Tuple[Mark, ...] = ()
     if given.eci is not None:
-        data = text.encode(_charset(given))
+        data = core.encoded(text, _charset(given))
     elif given.extent == Extent.WIDE:
         data, marks = _marked(text, given)
     else:
-        data = _unmarked(text) if given.charset is None else text.encode(given.charset)
+        data = core.unmarked(text, given.charset)
     return _Letter(data, marks, None, printed(text))
 
 

@@ -5,7 +5,7 @@ import re
 import unicodedata
 from typing import Iterable, List, NamedTuple, Optional, Sequence, Tuple
 
-from .core import FNC1, Head, Mark, text_of
+from .core import FNC1, Head, Mark, encoded, text_of
 
 __all__ = ["Misspelled", "Spelled", "headed", "of_part", "of_spelling", "part_of", "shown", "spelled"]
 
@@ -101,7 +101,7 @@ def of_spelling(text: str, charset: str) -> Spelled:
     for found in re.finditer(_ESCAPE, rest):
         escape, wrong, plain = found.groups()
         if plain is not None:
-            items += plain.encode(charset)
+            items += encoded(plain, charset)
         elif escape is None:
             raise Misspelled(f"a backslash is followed by {wrong!r}; there are \\\\, \\F, \\xHH and \\E{{26}}, and in "
                              "front \\A{2/5:001002} and \\P")
