@@ -42,11 +42,16 @@ def chosen(name, value):
 
 
 def saved(name, button):
-    """The file that a button saves."""
-    file = on.folder / name
+    """The file that a button saves, once it has stopped growing."""
+    file, sizes = on.folder / name, [0]
     file.unlink(missing_ok=True)
     push(button)
-    wait_for(lambda: file.exists() and file.stat().st_size)
+
+    def is_whole():
+        sizes.append(file.stat().st_size if file.exists() else 0)
+        return 0 < sizes[-1] == sizes[-2]
+
+    wait_for(is_whole)
     return file.read_bytes() if file.exists() else b""
 
 
