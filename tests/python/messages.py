@@ -192,6 +192,8 @@ def read_charsets():
         ("\u0645\u06cc\u200c\u062e \U0001f468\u200d\U0001f469".encode(), [(0, 26)], (),
          "\u0645\u06cc\u200c\u062e \U0001f468\u200d\U0001f469"),
         ("\u200fA\u202eB\u2028".encode(), [(0, 26)], (), "\u200fA" + r"\xE2\x80\xAEB\xE2\x80\xA8"),
+        (b"\xff\xfea\0\x01\0", [], ("--charset", "utf-16"), r"\xFF\xFEa\x00\x01\x00"),
+        (b"m\x1b\x9fKA", [], ("--charset", "iso2022_jp_2004"), r"m\x1B\x9FKA"),
     ]:
         grid = text(ecc200.write(items, marks=marks))
         yield says(f"read {words} of {items!r}, {marks}", ecc("read", *words, given=grid), output=wanted + "\n")

@@ -73,13 +73,21 @@ def _is_shown(letter: str) -> bool:
             and unicodedata.bidirectional(letter) not in _TURNS)
 
 
+def _is_by_letters(text: str, name: str, data: bytes) -> bool:
+    """Whether the letters of a text have the bytes in it that each has by itself in this charset, or charsets."""
+    try:
+        return "," not in name and b"".join(letter.encode(name) for letter in text) == data
+    except UnicodeError:
+        return False
+
+
 def shown(items: Iterable[int], marks: Sequence[Mark] = (), charset: Optional[str] = None) -> str:
     """Items as text, with controls spelled, and all of it spelled where they are no text."""
     items = tuple(items)
     if FNC1 in items or not marks and all(item < 128 for item in items):
         return spelled(items, marks)
     text, name = text_of(items, marks, charset)
-    if text is None or "," in name and not all(map(_is_shown, text)):
+    if text is None or not all(map(_is_shown, text)) and not _is_by_letters(text, name, bytes(items)):
         return spelled(items, marks)
     return "".join("\\\\" if letter == "\\" else letter if _is_shown(letter) else spelled(letter.encode(name))
                    for letter in text)
