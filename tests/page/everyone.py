@@ -2,7 +2,7 @@
 import contextlib
 import sys
 
-from tests.page.stage import By, count, find, media, metrics, on, push, run, unfold, usual_metrics, wait_for, write
+from tests.page.stage import By, count, find, media, metrics, on, push, put, run, unfold, usual_metrics, wait_for, write
 from tests.support import places
 
 sys.path.insert(0, places.path("web"))
@@ -88,6 +88,12 @@ def to_be_seen_by_all():
                 .filter((it) => it.scrollWidth > it.clientWidth).map((it) => it.textContent)"""
         )
         count.expect(f"width {width}: each fact has its place", too_wide, [])
+    push("kind-text")
+    put("message", "\u041f\u0440\u0438\u0432\u0435\u0442" * 9)  # whose bytes are told, in one word
+    metrics(320, 800, mobile=True, scale=2)
+    wide = run("""const it = document.getElementById('why');
+        return [it.textContent.length > 400, it.scrollWidth > it.clientWidth]""")
+    count.expect("width 320: bytes have their place", wide, [True, False])
     usual_metrics()
 
 
