@@ -411,7 +411,8 @@ def sizes():
         push("undo-all", "scratch")
         agree(f"side {side} scratched")
         facts = run("return [...document.querySelectorAll('#facts dd')].map((it) => it.textContent)")
-        count.expect(f"side {side}, facts", facts, [f"{side} × {side}", str(data), str(check), str(limit), "]d1"])
+        identifier = [] if shown()["state"] == "Refused" else ["]d1"]  # (a scratch may be more than can be corrected)
+        count.expect(f"side {side}, facts", facts, [f"{side} × {side}", str(data), str(check), str(limit), *identifier])
 
 
 MUCH_DAMAGE = (
