@@ -59,12 +59,12 @@ designator_some words n (two a b l h f e is) = rw e (omega arith)
 designator_some words n (three a b c l h f g e is k) = rw e (omega arith)
 
 -- A part of so many codewords has room: two items for each codeword, or two codewords for the number of an assignment.
-abbrev HasRoom : ℕ → Said → Type 0
+abbrev pub HasRoom : ℕ → Said → Type 0
 HasRoom n (Items items) = length items ≤ 2 * n
 HasRoom n (Number number) = (2 ≤ n) × (number ≤ most_assigned)
 
 -- Each part has room.
-room_by : (place : ℕ) (words after : List ℕ) (said : Said) → IsLetterPart place words after said
+pub room_by : (place : ℕ) (words after : List ℕ) (said : Said) → IsLetterPart place words after said
     → HasRoom (length words) said
 room_by place words after said (part items p is) = rw is (room_of Wide place words after items p)
 room_by place words after said (mark d number e whole is) =

@@ -8,6 +8,7 @@ mod Fnc1Places
 mod WholeLetters
 mod SaidLetters
 mod LetterLoops
+mod DesignationLoops
 mod LetterReadings
 mod WideLetters
 mod LetterForms

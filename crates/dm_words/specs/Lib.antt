@@ -21,6 +21,7 @@ pub mod Smallest
 pub mod Designators
 pub mod Heads
 pub mod Letters
+pub mod Designations
 pub mod LetterResults
 pub mod LetterForm
 pub mod LetterExtents

@@ -2,6 +2,7 @@
 //! encodation, structured append, reader programming).
 
 pub mod content;
+pub mod designation;
 pub mod designator;
 pub mod fault;
 pub mod head;

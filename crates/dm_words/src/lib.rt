@@ -52,6 +52,7 @@ pub use dm_layout::symbols::MOST_DATA;
 pub use extent::Extent;
 pub use fault::{TooLong, WordFault};
 pub use item::Item;
+pub use letters::designation::{designations_to, has_eci};
 pub use letters::designator::{
     DESIGNATOR_ROOM, Designator, MOST_ASSIGNED, designator_of, designator_words,
 };

@@ -1,9 +1,11 @@
 -- What the private functions that read a letter part by part give.
-use Rattle.std.specs.Prelude.{◌≡◌, ℕ, ◌*◌, ◌≤◌, List, length, Option, Some, None, Result, Ok, Err}
+use Rattle.std.specs.Prelude.{◌≡◌, ℕ, ◌+◌, ◌*◌, ◌≤◌, List, ◌++◌, length, drop, Option, Some, None, Result, Ok, Err}
 use Rattle.dm_words.specs.declared.letters.content.Content.{Content}
 use Rattle.dm_words.specs.declared.letters.fault.LetterFault.{LetterFault}
 use Rattle.dm_words.specs.declared.letters.head.Head.{Head}
-use Rattle.dm_words.specs.Letters.{LetterView, Said, AreMarks}
+use Rattle.dm_words.specs.declared.letters.mark.Mark.{Mark}
+use Rattle.dm_words.specs.Letters.{LetterView, Said, AreMarks, AreLetterParts, HaveLetterFault}
+use Rattle.dm_words.specs.Designations.{designation, designations}
 use Rattle.dm_words.specs.inner.Scan.Walk.{Step, Takes, Stops}
 use Rattle.dm_words.specs.inner.Scan.Results.{HasRoomAt}
 use Rattle.dm_words.specs.inner.LetterScan.{with_said}
@@ -37,3 +39,20 @@ abbrev pub headed_outcome : {room most : ℕ} → Result (Option Head) LetterFau
     → Result LetterView LetterFault
 headed_outcome (Ok head) content = Ok (headed_view head content)
 headed_outcome (Err why) content = Err why
+
+-- A part with the given number of words was taken behind so many codewords, and its designator, if it is one, stands
+-- behind those that were there; or the end was met; or a fault.
+abbrev pub IsDesignationTaken : Result (Option ℕ) LetterFault → ℕ → List Mark → List Mark
+    → Step Said (Option LetterFault) → Type 0
+IsDesignationTaken (Ok None) before old new step = (step ≡ Stops None) × (new ≡ old)
+IsDesignationTaken (Ok (Some n)) before old new step =
+    (said : Said) × (step ≡ Takes n said) × (new ≡ old ++ designation before said)
+IsDesignationTaken (Err why) before old new step = step ≡ Stops (Some why)
+
+-- The words from an index on are parts of a letter up to the end, and these are their designators; or they have a
+-- fault.
+abbrev pub AreDesignationsFrom : {A : Type 0} → Result A LetterFault → ℕ → List ℕ → List Mark → Type 0
+AreDesignationsFrom (Ok done) start words found =
+    (said : List Said) × (parts : AreLetterParts (start + 1) (drop start words) said)
+    × (found ≡ designations start parts.parts)
+AreDesignationsFrom (Err why) start words found = HaveLetterFault (start + 1) (drop start words) why

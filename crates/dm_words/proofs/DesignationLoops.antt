@@ -1,0 +1,262 @@
+-- The loop that finds one designator of a letter after the other.
+use Rattle.std.proofs.Common.{◌≡◌, ◌≢◌, ℕ, ◌+◌, ◌*◌, ◌<◌, ◌≤◌, List, [], ◌∷◌, ◌++◌, length, take, drop, refl, sym}
+use Rattle.std.proofs.Common.{ap, subst, ◌∙◌, append_assoc, arith, length-append, get_or, Option, Some, None, Result}
+use Rattle.std.proofs.Common.{Ok, Err}
+use Rattle.std.proofs.lemmas.List.{append-nil, drop_at, length-drop, length-take, drop-drop, take-append-drop}
+use Rattle.std.proofs.lemmas.List.{get_or_append_left, get_or-append-add}
+use Rattle.dm_words.specs.declared.letters.designator.Designator.{Designator}
+use Rattle.dm_words.specs.declared.letters.fault.LetterFault.{LetterFault}
+use Rattle.dm_words.specs.declared.letters.mark.Mark.{Mark}
+use Rattle.dm_words.specs.declared.letters.opening.Opened.{Opened}
+use Rattle.dm_words.specs.Joined.{Piece, spelled, whats, AreJoined}
+use Rattle.dm_words.specs.Letters.{LetterView, SpellsLetter, part, mark}
+use Rattle.dm_words.specs.Letters.{Said, Items, Number, IsLetterPart, AreLetterParts, HaveLetterFault, IsLetterFault}
+use Rattle.dm_words.specs.Letters.{IsOpening, AreOpened, no_head, behind}
+use Rattle.dm_words.specs.Designations.{designation, designations, AreDesignations, of_letter, of_refused}
+use Rattle.dm_words.specs.inner.Scan.Walk.{Stops}
+use Rattle.dm_words.specs.inner.LetterScan.{opened, mark_by, first_letter_part, letter_of}
+use Rattle.dm_words.specs.inner.LetterContents.{IsDesignationTaken}
+use Rattle.dm_words.proofs.Pairs.{IsBytes, IsBytes-drop}
+use Rattle.dm_words.proofs.Pieces.{spelled-last}
+use Rattle.dm_words.proofs.Openings as openings
+use Rattle.dm_words.proofs.Openings.{OpeningJudged}
+use Rattle.dm_words.proofs.LetterParts.{letter_part_sound, letter_end_sound, letter_fault_sound}
+use Rattle.dm_words.proofs.LetterLoops.{HasRoom, room_by}
+use Rattle.dm_words.proofs.WholeLetters.{reads}
+
+-- Parts that are joined before another one are joined with it.
+joined-last : (place : ℕ) (pieces : List (Piece Said)) (words after : List ℕ) (said : Said)
+    → AreJoined IsLetterPart place pieces (words ++ after)
+    → IsLetterPart (place + length (spelled pieces)) words after said
+    → AreJoined IsLetterPart place (pieces ++ (let q : Piece Said = record { words = words; what = said } in q) ∷ []) after
+joined-last place [] words after said joined right = (
+  subst (λ (k : ℕ). IsLetterPart k words after said) (omega arith) right,
+  tt,
+)
+joined-last place (p ∷ ps) words after said joined right =
+    let q : Piece Said = record { words = words; what = said } in
+    let whole : spelled ps ++ (words ++ after) ≡ spelled (ps ++ q ∷ []) ++ after =
+    sym (append_assoc (spelled ps) words after) ∙ ap (λ (l : List ℕ). l ++ after) (sym (spelled-last ps q)) in
+    let there : place + length (p.words ++ spelled ps) ≡ (place + length p.words) + length (spelled ps) =
+    omega (arith, length-append p.words (spelled ps)) in (
+      subst (λ (rest : List ℕ). IsLetterPart place p.words rest p.what) whole joined.0,
+      joined-last (place + length p.words) ps words after said joined.1
+          (subst (λ (k : ℕ). IsLetterPart k words after said) there right),
+    )
+
+-- The designators of parts, and of one behind them.
+designations-last : (before : ℕ) (pieces : List (Piece Said)) (q : Piece Said)
+    → designations before (pieces ++ q ∷ []) ≡ designations before pieces
+    ++ designation (before + length (spelled pieces)) q.what
+designations-last before [] q =
+    let here : before + 0 ≡ before = omega arith in
+    append-nil (designation before q.what) ∙ ap (λ (k : ℕ). designation k q.what) (sym here)
+designations-last before (p ∷ ps) q =
+    let there : (before + length p.words) + length (spelled ps) ≡ before + length (p.words ++ spelled ps) =
+    omega (arith, length-append p.words (spelled ps)) in
+    ap (λ (l : List Mark). designation before p.what ++ l)
+    (designations-last (before + length p.words) ps q
+    ∙ ap (λ (k : ℕ). designations (before + length p.words) ps ++ designation k q.what) there)
+    ∙ sym (append_assoc (designation before p.what) (designations (before + length p.words) ps)
+    (designation (before + length (p.words ++ spelled ps)) q.what))
+
+-- The parts between two indexes are taken, and these are their designators.
+pub record AreTaken (words : List ℕ) (start at : ℕ) (found : List Mark) : Type 0 where
+  pub pieces : List (Piece Said)
+  pub whole : drop start words ≡ spelled pieces ++ drop at words
+  pub joined : AreJoined IsLetterPart (start + 1) pieces (drop at words)
+  pub long : at ≡ start + length (spelled pieces)
+  pub found_is : found ≡ designations start pieces
+
+-- Before the first part none is taken.
+pub none_taken : (words : List ℕ) (start : ℕ) (found : List Mark) → found ≡ [] → AreTaken words start start found
+none_taken words start found e =
+    record { pieces = []; whole = refl; joined = tt; long = omega arith; found_is = e }
+
+-- After a turn of the loop that takes a part, this is known.
+pub record Leaves (words : List ℕ) (start at n : ℕ) (found : List Mark) : Type 0 where
+  pub in_range : at + n ≤ length words
+  pub some : 0 < n
+  pub few : 2 * length found ≤ at + n
+  pub taken : AreTaken words start (at + n) found
+
+-- A designator has room behind the others.
+few_more : (at n : ℕ) (old new : List Mark) (said : Said) → HasRoom n said → 2 * length old ≤ at
+    → new ≡ old ++ designation at said → 2 * length new ≤ at + n
+few_more at n old new (Items items) room few is = rw is (omega (arith, few, ap length (append-nil old)))
+few_more at n old new (Number number) room few is =
+    let m : Mark = record { place = at; number = number } in
+    rw is (omega (arith, few, room.0, length-append old (m ∷ [])))
+
+-- A part that is taken goes on with those that were.
+pub goes_on : (words : List ℕ) (start at n : ℕ) (old new : List Mark) → IsBytes words → at ≤ length words
+    → 2 * length old ≤ at → AreTaken words start at old
+    → IsDesignationTaken (Ok (Some n)) at old new (first_letter_part (at + 1) (drop at words))
+    → Leaves words start at n new
+goes_on words start at n old new fit in_range few t took =
+    let said = took.0 in
+    let fits = letter_part_sound.fits at words fit in
+    let r = letter_part_sound.right (at + 1) (drop at words) n said fits took.1 in
+    let long : length (take n (drop at words)) ≡ n = omega (arith, length-take n (drop at words), r.2) in
+    let room : HasRoom n said =
+    subst (λ (k : ℕ). HasRoom k said) long
+    (room_by (at + 1) (take n (drop at words)) (drop n (drop at words)) said r.0) in
+    let q : Piece Said = record { words = take n (drop at words); what = said } in
+    let cut : take n (drop at words) ++ drop n (drop at words) ≡ drop at words = take-append-drop n (drop at words) in
+    let rest : drop n (drop at words) ≡ drop (at + n) words = drop-drop n at words in
+    let place : at + 1 ≡ (start + 1) + length (spelled t.pieces) = omega (arith, t.long) in
+    let joined =
+    joined-last (start + 1) t.pieces (take n (drop at words)) (drop n (drop at words)) said
+    (subst (λ (l : List ℕ). AreJoined IsLetterPart (start + 1) t.pieces l) (sym cut) t.joined)
+    (subst (λ (k : ℕ). IsLetterPart k (take n (drop at words)) (drop n (drop at words)) said) place r.0) in
+    record {
+      in_range = omega (arith, r.2, length-drop at words);
+      some = r.1;
+      few = few_more at n old new said room few took.2;
+      taken = record {
+        pieces = t.pieces ++ q ∷ [];
+        whole = t.whole ∙ ap (λ (l : List ℕ). spelled t.pieces ++ l) (sym cut)
+            ∙ sym (append_assoc (spelled t.pieces) (take n (drop at words)) (drop n (drop at words)))
+            ∙ ap (λ (l : List ℕ). l ++ drop n (drop at words)) (sym (spelled-last t.pieces q))
+            ∙ ap (λ (l : List ℕ). spelled (t.pieces ++ q ∷ []) ++ l) rest;
+        joined = subst (λ (l : List ℕ). AreJoined IsLetterPart (start + 1) (t.pieces ++ q ∷ []) l) rest joined;
+        long = omega (
+          arith,
+          t.long,
+          long,
+          ap length (spelled-last t.pieces q),
+          length-append (spelled t.pieces) (take n (drop at words)),
+        );
+        found_is = took.2 ∙ ap (λ (l : List Mark). l ++ designation at said) t.found_is
+            ∙ ap (λ (k : ℕ). designations start t.pieces ++ designation k said) t.long
+            ∙ sym (designations-last start t.pieces q);
+      };
+    }
+
+-- At the end these are the designators of all parts.
+pub ends : (words : List ℕ) (start at : ℕ) (found : List Mark) → IsBytes words → AreTaken words start at found
+    → first_letter_part (at + 1) (drop at words) ≡ Stops None
+    → (said : List Said) × (parts : AreLetterParts (start + 1) (drop start words) said)
+    × (found ≡ designations start parts.parts)
+ends words start at found fit t e = (
+  whats t.pieces,
+  record {
+    parts = t.pieces;
+    after = drop at words;
+    joined = t.joined;
+    ended = letter_end_sound (at + 1) (drop at words) (IsBytes-drop at words fit) e;
+    whole = t.whole;
+    said_are = refl;
+  },
+  t.found_is,
+)
+
+-- A fault that is met is there.
+pub fails : (words : List ℕ) (start at : ℕ) (found : List Mark) (why : LetterFault) → IsBytes words
+    → AreTaken words start at found → first_letter_part (at + 1) (drop at words) ≡ Stops (Some why)
+    → HaveLetterFault (start + 1) (drop start words) why
+fails words start at found why fit t e =
+    let place : at + 1 ≡ (start + 1) + length (spelled t.pieces) = omega (arith, t.long) in
+    record {
+      parts = t.pieces;
+      after = drop at words;
+      joined = t.joined;
+      whole = t.whole;
+      faulty =
+          subst (λ (k : ℕ). IsLetterFault k (drop at words) why) place
+          (letter_fault_sound (at + 1) (drop at words) why (IsBytes-drop at words fit) e);
+    }
+
+-- Behind ECI, a designator is found.
+pub designator_found : (at : ℕ) (o : Option Designator) (d : Designator) (old new : List Mark) → o ≡ Some d
+    → new ≡ old ++ record { place = at; number = d.number } ∷ []
+    → IsDesignationTaken (Ok (Some (1 + d.count))) at old new (mark_by (at + 1) o)
+designator_found at o d old new e is = rw e (Number d.number, refl, is)
+
+-- ---- the whole
+
+-- Where no head is found behind structured append, there are no designators.
+pub of_no_opening : (words : List ℕ) (found : List Mark) → opened words ≡ None → found ≡ []
+    → AreDesignations words found
+of_no_opening words found e is =
+    let j = subst (OpeningJudged words) e (openings.judged words) in
+    of_refused _ (no_head j.more j.whole j.none refl) is
+
+-- An opening that is found opens so.
+opens : (words : List ℕ) (o : Opened) → OpeningJudged words (Some o)
+    → (a : AreOpened words o.opening (o.count + 1) (drop o.count words)) × (o.count ≡ length a.first)
+opens words o j =
+    let rest : drop o.count words ≡ j.more = ap (drop o.count) j.whole ∙ drop_at j.first j.more o.count (sym j.count) in (
+      record {
+        first = j.first;
+        is_opening = subst (λ (more : List ℕ). IsOpening j.first more o.opening) (sym rest) j.is_opening;
+        whole = j.whole ∙ ap (λ (more : List ℕ). j.first ++ more) (sym rest);
+        place_is = omega (arith, j.count);
+      },
+      j.count,
+    )
+
+-- The designators of the parts behind an opening are those of the letter.
+pub of_parts : (words : List ℕ) (o : Opened) (found : List Mark) → opened words ≡ Some o
+    → (said : List Said) (parts : AreLetterParts (o.count + 1) (drop o.count words) said)
+    → found ≡ designations o.count parts.parts → AreDesignations words found
+of_parts words o found e said parts is =
+    let a = opens words o (subst (OpeningJudged words) e (openings.judged words)) in
+    of_letter o.opening (o.count + 1) (drop o.count words) a.0 said parts
+    (is ∙ ap (λ (k : ℕ). designations k parts.parts) a.1)
+
+-- Where the parts behind an opening have a fault, there are none.
+pub of_fault : (words : List ℕ) (o : Opened) (found : List Mark) (why : LetterFault) → opened words ≡ Some o
+    → HaveLetterFault (o.count + 1) (drop o.count words) why → found ≡ [] → AreDesignations words found
+of_fault words o found why e fault is =
+    let a = opens words o (subst (OpeningJudged words) e (openings.judged words)) in
+    of_refused why (behind o.opening (o.count + 1) (drop o.count words) a.0 fault) is
+
+-- ---- none
+
+-- No codeword is ECI.
+abbrev pub HaveNoEci : List ℕ → Type 0
+HaveNoEci words = (i : ℕ) → i < length words → get_or words i 0 ≢ 241
+
+-- Neither is one of the first, nor one of the others.
+no_eci_before : (a b : List ℕ) → HaveNoEci (a ++ b) → HaveNoEci a
+no_eci_before a b none i lt e =
+    none i (omega (arith, lt, length-append a b)) (get_or_append_left a b 0 i lt ∙ e)
+
+no_eci_behind : (a b : List ℕ) → HaveNoEci (a ++ b) → HaveNoEci b
+no_eci_behind a b none i lt e =
+    none (length a + i) (omega (arith, lt, length-append a b)) (get_or-append-add a b i 0 ∙ e)
+
+-- Parts without ECI have no designators.
+no_designation : (place before : ℕ) (words after : List ℕ) (said : Said) → IsLetterPart place words after said
+    → HaveNoEci words → designation before said ≡ []
+no_designation place before words after said (part items p is) none = rw is refl
+no_designation place before words after said (mark d number e whole is) none =
+    absurd (none 0 (omega (arith, ap length whole)) (ap (λ (l : List ℕ). get_or l 0 0) whole))
+
+no_designations : (place before : ℕ) (ps : List (Piece Said)) (after : List ℕ) → AreJoined IsLetterPart place ps after
+    → HaveNoEci (spelled ps) → designations before ps ≡ []
+no_designations place before [] after joined none = refl
+no_designations place before (p ∷ ps) after joined none =
+    let here = no_designation place before p.words (spelled ps ++ after) p.what joined.0
+    (no_eci_before p.words (spelled ps) none) in
+    let there = no_designations (place + length p.words) (before + length p.words) ps after joined.1
+    (no_eci_behind p.words (spelled ps) none) in
+    rw (here, there) refl
+
+-- The parts of a letter that is said have none.
+none_said : (words : List ℕ) (l : LetterView) → SpellsLetter words l → HaveNoEci words → AreDesignations words []
+none_said words l s none =
+    let more : HaveNoEci s.more = no_eci_behind s.opened.first s.more
+    (subst HaveNoEci s.opened.whole none) in
+    let parts : HaveNoEci (spelled s.parts.parts) = no_eci_before (spelled s.parts.parts) s.parts.after
+    (subst HaveNoEci s.parts.whole more) in
+    of_letter s.opening s.place s.more s.opened s.said s.parts
+    (sym (no_designations s.place (length s.opened.first) s.parts.parts s.parts.after s.parts.joined parts))
+
+-- Words without ECI have no designators.
+pub none_without_eci : (words : List ℕ) → IsBytes words → HaveNoEci words → AreDesignations words []
+none_without_eci words fit none = by_result (letter_of words) refl where
+  by_result : (r : Result LetterView LetterFault) → letter_of words ≡ r → AreDesignations words []
+  by_result (Ok l) e = none_said words l ((reads words fit).letter_is l e) none
+  by_result (Err why) e = of_refused why ((reads words fit).fault_is why e) refl

@@ -1,0 +1,26 @@
+-- Where the ECI designators of a letter stand among its codewords.
+use Rattle.std.specs.Prelude.{◌≡◌, ℕ, ◌+◌, List, [], ◌∷◌, ◌++◌, length}
+use Rattle.dm_words.specs.declared.letters.fault.LetterFault.{LetterFault}
+use Rattle.dm_words.specs.declared.letters.mark.Mark.{Mark}
+use Rattle.dm_words.specs.declared.letters.opening.Opening.{Opening}
+use Rattle.dm_words.specs.Joined.{Piece}
+use Rattle.dm_words.specs.Letters.{Said, Items, Number, AreOpened, AreLetterParts, RefusedLetter}
+
+-- A part behind this many codewords is the designator of a number, with its ECI before it, or is none.
+abbrev pub designation : ℕ → Said → List Mark
+designation before (Items items) = []
+designation before (Number number) = record { place = before; number = number } ∷ []
+
+-- The designators among parts, the first of which stands behind this many codewords, in order. Each is a mark whose
+-- place counts the codewords before its ECI, and not the items.
+abbrev pub designations : ℕ → List (Piece Said) → List Mark
+designations before [] = []
+designations before (piece ∷ pieces) =
+    designation before piece.what ++ designations (before + length piece.words) pieces
+
+-- These are the designators of the letter that the words say, in order; or the words are refused, and there are none.
+pub data AreDesignations (words : List ℕ) (found : List Mark) : Type 0 where
+  of_letter : (opening : Opening) (place : ℕ) (more : List ℕ) (opened : AreOpened words opening place more)
+      (said : List Said) (parts : AreLetterParts place more said)
+      → found ≡ designations (length opened.first) parts.parts → AreDesignations words found
+  of_refused : (why : LetterFault) → RefusedLetter words why → found ≡ [] → AreDesignations words found
