@@ -68,7 +68,7 @@ pub use limit::usual_limit;
 pub use normalising::{NormalFault, normal, normal_as, normal_to};
 pub use reading::{ReadFault, Reading, read, read_to};
 pub use symbol::dealing::Dealing;
-pub use symbol::inspection::{SymbolInspection, SymbolInspectionIn, inspect_symbol_to};
+pub use symbol::inspection::{SymbolInspection, SymbolInspectionIn, has_lost, inspect_symbol_to};
 pub use symbol::normalising::normal_symbol_to;
 pub use symbol::reading::{
     BlockReading, ReadOptions, SymbolReading, SymbolReadingIn, read_symbol_to,

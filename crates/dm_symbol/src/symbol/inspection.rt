@@ -83,8 +83,8 @@ pub fn inspect_symbol_to<const ROWS: usize, const WORDS: usize>(
     }
 }
 
-/// Whether there is a block to which no codeword is near.
-fn has_lost(blocks: &[Option<BlockReading>]) -> bool
+/// Whether there is a block to which no codeword is near, among those of a [`SymbolInspectionIn`].
+pub fn has_lost(blocks: &[Option<BlockReading>]) -> bool
     ensures some { IsTrue result → (b : ℕ) × (b < length blocks.now) × (get_or blocks.now b None ≡ None) }
     ensures none { IsFalse result → (b : ℕ) → b < length blocks.now → IsSome (get_or blocks.now b None) }
 {
