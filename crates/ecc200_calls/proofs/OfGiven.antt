@@ -139,7 +139,7 @@ module _ (rows columns : ℕ) (modules doubt : List ℕ) (size : SizeEntry) (som
         room = given.room;
         inspection = given.inspection;
         inspection_is = shown_alike doubtful light symbol given.inspection given.inspection_is;
-        shown = given.shown;
+        designators = given.designators;
       }) known of
 
 -- What is so of a symbol of this size into which the modules are put is so of what is given, where none is doubtful.

@@ -1,7 +1,8 @@
 -- Rooms in which there is room for the symbols of some sizes, and for those in which messages are written.
 use Rattle.std.proofs.Common.{◌≡◌, ℕ, zero, suc, ◌+◌, ◌*◌, ◌≤◌, Bool, true, false, cond, not, ◌&&◌, ◌||◌, nat_eq}
 use Rattle.std.proofs.Common.{nat_le}
-use Rattle.std.proofs.Common.{List, [], ◌∷◌, Option, Some, None, length, refl, sym, ◌∙◌, ap, subst, arith}
+use Rattle.std.proofs.Common.{List, [], ◌∷◌, Option, Some, None, length, length-take, refl, sym, ◌∙◌, ap}
+use Rattle.std.proofs.Common.{subst, arith}
 use Rattle.std.specs.Prelude.{IfSome, find}
 use Rattle.std.specs.List.{list_all}
 use Rattle.std.proofs.lemmas.Bool.{and_parts, eqb-true, leb-true, le-leb, false≢true}
@@ -20,7 +21,7 @@ use Rattle.dm_symbol.proofs.Exported.{room_for_each, room_for_most}
 use Rattle.dm_layout.specs.symbols.Sizes.{SizeEntry, IsSize, codeword_count, entry_for, entry_of, most_codewords}
 use Rattle.dm_layout.specs.symbols.Sizes.{size_table}
 use Rattle.dm_layout.specs.symbols.Sizes.{takes}
-use Rattle.dm_layout.specs.symbols.Words.{WordsView, IsWords}
+use Rattle.dm_layout.specs.symbols.Words.{WordsView, IsWords, data_of}
 use Rattle.dm_layout.proofs.symbols.Exported.{at_found, found_passes, same_size, size_facts}
 use Rattle.ecc200_calls.specs.inner.Rooms.{AreWordsFor, IsRoom, HasRoom, HasRoomToWrite}
 
@@ -293,3 +294,7 @@ largest_to_write choice message = record {
 -- The codewords of a symbol fit an array that holds those of the largest.
 pub words_fit : (words : WordsView) → IsWords words → length words.list ≤ most_codewords
 words_fit words h = omega (arith, h.count, (size_facts words.size h.size).codewords)
+
+-- There are no more data codewords than the most that a symbol has.
+pub data_few : (words : WordsView) → IsWords words → length (data_of words) ≤ most_data
+data_few words h = omega (arith, length-take words.size.data_count words.list, (size_facts words.size h.size).data_fits)

@@ -1,13 +1,17 @@
 -- What the library gives for a symbol that is to be inspected.
-use Rattle.std.specs.Prelude.{◌≡◌, ℕ, List, map, length, Option, Some, None}
+use Rattle.std.specs.Prelude.{◌≡◌, ℕ, ◌<◌, List, [], map, get_or, length, Option, Some, None, IsSome}
 use Rattle.dm_symbol.specs.declared.BlockReading.{BlockReading}
 use Rattle.dm_symbol.specs.declared.SymbolInspectionIn.{SymbolInspectionIn}
+use Rattle.dm_symbol.specs.declared.Mark.{Mark}
 use Rattle.dm_layout.specs.symbols.Symbols.{SymbolView}
+use Rattle.dm_layout.specs.symbols.Words.{data_of}
+use Rattle.dm_words.specs.Designations.{AreDesignations}
 use Rattle.dm_symbol.specs.SymbolInspection.{IsSymbolInspection}
 use Rattle.ecc200_calls.specs.declared.fault.Fault.{Fault}
 use Rattle.ecc200_calls.specs.declared.inspection.InspectionOut.{InspectionOut}
 use Rattle.ecc200_calls.specs.Arrays.{over}
 use Rattle.ecc200_calls.specs.Faults.{no_fault}
+use Rattle.ecc200_calls.specs.Letters.{marks_shown}
 use Rattle.ecc200_calls.specs.Modules.{AreGiven, IsGivenFault}
 use Rattle.ecc200_calls.specs.Readings.{dealing_shown}
 
@@ -22,11 +26,13 @@ no_inspection why before =
       block_count = 0;
       codeword_count = 0;
       dealing = 0;
+      designator_count = 0;
       corrected = before.corrected;
       erased = before.erased;
       left = before.left;
       held = before.held;
       mended = before.mended;
+      designators = before.designators;
     }
 
 -- A block shows the number of its codewords that are corrected, or 255 where it is beyond correction.
@@ -44,7 +50,7 @@ abbrev pub left_shown : Option BlockReading → ℕ
 left_shown (Some block) = block.left
 left_shown None = 0
 
--- An inspection of a symbol with these rows and columns is given in this way.
+-- An inspection of a symbol with these rows and columns is given in this way, without designators.
 abbrev pub inspection_shown : {room : ℕ} → ℕ → ℕ → SymbolInspectionIn room → InspectionOut → InspectionOut
 inspection_shown rows columns inspection before =
     record {
@@ -55,12 +61,37 @@ inspection_shown rows columns inspection before =
       block_count = length inspection.blocks.items;
       codeword_count = length inspection.held.list;
       dealing = dealing_shown inspection.dealing;
+      designator_count = 0;
       corrected = over (map corrected_shown inspection.blocks.items) before.corrected;
       erased = over (map erased_shown inspection.blocks.items) before.erased;
       left = over (map left_shown inspection.blocks.items) before.left;
       held = over inspection.held.list before.held;
       mended = over inspection.mended.list before.mended;
+      designators = before.designators;
     }
+
+-- The designators of an inspected symbol are those of the letter that its data codewords say, each a mark whose place
+-- counts the codewords before its ECI. Where a block is beyond correction, there are none.
+pub data AreDesignatorsOf {room : ℕ} (inspection : SymbolInspectionIn room) (marks : List Mark) : Type 0 where
+  restored : ((b : ℕ) → b < length inspection.blocks.items → IsSome (get_or inspection.blocks.items b None))
+      → AreDesignations (data_of inspection.mended) marks → AreDesignatorsOf inspection marks
+  lost : (b : ℕ) → b < length inspection.blocks.items → get_or inspection.blocks.items b None ≡ None → marks ≡ []
+      → AreDesignatorsOf inspection marks
+
+-- Designators are given in this way.
+abbrev pub with_designators : List Mark → InspectionOut → InspectionOut
+with_designators marks before =
+    record before {
+      designator_count = length marks;
+      designators = over (marks_shown marks) before.designators;
+    }
+
+-- The designators of an inspected symbol are given.
+pub record AreDesignatorsGiven {room : ℕ} (inspection : SymbolInspectionIn room) (before after : InspectionOut) : Type 0
+  where
+    pub marks : List Mark
+    pub are_designators : AreDesignatorsOf inspection marks
+    pub shown : after ≡ with_designators marks before
 
 -- The inspection of a symbol, with these of its modules doubtful, is given.
 pub record IsInspectionGiven (rows columns : ℕ) (symbol : SymbolView) (doubtful : Option SymbolView)
@@ -68,7 +99,7 @@ pub record IsInspectionGiven (rows columns : ℕ) (symbol : SymbolView) (doubtfu
   pub room : ℕ
   pub inspection : SymbolInspectionIn room
   pub inspection_is : IsSymbolInspection symbol doubtful inspection
-  pub shown : after ≡ inspection_shown rows columns inspection before
+  pub designators : AreDesignatorsGiven inspection (inspection_shown rows columns inspection before) after
 
 -- Inspecting these modules gives the reason why they make no symbol, or the inspection of their symbol.
 pub data IsInspectResult (rows columns : ℕ) (modules doubt : List ℕ) (before after : InspectionOut) : Type 0 where

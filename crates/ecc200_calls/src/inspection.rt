@@ -4,18 +4,24 @@ ghost use Rattle.std.specs.Prelude.{◌≡◌, ◌≤◌, IfSome, IsTrue, length
 ghost use Rattle.dm_layout.specs.symbols.Sizes.{area, codeword_count};
 ghost use Rattle.ecc200_calls.specs.Arrays.{over};
 ghost use Rattle.ecc200_calls.specs.Inspections.{IsInspectResult, IsInspectionGiven, corrected_shown, erased_shown};
-ghost use Rattle.ecc200_calls.specs.Inspections.{inspection_shown, left_shown, no_inspection};
+ghost use Rattle.ecc200_calls.specs.Inspections.{AreDesignatorsGiven, inspection_shown, left_shown, no_inspection};
+ghost use Rattle.ecc200_calls.specs.inner.Designators.{AreFoundDesignators};
 ghost use Rattle.ecc200_calls.specs.inner.Given.{IsOfGiven};
 ghost use Rattle.ecc200_calls.specs.inner.Rooms.{HasRoom};
 
 use crate::arrays::put_bytes;
 use crate::fault::Fault;
 use crate::given::{Given, check_given};
+use crate::mark::{MarkNumbers, put_marks};
 use crate::modules::put_modules;
 use crate::reading::dealing_number;
 use crate::room::*;
-use dm_layout::symbols::{MOST_BLOCKS, MOST_CODEWORDS, SymbolIn, SymbolSize};
-use dm_symbol::{BlockReading, SymbolInspectionIn, inspect_symbol_to};
+use arrayvec::ArrayVec;
+use dm_layout::symbols::{MOST_BLOCKS, MOST_CODEWORDS, MOST_DATA, SymbolIn, SymbolSize};
+use dm_symbol::{
+    BlockReading, LARGEST_MARKS, Mark, SymbolInspectionIn, has_lost, inspect_symbol_to,
+};
+use dm_words::{designations_to, has_eci};
 
 /// This is shown instead of the number of corrected codewords where a block is beyond correction.
 const BEYOND: u8 = 255;
@@ -31,11 +37,13 @@ pub struct InspectionOut {
     pub block_count: u16,
     pub codeword_count: u16,
     pub dealing: u16,
+    pub designator_count: u16,
     pub corrected: [u8; MOST_BLOCKS],
     pub erased: [u8; MOST_BLOCKS],
     pub left: [u8; MOST_BLOCKS],
     pub held: [u8; MOST_CODEWORDS],
     pub mended: [u8; MOST_CODEWORDS],
+    pub designators: [MarkNumbers; LARGEST_MARKS],
 }
 
 /// Inspects the symbol of these modules, of which these are doubtful.
@@ -101,6 +109,7 @@ fn inspect_symbol<const ROWS: usize, const WORDS: usize>(
     let mut inspection = SymbolInspectionIn::<WORDS>::new(size);
     inspect_symbol_to(symbol, doubtful, &mut inspection);
     show_inspection(out, size, &inspection);
+    show_designators(out, &inspection);
 }
 
 /// Shows a fault in place of an inspection.
@@ -114,9 +123,10 @@ fn show_fault(out: &mut InspectionOut, why: Fault)
     out.block_count = 0;
     out.codeword_count = 0;
     out.dealing = 0;
+    out.designator_count = 0;
 }
 
-/// Shows an inspection of a symbol of this size.
+/// Shows an inspection of a symbol of this size, without designators.
 fn show_inspection<const WORDS: usize>(
     out: &mut InspectionOut,
     size: SymbolSize,
@@ -132,11 +142,42 @@ fn show_inspection<const WORDS: usize>(
     out.block_count = blocks.len() as u16;
     out.codeword_count = inspection.held.list().len() as u16;
     out.dealing = dealing_number(inspection.dealing);
+    out.designator_count = 0;
     put_corrected(&mut out.corrected, blocks);
     put_erased(&mut out.erased, blocks);
     put_left(&mut out.left, blocks);
     put_bytes(&mut out.held, inspection.held.list());
     put_bytes(&mut out.mended, inspection.mended.list());
+}
+
+/// Shows the designators of an inspected symbol.
+fn show_designators<const WORDS: usize>(
+    out: &mut InspectionOut,
+    inspection: &SymbolInspectionIn<WORDS>,
+)
+    ensures { AreDesignatorsGiven inspection.now out.old out.new }
+{
+    let words = inspection.mended.data_part();
+    if has_lost(inspection.blocks.as_slice()) {
+        out.designator_count = 0;
+    } else if has_eci(words) {
+        find_designators(out, words);
+    } else {
+        out.designator_count = 0;
+    }
+}
+
+/// Shows the designators among data codewords. It isn't inlined, so that it takes room on the stack only where there
+/// may be any.
+#[inline(never)]
+fn find_designators(out: &mut InspectionOut, words: &[u8])
+    requires { length words.now ≤ MOST_DATA }
+    ensures { AreFoundDesignators words.now out.old out.new }
+{
+    let mut found = ArrayVec::<Mark, LARGEST_MARKS>::new();
+    designations_to(words, &mut found);
+    out.designator_count = found.len() as u16;
+    put_marks(&mut out.designators, &found);
 }
 
 /// Writes the numbers of wrong codewords of these blocks over the first ones.

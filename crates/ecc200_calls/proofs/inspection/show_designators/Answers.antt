@@ -1,0 +1,36 @@
+use Rattle.std.proofs.Common.{[], arith, ap, length, refl}
+use Rattle.ecc200_calls.proofs.Rooms.{data_few}
+use Rattle.ecc200_calls.specs.Inspections.{restored, lost}
+use Rattle.ecc200_calls.proofs.inspection.show_designators.Goals as goal
+
+pub find_designators-requires : goal.find_designators-requires
+find_designators-requires g c =
+    omega (
+      arith,
+      data_few c.args.inspection.now.mended c.data_part-words.ensures.words,
+      ap length c.data_part-words.ensures.value,
+    )
+
+pub returns-then-has_lost : goal.returns-then-has_lost
+returns-then-has_lost g c =
+    let l = rw c.as_slice.ensures.value at c.has_lost.ensures.some c.if-has_lost.true in
+    record { marks = []; are_designators = lost l.0 l.1 l.2 refl; shown = refl }
+
+pub returns-then-has_eci : goal.returns-then-has_eci
+returns-then-has_eci g c =
+    let all = rw c.as_slice.ensures.value at c.has_lost.ensures.none c.if-has_lost.false in
+    let found = c.find_designators.ensures in
+    record {
+      marks = found.marks;
+      are_designators = restored all (rw c.data_part-words.ensures.value at found.are_designations);
+      shown = found.shown;
+    }
+
+pub returns-else-has_eci : goal.returns-else-has_eci
+returns-else-has_eci g c =
+    let all = rw c.as_slice.ensures.value at c.has_lost.ensures.none c.if-has_lost.false in
+    record {
+      marks = [];
+      are_designators = restored all (rw c.data_part-words.ensures.value at c.has_eci.ensures c.if-has_eci.false);
+      shown = refl;
+    }
