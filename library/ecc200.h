@@ -364,6 +364,12 @@ typedef struct ecc200_inspection {
                                               check codewords */
     uint16_t dealing;                      /* as ecc200_reading has it: that by which no block is beyond correction, or
                                               else 0 */
+    uint16_t designator_count;             /* 0 to ECC200_MOST_MARKS; 0 where a block is beyond correction, and where
+                                              WIDE reads nothing of the mended codewords */
+    ecc200_mark designators[ECC200_MOST_MARKS]; /* the first designator_count count: the number of an ECI assignment,
+                                                   and as its place how many codewords stand before its ECI, 241,
+                                                   behind which its one to three codewords stand. A 241 in a run or a
+                                                   segment is none of these */
     uint8_t corrected[ECC200_MOST_BLOCKS]; /* for each block, what ecc200_reading has, or ECC200_BEYOND */
     uint8_t erased[ECC200_MOST_BLOCKS];    /* the same, or 0 where the block is beyond correction */
     uint8_t left[ECC200_MOST_BLOCKS];      /* the same, or 0 where the block is beyond correction */
@@ -530,7 +536,7 @@ ECC200_ASSERT(offsetof(ecc200_symbol, fault) == 0 && ECC200_SIZE_OF(ecc200_symbo
 ECC200_ASSERT(offsetof(ecc200_symbol, rows) == 6 && ECC200_SIZE_OF(ecc200_symbol, rows) == 2);
 ECC200_ASSERT(offsetof(ecc200_symbol, columns) == 8 && ECC200_SIZE_OF(ecc200_symbol, columns) == 2);
 ECC200_ASSERT(offsetof(ecc200_symbol, modules) == 10 && ECC200_SIZE_OF(ecc200_symbol, modules) == 20736);
-ECC200_ASSERT(sizeof(ecc200_inspection) == 4404);
+ECC200_ASSERT(sizeof(ecc200_inspection) == 10640);
 ECC200_ASSERT(offsetof(ecc200_inspection, fault) == 0 && ECC200_SIZE_OF(ecc200_inspection, fault) == 6);
 ECC200_ASSERT(offsetof(ecc200_inspection, rows) == 6 && ECC200_SIZE_OF(ecc200_inspection, rows) == 2);
 ECC200_ASSERT(offsetof(ecc200_inspection, columns) == 8 && ECC200_SIZE_OF(ecc200_inspection, columns) == 2);
@@ -540,11 +546,14 @@ ECC200_ASSERT(offsetof(ecc200_inspection, block_count) == 12 && ECC200_SIZE_OF(e
 ECC200_ASSERT(offsetof(ecc200_inspection, codeword_count) == 14 &&
               ECC200_SIZE_OF(ecc200_inspection, codeword_count) == 2);
 ECC200_ASSERT(offsetof(ecc200_inspection, dealing) == 16 && ECC200_SIZE_OF(ecc200_inspection, dealing) == 2);
-ECC200_ASSERT(offsetof(ecc200_inspection, corrected) == 18 && ECC200_SIZE_OF(ecc200_inspection, corrected) == 10);
-ECC200_ASSERT(offsetof(ecc200_inspection, erased) == 28 && ECC200_SIZE_OF(ecc200_inspection, erased) == 10);
-ECC200_ASSERT(offsetof(ecc200_inspection, left) == 38 && ECC200_SIZE_OF(ecc200_inspection, left) == 10);
-ECC200_ASSERT(offsetof(ecc200_inspection, held) == 48 && ECC200_SIZE_OF(ecc200_inspection, held) == 2178);
-ECC200_ASSERT(offsetof(ecc200_inspection, mended) == 2226 && ECC200_SIZE_OF(ecc200_inspection, mended) == 2178);
+ECC200_ASSERT(offsetof(ecc200_inspection, designator_count) == 18 &&
+              ECC200_SIZE_OF(ecc200_inspection, designator_count) == 2);
+ECC200_ASSERT(offsetof(ecc200_inspection, designators) == 20 && ECC200_SIZE_OF(ecc200_inspection, designators) == 6232);
+ECC200_ASSERT(offsetof(ecc200_inspection, corrected) == 6252 && ECC200_SIZE_OF(ecc200_inspection, corrected) == 10);
+ECC200_ASSERT(offsetof(ecc200_inspection, erased) == 6262 && ECC200_SIZE_OF(ecc200_inspection, erased) == 10);
+ECC200_ASSERT(offsetof(ecc200_inspection, left) == 6272 && ECC200_SIZE_OF(ecc200_inspection, left) == 10);
+ECC200_ASSERT(offsetof(ecc200_inspection, held) == 6282 && ECC200_SIZE_OF(ecc200_inspection, held) == 2178);
+ECC200_ASSERT(offsetof(ecc200_inspection, mended) == 8460 && ECC200_SIZE_OF(ecc200_inspection, mended) == 2178);
 ECC200_ASSERT(sizeof(ecc200_place) == 4);
 ECC200_ASSERT(offsetof(ecc200_place, codeword) == 0 && ECC200_SIZE_OF(ecc200_place, codeword) == 2);
 ECC200_ASSERT(offsetof(ecc200_place, bit) == 2 && ECC200_SIZE_OF(ecc200_place, bit) == 1);

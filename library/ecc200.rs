@@ -303,6 +303,9 @@ pub struct Inspection {
     pub left: Vec<u8>,
     /// How many border modules that aren't doubtful have the wrong colour.
     pub border_faults: u16,
+    /// The ECI designators: as the marks of a [`Reading`], but the place of each is how many codewords stand before its
+    /// ECI, 241. There are none where a block is beyond correction, and where [`Extent::Wide`] reads nothing.
+    pub designators: Vec<Mark>,
 }
 
 /// What a module is.
@@ -397,6 +400,8 @@ mod sys {
         pub block_count: u16,
         pub codeword_count: u16,
         pub dealing: u16,
+        pub designator_count: u16,
+        pub designators: [Mark; MOST_MARKS],
         pub corrected: [u8; MOST_BLOCKS],
         pub erased: [u8; MOST_BLOCKS],
         pub left: [u8; MOST_BLOCKS],
@@ -516,7 +521,7 @@ mod sys {
     const _: () = assert!(offset_of!(SymbolOut, rows) == 6);
     const _: () = assert!(offset_of!(SymbolOut, columns) == 8);
     const _: () = assert!(offset_of!(SymbolOut, modules) == 10);
-    const _: () = assert!(size_of::<InspectionOut>() == 4404);
+    const _: () = assert!(size_of::<InspectionOut>() == 10640);
     const _: () = assert!(offset_of!(InspectionOut, fault) == 0);
     const _: () = assert!(offset_of!(InspectionOut, rows) == 6);
     const _: () = assert!(offset_of!(InspectionOut, columns) == 8);
@@ -524,11 +529,13 @@ mod sys {
     const _: () = assert!(offset_of!(InspectionOut, block_count) == 12);
     const _: () = assert!(offset_of!(InspectionOut, codeword_count) == 14);
     const _: () = assert!(offset_of!(InspectionOut, dealing) == 16);
-    const _: () = assert!(offset_of!(InspectionOut, corrected) == 18);
-    const _: () = assert!(offset_of!(InspectionOut, erased) == 28);
-    const _: () = assert!(offset_of!(InspectionOut, left) == 38);
-    const _: () = assert!(offset_of!(InspectionOut, held) == 48);
-    const _: () = assert!(offset_of!(InspectionOut, mended) == 2226);
+    const _: () = assert!(offset_of!(InspectionOut, designator_count) == 18);
+    const _: () = assert!(offset_of!(InspectionOut, designators) == 20);
+    const _: () = assert!(offset_of!(InspectionOut, corrected) == 6252);
+    const _: () = assert!(offset_of!(InspectionOut, erased) == 6262);
+    const _: () = assert!(offset_of!(InspectionOut, left) == 6272);
+    const _: () = assert!(offset_of!(InspectionOut, held) == 6282);
+    const _: () = assert!(offset_of!(InspectionOut, mended) == 8460);
     const _: () = assert!(size_of::<PlaceOut>() == 4);
     const _: () = assert!(offset_of!(PlaceOut, codeword) == 0);
     const _: () = assert!(offset_of!(PlaceOut, bit) == 2);
@@ -730,6 +737,7 @@ pub fn inspect(grid: Grid<'_>) -> Result<Inspection, Fault> {
             erased: out.erased[..blocks].to_vec(),
             left: out.left[..blocks].to_vec(),
             border_faults: out.border_faults,
+            designators: out.designators[..usize::from(out.designator_count)].to_vec(),
         }),
         _ => Err(out.fault),
     }

@@ -189,15 +189,20 @@ static void print_blocks(const uint8_t *corrected, const uint8_t *erased, const 
     }
 }
 
+static void print_marks(const ecc200_mark *marks, int count) {
+    for (int i = 0; i < count; i++)
+        printf("%s%lu@%lu", i ? "," : "", (unsigned long)marks[i].number, (unsigned long)marks[i].place);
+    printf("%s", count ? "" : "-");
+}
+
 /* items, marks and head */
 static void print_said(const ecc200_reading *said) {
     printf("items ");
     print_items(said->items, said->item_count);
     printf(" marks ");
-    for (int i = 0; i < said->mark_count; i++)
-        printf("%s%lu@%lu", i ? "," : "", (unsigned long)said->marks[i].number, (unsigned long)said->marks[i].place);
-    printf("%s head %d:%d:%d:%d:%d", said->mark_count ? "" : "-", said->head.kind, said->head.part, said->head.parts,
-           said->head.file[0], said->head.file[1]);
+    print_marks(said->marks, said->mark_count);
+    printf(" head %d:%d:%d:%d:%d", said->head.kind, said->head.part, said->head.parts, said->head.file[0],
+           said->head.file[1]);
 }
 
 static void answer_read(void) {
@@ -289,7 +294,7 @@ static void answer_inspect(void) {
     ecc200_inspection *out = (ecc200_inspection *)(void *)place_of(out_area, sizeof *out);
     uint16_t code = ecc200_inspect(given.modules, given.count, given.doubtful, given.doubtful_count, given.rows,
                                    given.columns, out);
-    if (is_fault(code, out, offsetof(ecc200_inspection, corrected), sizeof *out))
+    if (is_fault(code, out, offsetof(ecc200_inspection, designators), sizeof *out))
         return;
     printf("rows %d columns %d border %d blocks %d ", out->rows, out->columns, out->border_faults, out->block_count);
     print_blocks(out->corrected, out->erased, out->left, out->block_count);
@@ -297,6 +302,9 @@ static void answer_inspect(void) {
     print_bytes(out->held, out->codeword_count);
     printf(" mended ");
     print_bytes(out->mended, out->codeword_count);
+    printf(" designators ");
+    print_marks(out->designators, out->designator_count);
+    check_rest(out->designators + out->designator_count, out->designators + ECC200_MOST_MARKS);
     check_rest(out->held + out->codeword_count, out->held + ECC200_MOST_CODEWORDS);
     check_rest(out->mended + out->codeword_count, out->mended + ECC200_MOST_CODEWORDS);
 }
@@ -388,9 +396,9 @@ static void answer_layout(void) {
     SIZED(symbol), LAID(symbol, fault), LAID(symbol, rows), LAID(symbol, columns), LAID(symbol, modules);
     SIZED(inspection), LAID(inspection, fault), LAID(inspection, rows), LAID(inspection, columns),
         LAID(inspection, border_faults), LAID(inspection, block_count), LAID(inspection, codeword_count);
-    LAID(inspection, dealing);
+    LAID(inspection, dealing), LAID(inspection, designator_count);
     LAID(inspection, corrected), LAID(inspection, erased), LAID(inspection, left), LAID(inspection, held),
-        LAID(inspection, mended);
+        LAID(inspection, mended), LAID(inspection, designators);
     SIZED(place), LAID(place, codeword), LAID(place, bit), LAID(place, kind);
     SIZED(place_table), LAID(place_table, fault), LAID(place_table, rows), LAID(place_table, columns),
         LAID(place_table, places);

@@ -117,7 +117,8 @@ class Answers:
     def to_inspect(self, *given):
         grid, doubt = self.grid(*given)
         got = self.ecc200.inspect(grid, **doubt)
-        return f"{counts_of(*given[:2], got)} held {numbers(got.held)} mended {numbers(got.mended)}"
+        marks = marking((number, place) for place, number in got.designators)
+        return f"{counts_of(*given[:2], got)} held {numbers(got.held)} mended {numbers(got.mended)} designators {marks}"
 
     def to_places(self, rows, columns):
         table = self.ecc200.places(int(rows), int(columns))

@@ -108,15 +108,18 @@ fn blocks(corrected: &[String], erased: &[u8], left: &[u8]) -> String {
     format!("blocks {} {counts}", corrected.len())
 }
 
+fn marking(marks: &[Mark]) -> String {
+    numbers(&marks.iter().map(|mark| format!("{}@{}", mark.number, mark.place)).collect::<Vec<_>>())
+}
+
 /// Items, marks and head.
 fn said(got: &Reading) -> String {
-    let marks: Vec<_> = got.marks.iter().map(|mark| format!("{}@{}", mark.number, mark.place)).collect();
     let head = match got.head {
         None => "0:0:0:0:0".to_string(),
         Some(Head::Part { part, parts, file: [a, b] }) => format!("1:{part}:{parts}:{a}:{b}"),
         Some(Head::Programming) => "2:0:0:0:0".to_string(),
     };
-    format!("items {} marks {} head {head}", numbers(&got.items), numbers(&marks))
+    format!("items {} marks {} head {head}", numbers(&got.items), marking(&got.marks))
 }
 
 fn reading(rows: u16, columns: u16, got: Result<Reading, Fault>) -> String {
@@ -155,10 +158,11 @@ fn symbol(got: Result<Symbol, Fault>) -> String {
 
 fn inspection(rows: u16, columns: u16, got: Result<Inspection, Fault>) -> String {
     match got {
-        Ok(Inspection { held, mended, corrected, erased, left, border_faults }) => {
+        Ok(Inspection { held, mended, corrected, erased, left, border_faults, designators }) => {
             let shown = |count: &Option<u8>| count.map_or("beyond".to_string(), |it| it.to_string());
             let counted: Vec<_> = corrected.iter().map(shown).collect();
-            let words = format!("held {} mended {}", numbers(&held), numbers(&mended));
+            let marks = marking(&designators);
+            let words = format!("held {} mended {} designators {marks}", numbers(&held), numbers(&mended));
             let counts = blocks(&counted, &erased, &left);
             format!("rows {rows} columns {columns} border {border_faults} {counts} {words}")
         }

@@ -127,11 +127,11 @@ def symbol(said, profile=0, shape=SQUARE, named=(0, 0)):
     return f"rows {made[0].rows} columns {made[0].columns} modules {''.join(map(str, made[1]))}"
 
 
-def inspection(named, held, mended, corrected=None, border=0, erased=None):
+def inspection(named, held, mended, corrected=None, border=0, erased=None, designators=()):
     size = SIZE_OF[named]
     head = f"rows {named[0]} columns {named[1]} border {border} blocks {size.blocks}"
     counts = counted(size, corrected or [0] * size.blocks, erased)
-    return f"{head} {counts} held {numbers(held)} mended {numbers(mended)}"
+    return f"{head} {counts} held {numbers(held)} mended {numbers(mended)} designators {marking(designators)}"
 
 
 def grid_of(named, *data):

@@ -5,9 +5,10 @@ import itertools
 import re
 
 from tests.library.cases import (LARGEST, MOST_DATA, SMALLEST, TEN, TWELVE, USUAL, WIDE, Symbol, doubt_of, grid_of,
-                                 held_by, hurt, no, normal, read, reading, symbol, with_bad_border, words_of, write,
-                                 write_bytes)
-from tests.library.letters import Letter, Refusal, dealt_anew, head_words, letter_words, said_by, symbol_of
+                                 held_by, hurt, inspect, inspection, no, normal, read, reading, symbol,
+                                 with_bad_border, words_of, write, write_bytes)
+from tests.library.letters import (Letter, Refusal, dealt_anew, designators_of, head_words, letter_words, said_by,
+                                   symbol_of)
 from tests.library.model import (ANY, EXTENDED, FNC1, ONE, RECTANGLE, SIZE_OF, SIZES, SQUARE, base_256_words, codewords,
                                  modules_of, padded, randomised, triple)
 from tests.support import places
@@ -105,6 +106,38 @@ def worked():
         named = smallest_named(data)
         yield read(grid_of(named, *data), 0, WIDE), no(code, value, place)
         yield from readings_of(named, data)
+
+
+def inspected(named, data):
+    """The inspection of a symbol with these data codewords, as it is and with as many of the codewords of its first block
+    wrong as can be corrected; and that with one more, in which nothing is said."""
+    grid, size = grid_of(named, *data), SIZE_OF[named]
+    words, found = held_by(grid), designators_of(padded(data, size.data))
+    yield inspect(grid), inspection(named, words, words, designators=found)
+    bad = hurt(grid, 0, size.limit)
+    counts = [size.limit, *[0] * (size.blocks - 1)]
+    yield inspect(bad), inspection(named, held_by(bad), words, counts, designators=found)
+    worse = hurt(grid, 0, max(5, size.limit + 2))
+    mended = [held if i % size.blocks == 0 else word for i, (held, word) in enumerate(zip(held_by(worse), words))]
+    yield inspect(worse), inspection(named, held_by(worse), mended, ["beyond", *[0] * (size.blocks - 1)])
+
+
+def designators():
+    """What inspections show of what is worked out above, of what is said and what isn't at the end of each size, and of
+    marks beside each encodation."""
+    for data, *_ in (*WORKED, *REFUSED):
+        yield from inspected(smallest_named(data), data)
+    for size in SIZES:
+        for last in (*MALFORMED, *DESIGNATORS):
+            if len(last) <= size.data:
+                yield from inspected(size.named, [*(65 + k % 26 for k in range(size.data - len(last))), *last])
+    for one in RUNS.values():
+        for data in ((241, 27, *one), (*one, 241, 128, 74), (236, *one, 241, 192, 1, 1, *one, 241, 27)):
+            yield from inspected((24, 24), data)
+    # 241 in a segment, in a run of EDIFACT, behind the first pad, and as the first codeword of a designator
+    for data in ((*base_256_words(b"A"), 241, 27, 66), (231, randomised(0, 2), 241, 27, 66), (240, 241, 27, 66, 124, 66),
+                 (66, 129, 241, 27), (241, 241, 27)):
+        yield from inspected((24, 24), data)
 
 
 def ends():
@@ -325,4 +358,4 @@ def of_an_encoder():
         yield read(grid, 0, USUAL), wanted
 
 
-ALL = (worked, ends, beside, edges, heads, marks, orders, dealt, of_an_encoder)
+ALL = (worked, designators, ends, beside, edges, heads, marks, orders, dealt, of_an_encoder)

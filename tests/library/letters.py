@@ -74,6 +74,7 @@ class Reader:
     def __init__(self, words, extent):
         self.words, self.extent, self.at = list(words), extent, 0
         self.items, self.marks, self.head, self.single = [], [], None, set()
+        self.designators = []
 
     @property
     def left(self):
@@ -136,6 +137,7 @@ class Reader:
             if number is None:
                 self.refuse(20, place)
             self.marks.append((number, len(self.items)))
+            self.designators.append((number, place))
             self.at += count
         else:
             self.refuse(*((7, place) if word == 0 or word > ECI else (8, place, word)))
@@ -224,6 +226,17 @@ class Reader:
 def said_by(words, extent=WIDE):
     """What data codewords say, and the digit of their symbology identifier; raises Refusal."""
     return Reader(words, extent).letter()
+
+
+def designators_of(words):
+    """The numbers of the marks that data codewords say in the wide extent, each with how many codewords stand before its
+    ECI; none where they say nothing."""
+    reader = Reader(words, WIDE)
+    try:
+        reader.letter()
+    except Refusal:
+        return []
+    return reader.designators
 
 
 def head_of(words):

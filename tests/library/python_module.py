@@ -415,8 +415,8 @@ def results():
         yield f"their types of {size.named}", types, {ecc200.Place, ecc200.Kind}
     seen = ecc200.inspect(WORKED)
     words = bytes([142, 164, 186, 114, 25, 5, 88, 102])
-    yield "an inspection", tuple(seen), (words, words, (0,), 0, (0,), (5,), 0)
-    yield "its types", [type(part) for part in seen], [bytes, bytes, tuple, int, tuple, tuple, int]
+    yield "an inspection", tuple(seen), (words, words, (0,), 0, (0,), (5,), 0, ())
+    yield "its types", [type(part) for part in seen], [bytes, bytes, tuple, int, tuple, tuple, int, tuple]
     yield "beyond correction", ecc200.inspect(rows(hurt(FLAT, 0, 5))).corrected, (None,)
     yield "corrected", ecc200.read(rows(hurt(FLAT, 0, 2))).corrected, (2,)
     yield "sizes", [tuple(size) for size in ecc200.sizes()], [tuple(size) for size in SIZES]

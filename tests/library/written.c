@@ -84,7 +84,7 @@ static uint16_t do_sizes(void *out) { return ecc200_sizes(out), 0; }
 
 int main(void) {
     const size_t reading = sizeof(ecc200_reading), arrays = offsetof(ecc200_reading, corrected);
-    const size_t inspection = sizeof(ecc200_inspection), counts = offsetof(ecc200_inspection, corrected);
+    const size_t inspection = sizeof(ecc200_inspection), counts = offsetof(ecc200_inspection, designators);
     const size_t symbol = sizeof(ecc200_symbol), modules = offsetof(ecc200_symbol, modules);
     const size_t table = sizeof(ecc200_place_table), places = offsetof(ecc200_place_table, places);
     for (int i = 0; i < ALL; i++)

@@ -16,6 +16,7 @@
 //! none, items and [`Mark`]s, or gives the [`LetterFault`] with which the list is refused. [`letter_words_in()`] writes
 //! the codewords of a letter, and [`smallest_letter_words_to()`] those of the smallest size of a choice. [`head_of()`],
 //! [`head_words()`], [`designator_of()`] and [`designator_words()`] read and write a head or a designator alone.
+//! [`designations_to()`] tells where the designators of a letter stand among its codewords.
 //!
 //! Limits: up to [`MOST_DATA`] codewords are read and written. A square has up to [`MOST_GRID_DATA`], for which a
 //! [`Message`] or a [`Letter`] serves: it has room for [`MESSAGE_ROOM`] items, of which the usual extent takes

@@ -38,12 +38,12 @@ pub struct InspectionOut {
     pub codeword_count: u16,
     pub dealing: u16,
     pub designator_count: u16,
+    pub designators: [MarkNumbers; LARGEST_MARKS],
     pub corrected: [u8; MOST_BLOCKS],
     pub erased: [u8; MOST_BLOCKS],
     pub left: [u8; MOST_BLOCKS],
     pub held: [u8; MOST_CODEWORDS],
     pub mended: [u8; MOST_CODEWORDS],
-    pub designators: [MarkNumbers; LARGEST_MARKS],
 }
 
 /// Inspects the symbol of these modules, of which these are doubtful.

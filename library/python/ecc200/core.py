@@ -241,6 +241,8 @@ class Inspection(NamedTuple):
     erased: Tuple[int, ...]               # for each block as in a Reading, or 0 beyond correction
     left: Tuple[int, ...]                 # the same
     dealing: int = 0                      # as in a Reading, of what is read
+    designators: Tuple[Mark, ...] = ()    # as the marks of a Reading, but each with how many codewords stand before its
+                                          # ECI, 241; none where a block is beyond correction, and where WIDE reads nothing
 
 
 class Kind(enum.IntEnum):
@@ -320,9 +322,9 @@ class _SymbolOut(ctypes.Structure):
 
 class _InspectionOut(ctypes.Structure):
     _fields_ = [("fault", _Fault), ("rows", _u16), ("columns", _u16), ("border_faults", _u16), ("block_count", _u16),
-                ("codeword_count", _u16), ("dealing", _u16), ("corrected", _u8 * _MOST_BLOCKS),
-                ("erased", _u8 * _MOST_BLOCKS), ("left", _u8 * _MOST_BLOCKS), ("held", _u8 * _MOST_CODEWORDS),
-                ("mended", _u8 * _MOST_CODEWORDS)]
+                ("codeword_count", _u16), ("dealing", _u16), ("designator_count", _u16),
+                ("designators", _Mark * _MOST_MARKS), ("corrected", _u8 * _MOST_BLOCKS), ("erased", _u8 * _MOST_BLOCKS),
+                ("left", _u8 * _MOST_BLOCKS), ("held", _u8 * _MOST_CODEWORDS), ("mended", _u8 * _MOST_CODEWORDS)]
 
 
 class _PlaceOut(ctypes.Structure):
@@ -850,7 +852,8 @@ def inspect(grid: Grid, doubtful: Optional[Grid] = None) -> Inspection:
     blocks, words = out.block_count, out.codeword_count
     corrected = tuple(None if count == _BEYOND else count for count in out.corrected[:blocks])
     return Inspection(bytes(out.held)[:words], bytes(out.mended)[:words], corrected, out.border_faults,
-                      tuple(out.erased[:blocks]), tuple(out.left[:blocks]), out.dealing)
+                      tuple(out.erased[:blocks]), tuple(out.left[:blocks]), out.dealing,
+                      tuple((mark.place, mark.number) for mark in out.designators[:out.designator_count]))
 
 
 def places(rows: int, columns: Optional[int] = None) -> List[List[Place]]:
