@@ -396,9 +396,9 @@ static void answer_layout(void) {
     SIZED(symbol), LAID(symbol, fault), LAID(symbol, rows), LAID(symbol, columns), LAID(symbol, modules);
     SIZED(inspection), LAID(inspection, fault), LAID(inspection, rows), LAID(inspection, columns),
         LAID(inspection, border_faults), LAID(inspection, block_count), LAID(inspection, codeword_count);
-    LAID(inspection, dealing), LAID(inspection, designator_count);
+    LAID(inspection, dealing), LAID(inspection, designator_count), LAID(inspection, designators);
     LAID(inspection, corrected), LAID(inspection, erased), LAID(inspection, left), LAID(inspection, held),
-        LAID(inspection, mended), LAID(inspection, designators);
+        LAID(inspection, mended);
     SIZED(place), LAID(place, codeword), LAID(place, bit), LAID(place, kind);
     SIZED(place_table), LAID(place_table, fault), LAID(place_table, rows), LAID(place_table, columns),
         LAID(place_table, places);

@@ -109,8 +109,8 @@ def worked():
 
 
 def inspected(named, data):
-    """The inspection of a symbol with these data codewords, as it is and with as many of the codewords of its first block
-    wrong as can be corrected; and that with one more, in which nothing is said."""
+    """The inspection of a symbol with these data codewords, as it is, with as many of the codewords of its first block
+    wrong as can be corrected, and with more, where nothing is said."""
     grid, size = grid_of(named, *data), SIZE_OF[named]
     words, found = held_by(grid), designators_of(padded(data, size.data))
     yield inspect(grid), inspection(named, words, words, designators=found)

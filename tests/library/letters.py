@@ -229,8 +229,8 @@ def said_by(words, extent=WIDE):
 
 
 def designators_of(words):
-    """The numbers of the marks that data codewords say in the wide extent, each with how many codewords stand before its
-    ECI; none where they say nothing."""
+    """The numbers of the marks that data codewords say in the wide extent, each with how many codewords stand before
+    its ECI; none where they say nothing."""
     reader = Reader(words, WIDE)
     try:
         reader.letter()

@@ -91,7 +91,7 @@ def names():
         yield f"numbers of {kind.__name__}", {it.name: int(it) for it in kind}, wanted
     for kind, wanted in ((ecc200.Reading, "data gs1 items corrected border_faults rows columns erased left corners "
                           "marks head symbology dealing"),
-                         (ecc200.Inspection, "held mended corrected border_faults erased left dealing"),
+                         (ecc200.Inspection, "held mended corrected border_faults erased left dealing designators"),
                          (ecc200.Place, "kind codeword bit"),
                          (ecc200.Size, "rows columns region_rows region_columns regions_down regions_across "
                           "mapping_rows mapping_columns data_codewords check_codewords blocks limit extension")):

@@ -28,7 +28,8 @@ use Rattle.dm_words.proofs.WholeLetters.{reads}
 joined-last : (place : ℕ) (pieces : List (Piece Said)) (words after : List ℕ) (said : Said)
     → AreJoined IsLetterPart place pieces (words ++ after)
     → IsLetterPart (place + length (spelled pieces)) words after said
-    → AreJoined IsLetterPart place (pieces ++ (let q : Piece Said = record { words = words; what = said } in q) ∷ []) after
+    → AreJoined IsLetterPart place
+    (pieces ++ (let q : Piece Said = record { words = words; what = said } in q) ∷ []) after
 joined-last place [] words after said joined right = (
   subst (λ (k : ℕ). IsLetterPart k words after said) (omega arith) right,
   tt,

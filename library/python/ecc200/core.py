@@ -242,7 +242,7 @@ class Inspection(NamedTuple):
     left: Tuple[int, ...]                 # the same
     dealing: int = 0                      # as in a Reading, of what is read
     designators: Tuple[Mark, ...] = ()    # as the marks of a Reading, but each with how many codewords stand before its
-                                          # ECI, 241; none where a block is beyond correction, and where WIDE reads nothing
+                                          # ECI, 241; none where a block is beyond correction, or WIDE reads nothing
 
 
 class Kind(enum.IntEnum):
