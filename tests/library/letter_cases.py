@@ -135,8 +135,8 @@ def designators():
         for data in ((241, 27, *one), (*one, 241, 128, 74), (236, *one, 241, 192, 1, 1, *one, 241, 27)):
             yield from inspected((24, 24), data)
     # 241 in a segment, in a run of EDIFACT, behind the first pad, and as the first codeword of a designator
-    for data in ((*base_256_words(b"A"), 241, 27, 66), (231, randomised(0, 2), 241, 27, 66), (240, 241, 27, 66, 124, 66),
-                 (66, 129, 241, 27), (241, 241, 27)):
+    for data in ((*base_256_words(b"A"), 241, 27, 66), (231, randomised(0, 2), 241, 27, 66),
+                 (240, 241, 27, 66, 124, 66), (66, 129, 241, 27), (241, 241, 27)):
         yield from inspected((24, 24), data)
 
 

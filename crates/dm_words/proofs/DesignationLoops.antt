@@ -187,7 +187,7 @@ of_no_opening words found e is =
 opens : (words : List ℕ) (o : Opened) → OpeningJudged words (Some o)
     → (a : AreOpened words o.opening (o.count + 1) (drop o.count words)) × (o.count ≡ length a.first)
 opens words o j =
-    let rest : drop o.count words ≡ j.more = ap (drop o.count) j.whole ∙ drop_at j.first j.more o.count (sym j.count) in (
+    let rest = ap (drop o.count) j.whole ∙ drop_at j.first j.more o.count (sym j.count) in (
       record {
         first = j.first;
         is_opening = subst (λ (more : List ℕ). IsOpening j.first more o.opening) (sym rest) j.is_opening;
