@@ -52,10 +52,10 @@ fn lift_rows<R: BitRows>(symbol: &BorrowedSymbol, words: &mut [u8])
     join_rows(&rows, &mut slots, height, columns);
     let order = order(height, columns);
     for (i, slot) in order.first.iter().enumerate() {
-        words[i] = codeword::<R>(&slots, *slot);
+        words[i] = codeword::<R>(&slots, *slot as usize);
     }
     let count = order.first.len();
     for (j, slot) in order.rest.iter().enumerate() {
-        words[count + j] = codeword::<R>(&slots, *slot - order.less);
+        words[count + j] = codeword::<R>(&slots, *slot as usize - order.less);
     }
 }

@@ -35,11 +35,11 @@ pub(crate) fn paint<R: BitRows>(size: SymbolSize, words: &[u8], rows: &mut R)
     let mut slots = R::empty();
     let order = order(height, columns);
     for (i, slot) in order.first.iter().enumerate() {
-        R::add(&mut slots, *slot, reverse(words[i]));
+        R::add(&mut slots, *slot as usize, reverse(words[i]));
     }
     let count = order.first.len();
     for (j, slot) in order.rest.iter().enumerate() {
-        R::add(&mut slots, *slot - order.less, reverse(words[count + j]));
+        R::add(&mut slots, *slot as usize - order.less, reverse(words[count + j]));
     }
     lay_slots(rows, &slots, height, columns);
 }

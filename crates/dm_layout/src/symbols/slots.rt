@@ -119,12 +119,12 @@ pub(crate) fn join_rows<R: BitRows>(rows: &R, slots: &mut R::Slots, height: u16,
 {
     join_anchors(rows, slots, height);
     let corner = corner_word(rows, height, columns);
-    R::add(slots, R::corner(), reverse(corner));
+    R::add(slots, R::corner() as usize, reverse(corner));
 }
 
 /// Gives the codeword of a slot.
 #[inline(always)]
-pub(crate) fn codeword<R: BitRows>(slots: &R::Slots, slot: u16) -> u8
+pub(crate) fn codeword<R: BitRows>(slots: &R::Slots, slot: usize) -> u8
     requires { HasSlot R.bytes R.most slot }
     ensures { result ≡ reversed_bits (slot_byte R.bytes (R.joined slots.now) slot) }
 {
@@ -255,12 +255,11 @@ fn rectangle_order(rows: u16, columns: u16) -> &'static [u16]
 pub(crate) struct OrderParts {
     pub(crate) first: &'static [u16],
     pub(crate) rest: &'static [u16],
-    pub(crate) less: u16,
+    pub(crate) less: usize,
 }
 
-/// Gives the slots of the codewords of a mapping matrix in order. A square that has 64 to 120 rows, a multiple of 8, has
-/// its codewords up to the diagonal where the largest of these has them, and the others as far from its lower right
-/// corner.
+/// Gives the slots of the codewords of a mapping matrix in order. A square of 64 to 120 rows, a multiple of 8, has its
+/// codewords up to the diagonal where the largest of these has them, and the others as far from its lower right corner.
 pub(crate) fn order(rows: u16, columns: u16) -> OrderParts
     ensures first { result.first.now ≡ first_order_of rows columns }
     ensures rest { result.rest.now ≡ rest_order_of rows columns }
@@ -271,7 +270,7 @@ pub(crate) fn order(rows: u16, columns: u16) -> OrderParts
         OrderParts {
             first: &ORDER_120_120[..half],
             rest: &ORDER_120_120[1800 - half..],
-            less: (120 - rows) / 8 * 129,
+            less: (120 - rows as usize) / 8 * 129,
         }
     } else {
         OrderParts {
