@@ -39,7 +39,11 @@ pub(crate) fn paint<R: BitRows>(size: SymbolSize, words: &[u8], rows: &mut R)
     }
     let count = order.first.len();
     for (j, slot) in order.rest.iter().enumerate() {
-        R::add(&mut slots, *slot as usize - order.less, reverse(words[count + j]));
+        R::add(
+            &mut slots,
+            *slot as usize - order.less,
+            reverse(words[count + j]),
+        );
     }
     lay_slots(rows, &slots, height, columns);
 }

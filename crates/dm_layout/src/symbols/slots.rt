@@ -146,12 +146,8 @@ fn square_order(side: u16) -> &'static [u16]
         22 => &ORDER_22_22,
         24 => &ORDER_24_24,
         28 => &ORDER_28_28,
-        32 => &ORDER_32_32,
         36 => &ORDER_36_36,
-        40 => &ORDER_40_40,
         44 => &ORDER_44_44,
-        48 => &ORDER_48_48,
-        56 => &ORDER_56_56,
         108 => &ORDER_108_108,
         _ => &ORDER_132_132,
     }
@@ -258,19 +254,29 @@ pub(crate) struct OrderParts {
     pub(crate) less: usize,
 }
 
-/// Gives the slots of the codewords of a mapping matrix in order. A square of 64 to 120 rows, a multiple of 8, has its
-/// codewords up to the diagonal where the largest of these has them, and the others as far from its lower right corner.
+/// Gives the slots of the codewords of a mapping matrix in order. A square of 32 to 56 rows or of 64 to 120, a multiple
+/// of 8, has its codewords up to the diagonal where the largest of these has them, and the others as far from its lower
+/// right corner.
 pub(crate) fn order(rows: u16, columns: u16) -> OrderParts
     ensures first { result.first.now ≡ first_order_of rows columns }
     ensures rest { result.rest.now ≡ rest_order_of rows columns }
     ensures less { result.less ≡ less_of rows columns }
 {
-    if rows == columns && 56 < rows && rows <= 120 && rows % 8 == 0 {
-        let half = rows as usize * rows as usize / 16;
-        OrderParts {
-            first: &ORDER_120_120[..half],
-            rest: &ORDER_120_120[1800 - half..],
-            less: (120 - rows as usize) / 8 * 129,
+    if rows == columns && 24 < rows && rows <= 120 && rows % 8 == 0 {
+        let side = rows as usize;
+        let half = side * side / 16;
+        if side <= 56 {
+            OrderParts {
+                first: &ORDER_56_56[..half],
+                rest: &ORDER_56_56[392 - half..],
+                less: (56 - side) / 8 * 65,
+            }
+        } else {
+            OrderParts {
+                first: &ORDER_120_120[..half],
+                rest: &ORDER_120_120[1800 - half..],
+                less: (120 - side) / 8 * 129,
+            }
         }
     } else {
         OrderParts {

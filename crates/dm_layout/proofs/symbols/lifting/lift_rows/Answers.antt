@@ -1,4 +1,4 @@
-use Rattle.std.proofs.Common.{◌≡◌, ℕ, ◌+◌, List, map, take, set, length, get_or, ap, sym, subst, refl, arith, ◌∙◌}
+use Rattle.std.proofs.Common.{◌≡◌, ℕ, ◌+◌, List, map, take, set, length, ap, sym, subst, refl, arith, ◌∙◌}
 use Rattle.std.proofs.lemmas.List.{length-map, length-set, take_all}
 use Rattle.dm_place.specs.Holding.{HoldsBits}
 use Rattle.dm_place.specs.Placement.{shapes}
@@ -204,7 +204,8 @@ returns-clause-holds g c =
     let most : ℕ = g.R.BitRows.most in
     let n =
     known c.args.symbol.now.size c.mapping_rows-height.result c.mapping_columns-columns.result g.R.BitRows.bytes
-    g.R.BitRows.most (order_of c.mapping_rows-height.result c.mapping_columns-columns.result) c.size-size.ensures.modules.size c.requires.slots c.requires.room
+    g.R.BitRows.most (order_of c.mapping_rows-height.result c.mapping_columns-columns.result)
+    c.size-size.ensures.modules.size c.requires.slots c.requires.room
     (c.mapping_rows-height.ensures.value ∙ ap mapping_rows c.size-size.ensures.value)
     (c.mapping_columns-columns.ensures.value ∙ ap mapping_columns c.size-size.ensures.value)
     refl in

@@ -149,9 +149,10 @@ loop-j-preserved g c =
       so_far =
           subst (λ (h : ℕ). AreLaid most m k words (g.R.BitRows.joined c.add-in-loop-j.new.slots) h) next
           (subst (λ (xs : List ℕ). AreLaid most m k words xs (i + 1)) (sym c.add-in-loop-j.ensures)
-          (laid_more bytes most m k i (get_or c.order-order.result.rest.now c.loop-j.j 0 - c.order-order.result.less) c.reverse-in-loop-j.result
-          words slots n.room.least_rows n.room.least_columns n.room.rows n.room.slots n.room.even_rows
-          n.room.even_columns
+          (laid_more bytes most m k i
+          (get_or c.order-order.result.rest.now c.loop-j.j 0 - c.order-order.result.less)
+          c.reverse-in-loop-j.result words slots n.room.least_rows n.room.least_columns n.room.rows n.room.slots
+          n.room.even_rows n.room.even_columns
           (omega (arith, c.loop-j.invariant.count))
           (omega (arith, c.type_inv.words i))
           n.fits
@@ -163,40 +164,46 @@ loop-j-preserved g c =
 pub lay_slots-requires-clause-some : goal.lay_slots-requires-clause-some
 lay_slots-requires-clause-some g c =
     (known c.args.size c.mapping_rows-height.result c.mapping_columns-columns.result g.R.BitRows.bytes g.R.BitRows.most
-    (order_of c.mapping_rows-height.result c.mapping_columns-columns.result) c.mapping_rows-height.ensures.size c.requires.slots c.requires.room
+    (order_of c.mapping_rows-height.result c.mapping_columns-columns.result) c.mapping_rows-height.ensures.size
+    c.requires.slots c.requires.room
     c.mapping_rows-height.ensures.value c.mapping_columns-columns.ensures.value
     refl).room.least_rows
 
 pub lay_slots-requires-clause-least : goal.lay_slots-requires-clause-least
 lay_slots-requires-clause-least g c =
     (known c.args.size c.mapping_rows-height.result c.mapping_columns-columns.result g.R.BitRows.bytes g.R.BitRows.most
-    (order_of c.mapping_rows-height.result c.mapping_columns-columns.result) c.mapping_rows-height.ensures.size c.requires.slots c.requires.room
+    (order_of c.mapping_rows-height.result c.mapping_columns-columns.result) c.mapping_rows-height.ensures.size
+    c.requires.slots c.requires.room
     c.mapping_rows-height.ensures.value c.mapping_columns-columns.ensures.value
     refl).room.least_columns
 
 pub lay_slots-requires-clause-high : goal.lay_slots-requires-clause-high
 lay_slots-requires-clause-high g c =
     (known c.args.size c.mapping_rows-height.result c.mapping_columns-columns.result g.R.BitRows.bytes g.R.BitRows.most
-    (order_of c.mapping_rows-height.result c.mapping_columns-columns.result) c.mapping_rows-height.ensures.size c.requires.slots c.requires.room
+    (order_of c.mapping_rows-height.result c.mapping_columns-columns.result) c.mapping_rows-height.ensures.size
+    c.requires.slots c.requires.room
     c.mapping_rows-height.ensures.value c.mapping_columns-columns.ensures.value refl).room.rows
 
 pub lay_slots-requires-clause-wide : goal.lay_slots-requires-clause-wide
 lay_slots-requires-clause-wide g c =
     (known c.args.size c.mapping_rows-height.result c.mapping_columns-columns.result g.R.BitRows.bytes g.R.BitRows.most
-    (order_of c.mapping_rows-height.result c.mapping_columns-columns.result) c.mapping_rows-height.ensures.size c.requires.slots c.requires.room
+    (order_of c.mapping_rows-height.result c.mapping_columns-columns.result) c.mapping_rows-height.ensures.size
+    c.requires.slots c.requires.room
     c.mapping_rows-height.ensures.value c.mapping_columns-columns.ensures.value refl).room.columns
 
 pub lay_slots-requires-clause-even_rows : goal.lay_slots-requires-clause-even_rows
 lay_slots-requires-clause-even_rows g c =
     (known c.args.size c.mapping_rows-height.result c.mapping_columns-columns.result g.R.BitRows.bytes g.R.BitRows.most
-    (order_of c.mapping_rows-height.result c.mapping_columns-columns.result) c.mapping_rows-height.ensures.size c.requires.slots c.requires.room
+    (order_of c.mapping_rows-height.result c.mapping_columns-columns.result) c.mapping_rows-height.ensures.size
+    c.requires.slots c.requires.room
     c.mapping_rows-height.ensures.value c.mapping_columns-columns.ensures.value
     refl).room.even_rows
 
 pub lay_slots-requires-clause-even_columns : goal.lay_slots-requires-clause-even_columns
 lay_slots-requires-clause-even_columns g c =
     (known c.args.size c.mapping_rows-height.result c.mapping_columns-columns.result g.R.BitRows.bytes g.R.BitRows.most
-    (order_of c.mapping_rows-height.result c.mapping_columns-columns.result) c.mapping_rows-height.ensures.size c.requires.slots c.requires.room
+    (order_of c.mapping_rows-height.result c.mapping_columns-columns.result) c.mapping_rows-height.ensures.size
+    c.requires.slots c.requires.room
     c.mapping_rows-height.ensures.value c.mapping_columns-columns.ensures.value
     refl).room.even_columns
 
@@ -211,7 +218,8 @@ painted g c r q lr lq =
     let words : List ℕ = c.args.words.now in
     let n =
     known c.args.size c.mapping_rows-height.result c.mapping_columns-columns.result g.R.BitRows.bytes g.R.BitRows.most
-    (order_of c.mapping_rows-height.result c.mapping_columns-columns.result) c.mapping_rows-height.ensures.size c.requires.slots c.requires.room
+    (order_of c.mapping_rows-height.result c.mapping_columns-columns.result) c.mapping_rows-height.ensures.size
+    c.requires.slots c.requires.room
     c.mapping_rows-height.ensures.value c.mapping_columns-columns.ensures.value refl in
     let p =
     parts_at_size c.args.size c.mapping_rows-height.result c.mapping_columns-columns.result
@@ -221,7 +229,8 @@ painted g c r q lr lq =
     let i : r < m = omega (arith, n.high, lr) in
     let j : q < k = omega (arith, n.wide, lq) in
     c.lay_slots.ensures.cells r q i j
-    ∙ laid_all g.R.BitRows.most m k (length c.order-order.result.first.now + c.loop-j.j) words (g.R.BitRows.joined c.loop-j.slots) (omega (
+    ∙ laid_all g.R.BitRows.most m k (length c.order-order.result.first.now + c.loop-j.j) words
+    (g.R.BitRows.joined c.loop-j.slots) (omega (
       arith,
       n.count,
       n.shape_count,
