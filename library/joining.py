@@ -25,6 +25,8 @@ ABOUT = re.compile(r"\t\.(?:type|size)\t")
 # What stands behind the last constant, and belongs to none.
 OF_FILE = re.compile(r"\t\.(?:ident\t|addrsig$)")
 OUTSIDE = re.compile(r"\b(\w+)@PLT\b")
+# Loops that begin elsewhere make writing a tenth slower.
+BEGINNING = ["\t.p2align\t5"]
 # How many functions share a table: a debugger goes through it from its beginning for each function that it passes.
 IN_A_TABLE = 16
 BEGIN, END = "\t.cfi_startproc", "\t.cfi_endproc"
@@ -110,7 +112,7 @@ def joined(text):
     """The assembler's text so joined. Raises ValueError with a line that isn't known."""
     code, constants, others = sorted_out(text)
     code = with_few_tables([*with_jumps(code)])
-    return "\n".join(["\t.text", *code, *constants.written(), *others, ""])
+    return "\n".join(["\t.text", *BEGINNING, *code, *constants.written(), *others, ""])
 
 
 def main():
