@@ -28,7 +28,7 @@ def compile_about(compiler, run):
     """Compiles what is in C."""
     # A table of addresses would have to be relocated, and so could be written to when the library is loaded.
     flags = ["-std=c11", "-O2", "-fPIC", "-g0", "-Wall", "-Wextra", "-Werror", "-fno-jump-tables",
-             "-fasynchronous-unwind-tables"]
+             "-fasynchronous-unwind-tables", "-fno-merge-constants"]
     flags += ["-fno-tree-switch-conversion"] if "clang" not in compiler else []
     run([compiler, *flags, "-c", ABOUT, "-o", "about.o"])
 

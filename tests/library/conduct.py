@@ -89,16 +89,24 @@ def names(system):
 
 
 def unwound(system):
-    """Each function of the static library has an unwind table; under Windows such tables are there. The shared library
-    has the same functions, and those by name that aren't exported too."""
+    """Each function of the shared library lies in an unwind table, and the static library has as many of these; under
+    Windows such tables are there. The shared library has those functions by name that aren't exported, too."""
     if system.is_windows:
         yield "unwind tables", None if " .pdata " in said([system.objdump, "-h", system.shared])[1] else "aren't there"
         return
-    tables = said(["readelf", "--debug-dump=frames", system.archive])[1].count(" FDE ")
-    functions = [words for words in listed(system.nm, "--defined-only", system.shared)
-                 if len(words) == 3 and words[1] in "tT" and ("::" in words[2] or words[2] in EXPORTS)]
-    is_enough = tables >= len(functions) > len(EXPORTS)
-    yield "unwind tables", None if is_enough else f"{tables} of {len(functions)} functions"
+    tables = [[(int(begin, 16), int(end, 16)) for begin, end in
+               re.findall(r" FDE .* pc=(\w+)\.\.(\w+)", said(["readelf", "--debug-dump=frames", library])[1])]
+              for library in (system.shared, system.archive)]
+    functions = {words[3]: (int(words[0], 16), int(words[0], 16) + int(words[1], 16))
+                 for words in listed(system.nm, "-S", "--defined-only", system.shared)
+                 if len(words) == 4 and words[2] in "tT" and ("::" in words[3] or words[3] in EXPORTS)}
+    table_of = {name: [(first, last) for first, last in tables[0] if first <= begin and end <= last]
+                for name, (begin, end) in functions.items()}
+    bare = [name for name, its_own in table_of.items() if not its_own]
+    used = {table for its_own in table_of.values() for table in its_own}
+    yield "functions by name", None if len(functions) > len(EXPORTS) else f"{functions}"
+    yield "unwind tables", None if not bare else f"there is none for {bare}"
+    yield "the static library's", None if len(tables[1]) >= len(used) else f"{len(tables[1])} of {len(used)}"
 
 
 # What Windows' objects have a name for, each of which is empty.

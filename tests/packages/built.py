@@ -20,7 +20,7 @@ def linked(folder):
     if has("gdb", "backtraces through the library's calls"):
         for call in ("ecc200_read", "ecc200_write_bytes"):
             # the depth at which a call stands after so many instructions differs; each time main must be at its end
-            steps = [word for count in (1, 40, 300, 900, 2500)
+            steps = [word for count in (1, 40, 300, 700, 1000)
                      for word in ("-ex", f"stepi {count}", "-ex", "backtrace", "-ex", "echo ==\\n")]
             words = ["gdb", "-q", "-nx", "-batch", "-ex", f"break {call}", "-ex", "run", *steps, made]
             told = run(words, env={**os.environ, "DEBUGINFOD_URLS": ""})[1].split("==\n")

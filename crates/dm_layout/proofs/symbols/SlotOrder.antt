@@ -1,11 +1,12 @@
 -- What the computed tests of the slots say of each size.
-use Rattle.std.proofs.Common.{◌≡◌, inl, inr, ℕ, zero, suc, ◌+◌, ◌*◌, ◌/◌, ◌%◌, ◌<◌, ◌≤◌, true, refl, subst, ◌&&◌}
+use Rattle.std.proofs.Common.{◌≡◌, inl, inr, ℕ, zero, suc, ◌+◌, ◌-◌, ◌*◌, ◌/◌, ◌%◌, ◌<◌, ◌≤◌, true, refl, subst, ◌&&◌}
 use Rattle.std.proofs.Common.{nat_eq}
 use Rattle.std.proofs.Common.{nat_lt, nat_le, List, [], ◌∷◌, ◌++◌, map, length, take, set, get_or, ap, sym, ◌∙◌, arith}
 use Rattle.std.specs.List.{list_all}
 use Rattle.std.specs.Cmp.Lexicographic.{pointwise, same_text}
 use Rattle.std.proofs.lemmas.Bool.{and_parts, ltb-true, leb-true}
-use Rattle.std.proofs.lemmas.List.{length-map, take_more, take_more_set, get_or-map}
+use Rattle.std.proofs.lemmas.List.{length-map, length-append, take_more, take_more_set, get_or-map}
+use Rattle.std.proofs.lemmas.List.{get_or_append_left, get_or-append-add}
 use Rattle.dm_layout.specs.symbols.Sizes.{SizeEntry, IsSize, codeword_count, mapping_rows, mapping_columns}
 use Rattle.dm_layout.proofs.symbols.Exported.{placed_size, size_facts}
 use Rattle.dm_place.specs.Placement.{shapes, cells_of}
@@ -13,10 +14,11 @@ use Rattle.dm_place.specs.declared.shape.Shape.{Shape}
 use Rattle.dm_place.specs.declared.shape.Shape.TheVariants.{Standard, Corner1, Corner2, Corner3, Corner4}
 use Rattle.dm_place.proofs.Exported.{few_shapes, inside_test, shapes-few, count_at_sides}
 use Rattle.dm_layout.specs.symbols.inner.Slots.{bytes_of, most_of, order_of, slot_of, HasSlot}
+use Rattle.dm_layout.specs.symbols.inner.Slots.{first_order_of, rest_order_of, less_of}
 use Rattle.dm_layout.proofs.symbols.LiftedWords.{fits_test, kind_test, slot_row, slot_place}
 use Rattle.dm_layout.proofs.symbols.Sizes.{passed_at_size, even_product}
 use Rattle.dm_layout.proofs.symbols.TestedSlots as slotted
-use Rattle.dm_layout.proofs.symbols.TestedSlots.{slots_test, room_test}
+use Rattle.dm_layout.proofs.symbols.TestedSlots.{slots_test, room_test, less_test}
 
 -- The slots of a matrix are those of its shapes, and the shapes fit.
 pub record IsOrder (bytes most R C : ℕ) : Type 0 where
@@ -151,3 +153,44 @@ read_more f list slots i x l k e h =
     ∙ ap (λ (ws : List ℕ). ws ++ x ∷ []) h
     ∙ ap (λ (w : ℕ). take i (map f slots) ++ w ∷ []) (e ∙ sym (get_or-map f slots i 0 0 k))
     ∙ sym (take_more (map f slots) i 0 (omega (arith, m, k)))
+
+-- A list of slots has two parts, in the second of which each is `less` too large.
+pub record AreParts (xs first rest : List ℕ) (less : ℕ) : Type 0 where
+  pub count : length xs ≡ length first + length rest
+  pub early : (i : ℕ) → i < length first → get_or xs i 0 ≡ get_or first i 0
+  pub late : (j : ℕ) → j < length rest → get_or xs (length first + j) 0 ≡ get_or rest j 0 - less
+  pub least : (j : ℕ) → j < length rest → less ≤ get_or rest j 0
+
+-- A number that is at most each of a list is at most this one.
+at_most_each : (d j : ℕ) (xs : List ℕ) → list_all (nat_le d) xs ≡ true → j < length xs → d ≤ get_or xs j 0
+at_most_each d j [] most l = absurd (omega arith)
+at_most_each d zero (x ∷ xs) most l = leb-true d x (and_parts (nat_le d x) (list_all (nat_le d) xs) most).0
+at_most_each d (suc j) (x ∷ xs) most l =
+    at_most_each d j xs (and_parts (nat_le d x) (list_all (nat_le d) xs) most).1 (omega arith)
+
+-- Two parts make a list.
+parted : (first rest : List ℕ) (less : ℕ) → list_all (nat_le less) rest ≡ true →
+    AreParts (first ++ map (λ x. x - less) rest) first rest less
+parted first rest less most =
+    let f : ℕ → ℕ = λ x. x - less in
+    record {
+      count = length-append first (map f rest) ∙ ap (λ (i : ℕ). length first + i) (length-map rest f);
+      early = λ i l. get_or_append_left first (map f rest) 0 i l;
+      late = λ j l. get_or-append-add first (map f rest) j 0 ∙ get_or-map f rest j 0 0 l;
+      least = λ j l. at_most_each less j rest most l;
+    }
+
+-- The slots of a size, whose mapping matrix has m rows and k columns, have their two parts.
+pub parts_at_size : (s : SizeEntry) (m k less : ℕ) (first rest : List ℕ) → IsSize s → m ≡ mapping_rows s →
+    k ≡ mapping_columns s → first ≡ first_order_of m k → rest ≡ rest_order_of m k → less ≡ less_of m k →
+    AreParts (order_of m k) first rest less
+parts_at_size s m k less first rest entry er ec ef et el =
+    let tested : less_test (mapping_rows s) (mapping_columns s) ≡ true =
+    passed_at_size (λ size. less_test (mapping_rows size) (mapping_columns size)) s slotted.less_tested entry in
+    let most : less_test m k ≡ true =
+    ap (λ (i : ℕ). less_test i k) er ∙ ap (λ (i : ℕ). less_test (mapping_rows s) i) ec ∙ tested in
+    let all : AreParts (order_of m k) (first_order_of m k) (rest_order_of m k) (less_of m k) =
+    parted (first_order_of m k) (rest_order_of m k) (less_of m k) most in
+    subst (λ (i : List ℕ). AreParts (order_of m k) i rest less) (sym ef)
+    (subst (λ (i : List ℕ). AreParts (order_of m k) (first_order_of m k) i less) (sym et)
+    (subst (λ (i : ℕ). AreParts (order_of m k) (first_order_of m k) (rest_order_of m k) i) (sym el) all))

@@ -5,7 +5,7 @@ use Rattle.std.specs.Prelude.{ℕ, Bool, nat_eq, nat_le, ◌*◌}
 use Rattle.std.specs.List.{list_all}
 use Rattle.std.specs.Cmp.Lexicographic.{pointwise}
 use Rattle.dm_layout.specs.symbols.Sizes.{size_table, mapping_rows, mapping_columns}
-use Rattle.dm_layout.specs.symbols.inner.Slots.{bytes_of, most_of, order_of, slot_of}
+use Rattle.dm_layout.specs.symbols.inner.Slots.{bytes_of, most_of, order_of, slot_of, rest_order_of, less_of}
 use Rattle.dm_place.proofs.Exported.{few_shapes}
 use Rattle.dm_layout.proofs.symbols.LiftedWords.{fits_test}
 
@@ -26,3 +26,11 @@ room_test R C = (nat_le R (most_of C) && nat_le C (most_of C)) && nat_le C (8 * 
 pub room_tested : list_all (λ size. room_test (mapping_rows size) (mapping_columns size)) size_table ≡ true
 unfolding size_table
 room_tested = refl
+
+-- No slot is less than what is taken from it.
+abbrev pub less_test : ℕ → ℕ → Bool
+less_test R C = list_all (nat_le (less_of R C)) (rest_order_of R C)
+
+pub less_tested : list_all (λ size. less_test (mapping_rows size) (mapping_columns size)) size_table ≡ true
+unfolding size_table
+less_tested = refl

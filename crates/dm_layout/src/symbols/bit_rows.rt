@@ -143,12 +143,12 @@ pub(crate) trait BitRows: Sized + Drop {
         ensures { result ≡ bytes * most };
 
     /// Gives the byte of a slot.
-    fn byte(slots: &Self::Slots, slot: u16) -> u8
+    fn byte(slots: &Self::Slots, slot: usize) -> u8
         requires { HasSlot bytes most slot }
         ensures { result ≡ slot_byte bytes (joined slots.now) slot };
 
     /// Lays a byte over that of its slot.
-    fn add(slots: &mut Self::Slots, slot: u16, byte: u8)
+    fn add(slots: &mut Self::Slots, slot: usize, byte: u8)
         requires { HasSlot bytes most slot }
         ensures { joined slots.new ≡ with_byte bytes (joined slots.old) slot byte };
 

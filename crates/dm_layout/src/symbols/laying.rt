@@ -156,5 +156,10 @@ pub(crate) fn lay_slots<R: BitRows>(rows: &mut R, slots: &R::Slots, height: u16,
 {
     scatter(rows, slots, height);
     fold(rows, height, columns);
-    put_corner(rows, height, columns, codeword::<R>(slots, R::corner()));
+    put_corner(
+        rows,
+        height,
+        columns,
+        codeword::<R>(slots, R::corner() as usize),
+    );
 }

@@ -50,7 +50,12 @@ fn lift_rows<R: BitRows>(symbol: &BorrowedSymbol, words: &mut [u8])
     widen(symbol, &mut rows);
     let mut slots = R::empty();
     join_rows(&rows, &mut slots, height, columns);
-    for (i, slot) in order(height, columns).iter().enumerate() {
-        words[i] = codeword::<R>(&slots, *slot);
+    let order = order(height, columns);
+    for (i, slot) in order.first.iter().enumerate() {
+        words[i] = codeword::<R>(&slots, *slot as usize);
+    }
+    let count = order.first.len();
+    for (j, slot) in order.rest.iter().enumerate() {
+        words[count + j] = codeword::<R>(&slots, *slot as usize - order.less);
     }
 }

@@ -33,8 +33,17 @@ pub(crate) fn paint<R: BitRows>(size: SymbolSize, words: &[u8], rows: &mut R)
     let height = size.mapping_rows();
     let columns = size.mapping_columns();
     let mut slots = R::empty();
-    for (i, slot) in order(height, columns).iter().enumerate() {
-        R::add(&mut slots, *slot, reverse(words[i]));
+    let order = order(height, columns);
+    for (i, slot) in order.first.iter().enumerate() {
+        R::add(&mut slots, *slot as usize, reverse(words[i]));
+    }
+    let count = order.first.len();
+    for (j, slot) in order.rest.iter().enumerate() {
+        R::add(
+            &mut slots,
+            *slot as usize - order.less,
+            reverse(words[count + j]),
+        );
     }
     lay_slots(rows, &slots, height, columns);
 }

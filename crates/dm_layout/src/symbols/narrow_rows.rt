@@ -125,12 +125,12 @@ impl BitRows for NarrowRows {
     }
 
     #[inline(always)]
-    fn byte(slots: &Slots<8, NARROW_SLOTS>, slot: u16) -> u8 {
+    fn byte(slots: &Slots<8, NARROW_SLOTS>, slot: usize) -> u8 {
         slots.byte(slot)
     }
 
     #[inline(always)]
-    fn add(slots: &mut Slots<8, NARROW_SLOTS>, slot: u16, byte: u8) {
+    fn add(slots: &mut Slots<8, NARROW_SLOTS>, slot: usize, byte: u8) {
         slots.add(slot, byte);
     }
 }

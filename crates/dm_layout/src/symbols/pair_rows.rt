@@ -139,12 +139,12 @@ impl BitRows for PairRows {
     }
 
     #[inline(always)]
-    fn byte(slots: &Slots<32, PAIR_SLOTS>, slot: u16) -> u8 {
+    fn byte(slots: &Slots<32, PAIR_SLOTS>, slot: usize) -> u8 {
         slots.byte(slot)
     }
 
     #[inline(always)]
-    fn add(slots: &mut Slots<32, PAIR_SLOTS>, slot: u16, byte: u8) {
+    fn add(slots: &mut Slots<32, PAIR_SLOTS>, slot: usize, byte: u8) {
         slots.add(slot, byte);
     }
 }

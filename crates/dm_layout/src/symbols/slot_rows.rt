@@ -61,22 +61,22 @@ impl<const BYTES: usize, const ROWS: usize> Slots<BYTES, ROWS> {
     /// Gives the byte of a slot. Among the bytes of all rows it stands at the slot's own place, so that no row is
     /// looked for.
     #[inline(always)]
-    pub(crate) fn byte(&self, slot: u16) -> u8
+    pub(crate) fn byte(&self, slot: usize) -> u8
         requires some { 0 < BYTES }
         requires row { slot / BYTES < ROWS }
         ensures { result ≡ slot_byte BYTES self.now slot }
     {
-        self.rows.as_flattened()[slot as usize]
+        self.rows.as_flattened()[slot]
     }
 
     /// Lays a byte over that of its slot.
     #[inline(always)]
-    pub(crate) fn add(&mut self, slot: u16, byte: u8)
+    pub(crate) fn add(&mut self, slot: usize, byte: u8)
         requires some { 0 < BYTES }
         requires row { slot / BYTES < ROWS }
         ensures { self.new ≡ with_byte BYTES self.old slot byte }
     {
-        let row = slot as usize / BYTES;
-        self.rows[row][slot as usize % BYTES] |= byte;
+        let row = slot / BYTES;
+        self.rows[row][slot % BYTES] |= byte;
     }
 }

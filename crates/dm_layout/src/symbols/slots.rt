@@ -6,7 +6,7 @@ ghost use Rattle.std.specs.Prelude.{◌≡◌, ◌+◌, ◌%◌, ◌<◌, ◌≤
 ghost use Rattle.dm_place.specs.Placement.{cells_of, CellsInside};
 ghost use Rattle.dm_layout.specs.symbols.inner.Widths.{largest_matrix};
 ghost use Rattle.dm_layout.specs.symbols.inner.Slots.{first_column as first_column_by, reversed_bits, word_in};
-ghost use Rattle.dm_layout.specs.symbols.inner.Slots.{order_of};
+ghost use Rattle.dm_layout.specs.symbols.inner.Slots.{first_order_of, rest_order_of, less_of, whole_order_of};
 ghost use Rattle.dm_layout.specs.symbols.inner.Slots.{square_order_of, rectangle_order_of, order_in_6_of};
 ghost use Rattle.dm_layout.specs.symbols.inner.Slots.{order_in_10_of};
 ghost use Rattle.dm_layout.specs.symbols.inner.Slots.{order_in_14_of, order_in_18_of, order_in_20_of, order_in_22_of};
@@ -119,19 +119,19 @@ pub(crate) fn join_rows<R: BitRows>(rows: &R, slots: &mut R::Slots, height: u16,
 {
     join_anchors(rows, slots, height);
     let corner = corner_word(rows, height, columns);
-    R::add(slots, R::corner(), reverse(corner));
+    R::add(slots, R::corner() as usize, reverse(corner));
 }
 
 /// Gives the codeword of a slot.
 #[inline(always)]
-pub(crate) fn codeword<R: BitRows>(slots: &R::Slots, slot: u16) -> u8
+pub(crate) fn codeword<R: BitRows>(slots: &R::Slots, slot: usize) -> u8
     requires { HasSlot R.bytes R.most slot }
     ensures { result ≡ reversed_bits (slot_byte R.bytes (R.joined slots.now) slot) }
 {
     reverse(R::byte(slots, slot))
 }
 
-/// Gives the slots of the codewords of a square in order.
+/// Gives the slots of the codewords of a square in order, where they have a table of their own.
 fn square_order(side: u16) -> &'static [u16]
     ensures { result.now ≡ square_order_of side }
 {
@@ -146,19 +146,9 @@ fn square_order(side: u16) -> &'static [u16]
         22 => &ORDER_22_22,
         24 => &ORDER_24_24,
         28 => &ORDER_28_28,
-        32 => &ORDER_32_32,
         36 => &ORDER_36_36,
-        40 => &ORDER_40_40,
         44 => &ORDER_44_44,
-        48 => &ORDER_48_48,
-        56 => &ORDER_56_56,
-        64 => &ORDER_64_64,
-        72 => &ORDER_72_72,
-        80 => &ORDER_80_80,
-        88 => &ORDER_88_88,
-        96 => &ORDER_96_96,
         108 => &ORDER_108_108,
-        120 => &ORDER_120_120,
         _ => &ORDER_132_132,
     }
 }
@@ -256,9 +246,50 @@ fn rectangle_order(rows: u16, columns: u16) -> &'static [u16]
     }
 }
 
-/// Gives the slots of the codewords of a mapping matrix in order.
-pub(crate) fn order(rows: u16, columns: u16) -> &'static [u16]
-    ensures { result.now ≡ order_of rows columns }
+/// The slots of the codewords of a mapping matrix in order: `first`, and behind them those of `rest`, each less `less`.
+#[derive(Clone, Copy)]
+pub(crate) struct OrderParts {
+    pub(crate) first: &'static [u16],
+    pub(crate) rest: &'static [u16],
+    pub(crate) less: usize,
+}
+
+/// Gives the slots of the codewords of a mapping matrix in order. A square of 32 to 56 rows or of 64 to 120, a multiple
+/// of 8, has its codewords up to the diagonal where the largest of these has them, and the others as far from its lower
+/// right corner.
+pub(crate) fn order(rows: u16, columns: u16) -> OrderParts
+    ensures first { result.first.now ≡ first_order_of rows columns }
+    ensures rest { result.rest.now ≡ rest_order_of rows columns }
+    ensures less { result.less ≡ less_of rows columns }
+{
+    if rows == columns && 24 < rows && rows <= 120 && rows % 8 == 0 {
+        let side = rows as usize;
+        let half = side * side / 16;
+        if side <= 56 {
+            OrderParts {
+                first: &ORDER_56_56[..half],
+                rest: &ORDER_56_56[392 - half..],
+                less: (56 - side) / 8 * 65,
+            }
+        } else {
+            OrderParts {
+                first: &ORDER_120_120[..half],
+                rest: &ORDER_120_120[1800 - half..],
+                less: (120 - side) / 8 * 129,
+            }
+        }
+    } else {
+        OrderParts {
+            first: whole_order(rows, columns),
+            rest: &[],
+            less: 0,
+        }
+    }
+}
+
+/// Gives the slots of the codewords of a mapping matrix in order, where they have a table of their own.
+fn whole_order(rows: u16, columns: u16) -> &'static [u16]
+    ensures { result.now ≡ whole_order_of rows columns }
 {
     if rows == columns {
         square_order(rows)

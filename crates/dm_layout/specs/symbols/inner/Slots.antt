@@ -1,7 +1,7 @@
 -- The codewords of the anchors of a row as the bytes of one number, with their bits in the opposite order, and where
 -- each codeword stands. The anchors of row r have columns that leave (3r + 4) mod 8 when divided by 8.
 use Rattle.std.specs.Prelude.{◌≡◌, ◌⊎◌, ℕ, ◌+◌, ◌-◌, ◌*◌, ◌/◌, ◌%◌, ◌^◌, ◌<◌, Bool, ◌&&◌, ◌||◌, nat_eq, nat_le, nat_lt}
-use Rattle.std.specs.Prelude.{List, [], ◌∷◌, map, get_or, length, if◌then◌else◌}
+use Rattle.std.specs.Prelude.{List, [], ◌∷◌, ◌++◌, map, take, drop, get_or, length, if◌then◌else◌}
 use Rattle.std.specs.Int.{bit_at}
 use Rattle.dm_layout.specs.symbols.Symbols.{is_dark_bit}
 use Rattle.dm_layout.specs.symbols.inner.Reading.{look_in}
@@ -12,12 +12,9 @@ use Rattle.dm_place.specs.declared.shape.Shape.TheVariants.{Standard, Corner1, C
 use Rattle.dm_layout.specs.declared.symbols.order_rows.TheConstants.{ORDER_8_8, ORDER_10_10, ORDER_12_12, ORDER_14_14}
 use Rattle.dm_layout.specs.declared.symbols.order_rows.TheConstants.{ORDER_16_16, ORDER_18_18, ORDER_20_20}
 use Rattle.dm_layout.specs.declared.symbols.order_rows.TheConstants.{ORDER_22_22, ORDER_24_24, ORDER_28_28}
-use Rattle.dm_layout.specs.declared.symbols.order_rows.TheConstants.{ORDER_32_32, ORDER_36_36, ORDER_40_40}
-use Rattle.dm_layout.specs.declared.symbols.order_rows.TheConstants.{ORDER_44_44, ORDER_48_48, ORDER_56_56}
-use Rattle.dm_layout.specs.declared.symbols.order_rows.TheConstants.{ORDER_64_64, ORDER_72_72, ORDER_80_80}
-use Rattle.dm_layout.specs.declared.symbols.order_rows.TheConstants.{ORDER_88_88, ORDER_96_96, ORDER_108_108}
-use Rattle.dm_layout.specs.declared.symbols.order_rows.TheConstants.{ORDER_120_120, ORDER_132_132, ORDER_6_16}
-use Rattle.dm_layout.specs.declared.symbols.order_rows.TheConstants.{ORDER_6_28, ORDER_6_132}
+use Rattle.dm_layout.specs.declared.symbols.order_rows.TheConstants.{ORDER_36_36, ORDER_44_44, ORDER_56_56}
+use Rattle.dm_layout.specs.declared.symbols.order_rows.TheConstants.{ORDER_108_108, ORDER_120_120, ORDER_132_132}
+use Rattle.dm_layout.specs.declared.symbols.order_rows.TheConstants.{ORDER_6_16, ORDER_6_28, ORDER_6_132}
 use Rattle.dm_layout.specs.declared.symbols.order_rows.TheConstants.{ORDER_10_24, ORDER_10_32, ORDER_14_32}
 use Rattle.dm_layout.specs.declared.symbols.order_rows.TheConstants.{ORDER_14_44, ORDER_6_44, ORDER_6_56, ORDER_6_72}
 use Rattle.dm_layout.specs.declared.symbols.order_rows.TheConstants.{ORDER_6_88, ORDER_6_108, ORDER_10_56}
@@ -120,7 +117,7 @@ most_of C = if nat_le C 56 then 56 else (if nat_le C 120 then 120 else 132)
 abbrev pub bytes_of : ℕ → ℕ
 bytes_of C = if nat_le C 56 then 8 else (if nat_le C 120 then 16 else 32)
 
--- The slots of a square matrix come in the order of its codewords.
+-- The slots of a square matrix come in the order of its codewords, where they have a table of their own.
 abbrev pub square_order_of : ℕ → List ℕ
 square_order_of n =
     if nat_eq n 8 then ORDER_8_8 else (
@@ -133,20 +130,10 @@ square_order_of n =
     if nat_eq n 22 then ORDER_22_22 else (
     if nat_eq n 24 then ORDER_24_24 else (
     if nat_eq n 28 then ORDER_28_28 else (
-    if nat_eq n 32 then ORDER_32_32 else (
     if nat_eq n 36 then ORDER_36_36 else (
-    if nat_eq n 40 then ORDER_40_40 else (
     if nat_eq n 44 then ORDER_44_44 else (
-    if nat_eq n 48 then ORDER_48_48 else (
-    if nat_eq n 56 then ORDER_56_56 else (
-    if nat_eq n 64 then ORDER_64_64 else (
-    if nat_eq n 72 then ORDER_72_72 else (
-    if nat_eq n 80 then ORDER_80_80 else (
-    if nat_eq n 88 then ORDER_88_88 else (
-    if nat_eq n 96 then ORDER_96_96 else (
     if nat_eq n 108 then ORDER_108_108 else (
-    if nat_eq n 120 then ORDER_120_120 else (
-    ORDER_132_132)))))))))))))))))))))))
+    ORDER_132_132)))))))))))))
 
 -- So do those of a rectangle of 6 rows.
 abbrev pub order_in_6_of : ℕ → List ℕ
@@ -211,5 +198,34 @@ rectangle_order_of rows columns =
     order_in_24_of columns))))))
 
 -- So do those of any matrix.
+abbrev pub whole_order_of : ℕ → ℕ → List ℕ
+whole_order_of rows columns = if nat_eq rows columns then square_order_of rows else rectangle_order_of rows columns
+
+-- These squares share a table with others, that of the largest of them.
+abbrev pub is_shared : ℕ → ℕ → Bool
+is_shared rows columns = nat_eq rows columns && (nat_lt 24 rows && (nat_le rows 120 && nat_eq (rows % 8) 0))
+
+-- The slots of a matrix come in this order: the first ones,
+abbrev pub first_order_of : ℕ → ℕ → List ℕ
+first_order_of rows columns =
+    if is_shared rows columns then (
+    if nat_le rows 56 then take (rows * rows / 16) ORDER_56_56 else take (rows * rows / 16) ORDER_120_120)
+    else whole_order_of rows columns
+
+-- and behind them these,
+abbrev pub rest_order_of : ℕ → ℕ → List ℕ
+rest_order_of rows columns =
+    if is_shared rows columns then (
+    if nat_le rows 56 then drop (392 - rows * rows / 16) ORDER_56_56
+    else drop (1800 - rows * rows / 16) ORDER_120_120)
+    else []
+
+-- each less this.
+abbrev pub less_of : ℕ → ℕ → ℕ
+less_of rows columns =
+    if is_shared rows columns then (if nat_le rows 56 then (56 - rows) / 8 * 65 else (120 - rows) / 8 * 129) else 0
+
+-- The slots of a matrix in the order of its codewords.
 abbrev pub order_of : ℕ → ℕ → List ℕ
-order_of rows columns = if nat_eq rows columns then square_order_of rows else rectangle_order_of rows columns
+order_of rows columns =
+    first_order_of rows columns ++ map (λ x. x - less_of rows columns) (rest_order_of rows columns)
