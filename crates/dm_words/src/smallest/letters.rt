@@ -139,7 +139,7 @@ fn text_cost(behind: u16, items: &[Item], plan: &mut [StepBits]) -> u16
         extent: Extent::Wide,
         behind,
     };
-    plan_to(setting, items, plan)
+    plan_to(setting, items, plan).least
 }
 
 /// Gives a way to write a letter than which none takes fewer codewords, and leaves how many codewords follow the items
