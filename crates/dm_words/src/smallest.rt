@@ -69,7 +69,8 @@ pub fn smallest_words_to(
     smallest_items_to(extent, items, choice, words)
 }
 
-/// Does the same with the items of a message.
+/// Does the same with the items of a message. It stands by itself, so that its plan isn't left on the stack.
+#[inline(never)]
 fn smallest_items_to(
     extent: Extent,
     items: &[Item],
