@@ -8,7 +8,7 @@ pub use Rattle.dm_symbol.proofs.LetterDoubt.{letter_read_alike, letter_normal_al
 pub use Rattle.dm_symbol.proofs.LetterMessages.{message_reads_letter, results_say_the_same}
 pub use Rattle.dm_symbol.proofs.MessageLetters.{message_tells_letter, fault_tells_of_letters}
 pub use Rattle.dm_symbol.proofs.NormalLetters.{one_normal_letter_result}
-pub use Rattle.dm_symbol.proofs.Rooms.{room_for_each, room_for_most}
+pub use Rattle.dm_symbol.proofs.Rooms.{room_for_each, room_for_most, smallest_room_for_most}
 pub use Rattle.dm_symbol.proofs.SmallestLetterSymbols.{no_letter_written}
 pub use Rattle.dm_symbol.proofs.SquareSizes.{has_that_side}
 pub use Rattle.dm_symbol.proofs.WrittenWords.{no_words_written}

@@ -2,11 +2,18 @@
 use Rattle.std.proofs.Common.{◌≡◌, ◌≤◌, ℕ, List, length, Option, Some, None, refl, arith}
 use Rattle.std.specs.Prelude.{IfSome, nat_le, ◌&&◌}
 use Rattle.std.proofs.lemmas.Bool.{and_parts}
-use Rattle.dm_words.specs.Smallest.{IsTaken}
+use Rattle.dm_words.specs.declared.extent.Extent.{Extent}
+use Rattle.dm_words.specs.declared.item.Item.{Item}
+use Rattle.dm_words.specs.declared.profile.Profile.TheVariants.{Ascii}
+use Rattle.dm_words.specs.Messages.{IsMessage}
+use Rattle.dm_words.specs.Smallest.{IsTaken, IsSmallestFor}
+use Rattle.dm_words.proofs.Exported.{normal_is_no_smaller}
 use Rattle.dm_layout.specs.declared.symbols.size.SizeChoice.{SizeChoice}
 use Rattle.dm_layout.specs.symbols.Sizes.{SizeEntry, size_table, entry_for, takes, most_rows, most_data}
 use Rattle.dm_layout.specs.symbols.Sizes.{most_codewords}
 use Rattle.dm_layout.proofs.symbols.Exported.{found_passes, size_facts}
+use Rattle.dm_layout.specs.symbols.Sizes.{codeword_count}
+use Rattle.dm_symbol.specs.SmallestSymbol.{HasRoomForSmallest}
 use Rattle.dm_symbol.specs.WrittenWords.{HaveRoom, IsRoomFor}
 use Rattle.dm_symbol.proofs.SymbolCompletions.{chosen_stands}
 
@@ -38,3 +45,17 @@ room_for_most choice form data_words rows words wide high long =
     room_for_each choice form data_words rows words (λ size taken.
     let f = size_facts size taken.0 in
     (omega (arith, f.data_fits, wide), omega (arith, f.rows_fit, high), omega (arith, f.codewords, long)))
+
+-- So there is room for the smallest symbol.
+pub smallest_room_for_most : (choice : SizeChoice) (message : List Item) (rows words : ℕ) → most_rows ≤ rows
+    → most_codewords ≤ words → HasRoomForSmallest choice message rows words
+smallest_room_for_most choice message rows words high long size taken least =
+    let f = size_facts size taken.0 in (omega (arith, f.rows_fit, high), omega (arith, f.codewords, long))
+
+-- Where there is room for the smallest symbol, there is room for the size that its codewords have.
+pub room_for_smallest : (extent : Extent) (choice : SizeChoice) (m : List Item) (size : SizeEntry) (chosen : List ℕ)
+    (rows words : ℕ) → IsMessage m → IsSmallestFor extent choice size chosen m
+    → HasRoomForSmallest choice m rows words → (size.rows ≤ rows) × (codeword_count size ≤ words)
+room_for_smallest extent choice m size chosen rows words is smallest room =
+    room size smallest.taken (λ smaller taken fits less.
+    normal_is_no_smaller extent Ascii choice size smaller m chosen is smallest taken fits less)

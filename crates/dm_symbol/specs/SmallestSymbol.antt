@@ -1,12 +1,13 @@
 -- The smallest symbol of a message, in a choice of sizes, for readers of an extent.
-use Rattle.std.specs.Prelude.{ℕ, List, Option, None, Result, Ok, IfOk, OnErr, replicate}
+use Rattle.std.specs.Prelude.{ℕ, ◌≤◌, List, length, Option, None, Result, Ok, IfOk, OnErr, replicate}
 use Rattle.dm_words.specs.declared.item.Item.{Item}
 use Rattle.dm_words.specs.declared.extent.Extent.{Extent}
 use Rattle.dm_words.specs.declared.fault.TooLong.{TooLong}
 use Rattle.dm_layout.specs.declared.symbols.size.SizeChoice.{SizeChoice}
-use Rattle.dm_layout.specs.symbols.Sizes.{block_check}
+use Rattle.dm_layout.specs.symbols.Sizes.{SizeEntry, block_check, codeword_count}
 use Rattle.dm_layout.specs.symbols.Symbols.{SymbolView}
 use Rattle.dm_layout.specs.symbols.Holding.{IsLaid}
+use Rattle.dm_words.specs.Ascii.{ascii}
 use Rattle.dm_words.specs.Smallest.{IsTaken, IsSmaller, IsSmallestFor, IsPlainest, SpellsThenPads, NoneSpells}
 use Rattle.dm_symbol.specs.declared.symbol.dealing.Dealing.TheVariants.{Standard}
 use Rattle.dm_symbol.specs.SymbolBlocks.{words_with, AreCodewordsOf, first_data}
@@ -45,6 +46,14 @@ NoSmallerIsRead extent choice message modules = (other : SymbolView) (doubtful :
 abbrev pub NoneIsRead : Extent → SizeChoice → List Item → Type 0
 NoneIsRead extent choice message = (other : SymbolView) (doubtful : Option SymbolView) (limit : ℕ)
     → IsTaken choice other.size → ReadsSymbol extent other doubtful limit message → ⊥
+
+-- There are at most so many rows and so many codewords in each size of the choice than which none is smaller that has
+-- room for the message in ASCII. The smallest symbol of the message has such a size, so there is room for it.
+abbrev pub HasRoomForSmallest : SizeChoice → List Item → ℕ → ℕ → Type 0
+HasRoomForSmallest choice message rows words = (size : SizeEntry) → IsTaken choice size
+    → ((smaller : SizeEntry) → IsTaken choice smaller → length (ascii message) ≤ smaller.data_count
+    → IsSmaller smaller size → ⊥)
+    → (size.rows ≤ rows) × (codeword_count size ≤ words)
 
 -- Writing a message in its smallest symbol gives one that is read as the message, where no smaller one is; or that none
 -- is, of any size of the choice.

@@ -1,9 +1,9 @@
 -- The plan and the cost that the loop finds are those of the definition.
 use Rattle.std.proofs.Common.{◌≡◌, ℕ, zero, suc, ◌+◌, ◌-◌, ◌*◌, ◌<◌, ◌≤◌, List, [], ◌∷◌, length, drop, get_or, refl}
-use Rattle.std.proofs.Common.{sym, ap, subst, ◌∙◌, arith, Bool, true, false, cond, ltb, inl, inr}
+use Rattle.std.proofs.Common.{sym, ap, subst, ◌∙◌, ◌++◌, ◌&&◌, arith, Bool, true, false, cond, ltb, inl, inr}
 use Rattle.std.specs.Prelude.{nat_le, ◌==◌}
 use Rattle.std.proofs.lemmas.Bool.{cases_lt}
-use Rattle.std.proofs.lemmas.List.{at_drop_all, get_or-set_same, get_or-set_other}
+use Rattle.std.proofs.lemmas.List.{append-nil, at_drop_all, drop-drop, get_or-set_same, get_or-set_other, length-append}
 use Rattle.std.proofs.Math.ListN.{set}
 use Rattle.std.proofs.Math.Seq.{drop-cons, drop-length}
 use Rattle.dm_words.specs.declared.extent.Extent.{Extent}
@@ -26,7 +26,8 @@ use Rattle.dm_words.specs.declared.smallest.row.Costs.{Costs}
 use Rattle.dm_words.specs.inner.CostLanes.{HasRow}
 use Rattle.dm_words.specs.inner.Costs.{AreSmall, step_in}
 use Rattle.dm_words.specs.inner.Costs.{none_going, rest_behind, most_behind, row, parts_cost, pair_first, IsWithin}
-use Rattle.dm_words.specs.inner.Costs.{IsRightStep}
+use Rattle.dm_words.specs.inner.Costs.{IsRightStep, unit_cost}
+use Rattle.dm_words.specs.Ascii.{ascii, digit_pair, is_digit, single}
 use Rattle.dm_words.specs.inner.Costs.{digit_first, is_digit_item, step_of}
 use Rattle.dm_words.proofs.CostsMet.{least_is, is_least}
 use Rattle.dm_words.proofs.SpellingCounts.{unit_few}
@@ -226,6 +227,58 @@ turn setting m at x d next new pair going begins cost step some within is_x is_n
     subst P (sym cons)
     (turn_here setting x (drop at m) next new pair going begins cost step is_next is_pair is_going is_cost chosen
     is_step is_new)
+
+-- A byte by itself takes so many codewords of ASCII.
+single_length : (b : ℕ) → length (single b) ≡ unit_cost (Byte b)
+single_length b = by_test (ltb b 128) where
+  by_test : (t : Bool) → length (cond t ((b + 1) ∷ []) (235 ∷ (b - 127) ∷ [])) ≡ cond t 1 2
+  by_test true = refl
+  by_test false = refl
+
+-- So it is where the items behind it are by themselves.
+alone_length : (b : ℕ) (m : List Item) → ascii (Byte b ∷ m) ≡ single b ++ ascii m
+    → length (ascii (Byte b ∷ m)) ≡ unit_cost (Byte b) + length (ascii m)
+alone_length b m e = omega (arith, ap length e, length-append (single b) (ascii m), single_length b)
+
+-- One more item before others takes so many more codewords of ASCII.
+ascii_more : (x : Item) (rest : List Item) → length (ascii (x ∷ rest))
+    ≡ cond (is_digit_item x && digit_first rest) (1 + length (ascii (drop 1 rest)))
+    (unit_cost x + length (ascii rest))
+ascii_more Fnc1 rest = omega arith
+ascii_more (Byte b) [] = by_digit (is_digit b) where
+  by_digit : (s : Bool) → length (ascii (Byte b ∷ []))
+      ≡ cond (s && false) (1 + length (ascii (drop 1 []))) (unit_cost (Byte b) + length (ascii []))
+  by_digit true = alone_length b [] (sym (append-nil (single b)))
+  by_digit false = alone_length b [] (sym (append-nil (single b)))
+ascii_more (Byte b) (Fnc1 ∷ m) = by_digit (is_digit b) where
+  by_digit : (s : Bool) → length (ascii (Byte b ∷ Fnc1 ∷ m))
+      ≡ cond (s && false) (1 + length (ascii m)) (unit_cost (Byte b) + length (ascii (Fnc1 ∷ m)))
+  by_digit true = alone_length b (Fnc1 ∷ m) refl
+  by_digit false = alone_length b (Fnc1 ∷ m) refl
+ascii_more (Byte b) (Byte c ∷ m) = both (is_digit b) (is_digit c) refl refl where
+  both : (s t : Bool) → is_digit b ≡ s → is_digit c ≡ t → length (ascii (Byte b ∷ Byte c ∷ m))
+      ≡ cond (s && t) (1 + length (ascii m)) (unit_cost (Byte b) + length (ascii (Byte c ∷ m)))
+  both true true es et =
+      let pair : ascii (Byte b ∷ Byte c ∷ m) ≡ digit_pair b c ∷ ascii m = rw (es, et) refl in
+      omega (arith, ap length pair)
+  both true false es et = alone_length b (Byte c ∷ m) (rw (es, et) refl)
+  both false true es et = alone_length b (Byte c ∷ m) (rw es refl)
+  both false false es et = alone_length b (Byte c ∷ m) (rw es refl)
+
+-- So it is in a turn of the loop.
+pub ascii_turn : (m : List Item) (at : ℕ) (x d : Item) (pair : Bool) → 0 < at → at ≤ length m
+    → x ≡ get_or m (at - 1) d → pair ≡ pair_first (x ∷ drop at m)
+    → length (ascii (drop (at - 1) m))
+    ≡ cond pair (1 + length (ascii (drop (at + 1) m))) (unit_cost x + length (ascii (drop at m)))
+ascii_turn m at x d pair some within is_x is_pair =
+    let k : suc (at - 1) ≡ at = omega (arith, some) in
+    let cons : drop (at - 1) m ≡ x ∷ drop at m = drop-cons m (at - 1) d (omega (arith, some, within))
+    ∙ ap (λ (i : ℕ). get_or m (at - 1) d ∷ drop i m) k ∙ ap (λ (y : Item). y ∷ drop at m) (sym is_x) in
+    ap (λ (l : List Item). length (ascii l)) cons ∙ ascii_more x (drop at m)
+    ∙ ap (λ (b : Bool). cond b (1 + length (ascii (drop 1 (drop at m)))) (unit_cost x + length (ascii (drop at m))))
+    (sym is_pair)
+    ∙ ap (λ (l : List Item). cond pair (1 + length (ascii l)) (unit_cost x + length (ascii (drop at m))))
+    (drop-drop 1 at m)
 
 -- One more step of the plan is written.
 pub plan_more : (setting : Setting) (m : List Item) (at : ℕ) (old : List StepBits) (step : StepBits) → 0 < at

@@ -1,13 +1,15 @@
 //! The smallest symbol of a message: data codewords that spell it, of the smallest size of a choice that has any. Those
 //! of a letter are in [`letters`].
 
-ghost use Rattle.std.specs.Prelude.{◌≡◌, ℕ, ◌<◌, ◌≤◌, OnErr, IsTrue, false, length};
+ghost use Rattle.std.specs.Prelude.{◌≡◌, ℕ, ◌<◌, ◌≤◌, OnErr, IsTrue, length};
 ghost use Rattle.dm_words.specs.declared.extent.Extent.TheVariants.{Usual};
 ghost use Rattle.dm_words.specs.Ascii.{ascii};
+ghost use Rattle.dm_words.specs.LetterExtents.{as_letter};
 ghost use Rattle.dm_words.specs.Messages.{IsMessage};
 ghost use Rattle.dm_words.specs.Outcomes.{outcome};
 ghost use Rattle.dm_words.specs.Pads.{padded};
 ghost use Rattle.dm_words.specs.Smallest.{IsPlainest, IsSmallestResult, SpellsThenPads};
+ghost use Rattle.dm_words.specs.SmallestLetters.{IsSmallestLetterResult};
 ghost use Rattle.dm_words.specs.inner.Costs.{at_end, parts_cost, IsRightPlan};
 ghost use Rattle.dm_words.specs.inner.LetterCosts.{IsSizeFor};
 ghost use Rattle.dm_words.specs.inner.Ways.{IsLeastCost, IsMacroOf, IsWay, inner_text, text_of};
@@ -23,13 +25,12 @@ mod sets;
 mod setting;
 mod values;
 
-use crate::ascii::{ascii_form, surely_fits, write_ascii};
+use crate::ascii::write_ascii;
 use crate::extent::Extent;
 use crate::fault::TooLong;
 use crate::item::Item;
 use crate::limits::LARGEST_ROOM;
 use crate::macros::{HEADER_LENGTH, TRAILER_LENGTH, macro_of};
-use crate::message::MessageIn;
 use crate::pad::pad_to;
 use crate::smallest::parts::write_parts;
 use crate::smallest::plan::{StepBits, plan_to};
@@ -46,25 +47,30 @@ const MIDDLE_PLAN: usize = 512;
 /// How many steps the plan of any message has.
 const LONG_PLAN: usize = LARGEST_ROOM + 1;
 
-/// Chooses data codewords, with pads, that spell the message in an extent, in the smallest size of the choice that has
-/// any: no list of codewords of a smaller size spells it there. After `Ok`, which has that size, `words` holds them,
-/// whatever it held before. They are ASCII where the size has room for that; else codewords that spell the message in
-/// the usual extent, where there are any. `TooLong` exactly where the codewords of no size of the choice spell the
-/// message; then `words` holds what it held before. ISO/IEC 16022, encodation schemes.
-pub fn smallest_words_to<const ROOM: usize>(
+/// Chooses data codewords, with pads, that spell the message of these items, at most [`LARGEST_ROOM`], in an extent, in
+/// the smallest size of the choice that has any: no list of codewords of a smaller size spells it there. After `Ok`,
+/// which has that size, `words` holds them, whatever it held before. They are ASCII where the size has room for that;
+/// else codewords that spell the message in the usual extent, where there are any. `TooLong` exactly where the
+/// codewords of no size of the choice spell the message; then `words` holds what it held before. The same holds of what
+/// says the message as a letter. ISO/IEC 16022, encodation schemes.
+pub fn smallest_words_to(
     extent: Extent,
-    message: &MessageIn<ROOM>,
+    items: &[Item],
     choice: SizeChoice,
     words: &mut ArrayVec<u8, MOST_DATA>,
 ) -> Result<SymbolSize, TooLong>
-    requires { ROOM ≤ LARGEST_ROOM }
-    ensures smallest { IsSmallestResult extent choice message.now result words.new.items }
+    requires few { length items.now ≤ LARGEST_ROOM }
+    requires message { IsMessage items.now }
+    ensures smallest { IsSmallestResult extent choice items.now result words.new.items }
+    ensures letter { IsSmallestLetterResult extent choice (as_letter items.now) result
+        words.new.items }
     ensures same { OnErr result (words.new.items ≡ words.old.items) }
 {
-    smallest_items_to(extent, message.items(), choice, words)
+    smallest_items_to(extent, items, choice, words)
 }
 
-/// Does the same with the items of a message.
+/// Does the same with the items of a message. It stands by itself, so that its plan isn't left on the stack.
+#[inline(never)]
 fn smallest_items_to(
     extent: Extent,
     items: &[Item],
@@ -103,12 +109,12 @@ fn smallest_by<const STEPS: usize>(
     ensures same { OnErr result (words.new.items ≡ words.old.items) }
 {
     let mut plan = [StepBits::NONE; STEPS];
-    let way = least_way(extent, items, &mut plan);
-    match SymbolSize::for_words(choice, way.cost) {
+    let found = least_way(extent, items, &mut plan);
+    match SymbolSize::for_words(choice, found.way.cost) {
         None => Err(TooLong),
         Some(size) => {
             let count = size.data_count();
-            write_plainest(extent, items, way, &mut plan, words, count);
+            write_plainest(extent, items, found, &mut plan, words, count);
             pad_to(words, usize::from(count));
             Ok(size)
         }
@@ -124,22 +130,38 @@ struct Way {
     cost: u16,
 }
 
-/// Gives a way to write these items than which none takes fewer codewords, and leaves a plan for what is written that
-/// way: the text of the macro, or else the items.
-fn least_way(extent: Extent, items: &[Item], plan: &mut [StepBits]) -> Way
+/// What is known of a message before it is written.
+#[derive(Clone, Copy)]
+struct Found {
+    /// A way than which none takes fewer codewords.
+    way: Way,
+    /// How many codewords it takes in ASCII.
+    ascii: u16,
+}
+
+/// Gives a way to write these items than which none takes fewer codewords, and how many they take in ASCII; and leaves
+/// a plan for what is written that way: the text of the macro, or else the items.
+fn least_way(extent: Extent, items: &[Item], plan: &mut [StepBits]) -> Found
     requires few { length items.now ≤ LARGEST_ROOM }
     requires steps { length items.now < length plan.old }
-    ensures way { IsWay extent items.now result.macro_word result.cost }
-    ensures least { IsLeastCost extent items.now result.cost }
-    ensures plan { IsRightPlan (at_end extent) (text_of result.macro_word items.now) plan.new }
+    ensures way { IsWay extent items.now result.way.macro_word result.way.cost }
+    ensures least { IsLeastCost extent items.now result.way.cost }
+    ensures ascii { result.ascii ≡ length (ascii items.now) }
+    ensures plan { IsRightPlan (at_end extent) (text_of result.way.macro_word items.now) plan.new }
 {
-    let cost = plan_to(Setting::at_end(extent), items, plan);
+    let lengths = plan_to(Setting::at_end(extent), items, plan);
     match macro_of(extent, items) {
-        None => Way {
-            macro_word: None,
-            cost,
+        None => Found {
+            way: Way {
+                macro_word: None,
+                cost: lengths.least,
+            },
+            ascii: lengths.ascii,
         },
-        Some(word) => with_macro(extent, items, word, cost, plan),
+        Some(word) => Found {
+            way: with_macro(extent, items, word, lengths.least, plan),
+            ascii: lengths.ascii,
+        },
     }
 }
 
@@ -154,7 +176,7 @@ fn with_macro(extent: Extent, items: &[Item], word: u8, cost: u16, plan: &mut [S
     ensures least { IsLeastCost extent items.now result.cost }
     ensures plan { IsRightPlan (at_end extent) (text_of result.macro_word items.now) plan.new }
 {
-    let by_macro = 1 + plan_to(Setting::at_end(extent), inner(items), plan);
+    let by_macro = 1 + plan_to(Setting::at_end(extent), inner(items), plan).least;
     if by_macro <= cost {
         return Way {
             macro_word: Some(word),
@@ -181,53 +203,32 @@ fn inner(items: &[Item]) -> &[Item]
 fn write_plainest<const N: usize>(
     extent: Extent,
     items: &[Item],
-    way: Way,
+    found: Found,
     plan: &mut [StepBits],
     words: &mut ArrayVec<u8, N>,
     count: u16,
 )
     requires few { length items.now ≤ LARGEST_ROOM }
     requires message { IsMessage items.now }
-    requires way { IsWay extent items.now way.macro_word way.cost }
+    requires way { IsWay extent items.now found.way.macro_word found.way.cost }
+    requires ascii { found.ascii ≡ length (ascii items.now) }
     requires steps { length items.now < length plan.old }
-    requires plan { IsRightPlan (at_end extent) (text_of way.macro_word items.now) plan.old }
-    requires room { way.cost ≤ count }
+    requires plan { IsRightPlan (at_end extent) (text_of found.way.macro_word items.now) plan.old }
+    requires room { found.way.cost ≤ count }
     requires count { count ≤ N }
     requires most { N ≤ MOST_DATA }
     ensures spells { SpellsThenPads extent (padded words.new.items count) items.now }
     ensures fits { length words.new.items ≤ count }
     ensures plainest { IsPlainest (padded words.new.items count) items.now }
 {
-    if write_ascii_if_fits(items, words, usize::from(count)) {
+    if found.ascii <= count {
+        let _form = write_ascii(items, words);
         return;
     }
-    let is_usual = write_way(extent, items, way, plan, words, count);
+    let is_usual = write_way(extent, items, found.way, plan, words, count);
     if !is_usual {
         write_usual_if_fits(extent, items, plan, words, count);
     }
-}
-
-/// Writes the items in ASCII, where that takes at most `count` codewords, and says whether it does. The words may be
-/// any where it doesn't. Where there is room for them in any case they are written at once, and not counted before.
-fn write_ascii_if_fits<const N: usize>(
-    items: &[Item],
-    words: &mut ArrayVec<u8, N>,
-    count: usize,
-) -> bool
-    requires few { length items.now ≤ LARGEST_ROOM }
-    requires count { count ≤ N }
-    ensures fits { IsTrue result → (words.new.items ≡ ascii items.now)
-        × (length (ascii items.now) ≤ count) }
-    ensures long { result ≡ false → count < length (ascii items.now) }
-{
-    if surely_fits(items, N) {
-        return write_ascii(items, words).length <= count;
-    }
-    let fits = ascii_form(items).length <= count;
-    if fits {
-        let _form = write_ascii(items, words);
-    }
-    fits
 }
 
 /// Writes the items, without pads, as the usual extent has it, in place of the words that stand there, where a symbol
@@ -255,7 +256,7 @@ fn write_usual_if_fits<const N: usize>(
     if 2 * usize::from(count) < items.len() {
         return;
     }
-    if plan_to(Setting::at_end(Extent::Usual), items, plan) <= count {
+    if plan_to(Setting::at_end(Extent::Usual), items, plan).least <= count {
         let _usual = write_plain(Extent::Usual, items, plan, words, count);
     }
 }

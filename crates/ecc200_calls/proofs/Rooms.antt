@@ -2,7 +2,7 @@
 use Rattle.std.proofs.Common.{◌≡◌, ℕ, zero, suc, ◌+◌, ◌*◌, ◌≤◌, Bool, true, false, cond, not, ◌&&◌, ◌||◌, nat_eq}
 use Rattle.std.proofs.Common.{nat_le}
 use Rattle.std.proofs.Common.{List, [], ◌∷◌, Option, Some, None, length, length-take, refl, sym, ◌∙◌, ap}
-use Rattle.std.proofs.Common.{subst, arith}
+use Rattle.std.proofs.Common.{subst, arith, ◌<◌, inl}
 use Rattle.std.specs.Prelude.{IfSome, find}
 use Rattle.std.specs.List.{list_all}
 use Rattle.std.proofs.lemmas.Bool.{and_parts, eqb-true, leb-true, le-leb, false≢true}
@@ -17,10 +17,13 @@ use Rattle.dm_symbol.specs.declared.SizeChoice.TheVariants.{Exact, Square}
 use Rattle.dm_symbol.specs.Messages.{most_data, most_spelled}
 use Rattle.dm_symbol.specs.NormalForm.{normal_form}
 use Rattle.dm_symbol.specs.WrittenWords.{IsRoomFor}
-use Rattle.dm_symbol.proofs.Exported.{room_for_each, room_for_most}
+use Rattle.dm_symbol.proofs.Exported.{room_for_each, room_for_most, smallest_room_for_most}
 use Rattle.dm_layout.specs.symbols.Sizes.{SizeEntry, IsSize, codeword_count, entry_for, entry_of, most_codewords}
 use Rattle.dm_layout.specs.symbols.Sizes.{size_table}
-use Rattle.dm_layout.specs.symbols.Sizes.{takes}
+use Rattle.dm_layout.specs.symbols.Sizes.{takes, area}
+use Rattle.dm_symbol.specs.declared.Profile.TheVariants.{Ascii}
+use Rattle.dm_symbol.specs.Ascii.{ascii}
+use Rattle.dm_words.specs.Smallest.{IsTaken, IsSmaller}
 use Rattle.dm_layout.specs.symbols.Words.{WordsView, IsWords, data_of}
 use Rattle.dm_layout.proofs.symbols.Exported.{at_found, found_passes, same_size, size_facts}
 use Rattle.ecc200_calls.specs.inner.Rooms.{AreWordsFor, IsRoom, HasRoom, HasRoomToWrite}
@@ -186,10 +189,47 @@ fewer_found most choice fewer count le (s ∷ rest) h size other e f small =
         (sym (ap (λ b. cond b (Some s) (find (λ t. takes choice t && nat_le count t.data_count) rest)) other_fails)
         ∙ f) small
 
+-- The sizes with at most so many data codewords are those with at most so many modules.
+abbrev by_area : ℕ → ℕ → SizeEntry → Bool
+by_area most modules size =
+    cond (nat_le size.data_count most) (nat_le (area size) modules) (nat_le (suc modules) (area size))
+
+-- That is so for the small room and for the middle one: this is computed.
+small_by_area : list_all (by_area 62 1024) size_table ≡ true
+unfolding size_table
+small_by_area = refl
+
+middle_by_area : list_all (by_area 816 10816) size_table ≡ true
+unfolding size_table
+middle_by_area = refl
+
+-- So a size with at most as many data codewords is smaller than one with more.
+fewer_is_smaller : (most modules : ℕ) → list_all (by_area most modules) size_table ≡ true
+    → (size other : SizeEntry) → IsSize size → IsSize other → nat_le size.data_count most ≡ false
+    → other.data_count ≤ most → area other < area size
+fewer_is_smaller most modules all size other entry other_entry many few =
+    omega (
+      arith,
+      leb-true (suc modules) (area size)
+          (sym (ap (λ b. cond b (nat_le (area size) modules) (nat_le (suc modules) (area size))) many)
+          ∙ tested size entry),
+      leb-true (area other) modules
+          (sym (ap (λ b. cond b (nat_le (area other) modules) (nat_le (suc modules) (area other)))
+          (le-leb other.data_count most few)) ∙ tested other other_entry),
+    )
+  where
+    tested : (s : SizeEntry) → IsSize s → by_area most modules s ≡ true
+    tested s stands =
+        at_found (λ t. by_area most modules t ≡ true) (λ t. nat_eq t.rows s.rows && nat_eq t.columns s.columns)
+        size_table s
+        (recursion_from_All (λ t. by_area most modules t ≡ true) size_table
+        (AllPass-from_list_all (by_area most modules) size_table all)) stands
+
 -- Where a choice gives a size with so few data codewords, in either way of looking for one, there is room for the
 -- symbol in which a message is written.
-module _ (most rows words : ℕ) (each : list_all (fits most rows words) size_table ≡ true)
-    (split : splits most size_table ≡ true) (some : 3 ≤ most) (bounded : most ≤ most_data) (is : IsRoom rows words)
+module _ (most rows words modules : ℕ) (each : list_all (fits most rows words) size_table ≡ true)
+    (split : splits most size_table ≡ true) (areas : list_all (by_area most modules) size_table ≡ true)
+    (some : 3 ≤ most) (bounded : most ≤ most_data) (is : IsRoom rows words)
   where
     to_write : (choice : SizeChoice) (message : List Item) (count : ℕ) (other : SizeEntry)
         → AreWordsFor choice message count → entry_for choice count ≡ Some other → IsSize other
@@ -199,8 +239,29 @@ module _ (most rows words : ℕ) (each : list_all (fits most rows words) size_ta
       few_data = bounded;
       room = is;
       written = λ profile. at_most profile (entry_for choice (length (normal_form profile message))) refl;
+      smallest = λ size taken least. by_size size taken least (nat_le size.data_count most) refl;
     }
       where
+        test : SizeEntry → Bool
+        test s = takes choice s && nat_le count s.data_count
+
+        other_passes : (takes choice other ≡ true) × (nat_le count other.data_count ≡ true)
+        other_passes =
+            and_parts (takes choice other) (nat_le count other.data_count) (found_passes test size_table other found)
+
+        by_size : (size : SizeEntry) → IsTaken choice size
+            → ((smaller : SizeEntry) → IsTaken choice smaller → length (ascii message) ≤ smaller.data_count
+            → IsSmaller smaller size → ⊥)
+            → (few_words : Bool) → nat_le size.data_count most ≡ few_words
+            → (size.rows ≤ rows) × (codeword_count size ≤ words)
+        by_size size taken least true t =
+            few most rows words each (λ s. nat_eq s.rows size.rows && nat_eq s.columns size.columns) size taken.0
+            (leb-true _ _ t)
+        by_size size taken least false t =
+            absurd (least other (entry, other_passes.0)
+            (omega (arith, codewords Ascii, leb-true count other.data_count other_passes.1))
+            (inl (fewer_is_smaller most modules areas size other taken.0 entry t small)))
+
         at_most : (profile : Profile) (o : Option SizeEntry)
             → entry_for choice (length (normal_form profile message)) ≡ o
             → IfSome o (λ size. IsRoomFor size most rows words)
@@ -229,6 +290,15 @@ module _ (most rows words : ℕ) (each : list_all (fits most rows words) size_ta
           few most rows words each (λ s. nat_eq s.rows size.rows && nat_eq s.columns size.columns) size taken.0
           small_too in
           (small_too, sides.0, sides.1));
+      smallest = λ size taken least.
+          let mine = exact_sides size (subst (λ ch. takes ch size ≡ true) e taken.1) in
+          let its =
+          exact_sides other (subst (λ ch. takes ch other ≡ true) e
+          (and_parts (takes choice other) (nat_le count other.data_count)
+          (found_passes (λ s. takes choice s && nat_le count s.data_count) size_table other found)).0) in
+          let same : size ≡ other = same_size size other taken.0 entry (mine.0 ∙ sym its.0) (mine.1 ∙ sym its.1) in
+          few most rows words each (λ s. nat_eq s.rows size.rows && nat_eq s.columns size.columns) size taken.0
+          (subst (λ (s : SizeEntry). s.data_count ≤ most) (sym same) small);
     }
       where
         exact_sides : (s : SizeEntry) → takes (Exact r c) s ≡ true → (s.rows ≡ r) × (s.columns ≡ c)
@@ -246,16 +316,16 @@ pub small_to_write : (choice : SizeChoice) (message : List Item) (count : ℕ) (
     → AreWordsFor choice message count → entry_for choice count ≡ Some other → IsSize other → HasRoom 32 98 131 other
     → HasRoomToWrite 62 32 98 choice message
 small_to_write choice message count other are found entry room =
-    to_write 62 32 98 small_fits small_splits (omega arith) (omega arith) is_small choice message count other are found
-    entry
+    to_write 62 32 98 1024 small_fits small_splits small_by_area (omega arith) (omega arith) is_small choice message
+    count other are found entry
     (few_data 62 other.data_count (room.spelled Wide))
 
 pub middle_to_write : (choice : SizeChoice) (message : List Item) (count : ℕ) (other : SizeEntry)
     → AreWordsFor choice message count → entry_for choice count ≡ Some other → IsSize other
     → HasRoom 104 1152 1639 other → HasRoomToWrite 816 104 1152 choice message
 middle_to_write choice message count other are found entry room =
-    to_write 816 104 1152 middle_fits middle_splits (omega arith) (omega arith) is_middle choice message count other are
-    found entry
+    to_write 816 104 1152 10816 middle_fits middle_splits middle_by_area (omega arith) (omega arith) is_middle choice
+    message count other are found entry
     (few_data 816 other.data_count (room.spelled Wide))
 
 -- The largest squares of the small room and of the middle one.
@@ -289,6 +359,7 @@ largest_to_write choice message = record {
   written =
       λ profile. room_for_most choice (normal_form profile message) 1558 144 2178 (omega arith) (omega arith)
       (omega arith);
+  smallest = smallest_room_for_most choice message 144 2178 (omega arith) (omega arith);
 }
 
 -- The codewords of a symbol fit an array that holds those of the largest.

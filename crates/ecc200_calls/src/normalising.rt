@@ -16,7 +16,7 @@ use crate::profile::profile_of;
 use crate::reading::may_be_letter;
 use crate::room::*;
 use crate::symbol::{SymbolOut, show_fault};
-use crate::writing::write_message;
+use crate::writing::write_normal;
 use dm_layout::symbols::{SymbolIn, SymbolWordsIn};
 use dm_symbol::{
     Extent, Profile, ReadOptions, SizeChoice, SymbolReadingIn, WriteOptions, read_symbol_to,
@@ -227,7 +227,7 @@ fn normal_symbol<const ROWS: usize, const WORDS: usize, const ITEMS: usize>(
     match read_symbol_to(symbol, how, &mut words, &mut reading) {
         Ok(()) => {
             let size = SizeChoice::Square;
-            write_message(reading.message.items(), WriteOptions { profile, size }, out);
+            write_normal(reading.message.items(), WriteOptions { profile, size }, out);
             true
         }
         Err(why) => {

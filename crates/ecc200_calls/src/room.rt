@@ -1,7 +1,7 @@
 //! Rooms for the work with a symbol. All of a room is cleared when it is made; so a call works in the smallest of three
 //! that serves.
 
-ghost use Rattle.std.specs.Prelude.{◌≡◌, ◌≤◌, length};
+ghost use Rattle.std.specs.Prelude.{◌≡◌, ◌≤◌, IsTrue, length};
 ghost use Rattle.dm_layout.specs.symbols.Sizes.{codeword_count};
 ghost use Rattle.dm_symbol.specs.declared.Profile.{Profile};
 ghost use Rattle.dm_symbol.specs.NormalForm.{normal_form};
@@ -159,6 +159,22 @@ fn words_for(choice: SizeChoice, items: &[Item]) -> u16
     match choice {
         SizeChoice::Exact(_, _) => 0,
         _ => most_words(items) as u16,
+    }
+}
+
+/// Whether the middle room surely serves for the symbols in which a message may be written in a choice of sizes. The
+/// items of a message for a square aren't looked at: to clear this room takes less.
+pub(crate) fn is_middle_enough(choice: SizeChoice, items: &[Item]) -> bool
+    requires { length items.now ≤ LARGEST_ITEMS }
+    ensures { IsTrue result
+        → HasRoomToWrite MIDDLE_DATA MIDDLE_ROWS MIDDLE_WORDS choice items.now }
+{
+    match choice {
+        SizeChoice::Square => 2 * items.len() <= MIDDLE_DATA,
+        _ => match SymbolSize::for_words(choice, words_for(choice, items)) {
+            Some(size) => usize::from(size.data_count()) <= MIDDLE_DATA,
+            None => false,
+        },
     }
 }
 

@@ -1,25 +1,27 @@
-//! Writing letters in their smallest symbols: those without marks in a room that serves for so many items, and those
-//! with marks in one for whatever any symbol says.
+//! Writing letters in their smallest symbols: messages in a room that serves for them, and letters with a head or marks
+//! with room for whatever any symbol says.
 
 ghost use Rattle.std.specs.Prelude.{◌≡◌, ◌<◌, ◌≤◌, ◌⊎◌, All, IsTrue, [], false, length};
 ghost use Rattle.dm_words.specs.Heads.{IsHead};
 ghost use Rattle.dm_words.specs.Letters.{AreMarks};
+ghost use Rattle.dm_words.specs.LetterExtents.{as_letter};
+ghost use Rattle.dm_words.specs.Messages.{IsMessage};
 ghost use Rattle.ecc200_calls.specs.Letters.{marks_of};
 ghost use Rattle.ecc200_calls.specs.Writings.{IsLetterGiven, IsWritingGiven};
+ghost use Rattle.ecc200_calls.specs.inner.Rooms.{HasRoomToWrite};
 
 use crate::fault::Fault;
 use crate::form::Form;
-use crate::letter::{letter_of_bytes, letter_of_numbers};
+use crate::letter::{Letter, letter_of_bytes, letter_of_numbers};
 use crate::mark::MarkNumbers;
 use crate::room::*;
 use crate::symbol::{SymbolOut, show_fault, show_symbol};
+use crate::writing::{is_message, write_these_bytes, write_these_numbers};
+use dm_layout::symbols::{SymbolIn, SymbolWordsIn};
 use dm_symbol::{
-    Extent, Head, LARGEST_MARKS, LARGEST_ROOM, LetterIn, SizeChoice, Symbol, SymbolWords, TooLong,
-    write_smallest_letter_to,
+    Extent, Head, Item, LARGEST_MARKS, LARGEST_ROOM, SizeChoice, Symbol, SymbolWords, TooLong,
+    write_smallest_letter_to, write_smallest_to,
 };
-
-/// The room for marks where there are none.
-const NO_MARKS: usize = 0;
 
 /// Shows the smallest symbol of the letter of these numbers for readers of an extent, or that it fits no size of the
 /// choice. One with more items or marks than any symbol says fits none.
@@ -39,39 +41,21 @@ pub(crate) fn write_smallest(
 {
     if !may_be_said(items.len(), marks.len()) {
         show_fault(out, Fault::too_long());
-    } else if marks.is_empty() {
+    } else if is_message(head, marks) {
+        let form = Form::Smallest(extent);
         in_room!(
             Room::of_items(items.len()),
-            write_unmarked::<ITEMS>(items, extent, size, head, out)
+            write_these_numbers::<ITEMS>(items, form, size, out)
         );
     } else {
-        write_marked(items, marks, extent, size, head, out);
+        write_letter_of_numbers(items, marks, extent, size, head, out);
     }
 }
 
-/// Shows it where there are no marks, in a room that serves for so many items. It stands by itself, so that no other
-/// room is left for it on the stack.
+/// Shows it where there is a head or a mark. It stands by itself, so that the room for a letter is taken only where
+/// this is called.
 #[inline(never)]
-fn write_unmarked<const ITEMS: usize>(
-    items: &[u16],
-    extent: Extent,
-    size: SizeChoice,
-    head: Option<Head>,
-    out: &mut SymbolOut,
-)
-    requires head { IsHead head }
-    requires items { All (λ item. item ≤ 256) items.now }
-    requires room { length items.now ≤ ITEMS }
-    requires most { ITEMS ≤ LARGEST_ITEMS }
-    ensures { IsWritingGiven (Form.Smallest extent) size head items.now [] out.old out.new }
-{
-    let letter = letter_of_numbers::<ITEMS, NO_MARKS>(head, items, &[]);
-    write_letter(&letter, extent, size, out);
-}
-
-/// Shows it with marks, likewise.
-#[inline(never)]
-fn write_marked(
+fn write_letter_of_numbers(
     items: &[u16],
     marks: &[MarkNumbers],
     extent: Extent,
@@ -86,8 +70,7 @@ fn write_marked(
     requires mark_room { length marks.now ≤ LARGEST_MARKS }
     ensures { IsWritingGiven (Form.Smallest extent) size head items.now marks.now out.old out.new }
 {
-    let letter = letter_of_numbers::<LARGEST_ROOM, LARGEST_MARKS>(head, items, marks);
-    write_letter(&letter, extent, size, out);
+    write_letter(&letter_of_numbers(head, items, marks), extent, size, out);
 }
 
 /// Does so for the letter of these bytes.
@@ -102,19 +85,22 @@ pub(crate) fn write_smallest_bytes(
     requires { IsHead head }
     ensures { IsWritingGiven (Form.Smallest extent) size head bytes.now [] out.old out.new }
 {
-    if bytes.len() <= LARGEST_ROOM {
+    if bytes.len() > LARGEST_ROOM {
+        show_fault(out, Fault::too_long());
+    } else if is_message(head, &[]) {
+        let form = Form::Smallest(extent);
         in_room!(
             Room::of_items(bytes.len()),
-            write_bytes::<ITEMS>(bytes, extent, size, head, out)
+            write_these_bytes::<ITEMS>(bytes, form, size, out)
         );
     } else {
-        show_fault(out, Fault::too_long());
+        write_letter_of_bytes(bytes, extent, size, head, out);
     }
 }
 
-/// Shows it in a room that serves for so many bytes, likewise.
+/// Shows it where there is a head, likewise.
 #[inline(never)]
-fn write_bytes<const ITEMS: usize>(
+fn write_letter_of_bytes(
     bytes: &[u8],
     extent: Extent,
     size: SizeChoice,
@@ -122,12 +108,10 @@ fn write_bytes<const ITEMS: usize>(
     out: &mut SymbolOut,
 )
     requires head { IsHead head }
-    requires room { length bytes.now ≤ ITEMS }
-    requires most { ITEMS ≤ LARGEST_ITEMS }
+    requires room { length bytes.now ≤ LARGEST_ROOM }
     ensures { IsWritingGiven (Form.Smallest extent) size head bytes.now [] out.old out.new }
 {
-    let letter = letter_of_bytes::<ITEMS, NO_MARKS>(head, bytes);
-    write_letter(&letter, extent, size, out);
+    write_letter(&letter_of_bytes(head, bytes), extent, size, out);
 }
 
 /// Whether some symbol may say so many items and marks.
@@ -138,16 +122,52 @@ fn may_be_said(items: usize, marks: usize) -> bool
     items <= LARGEST_ROOM && marks <= LARGEST_MARKS
 }
 
-/// Shows the smallest symbol of a letter, or that it fits no size of the choice.
+/// Shows the smallest symbol of a message, or that it fits no size of the choice. It is made in the middle room, or in
+/// the largest one.
 #[inline(never)]
-fn write_letter<const ITEMS: usize, const MARKS: usize>(
-    letter: &LetterIn<ITEMS, MARKS>,
+pub(crate) fn write_smallest_message(
+    items: &[Item],
     extent: Extent,
     size: SizeChoice,
     out: &mut SymbolOut,
 )
-    requires items { ITEMS ≤ LARGEST_ITEMS }
-    requires marks { MARKS ≤ LARGEST_MARKS }
+    requires few { length items.now ≤ LARGEST_ITEMS }
+    requires message { IsMessage items.now }
+    ensures { IsLetterGiven (Form.Smallest extent) size (as_letter items.now) out.old out.new }
+{
+    if is_middle_enough(size, items) {
+        write_symbol::<MIDDLE_DATA, MIDDLE_ROWS, MIDDLE_WORDS>(items, extent, size, out);
+    } else {
+        write_symbol::<LARGEST_DATA, LARGEST_ROWS, LARGEST_WORDS>(items, extent, size, out);
+    }
+}
+
+/// Does so in a room that serves for the symbol. It stands by itself, so that no other room is left for it on the
+/// stack.
+#[inline(never)]
+fn write_symbol<const DATA: usize, const ROWS: usize, const WORDS: usize>(
+    items: &[Item],
+    extent: Extent,
+    size: SizeChoice,
+    out: &mut SymbolOut,
+)
+    requires few { length items.now ≤ LARGEST_ITEMS }
+    requires message { IsMessage items.now }
+    requires room { HasRoomToWrite DATA ROWS WORDS size items.now }
+    ensures { IsLetterGiven (Form.Smallest extent) size (as_letter items.now) out.old out.new }
+{
+    let first = smallest_size();
+    let mut words = SymbolWordsIn::<WORDS>::zeros(first);
+    let mut symbol = SymbolIn::<ROWS>::light(first);
+    match write_smallest_to(extent, items, size, &mut words, &mut symbol) {
+        Ok(()) => show_symbol(out, &symbol),
+        Err(TooLong) => show_fault(out, Fault::too_long()),
+    }
+}
+
+/// Shows the smallest symbol of a letter, or that it fits no size of the choice.
+#[inline(never)]
+fn write_letter(letter: &Letter, extent: Extent, size: SizeChoice, out: &mut SymbolOut)
     ensures { IsLetterGiven (Form.Smallest extent) size letter.now out.old out.new }
 {
     let first = smallest_size();

@@ -3,6 +3,7 @@
 ghost use Rattle.std.specs.Prelude.{◌≡◌, ◌<◌, ◌≤◌, ◌⊎◌, All, IsTrue, [], false, length};
 ghost use Rattle.dm_words.specs.Heads.{IsHead};
 ghost use Rattle.dm_words.specs.Letters.{AreMarks};
+ghost use Rattle.dm_words.specs.Messages.{IsMessage};
 ghost use Rattle.dm_words.specs.LetterExtents.{as_letter};
 ghost use Rattle.ecc200_calls.specs.Letters.{marks_of};
 ghost use Rattle.ecc200_calls.specs.Writings.{IsLetterGiven, IsWriteResult, IsWritingGiven};
@@ -15,9 +16,9 @@ use crate::letter_writing::{write_letter_of_bytes, write_letter_of_numbers};
 use crate::mark::{MarkNumbers, first_wrong};
 use crate::message::{first_foreign, message_of_bytes, message_of_numbers};
 use crate::room::*;
-use crate::smallest_writing::{write_smallest, write_smallest_bytes};
+use crate::smallest_writing::{write_smallest, write_smallest_bytes, write_smallest_message};
 use crate::symbol::{SymbolOut, show_fault, show_symbol};
-use dm_layout::symbols::{MOST_DATA, SymbolIn, SymbolWordsIn};
+use dm_layout::symbols::{MOST_DATA, SizeChoice, SymbolIn, SymbolWordsIn};
 use dm_symbol::{Head, Item, LARGEST_MARKS, TooLong, WriteOptions, write_symbol_to};
 
 /// The most items that any symbol holds in a normal form: two for each data codeword.
@@ -115,9 +116,10 @@ fn write_profiled(
     if !may_fit(items.len(), marks.len()) {
         show_fault(out, Fault::too_long());
     } else if is_message(head, marks) {
+        let form = Form::Profiled(how.profile);
         in_room!(
             Room::of_items(items.len()),
-            write_these_numbers::<ITEMS>(items, how, out)
+            write_these_numbers::<ITEMS>(items, form, how.size, out)
         );
     } else {
         write_letter_of_numbers(items, marks, how, head, out);
@@ -133,7 +135,7 @@ fn may_fit(items: usize, marks: usize) -> bool
 }
 
 /// Whether there is no head and no mark.
-fn is_message(head: Option<Head>, marks: &[MarkNumbers]) -> bool
+pub(crate) fn is_message(head: Option<Head>, marks: &[MarkNumbers]) -> bool
     ensures { IsTrue result → (head ≡ None) × (marks.now ≡ []) }
 {
     head.is_none() && marks.is_empty()
@@ -142,14 +144,19 @@ fn is_message(head: Option<Head>, marks: &[MarkNumbers]) -> bool
 /// Shows the symbol of the message of these numbers, or that it fits no size of the choice, in a room that serves for
 /// the message. It stands by itself, so that no other room is left for it on the stack.
 #[inline(never)]
-fn write_these_numbers<const ITEMS: usize>(items: &[u16], how: WriteOptions, out: &mut SymbolOut)
+pub(crate) fn write_these_numbers<const ITEMS: usize>(
+    items: &[u16],
+    form: Form,
+    size: SizeChoice,
+    out: &mut SymbolOut,
+)
     requires items { All (λ item. item ≤ 256) items.now }
     requires room { length items.now ≤ ITEMS }
     requires most { ITEMS ≤ LARGEST_ITEMS }
-    ensures { IsWritingGiven (Form.Profiled how.profile) how.size None items.now [] out.old out.new }
+    ensures { IsWritingGiven form size None items.now [] out.old out.new }
 {
     let message = message_of_numbers::<ITEMS>(items);
-    write_message(message.items(), how, out);
+    write_message(message.items(), form, size, out);
 }
 
 /// Shows the symbol of the letter of these bytes, or why there is none.
@@ -174,9 +181,10 @@ fn write_profiled_bytes(bytes: &[u8], how: WriteOptions, head: Option<Head>, out
     if bytes.len() > MOST_WRITTEN {
         show_fault(out, Fault::too_long());
     } else if is_message(head, &[]) {
+        let form = Form::Profiled(how.profile);
         in_room!(
             Room::of_items(bytes.len()),
-            write_these_bytes::<ITEMS>(bytes, how, out)
+            write_these_bytes::<ITEMS>(bytes, form, how.size, out)
         );
     } else {
         write_letter_of_bytes(bytes, how, head, out);
@@ -185,17 +193,35 @@ fn write_profiled_bytes(bytes: &[u8], how: WriteOptions, head: Option<Head>, out
 
 /// Does so for a message in a room that serves, as for numbers.
 #[inline(never)]
-fn write_these_bytes<const ITEMS: usize>(bytes: &[u8], how: WriteOptions, out: &mut SymbolOut)
+pub(crate) fn write_these_bytes<const ITEMS: usize>(
+    bytes: &[u8],
+    form: Form,
+    size: SizeChoice,
+    out: &mut SymbolOut,
+)
     requires room { length bytes.now ≤ ITEMS }
     requires most { ITEMS ≤ LARGEST_ITEMS }
-    ensures { IsWritingGiven (Form.Profiled how.profile) how.size None bytes.now [] out.old out.new }
+    ensures { IsWritingGiven form size None bytes.now [] out.old out.new }
 {
     let message = message_of_bytes::<ITEMS>(bytes);
-    write_message(message.items(), how, out);
+    write_message(message.items(), form, size, out);
 }
 
 /// Shows the symbol in which a message is written, or that it fits no size of the choice.
-pub(crate) fn write_message(items: &[Item], how: WriteOptions, out: &mut SymbolOut)
+#[inline]
+fn write_message(items: &[Item], form: Form, size: SizeChoice, out: &mut SymbolOut)
+    requires few { length items.now ≤ LARGEST_ITEMS }
+    requires message { IsMessage items.now }
+    ensures { IsLetterGiven form size (as_letter items.now) out.old out.new }
+{
+    match form {
+        Form::Profiled(profile) => write_normal(items, WriteOptions { profile, size }, out),
+        Form::Smallest(extent) => write_smallest_message(items, extent, size, out),
+    }
+}
+
+/// Shows it under a profile.
+pub(crate) fn write_normal(items: &[Item], how: WriteOptions, out: &mut SymbolOut)
     requires { length items.now ≤ LARGEST_ITEMS }
     ensures { IsLetterGiven (Form.Profiled how.profile) how.size (as_letter items.now) out.old
         out.new }

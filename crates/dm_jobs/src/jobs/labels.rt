@@ -2,10 +2,10 @@
 
 use crate::chance::Chance;
 use crate::digest::Digest;
-use crate::message::put_message;
+use crate::message::{put_message, write_smallest};
 use crate::texts::{Text, labelled};
 use dm_layout::symbols::{MOST_DATA, SizeChoice, Symbol, SymbolWords, table};
-use dm_symbol::{Message, Profile, WriteOptions, write_smallest_to, write_symbol_to};
+use dm_symbol::{Message, Profile, WriteOptions, write_symbol_to};
 use dm_words::Extent;
 
 /// How many labels a round has.
@@ -45,7 +45,7 @@ pub(crate) fn round(chance: &mut Chance, digest: &mut Digest) {
             Extent::Wide
         };
         let size = choice(chance);
-        let written = write_smallest_to(extent, &message, size, &mut words, &mut symbol);
+        let written = write_smallest(extent, &message, size, &mut words, &mut symbol);
         digest.add_code(u16::from(written.is_err()));
         digest.add_symbol(&symbol);
     }

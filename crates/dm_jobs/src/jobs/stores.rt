@@ -3,11 +3,11 @@
 use crate::chance::Chance;
 use crate::digest::Digest;
 use crate::failure::Failure;
-use crate::message::put_message;
+use crate::message::{put_message, write_smallest};
 use crate::page::{add_record, answers, side_at, turn, turn_some};
 use crate::texts::{Text, scanned};
 use dm_layout::symbols::{MOST_DATA, SizeChoice, Symbol, SymbolSize, SymbolWords, table};
-use dm_symbol::{Message, WriteOptions, write_smallest_to, write_symbol_to};
+use dm_symbol::{Message, WriteOptions, write_symbol_to};
 use dm_text::{Profile, Task};
 use dm_words::{Extent, TooLong};
 use std::alloc::Global;
@@ -65,7 +65,7 @@ fn print(
 ) -> Result<(), TooLong> {
     let square = SizeChoice::Square;
     match chance.below(3) {
-        0 => write_smallest_to(Extent::Usual, message, square, words, symbol),
+        0 => write_smallest(Extent::Usual, message, square, words, symbol),
         1 => write_items(message, Profile::Shorter, square, words, symbol),
         _ => {
             write_items(message, Profile::Ascii, square, words, symbol)?;

@@ -3,10 +3,13 @@
 ghost use Rattle.std.specs.Prelude.{◌≡◌, ◌≢◌, ◌<◌, ◌≤◌, ℕ, length, OnErr};
 ghost use Rattle.dm_code.specs.Codeword.{IsCodeword};
 ghost use Rattle.dm_layout.specs.symbols.Sizes.{block_check, codeword_count};
+ghost use Rattle.dm_words.specs.LetterExtents.{as_letter};
+ghost use Rattle.dm_words.specs.Messages.{IsMessage};
 ghost use Rattle.dm_words.specs.Outcomes.{outcome};
 ghost use Rattle.dm_symbol.specs.SymbolBlocks.{AreOfSize, AreCodewordsOf, block_in, first_data};
 ghost use Rattle.dm_symbol.specs.NormalSymbol.{IsSymbolWritten, HasRoomFor};
-ghost use Rattle.dm_symbol.specs.SmallestSymbol.{IsSmallestWritten};
+ghost use Rattle.dm_symbol.specs.SmallestLetterSymbol.{IsSmallestLetterWritten};
+ghost use Rattle.dm_symbol.specs.SmallestSymbol.{HasRoomForSmallest, IsSmallestWritten};
 ghost use Rattle.dm_symbol.specs.WrittenWords.{HaveRoom, AreWritten};
 
 use arrayvec::ArrayVec;
@@ -16,8 +19,7 @@ use dm_layout::symbols::{
     put_block_checks,
 };
 use dm_words::{
-    Extent, Item, LARGEST_ROOM, MessageIn, Profile, TooLong, normal_words_in, pad_to,
-    smallest_words_to,
+    Extent, Item, LARGEST_ROOM, Profile, TooLong, normal_words_in, pad_to, smallest_words_to,
 };
 
 /// How a message or a letter is written.
@@ -81,26 +83,35 @@ pub(crate) fn write_words_to<const DATA: usize, const WORDS: usize, const ROWS: 
     Ok(())
 }
 
-/// Writes a message in its smallest symbol for readers of an extent (ISO/IEC 16022, encodation schemes, which leave the
-/// choice of encodations to the writer): after `Ok`, `symbol`, whatever it was before, is one that is read as the
-/// message in the extent, with nothing wrong in it, and no symbol of a smaller size of the choice is read as the
-/// message, whatever its codewords are. The data codewords are ASCII where that size has room for these; else those of
-/// the usual extent, where it has room for any. The fault is `TooLong` exactly where no symbol of the choice is read as
-/// the message; then `symbol` is as it was. `words` is room for the codewords, whatever they were before. The work
-/// grows with the number of items.
-pub fn write_smallest_to<const ITEMS: usize>(
+/// Writes the message of at most [`LARGEST_ROOM`] items in its smallest symbol for readers of an extent (ISO/IEC 16022,
+/// encodation schemes, which leave the choice of encodations to the writer): after `Ok`, `symbol`, whatever it was
+/// before, is one that is read as the message in the extent, with nothing wrong in it, and no symbol of a smaller size
+/// of the choice is read as the message, whatever its codewords are. The data codewords are ASCII where that size has
+/// room for these; else those of the usual extent, where it has room for any. The fault is `TooLong` exactly where no
+/// symbol of the choice is read as the message; then `symbol` is as it was. So it is of symbols that are read as the
+/// letter with these items, too. `words` is room for the codewords, whatever they were before. The work grows with the
+/// number of items.
+///
+/// Both have room for each size of the choice that is no larger than those that hold the message in ASCII. A
+/// [`Symbol`](dm_layout::symbols::Symbol) and [`SymbolWords`](dm_layout::symbols::SymbolWords) have room for every
+/// size.
+pub fn write_smallest_to<const WORDS: usize, const ROWS: usize>(
     extent: Extent,
-    message: &MessageIn<ITEMS>,
+    items: &[Item],
     choice: SizeChoice,
-    words: &mut SymbolWords,
-    symbol: &mut Symbol,
+    words: &mut SymbolWordsIn<WORDS>,
+    symbol: &mut SymbolIn<ROWS>,
 ) -> Result<(), TooLong>
-    requires { ITEMS ≤ LARGEST_ROOM }
-    ensures written { IsSmallestWritten extent choice message.now (outcome result symbol.new) }
+    requires few { length items.now ≤ LARGEST_ROOM }
+    requires message { IsMessage items.now }
+    requires room { HasRoomForSmallest choice items.now ROWS WORDS }
+    ensures written { IsSmallestWritten extent choice items.now (outcome result symbol.new) }
+    ensures letter { IsSmallestLetterWritten extent choice (as_letter items.now)
+        (outcome result symbol.new) }
     ensures same { OnErr result (symbol.new ≡ symbol.old) }
 {
     let mut list = ArrayVec::<u8, MOST_DATA>::new();
-    match smallest_words_to(extent, message, choice, &mut list) {
+    match smallest_words_to(extent, items, choice, &mut list) {
         Ok(size) => {
             complete_with(words, size, &list);
             lay_to(words, symbol);

@@ -6,7 +6,7 @@ use dm_layout::symbols::SizeChoice;
 /// Whether the smallest codewords of the message in an extent, among the squares, are these, and are read as it.
 fn is_smallest(extent: Extent, message: &Message, expected: &[u8]) -> bool {
     let mut words = ArrayVec::new();
-    match smallest_words_to(extent, message, SizeChoice::Square, &mut words) {
+    match smallest_words_to(extent, message.items(), SizeChoice::Square, &mut words) {
         Ok(_) => words.as_slice() == expected && is_read(extent, expected, message),
         Err(_) => false,
     }
@@ -156,7 +156,7 @@ fn is_segment(count: usize, word_count: usize, expected: &[u8]) -> bool {
     let mut words = ArrayVec::new();
     match smallest_words_to(
         Extent::Usual,
-        &of_many(255, count),
+        of_many(255, count).items(),
         SizeChoice::Square,
         &mut words,
     ) {
@@ -184,7 +184,12 @@ fn writes_the_length_of_a_segment(rt: HostRuntime) {
 /// The rows and columns of the smallest symbol of so many digits 0, or 0 and 0 where the choice has none.
 fn size_of_digits(count: usize, choice: SizeChoice) -> (u16, u16) {
     let mut words = ArrayVec::new();
-    match smallest_words_to(Extent::Usual, &of_many(b'0', count), choice, &mut words) {
+    match smallest_words_to(
+        Extent::Usual,
+        of_many(b'0', count).items(),
+        choice,
+        &mut words,
+    ) {
         Ok(size) => (size.rows(), size.columns()),
         Err(_) => (0, 0),
     }

@@ -66,7 +66,9 @@ pub fn smallest_letter_words_to<const ROOM: usize, const MARKS: usize>(
     }
 }
 
-/// Does the same for a letter of these items and marks that has a head or a mark, in the wide extent.
+/// Does the same for a letter of these items and marks that has a head or a mark, in the wide extent. It stands by
+/// itself, so that its plan isn't left on the stack.
+#[inline(never)]
 fn smallest_marked_to(
     head: Option<Head>,
     items: &[Item],
@@ -139,7 +141,7 @@ fn text_cost(behind: u16, items: &[Item], plan: &mut [StepBits]) -> u16
         extent: Extent::Wide,
         behind,
     };
-    plan_to(setting, items, plan)
+    plan_to(setting, items, plan).least
 }
 
 /// Gives a way to write a letter than which none takes fewer codewords, and leaves how many codewords follow the items

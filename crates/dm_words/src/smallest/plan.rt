@@ -4,6 +4,8 @@ ghost use Rattle.std.specs.Prelude.{◌≡◌, ◌+◌, ◌*◌, ◌^◌, ◌≤
 ghost use Prim.Native.Nat.{min};
 ghost use Rattle.std.specs.Prelude.{map, nat_eq, not, replicate};
 ghost use Rattle.std.specs.Simd.Lanes.{sel_l, zip2};
+ghost use Rattle.dm_words.specs.Ascii.{ascii};
+ghost use Rattle.dm_words.specs.inner.Costs.{unit_cost};
 ghost use Rattle.dm_words.specs.inner.Costs.{Row, Going, cost_of, least, step_of, AreSmall};
 ghost use Rattle.dm_words.specs.inner.Costs.{parts_cost, is_digit_item, never, begin_at, step_in};
 ghost use Rattle.dm_words.specs.inner.Costs.{has_bit};
@@ -255,19 +257,45 @@ fn is_digit_item(item: Item) -> bool
     }
 }
 
-/// Writes what to do at each item, and behind the last one, into the plan, and gives the least number of codewords of
-/// the items and of what follows them.
-pub(crate) fn plan_to(setting: Setting, items: &[Item], plan: &mut [StepBits]) -> u16
+/// How many codewords items take.
+#[derive(Clone, Copy)]
+pub struct Lengths {
+    /// At least, with those that follow them.
+    pub least: u16,
+    /// In ASCII, by themselves.
+    pub ascii: u16,
+}
+
+/// Gives how many codewords of ASCII the items from one on take, of which this one and the next may be a pair, from
+/// those of the items from the next one on, and from the one behind that.
+#[inline]
+fn ascii_from(item: Item, pair: bool, next: u16, after: u16) -> u16
+    requires next { next ≤ 16384 }
+    requires after { after ≤ 16384 }
+    ensures { result ≡ (if pair then 1 + after else unit_cost item + next) }
+{
+    if pair {
+        1 + after
+    } else {
+        unit_cost(item) + next
+    }
+}
+
+/// Writes what to do at each item, and behind the last one, into the plan, and gives how many codewords the items take.
+pub(crate) fn plan_to(setting: Setting, items: &[Item], plan: &mut [StepBits]) -> Lengths
     requires few { length items.now ≤ LARGEST_ROOM }
     requires behind { setting.behind ≤ most_behind }
     requires steps { length items.now < length plan.old }
-    ensures cost { result ≡ parts_cost setting items.now }
-    ensures most { result ≤ setting.behind + 2 * length items.now }
+    ensures cost { result.least ≡ parts_cost setting items.now }
+    ensures most { result.least ≤ setting.behind + 2 * length items.now }
+    ensures ascii { result.ascii ≡ length (ascii items.now) }
     ensures plan { IsRightPlan setting items.now plan.new }
 {
     let none = none_going(setting.behind);
     let mut costs = with_ascii(setting.behind, NEVER, &none);
     let mut digit_behind = false;
+    let mut ascii = 0;
+    let mut ascii_behind = 0;
     plan[items.len()] = step_of(setting.behind, 0, &none);
     for at in (0..items.len()).rev() {
         let item = items[at];
@@ -276,7 +304,13 @@ pub(crate) fn plan_to(setting: Setting, items: &[Item], plan: &mut [StepBits]) -
         let choice = choose(item, digit & digit_behind, &costs, &going);
         plan[at] = step_of(choice.cost, choice.begins, &going);
         costs = with_ascii(choice.cost, costs.ascii, &going);
+        let length = ascii_from(item, digit & digit_behind, ascii, ascii_behind);
+        ascii_behind = ascii;
+        ascii = length;
         digit_behind = digit;
     }
-    costs.ascii
+    Lengths {
+        least: costs.ascii,
+        ascii,
+    }
 }

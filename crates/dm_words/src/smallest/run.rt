@@ -16,7 +16,7 @@ use crate::item::Item;
 use crate::limits::LARGEST_ROOM;
 use crate::smallest::plan::StepBits;
 use crate::smallest::setting::Setting;
-use crate::smallest::values::values_of;
+use crate::smallest::values::{one_value, values_of};
 use arrayvec::ArrayVec;
 use dm_layout::symbols::MOST_DATA;
 
@@ -77,8 +77,10 @@ fn push_values<const N: usize>(part: Part, values: &[u8], words: &mut ArrayVec<u
     part
 }
 
-/// Adds the values of an item of a run.
-fn push_item<const N: usize>(
+/// Adds the values of an item of a run, whatever they are. It stands by itself, so that where an item is one value no
+/// list is made.
+#[inline(never)]
+fn push_spelling<const N: usize>(
     set: CodeSet,
     item: Item,
     part: Part,
@@ -94,6 +96,25 @@ fn push_item<const N: usize>(
     push_values(part, &values, words)
 }
 
+/// Adds the values of an item of a run.
+fn push_item<const N: usize>(
+    set: CodeSet,
+    item: Item,
+    part: Part,
+    words: &mut ArrayVec<u8, N>,
+) -> Part
+    requires held { 0 < set_values set item }
+    requires part { IsSmallPart part }
+    requires room { length words.old.items
+        + 2 * ((length (part_values part) + set_values set item) / 3) ≤ N }
+    ensures { IsItemPushed set item part words.old.items words.new.items result }
+{
+    match one_value(set, item) {
+        Some(value) => push_value(part, value, words),
+        None => push_spelling(set, item, part, words),
+    }
+}
+
 /// Whether a run goes on at a step.
 fn goes_on(part: Part, step: &StepBits, set: CodeSet) -> bool
     ensures { result ≡ not (is_empty part && run_ends set (step_in step.now)) }
@@ -105,6 +126,7 @@ fn goes_on(part: Part, step: &StepBits, set: CodeSet) -> bool
 }
 
 /// Writes a run, and gives the index behind it.
+#[inline(never)]
 pub(crate) fn write_run<const N: usize>(
     setting: Setting,
     items: &[Item],
@@ -129,7 +151,8 @@ pub(crate) fn write_run<const N: usize>(
         (take (result - at) (drop at items.now)) }
 {
     words.push(latch(set));
-    let mut part = push_item(set, items[at], Part::Empty, words);
+    // So the other call stands in the loop alone, and is no call.
+    let mut part = push_spelling(set, items[at], Part::Empty, words);
     let mut next = at + 1;
     while goes_on(part, &plan[next], set) {
         part = push_item(set, items[next], part, words);

@@ -1,6 +1,6 @@
 //! The values of an item in a run of C40, Text or X12.
 
-ghost use Rattle.std.specs.Prelude.{◌≡◌, ◌≤◌, ◌<◌, IsTrue, Some, length};
+ghost use Rattle.std.specs.Prelude.{◌≡◌, ◌≤◌, ◌<◌, ◌∷◌, [], IfSome, IsTrue, Some, length};
 ghost use Rattle.dm_words.specs.declared.c40.set.CodeSet.{CodeSet};
 ghost use Rattle.dm_words.specs.declared.c40.set.Basic.TheVariants as Basic;
 ghost use Rattle.dm_words.specs.CodeSets.{basic_of};
@@ -84,6 +84,17 @@ fn push_low(set: CodeSet, byte: u8, values: &mut ArrayVec<u8, 4>)
             values.push(shift_value(shift));
             values.push(value);
         }
+    }
+}
+
+/// Gives the value of an item that is one value of a set, as most items of a run are.
+pub(crate) fn one_value(set: CodeSet, item: Item) -> Option<u8>
+    ensures value { IfSome result (λ value. IsSpelling set (value ∷ []) item) }
+    ensures small { IfSome result (λ value. value < 40) }
+{
+    match item {
+        Item::Byte(byte) if is_basic(set, byte) => Some(basic_value(set, byte)),
+        _ => None,
     }
 }
 

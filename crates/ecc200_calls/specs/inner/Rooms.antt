@@ -9,6 +9,7 @@ use Rattle.dm_symbol.specs.declared.SizeChoice.TheVariants.{Exact}
 use Rattle.dm_symbol.specs.Messages.{most_data, most_spelled}
 use Rattle.dm_symbol.specs.NormalForm.{normal_form}
 use Rattle.dm_symbol.specs.NormalSymbol.{HasRoomFor}
+use Rattle.dm_symbol.specs.SmallestSymbol.{HasRoomForSmallest}
 use Rattle.dm_layout.specs.symbols.Sizes.{SizeEntry, codeword_count, most_codewords, most_rows}
 
 -- A room is for no fewer rows and codewords than the smallest symbol has, and for no more than the largest has.
@@ -27,13 +28,15 @@ pub record HasRoom (rows words items : ℕ) (size : SizeEntry) : Type 0 where
   pub spelled : (extent : Extent) → most_spelled extent size.data_count ≤ items
   pub most : items ≤ most_spelled Wide most_data
 
--- There is room for the symbol in which a message is written in a choice of sizes, and for its codewords: for no fewer
--- data codewords than the smallest symbol has, and for no more than the largest has.
+-- There is room for the symbol in which a message is written in a choice of sizes, and for its codewords: under a
+-- profile, and in the smallest one; for no fewer data codewords than the smallest symbol has, and for no more than the
+-- largest has.
 pub record HasRoomToWrite (data_words rows words : ℕ) (choice : SizeChoice) (message : List Item) : Type 0 where
   pub some_data : 3 ≤ data_words
   pub few_data : data_words ≤ most_data
   pub room : IsRoom rows words
   pub written : (profile : Profile) → HasRoomFor choice profile message data_words rows words
+  pub smallest : HasRoomForSmallest choice message rows words
 
 -- A size of a choice with so many data codewords, or the next larger one, is at least as large as the one in which a
 -- message is written: no normal form of the message has more codewords; or one size is asked for.

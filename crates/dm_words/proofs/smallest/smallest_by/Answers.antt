@@ -9,8 +9,8 @@ returns-in-None-clause-smallest g c = record {
   smallest = tt;
   plainest = tt;
   padded = tt;
-  too_long = λ err. none_spells c.args.extent c.args.choice c.args.items.now c.least_way-way.result.cost
-      c.least_way-way.ensures.least c.in-None.ensures.none;
+  too_long = λ err. none_spells c.args.extent c.args.choice c.args.items.now c.least_way-found.result.way.cost
+      c.least_way-found.ensures.least c.in-None.ensures.none;
 }
 
 pub returns-in-Some-clause-smallest : goal.returns-in-Some-clause-smallest
@@ -26,8 +26,8 @@ returns-in-Some-clause-smallest g c =
     omega (arith, c.pad_to.ensures.count, c.from.ensures, c.data_count-count.ensures.value) in
     let spells = subst (λ (l : List ℕ). SpellsThenPads extent l m) (sym is) c.write_plainest.ensures.spells in
     record {
-      smallest = is_smallest extent c.args.choice m c.least_way-way.result.cost c.in-Some.size
-          c.pad_to.new.words.items c.least_way-way.ensures.least (size.size, size.chosen) size.smallest size.narrowest
+      smallest = is_smallest extent c.args.choice m c.least_way-found.result.way.cost c.in-Some.size
+          c.pad_to.new.words.items c.least_way-found.ensures.least (size.size, size.chosen) size.smallest size.narrowest
           long (padded_spells extent c.pad_to.new.words.items m spells);
       plainest = subst (λ (l : List ℕ). IsPlainest l m) (sym is) c.write_plainest.ensures.plainest;
       padded = spells;
@@ -36,12 +36,12 @@ returns-in-Some-clause-smallest g c =
 
 pub returns-in-None-clause-cheapest : goal.returns-in-None-clause-cheapest
 returns-in-None-clause-cheapest g c =
-    (c.least_way-way.result.cost, c.least_way-way.ensures.least, c.in-None.ensures.none)
+    (c.least_way-found.result.way.cost, c.least_way-found.ensures.least, c.in-None.ensures.none)
 
 pub returns-in-Some-clause-cheapest : goal.returns-in-Some-clause-cheapest
 returns-in-Some-clause-cheapest g c =
     let size = c.in-Some.ensures in (
-      c.least_way-way.result.cost,
-      c.least_way-way.ensures.least,
+      c.least_way-found.result.way.cost,
+      c.least_way-found.ensures.least,
       record { taken = (size.size, size.chosen); smallest = size.smallest; narrowest = size.narrowest },
     )

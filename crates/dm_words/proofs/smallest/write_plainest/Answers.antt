@@ -1,24 +1,24 @@
-use Rattle.std.proofs.Common.{rules, ℕ, List, ap, sym, subst, arith, length}
+use Rattle.std.proofs.Common.{rules, ◌∙◌, ℕ, List, ap, sym, subst, arith, length}
 use Rattle.dm_words.specs.Pads.{padded}
 use Rattle.dm_words.specs.Smallest.{SpellsThenPads}
 use Rattle.dm_words.proofs.LawLemmas.{ascii_padded}
 use Rattle.dm_words.proofs.SmallestSymbols.{ascii_plainest, usual_plainest}
 use Rattle.dm_words.proofs.smallest.write_plainest.Goals as goal
 
-pub returns-then-write_ascii_if_fits-clause-spells : goal.returns-then-write_ascii_if_fits-clause-spells
-returns-then-write_ascii_if_fits-clause-spells g c =
-    let fits = c.write_ascii_if_fits.ensures.fits c.if-write_ascii_if_fits.true in
-    subst (λ (l : List ℕ). SpellsThenPads c.args.extent (padded l c.args.count) c.args.items.now) (sym fits.0)
+pub returns-then-found-count-clause-spells : goal.returns-then-found-count-clause-spells
+returns-then-found-count-clause-spells g c =
+    subst (λ (l : List ℕ). SpellsThenPads c.args.extent (padded l c.args.count) c.args.items.now)
+    (sym c.write_ascii-form.ensures.words)
     (ascii_padded c.args.extent c.args.items.now c.args.count c.requires.message)
 
-pub returns-then-write_ascii_if_fits-clause-plainest : goal.returns-then-write_ascii_if_fits-clause-plainest
-returns-then-write_ascii_if_fits-clause-plainest g c =
-    let fits = c.write_ascii_if_fits.ensures.fits c.if-write_ascii_if_fits.true in
-    ascii_plainest c.args.items.now c.write_ascii_if_fits.new.words.items c.args.count c.requires.message fits.0
-    (omega (arith, ap length fits.0, fits.1, c.from.ensures))
+pub returns-then-found-count-clause-plainest : goal.returns-then-found-count-clause-plainest
+returns-then-found-count-clause-plainest g c =
+    ascii_plainest c.args.items.now c.write_ascii-form.new.words.items c.args.count c.requires.message
+    c.write_ascii-form.ensures.words
+    (omega (arith, ap length c.write_ascii-form.ensures.words, c.requires.ascii, c.if-found-count.true))
 
 pub returns-else-not-is_usual-clause-plainest : goal.returns-else-not-is_usual-clause-plainest
 returns-else-not-is_usual-clause-plainest g c =
     usual_plainest c.args.items.now c.write_way-is_usual.new.words.items c.args.count c.write_way-is_usual.ensures.fits
-    (omega (arith, c.write_ascii_if_fits.ensures.long c.if-write_ascii_if_fits.false, c.from.ensures))
+    (omega (arith, c.requires.ascii, c.if-found-count.false))
     (c.write_way-is_usual.ensures.usual (search rules))

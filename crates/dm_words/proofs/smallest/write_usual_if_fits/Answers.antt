@@ -17,7 +17,7 @@ returns-then-plan_to-count-clause-plainest g c =
 
 pub returns-else-plan_to-count-clause-plainest : goal.returns-else-plan_to-count-clause-plainest
 returns-else-plan_to-count-clause-plainest g c =
-    any_plainest c.args.items.now c.args.words.now.items c.args.count c.plan_to.result c.requires.fits
+    any_plainest c.args.items.now c.args.words.now.items c.args.count c.plan_to.result.least c.requires.fits
     c.requires.no_ascii
     (c.plan_to.ensures.cost ∙ ap (λ (s : Setting). parts_cost s c.args.items.now) c.at_end.ensures)
     c.if-plan_to-count.false

@@ -13,13 +13,13 @@ returns-in-Ok-clause-told g c = λ told.
     let a = c.args in
     let doubtful = option_map (λ d. d.now) a.doubtful in
     let message = c.read_symbol_to.new.reading.message in
-    normal_of_letter a.extent a.profile a.symbol.now doubtful a.border_limit a.out.now c.write_message.new.out
+    normal_of_letter a.extent a.profile a.symbol.now doubtful a.border_limit a.out.now c.write_normal.new.out
     (as_letter message)
     (message_reads_letter a.symbol.now doubtful a.border_limit a.extent message
     ((c.in-Ok.ensures.read.message message).0 refl))
-    (subst (λ m. IsLetterGiven (Profiled a.profile) Square (as_letter m) a.out.now c.write_message.new.out)
+    (subst (λ m. IsLetterGiven (Profiled a.profile) Square (as_letter m) a.out.now c.write_normal.new.out)
     c.items.ensures.value
-    c.write_message.ensures)
+    c.write_normal.ensures)
 
 pub returns-else-may_be_letter-clause-told : goal.returns-else-may_be_letter-clause-told
 returns-else-may_be_letter-clause-told g c = λ told.

@@ -4,14 +4,14 @@ use Rattle.ecc200_calls.specs.Symbols.{no_symbol}
 use Rattle.ecc200_calls.proofs.smallest_writing.write_letter.Goals as goal
 
 pub returns-in-Ok : goal.returns-in-Ok
-returns-in-Ok g c = record {
+returns-in-Ok c = record {
   result = Ok c.write_smallest_letter_to.new.symbol;
   written = c.in-Ok.ensures.written;
   shown = c.show_symbol.ensures;
 }
 
 pub returns-in-Err : goal.returns-in-Err
-returns-in-Err g c = record {
+returns-in-Err c = record {
   result = Err (let none : TooLong = record {} in none);
   written = c.in-Err.ensures.written;
   shown = c.show_fault.ensures ∙ ap (λ why. no_symbol why c.args.out.now) c.too_long.ensures;

@@ -1,6 +1,5 @@
 use Rattle.std.proofs.Common.{subst}
 use Rattle.dm_words.specs.LetterExtents.{as_letter}
-use Rattle.ecc200_calls.specs.declared.form.Form.TheVariants.{Profiled}
 use Rattle.ecc200_calls.specs.Writings.{IsLetterGiven}
 use Rattle.ecc200_calls.proofs.Written.{writing_given}
 use Rattle.ecc200_calls.proofs.writing.write_these_numbers.Goals as goal
@@ -8,8 +7,8 @@ use Rattle.ecc200_calls.proofs.writing.write_these_numbers.Goals as goal
 pub returns : goal.returns
 returns g c =
     let made = c.message_of_numbers-message in
-    let how = c.args.how in
-    writing_given (Profiled how.profile) how.size c.args.items.now made.result c.args.out.now c.write_message.new.out
-    made.ensures.message made.ensures.numbers
-    (subst (λ m. IsLetterGiven (Profiled how.profile) how.size (as_letter m) c.args.out.now c.write_message.new.out)
-    c.items.ensures.value c.write_message.ensures)
+    let a = c.args in
+    writing_given a.form a.size a.items.now made.result a.out.now c.write_message.new.out made.ensures.message
+    made.ensures.numbers
+    (subst (λ m. IsLetterGiven a.form a.size (as_letter m) a.out.now c.write_message.new.out) c.items.ensures.value
+    c.write_message.ensures)

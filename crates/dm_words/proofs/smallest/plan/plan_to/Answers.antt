@@ -1,5 +1,11 @@
-use Rattle.std.proofs.Common.{◌≡◌, ◌∙◌, ◌-◌, ◌&&◌, Bool, sym, ℕ, drop, get_or, rules, ap, subst, arith, refl}
-use Rattle.std.proofs.lemmas.List.{length-drop}
+use Rattle.std.proofs.Common.{◌≡◌, ◌∙◌, ◌+◌, ◌-◌, ◌∷◌, ◌&&◌, Bool, cond, sym, ℕ, drop, get_or, rules, ap, subst, arith}
+use Rattle.std.proofs.Common.{List, length, refl}
+use Rattle.std.proofs.lemmas.List.{drop_all, length-drop}
+use Rattle.dm_words.specs.declared.item.Item.{Item}
+use Rattle.dm_words.specs.Ascii.{ascii}
+use Rattle.dm_words.specs.inner.Costs.{pair_first, unit_cost}
+use Rattle.dm_words.proofs.NormalForms.{two_words}
+use Rattle.dm_words.proofs.Plans.{ascii_turn}
 use Rattle.dm_words.specs.declared.smallest.plan.Begin.TheVariants.{Two}
 use Rattle.dm_words.specs.declared.item.Item.TheVariants.{Fnc1}
 use Rattle.dm_words.specs.inner.Costs.{Row, row, going_over, is_digit_item, with_ascii, begin_at, step_in, none_going}
@@ -13,6 +19,10 @@ loop-at-init c = record {
   in_range = omega arith;
   room = search rules;
   digit = sym (digit_last c.args.items.now);
+  in_ascii = sym (ap (λ (l : List Item). length (ascii l))
+      (drop_all (length c.args.items.now) c.args.items.now (omega arith)));
+  in_ascii_behind = sym (ap (λ (l : List Item). length (ascii l))
+      (drop_all (length c.args.items.now + 1) c.args.items.now (omega arith)));
   row = last_costs c.args.setting c.args.items.now c.with_ascii-costs.result
       (c.with_ascii-costs.ensures (none_going c.args.setting.behind) (none_small c.args.setting.behind)
       c.none_going-none.ensures);
@@ -60,6 +70,26 @@ with_ascii-costs-requires-in-loop-at c =
     (c.going_over-going.ensures next w c.loop-at.invariant.row) in
     omega (arith, cost, least_small x (c.is_digit_item-digit.result && c.loop-at.digit_behind) next g w)
 
+pub ascii_from-length-requires-clause-next : goal.ascii_from-length-requires-clause-next
+ascii_from-length-requires-clause-next c =
+    omega (
+      arith,
+      c.loop-at.invariant.in_ascii,
+      two_words (drop c.loop-at.at c.args.items.now),
+      length-drop c.loop-at.at c.args.items.now,
+      c.requires.few,
+    )
+
+pub ascii_from-length-requires-clause-after : goal.ascii_from-length-requires-clause-after
+ascii_from-length-requires-clause-after c =
+    omega (
+      arith,
+      c.loop-at.invariant.in_ascii_behind,
+      two_words (drop (c.loop-at.at + 1) c.args.items.now),
+      length-drop (c.loop-at.at + 1) c.args.items.now,
+      c.requires.few,
+    )
+
 pub loop-at-preserved : goal.loop-at-preserved
 loop-at-preserved c =
     let v = c.loop-at.invariant in
@@ -77,10 +107,12 @@ loop-at-preserved c =
     let new = with_ascii choice.cost next.ascii g in
     let behind = c.loop-at.digit_behind in
     let pair = c.is_digit_item-digit.result && behind in
+    let is_pair : pair ≡ pair_first (x ∷ drop at m) =
+    ap (λ (b : Bool). b && behind) c.is_digit_item-digit.ensures ∙ ap (λ (b : Bool). is_digit_item x && b) v.digit in
+    let at_again : at ≡ at - 1 + 1 = omega (arith, c.loop-at-test.true) in
     let t = turn setting m at x Fnc1 next new pair g (begin_at choice.begins) choice.cost
     (step_in c.step_of-in-loop-at.result) (omega (arith, c.loop-at-test.true)) v.in_range refl refl
-    (ap (λ (b : Bool). b && behind) c.is_digit_item-digit.ensures ∙ ap (λ (b : Bool). is_digit_item x && b) v.digit)
-    refl (c.choose-choice.ensures.cost next g v.row small going)
+    is_pair refl (c.choose-choice.ensures.cost next g v.row small going)
     (c.choose-choice.ensures.begins next g v.row small going) (c.step_of-in-loop-at.ensures g going) refl in
     record {
       in_range = omega (arith, v.in_range);
@@ -90,9 +122,20 @@ loop-at-preserved c =
       row = subst (λ (r : Row). HasRow r c.with_ascii-costs-in-loop-at.result)
           (ap (λ (n : ℕ). with_ascii choice.cost n g) v.row.ascii ∙ t.0)
           (c.with_ascii-costs-in-loop-at.ensures g small going);
+      in_ascii = c.ascii_from-length.ensures
+          ∙ ap (λ (n : ℕ). cond pair (1 + n) (unit_cost x + c.loop-at.ascii)) v.in_ascii_behind
+          ∙ ap (λ (n : ℕ). cond pair (1 + length (ascii (drop (at + 1) m))) (unit_cost x + n)) v.in_ascii
+          ∙ sym (ascii_turn m at x Fnc1 pair (omega (arith, c.loop-at-test.true)) v.in_range refl is_pair);
+      in_ascii_behind = v.in_ascii ∙ ap (λ (i : ℕ). length (ascii (drop i m))) at_again;
       plan = plan_more setting m at c.loop-at.plan c.step_of-in-loop-at.result (omega (arith, c.loop-at-test.true))
           v.in_range (omega (arith, v.room)) t.1 v.plan;
     }
+
+pub returns-clause-ascii : goal.returns-clause-ascii
+returns-clause-ascii c =
+    c.loop-at.invariant.in_ascii
+    ∙ ap (λ (i : ℕ). length (ascii (drop i c.args.items.now)))
+    (let none : c.loop-at.at ≡ 0 = omega (arith, c.loop-at-test.false) in none)
 
 pub returns-clause-most : goal.returns-clause-most
 returns-clause-most c =

@@ -1,5 +1,6 @@
-use Rattle.std.proofs.Common.{◌≡◌, ◌<◌, ◌≤◌, ℕ, length, drop, get_or}
+use Rattle.std.proofs.Common.{◌≡◌, ◌+◌, ◌<◌, ◌≤◌, ℕ, length, drop, get_or}
 use Rattle.dm_words.specs.declared.smallest.plan.StepBits.{StepBits}
+use Rattle.dm_words.specs.Ascii.{ascii}
 use Rattle.dm_words.specs.inner.Costs.{digit_first, row, step_in, IsRightStep}
 use Rattle.dm_words.specs.inner.CostLanes.{HasRow}
 use Rattle.dm_words.proofs.smallest.plan.plan_to.Given as goal
@@ -10,6 +11,8 @@ invariant-loop-at l = record {
   room : length l.items < length l.plan;
   digit : l.digit_behind ≡ digit_first (drop l.at l.items);
   row : HasRow (row l.setting (drop l.at l.items)) l.costs;
+  in_ascii : l.ascii ≡ length (ascii (drop l.at l.items));
+  in_ascii_behind : l.ascii_behind ≡ length (ascii (drop (l.at + 1) l.items));
   plan : (i : ℕ) (other : StepBits) → l.at ≤ i → i ≤ length l.items
       → IsRightStep l.setting (drop i l.items) (step_in (get_or l.plan i other));
 }

@@ -1,24 +1,13 @@
-use Rattle.std.proofs.Common.{arith, rules}
-use Rattle.dm_words.proofs.SpellingCounts.{spelling_count, spelling_small, few_values}
+use Rattle.std.proofs.Common.{[], ◌∷◌}
+use Rattle.dm_words.proofs.RunWritten.{none_pushed, one_pushed}
 use Rattle.dm_words.proofs.smallest.run.push_item.Goals as goal
 
-pub push_values-requires : goal.push_values-requires
-push_values-requires g c =
-    let values = c.values_of-values.result.items in
-    let spells = c.values_of-values.ensures in (
-      search rules,
-      (
-        rw c.deref.ensures.0 (spelling_small c.args.set values c.args.item spells),
-        (
-          c.requires.part,
-          (
-            rw c.deref.ensures.0 (few_values c.args.set values c.args.item spells),
-            rw c.deref.ensures.0 (omega (arith, spelling_count c.args.set values c.args.item spells, c.requires.room)),
-          ),
-        ),
-      ),
+pub returns-in-Some : goal.returns-in-Some
+returns-in-Some g c =
+    let value = c.in-Some.value in
+    let old = c.args.words.now.items in (
+      value ∷ [],
+      c.in-Some.ensures.value,
+      one_pushed old _ [] old c.push_value.new.words.items c.args.part c.push_value.result value
+          c.in-Some.ensures.small (none_pushed old c.args.part c.requires.part) c.push_value.ensures,
     )
-
-pub returns : goal.returns
-returns g c =
-    (c.values_of-values.result.items, c.values_of-values.ensures, rw c.deref.ensures.0 at c.push_values.ensures)

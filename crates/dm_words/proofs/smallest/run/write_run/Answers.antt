@@ -8,8 +8,8 @@ use Rattle.dm_words.proofs.RunWritten.{run_begun, run_more, written_unlatch, wri
 use Rattle.dm_words.proofs.RunBudget.{unlatched, first_at, run_at, item_room, after_item, one_more, leave_at}
 use Rattle.dm_words.proofs.smallest.run.write_run.Goals as goal
 
-pub push_item-part-requires : goal.push_item-part-requires
-push_item-part-requires g c =
+pub push_spelling-part-requires : goal.push_spelling-part-requires
+push_spelling-part-requires g c =
     let held =
     (first_at c.args.setting c.args.set c.args.items.now c.args.at Fnc1 (length c.push.new.self.items) c.args.total
     c.requires.at (omega (arith, c.requires.budget, c.push.ensures.len)) (omega (arith, c.requires.total))).held in (
@@ -41,16 +41,16 @@ loop-set-init g c =
     record {
       from = omega arith;
       within = omega (arith, c.requires.at);
-      budget = after_item c.args.set _ part.Empty c.push_item-part.result c.push.new.self.items
-          c.push_item-part.new.words.items c.args.total _ c.push_item-part.ensures f.budget;
+      budget = after_item c.args.set _ part.Empty c.push_spelling-part.result c.push.new.self.items
+          c.push_spelling-part.new.words.items c.args.total _ c.push_spelling-part.ensures f.budget;
       so_far = subst
-          (λ (l : List Item). IsRunSoFar c.args.set c.args.words.now.items c.push_item-part.new.words.items
-          c.push_item-part.result l)
+          (λ (l : List Item). IsRunSoFar c.args.set c.args.words.now.items c.push_spelling-part.new.words.items
+          c.push_spelling-part.result l)
           (one_more c.args.items.now c.args.at c.args.at Fnc1 (omega arith) c.requires.at)
-          (run_more c.args.set c.args.words.now.items c.push.new.self.items c.push_item-part.new.words.items
-          part.Empty c.push_item-part.result (take (c.args.at - c.args.at) (drop c.args.at c.args.items.now)) _
+          (run_more c.args.set c.args.words.now.items c.push.new.self.items c.push_spelling-part.new.words.items
+          part.Empty c.push_spelling-part.result (take (c.args.at - c.args.at) (drop c.args.at c.args.items.now)) _
           (subst (λ (l : List Item). IsRunSoFar c.args.set c.args.words.now.items c.push.new.self.items part.Empty l)
-          (ap (λ (k : ℕ). take k (drop c.args.at c.args.items.now)) zero_is) begun) c.push_item-part.ensures);
+          (ap (λ (k : ℕ). take k (drop c.args.at c.args.items.now)) zero_is) begun) c.push_spelling-part.ensures);
     } where
       zero_is : 0 ≡ c.args.at - c.args.at
       zero_is = omega arith
@@ -62,8 +62,8 @@ bounds-items-next g c =
     (c.requires.plan c.loop-set.next _ c.loop-set.invariant.within) c.loop-set.invariant.budget
     (omega (arith, c.requires.total)) c.goes_on.ensures c.loop-set-test.true).there
 
-pub push_item-part-requires-in-loop-set : goal.push_item-part-requires-in-loop-set
-push_item-part-requires-in-loop-set g c =
+pub push_item-part-requires : goal.push_item-part-requires
+push_item-part-requires g c =
     let held =
     (run_at c.args.setting c.args.set c.args.items.now c.loop-set.next Fnc1 _ c.loop-set.part
     (length c.loop-set.words.items) c.args.total c.goes_on.result
@@ -107,16 +107,16 @@ loop-set-preserved g c =
     record {
       from = omega (arith, v.from);
       within = omega (arith, r.there);
-      budget = after_item c.args.set _ c.loop-set.part c.push_item-part-in-loop-set.result c.loop-set.words.items
-          c.push_item-part-in-loop-set.new.words.items c.args.total _ c.push_item-part-in-loop-set.ensures r.budget;
+      budget = after_item c.args.set _ c.loop-set.part c.push_item-part.result c.loop-set.words.items
+          c.push_item-part.new.words.items c.args.total _ c.push_item-part.ensures r.budget;
       so_far = subst
           (λ (l : List Item). IsRunSoFar c.args.set c.args.words.now.items
-          c.push_item-part-in-loop-set.new.words.items c.push_item-part-in-loop-set.result l)
+          c.push_item-part.new.words.items c.push_item-part.result l)
           (one_more c.args.items.now c.args.at c.loop-set.next Fnc1 (omega (arith, v.from)) r.there)
           (run_more c.args.set c.args.words.now.items c.loop-set.words.items
-          c.push_item-part-in-loop-set.new.words.items c.loop-set.part c.push_item-part-in-loop-set.result
+          c.push_item-part.new.words.items c.loop-set.part c.push_item-part.result
           (take (c.loop-set.next - c.args.at) (drop c.args.at c.args.items.now)) _
-          v.so_far c.push_item-part-in-loop-set.ensures);
+          v.so_far c.push_item-part.ensures);
     }
 
 pub returns-then-total-len-gt1-clause-budget : goal.returns-then-total-len-gt1-clause-budget
