@@ -14,7 +14,7 @@ USES, TYPES = places.path("tests", "page", "uses.mjs"), places.path("web", "modu
 TOO_LONG, NO_SIZE, BORDER, BLOCK, ITEM, MARK, HEAD = 14, 4, 5, 6, 15, 22, 23  # codes of refusals
 FORM, SHAPE = 16, 18
 PART = {"part": 2, "parts": 3, "file": [9, 254]}
-# Bytes that charsets of Windows and GBK have and haven't, and a private character of GB 18030: by ECIs as Python has it.
+# Bytes that charsets of Windows and GBK have and haven't, and a private character of GB 18030.
 IN_CHARSETS = [(number, charset, [65, byte]) for number, charset in ((21, "cp1250"), (22, "cp1251"), (23, "cp1252"),
                (24, "cp1256")) for byte in range(128, 256)]
 IN_CHARSETS += [(number, charset, [0xaa, 0xa1]) for number, charset in ((31, "gbk"), (32, "gb18030"))]

@@ -38,9 +38,10 @@ def measured(pages, rounds):
         pages = pages[1:] + pages[:1]
     for (page, time), answers in taken.items():
         first, opened, right = zip(*answers)
+        soon = sum(each <= LIMIT for each in first)
         print(f"{page}, {time}: {len(first)} pictures, {sum(right)} read; first symbol after {median(first)} ms, at "
-              f"most {round(max(first))}, {sum(each <= LIMIT for each in first)} within {LIMIT}; to open {median(opened)}"
-              f", at most {round(max(opened))}", flush=True)
+              f"most {round(max(first))}, {soon} within {LIMIT}; to open {median(opened)}, at most "
+              f"{round(max(opened))}", flush=True)
 
 
 def main():
