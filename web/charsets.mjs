@@ -47,11 +47,13 @@ function decodedAsAscii(bytes) {
   if (bytes.some((byte) => byte > MOST_OF_ASCII)) throw new TypeError("not ASCII");
   return decodedByTable(bytes, LATIN_1);
 }
-const PRIVATE = /[\uE000-\uF8FF]/; // what stands in Node.js for bytes that a charset hasn't
+// What stands for bytes that a charset hasn't: in those of Windows a control, and in Node.js a private character, which
+// those of Unicode and GB 18030 have.
+const CONTROL = /[\x80-\x9f]/, OF_WINDOWS = /^windows-/, PRIVATE = /[\uE000-\uF8FF]/, HAS_PRIVATE = /^(?:utf-|gb18030)/;
 /** @type {(bytes: Uint8Array, charset: string) => string} */
 function decodedBy(bytes, charset) {
   const text = new TextDecoder(charset, { fatal: true, ignoreBOM: true }).decode(bytes);
-  if (PRIVATE.test(text) && !charset.startsWith("utf-")) throw new TypeError(`not ${charset}`);
+  if (PRIVATE.test(text) && !HAS_PRIVATE.test(charset)) throw new TypeError(`not ${charset}`);
   return text;
 }
 // In a part of ISO 8859 a byte below 160 is the character of this number; browsers have those of Windows in some parts.
@@ -80,7 +82,10 @@ function decoderOf(charset) {
 // What bytes are as text in a charset, or null; so where it is the name of none.
 /** @type {(bytes: Uint8Array, charset: string) => string | null} */
 function textBy(bytes, charset) {
-  try { return decoderOf(charset)(bytes, charset); } catch { return null; }
+  try {
+    const text = decoderOf(charset)(bytes, charset);
+    return OF_WINDOWS.test(charset) && CONTROL.test(text) ? null : text;
+  } catch { return null; }
 }
 /** @type {(bytes: Uint8Array) => boolean} */
 const isUtf8 = (bytes) => textBy(bytes, UTF_8) !== null;

@@ -27,7 +27,7 @@ export class Desk {
   waiting = [];
   count = 0; // of all questions
 
-  /** @param {string} script @param {{ library: Uint8Array, sampler: Uint8Array }} code of the modules */
+  /** @param {string} script @param {{ library: WebAssembly.Module, sampler: WebAssembly.Module }} code */
   constructor(script, code) {
     this.script = script;
     this.code = code;
@@ -88,7 +88,11 @@ export class Desk {
     for (const question of asked) question.resolve(answer);
     wake();
   }
-  // Ends the worker, if it has nothing to do; the next question starts another.
-  retire() { if (!this.running && !this.waiting.length) this.end(null); }
+  // Has another worker in place of this one, if that has nothing to do.
+  retire() {
+    if (this.running || this.waiting.length) return;
+    this.end(null);
+    this.start();
+  }
   stop() { if (this.running) this.end({ stopped: true }); }
 }

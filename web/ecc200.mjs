@@ -48,8 +48,8 @@ export function luminanceOf({ data, width, height }) {
   if (data.length !== 4 * count) throw new TypeError("a picture has four numbers for each pixel, or one");
   const grey = new Uint8Array(count);
   for (let k = 0, p = 0; k < count; k++, p += 4) {
-    const alpha = data[p + 3], light = (299 * data[p] + 587 * data[p + 1] + 114 * data[p + 2] + 500) / 1000;
-    grey[k] = alpha === 255 ? light : (light * alpha + 255 * (255 - alpha)) / 255;
+    const alpha = data[p + 3], light = 299 * data[p] + 587 * data[p + 1] + 114 * data[p + 2] + 500;
+    grey[k] = alpha === 255 ? (light / 1000) | 0 : ((light / 1000) * alpha + 255 * (255 - alpha)) / 255;
   }
   return grey;
 }

@@ -5,7 +5,7 @@ import { $, hint, made, setUsable, shape, whenUsed } from "./dom.mjs";
 import { desks, take } from "./flow.mjs";
 import { gatherAll } from "./gathered.mjs";
 import { keyOfLetter } from "./letters.mjs";
-import { csvOf, jsonOf, remarksOn, saidBy, whyUnread } from "./listed.mjs";
+import { copiedLines, csvOf, jsonOf, remarksOn, saidBy, whyUnread } from "./listed.mjs";
 import { brokenWords, enter, isBroken, refuse, whenEntered } from "./order.mjs";
 import { panes } from "./state.mjs";
 import { copyText, save } from "./taking.mjs";
@@ -127,7 +127,7 @@ export function wireFound() {
   whenEntered((it) => { if (it === panes.read && !isOwn) clearSights(); });
   const read = () => scene.list.filter(({ isRead }) => isRead);
   const file = (text, type) => new Blob([text], { type });
-  whenUsed("found-copy", () => copyText(read().map((it) => `${saidBy(it)}\n`).join(""),
+  whenUsed("found-copy", () => copyText(copiedLines(read()),
     `Copied: ${plural(read().length, "message", "messages")}`));
   $("found-csv").addEventListener("click", () => save(file(csvOf(scene.list), "text/csv"), "found.csv"));
   $("found-json").addEventListener("click", () =>

@@ -27,6 +27,11 @@ const inWords = (parts) => parts.filter(Boolean).join("; ");
 export const remarksOn = (symbol) => inWords([shapeWords(symbol), keptFor(symbol), symbol.how,
   symbol.isRead ? borne(symbol) : ""]);
 
+// A line for each, for the clipboard; behind a tab it names what says no whole message.
+/** @type {(list: Sighted[]) => string} */
+export const copiedLines = (list) => list.map((symbol) => [saidBy(symbol), keptFor(symbol)])
+  .map(([said, kept]) => `${said}${kept && `\t${kept}`}\n`).join("");
+
 // ---- Files
 
 const quoted = (field) => (/[",\n]/.test(field) ? `"${field.replace(/"/g, '""')}"` : field);

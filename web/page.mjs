@@ -53,9 +53,10 @@ async function idle() {
 async function startPage() {
   readIdentifiers($("identifiers").textContent);
   const bytesOf = (id) => Uint8Array.from(atob($(id).textContent.trim()), (c) => c.charCodeAt(0));
-  const code = { library: bytesOf("library"), sampler: bytesOf("sampler") };
+  const compiled = (id) => WebAssembly.compile(bytesOf(id));
+  const [library, sampler] = await Promise.all(["library", "sampler"].map(compiled)); // once, for each worker
   const script = new Blob([$("worker").textContent], { type: "text/javascript" });
-  const loaded = await openDesks(URL.createObjectURL(script), code);
+  const loaded = await openDesks(URL.createObjectURL(script), { library, sampler });
   if (loaded.failed !== undefined) throw new Error(loaded.failed);
   desks.readsFiles = loaded.readsFiles;
   listSizes(loaded.sizes);
@@ -67,6 +68,7 @@ async function startPage() {
   await wireLink(restore, toast);
   wireCompare();
   makeInstallable();
+  desks.pictures.start(); // so that it is ready for the first picture
   const forTests = { get mark() { return mark(); }, panes, store, desks, idle, isLinked, spelled, gridText };
   Object.defineProperty(globalThis, "mitsubadoor", { value: forTests });
 }

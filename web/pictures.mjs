@@ -23,6 +23,7 @@ import { qrCodeIn } from "./qr.mjs";
     notes: string, left: number, width: number, height: number, view?: ImageBitmap }} Sights in a picture; how much of
     its time is left */
 const MOST_PIXELS = 4e7, MOST_SAMPLED = 1.6e7; // of a picture, and of what is looked at
+const BAND = 256; // rows of a picture that are drawn at once
 const SHOWN_LENGTH = 1024, LENGTH_OF_CODES = 1400; // pixels of the longer side: shown, and searched for other codes
 const MOST_TIME = 3000, TIME_OF_CODES = 200; // milliseconds for a picture, of which for other codes at least
 const MOST_SYMBOLS = 400, MOST_UNREAD = 8;
@@ -36,15 +37,45 @@ function sizeAt({ width, height }, share) {
   const scaled = (length) => Math.max(1, Math.round(length * share));
   return { width: scaled(width), height: scaled(height), scale: 1 / share };
 }
-const canvasOf = (bitmap, { width, height }) => {
-  const canvas = new OffscreenCanvas(width, height);
-  const pen = canvas.getContext("2d", { willReadFrequently: true, alpha: false });
+/** @type {(width: number, height: number) => OffscreenCanvasRenderingContext2D} */
+const penOf = (width, height) =>
+  new OffscreenCanvas(width, height).getContext("2d", { willReadFrequently: true, alpha: false });
+// Draws a picture at a size, from a row of it on.
+function draw(pen, bitmap, { width, height }, top = 0) {
   [pen.imageSmoothingQuality, pen.fillStyle] = ["medium", "#fff"];
   pen.fillRect(0, 0, width, height); // what is transparent is seen on white paper
-  pen.drawImage(bitmap, 0, 0, width, height);
-  return { canvas, pen };
-};
-const isOneColour = ({ data }) => new Uint32Array(data.buffer).every((pixel, _, all) => pixel === all[0]);
+  pen.drawImage(bitmap, 0, -top, width, height);
+}
+// The pixels of a picture, by bands of rows, which take little memory and time; if it is scaled, in one.
+/** @type {(bitmap: ImageBitmap, size: { width: number, height: number, scale: number }) => Generator<ImageData>} */
+function* bandsOf(bitmap, size) {
+  const { width, height, scale } = size, rows = Math.min(height, scale === 1 ? BAND : height);
+  const pen = penOf(width, rows);
+  for (let top = 0; top < height; top += rows) {
+    draw(pen, bitmap, size, top);
+    yield pen.getImageData(0, 0, width, Math.min(rows, height - top));
+  }
+}
+/** @type {(bitmap: ImageBitmap, size: { width: number, height: number, scale: number }) => Uint8Array} */
+function greyOf(bitmap, size) {
+  const grey = new Uint8Array(size.width * size.height);
+  let at = 0;
+  for (const band of bandsOf(bitmap, size)) {
+    grey.set(luminanceOf(band), at);
+    at += band.width * band.height;
+  }
+  return grey;
+}
+/** @type {(bitmap: ImageBitmap, size: { width: number, height: number, scale: number }) => boolean} */
+function isOneColour(bitmap, size) {
+  let first = null;
+  for (const { data } of bandsOf(bitmap, size)) {
+    const pixels = new Uint32Array(data.buffer);
+    first ??= pixels[0];
+    if (pixels.some((pixel) => pixel !== first)) return false;
+  }
+  return true;
+}
 // Spreads greys that differ little over the whole range; by how much they differed, and between which they are now.
 /** @type {(grey: Uint8Array) => { contrast: number, between: [number, number] }} */
 function spread(grey) {
@@ -56,11 +87,12 @@ function spread(grey) {
 /** @type {(bitmap: ImageBitmap) => Look} */
 function lookOf(bitmap) {
   const size = sizeAt(bitmap, Math.min(1, Math.sqrt(MOST_SAMPLED / (bitmap.width * bitmap.height))));
-  const pixels = canvasOf(bitmap, size).pen.getImageData(0, 0, size.width, size.height);
-  const grey = luminanceOf(pixels), { contrast, between } = spread(grey);
+  const grey = greyOf(bitmap, size), { contrast, between } = spread(grey);
   const small = sizeAt(bitmap, Math.min(1, SHOWN_LENGTH / Math.max(bitmap.width, bitmap.height)));
-  const view = canvasOf(bitmap, small).canvas.transferToImageBitmap();
-  return { ...size, grey, contrast, between, isOneColour: contrast === 0 && isOneColour(pixels), view };
+  const pen = penOf(small.width, small.height);
+  draw(pen, bitmap, small);
+  const view = pen.canvas.transferToImageBitmap();
+  return { ...size, grey, contrast, between, isOneColour: contrast === 0 && isOneColour(bitmap, size), view };
 }
 function alike({ contrast, isOneColour: isOne }) {
   if (isOne) return "The picture has only one colour.";

@@ -14,6 +14,10 @@ USES, TYPES = places.path("tests", "page", "uses.mjs"), places.path("web", "modu
 TOO_LONG, NO_SIZE, BORDER, BLOCK, ITEM, MARK, HEAD = 14, 4, 5, 6, 15, 22, 23  # codes of refusals
 FORM, SHAPE = 16, 18
 PART = {"part": 2, "parts": 3, "file": [9, 254]}
+# Bytes that charsets of Windows and GBK have and haven't, and a private character of GB 18030.
+IN_CHARSETS = [(number, charset, [65, byte]) for number, charset in ((21, "cp1250"), (22, "cp1251"), (23, "cp1252"),
+               (24, "cp1256")) for byte in range(128, 256)]
+IN_CHARSETS += [(number, charset, [0xaa, 0xa1]) for number, charset in ((31, "gbk"), (32, "gb18030"))]
 GS1 = [256, *b"10AB", 256, *b"21C"]
 
 
@@ -32,6 +36,14 @@ def said(text, items=None, is_gs1=False, data=None, corrected=0):
 def read_as(text, charset):
     """What is read of a text that was written with a mark."""
     return {**letter_of(line_of_text(text)), "text": text, "charset": charset, "symbology": "]d4"}
+
+
+def text_in(charset, items):
+    """What bytes say in a charset, or None."""
+    try:
+        return bytes(items).decode(charset)
+    except UnicodeDecodeError:
+        return None
 
 
 def lines_of_others():
@@ -60,7 +72,8 @@ def near(came):
 
 
 def uses():
-    done = subprocess.run(["node", USES, on.module, MARKS], stdout=subprocess.PIPE, timeout=300, check=True)
+    given = json.dumps([[number, items] for number, _, items in IN_CHARSETS])
+    done = subprocess.run(["node", USES, on.module, MARKS, given], stdout=subprocess.PIPE, timeout=300, check=True)
     answers = {answer.pop("name"): answer for answer in map(json.loads, done.stdout.splitlines())}
     came = lambda name: answers[name].get("came", answers[name])
     with open(TYPES, encoding="utf-8") as types:
@@ -101,6 +114,8 @@ def uses():
     count.expect("smallest", came("smallest")["modules"], flat(smallest))
     count.expect("every size", came("every size"), [[head, printed(line)] for head, _, _, line, _ in marks()])
     count.expect("texts", (len(came("texts")), [text for text, read in came("texts") if text != read]), (200, []))
+    count.expect("bytes in charsets", came("bytes in charsets"),
+                 [[number, items, text_in(charset, items)] for number, charset, items in IN_CHARSETS])
     for line, got in zip(lines_of_others(), came("letters of others")):
         count.expect(f"letter of another, {line[:3]}", got_of(got), line[3:])
     count.expect("letters of others", len(came("letters of others")), len(lines_of_others()))

@@ -406,6 +406,10 @@ def found_in_parts(grids):
     table = list(csv.reader(io.StringIO(saved("found.csv", "found-csv").decode())))[1:]
     named = sorted(row[2].rsplit("; ", 1)[-1] for row in table)
     count.expect("parts in CSV", named, [f"part {k} of 3" for k in (1, 2, 3)])
+    push("found-copy")
+    copied = [line.split("\t") for line in run("return copied.at(-1)").splitlines()]
+    listed = sorted([row[1], row[2].rsplit("; ", 1)[-1]] for row in table)
+    count.expect("parts in what is copied", sorted(copied), listed)
 
 
 def parts_by_camera():

@@ -295,8 +295,10 @@ def beside_other_codes():
 
 def large():
     """In a picture of more pixels than are looked at, outlines stand around its symbols; after it another worker
-    begins, so that its memory is given back."""
+    begins, so that its memory is given back. A worker waits for each picture."""
     push("tab-read")
+    count.expect("a worker for the first picture", run("return Boolean(mitsubadoor.desks.pictures.worker)"), True)
+    run("globalThis.former = mitsubadoor.desks.pictures.worker")
     rows = written("in a large picture").split("\n")
     width, height = 4400, 3900
     lines = []
@@ -314,7 +316,8 @@ def large():
     count.expect("a large picture", (shown()["state"], shown()["says"]), ("Read", "in a large picture"))
     ((_, (corner, *_)),) = run(OUTLINED)
     count.expect("its outline", [at for at, wanted in zip(corner, (1200, 900)) if abs(at - wanted) > 3], [])
-    count.expect_soon("its worker is ended", lambda: run("return mitsubadoor.desks.pictures.worker"), None)
+    another = "const { worker } = mitsubadoor.desks.pictures; return worker !== null && worker !== globalThis.former"
+    count.expect_soon("another worker waits", lambda: run(another), True)
     opened("next.png", png(written("the next one").split("\n"), 5, 2))
     count.expect("the next picture", (shown()["state"], shown()["says"]), ("Read", "the next one"))
     push("tab-make")

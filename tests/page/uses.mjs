@@ -1,5 +1,6 @@
-// Uses the module for other programs as such would: node uses.mjs MODULE.mjs MARKS prints a line of JSON for each thing
-// that it does: its name, and what came of it, or what was thrown. MARKS is the folder tests/marks.
+// Uses the module for other programs as such would: node uses.mjs MODULE.mjs MARKS BYTES prints a line of JSON for each
+// thing that it does: its name, and what came of it, or what was thrown. MARKS is the folder tests/marks, BYTES a list
+// of numbers of ECIs, each with the bytes behind it.
 import { readFileSync } from "node:fs";
 
 const module = await import(process.argv[2]);
@@ -88,6 +89,8 @@ const TASKS = {
   },
   "letter in a picture": () => read(pictureOf([write("日本", { shape: "rectangle" }), write(PARTS[1])]), { most: 2 })
     .symbols.map(letter).sort(({ text: one }, { text: other }) => (one < other ? -1 : 1)),
+  "bytes in charsets": () => JSON.parse(process.argv[4]).map(([number, items]) =>
+    [number, items, readGrid(write({ items, marks: [{ place: 0, number }] })).text]),
   gs1: () => said(readGrid(write([FNC1, ...Buffer.from("10AB"), FNC1, ...Buffer.from("21C")]))),
   "not UTF-8": () => said(readGrid(write([255, 65]))),
   rectangle: () => plain(write("Hello", { shape: "rectangle" })),
