@@ -24,7 +24,8 @@ FOR_SIZE = [
     "ecc200_calls::place_table::", "ecc200_calls::size_table::", "ecc200_places", "ecc200_sizes", "dm_place::",
 ]
 ONCE = ["dm_code::encoding::encode", "ecc200_calls::symbol::show_symbol::<=104>",
-        "ecc200_calls::symbol::show_symbol::<=144>"]
+        "ecc200_calls::symbol::show_symbol::<=144>", "ecc200_calls::modules::pack_start",
+        "ecc200_calls::given::check_given"]
 
 # The line that begins a function, with its name and the number of its group of attributes; and a group.
 DEFINED = re.compile(r'^(define [^@\n]*@"?([^"(\n]*)"?\([^\n]*) #(\d+)([^\n]*\{)$', re.M)
