@@ -12,7 +12,7 @@ from tests.support.commands import said
 
 STACK = 49_152
 # How many calls threads.c measures.
-MEASURED = 16
+MEASURED = 17
 # The code of each call that written.c makes, and how many bytes of its arrays are written.
 # A part of a file, two marks and an A are 11 codewords.
 WRITTEN = {"read": (0, 3 + 2 * 6), "read, refused": (5, 0), "read, marks and a head": (0, 3 + 2 * 8 + 2),

@@ -143,6 +143,11 @@ static void *do_read_marks(void *at) {
                        ECC200_MOST_COLUMNS, ECC200_ANY_LIMIT, ECC200_WIDE, &marked.reading),
            at;
 }
+static void *do_inspect_marks(void *at) {
+    return ecc200_inspect(marked.modules, ECC200_MOST_MODULES, marked.doubtful, ECC200_MOST_MODULES, ECC200_MOST_ROWS,
+                          ECC200_MOST_COLUMNS, &marked.inspection),
+           at;
+}
 static void *do_normal_marks(void *at) {
     return ecc200_normal(marked.modules, ECC200_MOST_MODULES, marked.doubtful, ECC200_MOST_MODULES, ECC200_MOST_ROWS,
                          ECC200_MOST_COLUMNS, ECC200_ANY_LIMIT, ECC200_WIDE, ECC200_SHORTER, &marked.normal),
@@ -204,6 +209,7 @@ int main(int argc, char **argv) {
         {"ecc200_read, doubtful modules", do_read_doubtful},
         {"ecc200_read, marks", do_read_marks},
         {"ecc200_inspect", do_inspect},
+        {"ecc200_inspect, marks", do_inspect_marks},
         {"ecc200_normal", do_normal},
         {"ecc200_normal, shorter", do_normal_shorter},
         {"ecc200_normal, marks", do_normal_marks},

@@ -23,7 +23,7 @@ pub(crate) fn first_foreign(numbers: &[u16]) -> Option<usize>
 }
 
 /// Gives the most codewords that these items take in a normal form: those of each by itself in ASCII.
-pub(crate) fn most_words(items: &[Item]) -> usize
+pub(crate) fn most_words(items: &[Item]) -> u16
     requires { length items.now ≤ LARGEST_ROOM }
     ensures words { (profile : Profile) → length (normal_form profile items.now) ≤ result }
     ensures few { result ≤ 2 * length items.now }
@@ -36,7 +36,7 @@ pub(crate) fn most_words(items: &[Item]) -> usize
 }
 
 /// Gives how many codewords an item takes at most in ASCII.
-fn word_count(item: Item) -> usize
+fn word_count(item: Item) -> u16
     ensures words { (rest : List Item) → length (ascii (item ∷ rest)) ≤ result + length (ascii rest) }
     ensures few { result ≤ 2 }
 {

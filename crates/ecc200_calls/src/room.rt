@@ -132,7 +132,7 @@ fn words_at_most(items: &[Item]) -> usize
     if is_middle || twice <= SMALL_DATA {
         twice
     } else {
-        most_words(items)
+        usize::from(most_words(items))
     }
 }
 
@@ -158,7 +158,7 @@ fn words_for(choice: SizeChoice, items: &[Item]) -> u16
 {
     match choice {
         SizeChoice::Exact(_, _) => 0,
-        _ => most_words(items) as u16,
+        _ => most_words(items),
     }
 }
 
