@@ -37,7 +37,7 @@ function sizeAt({ width, height }, share) {
   const scaled = (length) => Math.max(1, Math.round(length * share));
   return { width: scaled(width), height: scaled(height), scale: 1 / share };
 }
-/** @type {(width: number, height: number) => CanvasRenderingContext2D} */
+/** @type {(width: number, height: number) => any} */
 const penOf = (width, height) =>
   new OffscreenCanvas(width, height).getContext("2d", { willReadFrequently: true, alpha: false });
 // Draws a picture at a size, from a row of it on.
