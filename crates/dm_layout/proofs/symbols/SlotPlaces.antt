@@ -1,120 +1,250 @@
 -- Rows of slots, and the bytes in them.
-use Rattle.std.proofs.Common.{◌≡◌, ◌⊎◌, inl, inr, ℕ, zero, suc, ◌+◌, ◌*◌, ◌/◌, ◌%◌, ◌^◌, ◌<◌, ◌≤◌}
-use Rattle.std.proofs.Common.{List, [], ◌∷◌, length, length-append}
-use Rattle.std.proofs.Common.{get_or, set, take}
-use Rattle.std.proofs.Common.{replicate, refl, sym, ◌∙◌, ap, arith, subst, get_or-set_other, get_or-set_same}
+use Rattle.std.proofs.Common.{◌≡◌, ℕ, zero, suc, ◌+◌, ◌-◌, ◌*◌, ◌/◌, ◌%◌, ◌^◌, ◌<◌, ◌≤◌}
+use Rattle.std.proofs.Common.{List, [], ◌∷◌, ◌++◌, length, append_assoc, length-append, length-take}
+use Rattle.std.proofs.Common.{get_or, set, take, drop}
+use Rattle.std.proofs.Common.{replicate, refl, sym, ◌∙◌, ap, arith, subst}
 use Rattle.std.specs.Int.RustNames.{bit_or}
-use Rattle.std.proofs.Math.Nat.{div-add-mod, mod-lt}
-use Rattle.std.proofs.Math.Nat.{mul-le-mul_left}
-use Rattle.std.proofs.lemmas.Bool.{cases_eq}
-use Rattle.std.specs.List.{flat_map}
-use Rattle.std.proofs.lemmas.List.Concat.{get_or-flat_map}
-use Rattle.std.proofs.lemmas.List.{get_or-map, get_or-replicate, map-set, length-set, length-replicate}
-use Rattle.dm_layout.specs.symbols.inner.Slots.{in_bytes, slot_numbers, AreSlotRows}
+use Rattle.std.specs.Simd.{first_chunks}
+use borrow.Rule.Slice.PartMut.{put_mid}
+use Rattle.std.proofs.Math.Nat.{div-add-mod, mod-lt, mul-le-mul_left}
+use Rattle.std.proofs.Math.Seq.{take-add, take-append_seam, drop-append_seam, take-set-lt}
+use Rattle.std.proofs.lemmas.List.{get_or-map, get_or-take, get_or-drop, map-set, drop-drop, length-drop}
+use Rattle.std.proofs.lemmas.List.{get_or_default, length-set, length-replicate, length-take-le, take-set-le, drop-set-lt, drop-set-add}
+use Rattle.dm_layout.specs.symbols.inner.Laying.{with_byte}
+use Rattle.dm_layout.specs.symbols.inner.Slots.{in_bytes, slot_byte, slot_numbers, slot_rows}
 use Rattle.dm_layout.proofs.symbols.SlotBytes.{byte_over, in_bytes_byte}
 
--- It lies among the bytes of all rows.
-pub slot_below : (n rows x : ℕ) → 0 < n → x / n < rows → x < rows * n
-slot_below n rows x some l =
-    let e = div-add-mod x n in
-    let m = mod-lt x some in
-    let h : n * (x / n + 1) ≤ n * rows = mul-le-mul_left n (omega (arith, l)) in
-    let s : n * (x / n + 1) ≡ n * (x / n) + n = omega arith in
-    let t : rows * n ≡ n * rows = omega arith in
-    omega (arith, e, m, h, s, t)
+-- ---- bytes row by row
 
--- The rows before one have as many bytes each.
-rows_before : (n : ℕ) (rows : List (List ℕ)) (r : ℕ) → ((q : ℕ) → q < length rows → length (get_or rows q []) ≡ n) →
-    r ≤ length rows → length (flat_map (λ bs. bs) (take r rows)) ≡ n * r
-rows_before n rows zero wide l = omega arith
-rows_before n [] (suc r) wide l = absurd (omega arith)
-rows_before n (bs ∷ rows) (suc r) wide l =
-    let here : length bs ≡ n = wide 0 (omega arith) in
-    let rest = rows_before n rows r (λ q k. wide (suc q) (omega (arith, k))) (omega (arith, l)) in
-    let both = length-append bs (flat_map (λ ys. ys) (take r rows)) in
-    let more : n * suc r ≡ n + n * r = omega arith in
-    omega (arith, here, rest, both, more)
+-- There are as many rows as are taken.
+rows_count : (n k : ℕ) (bytes : List ℕ) → length (first_chunks n k bytes) ≡ k
+rows_count n zero bytes = refl
+rows_count n (suc k) bytes = ap suc (rows_count n k (drop n bytes))
 
--- Of the bytes of all rows, the one at a slot's place is that of the slot in its row.
-pub flat_byte : (n : ℕ) (rows : List (List ℕ)) (x : ℕ) → 0 < n → AreSlotRows n rows → x / n < length rows →
-    get_or (flat_map (λ bs. bs) rows) x 0 ≡ get_or (get_or rows (x / n) []) (x % n) 0
-flat_byte n rows x some are room =
-    let wide = are.wide (x / n) room in
-    let before = rows_before n rows (x / n) are.wide (omega (arith, room)) in
-    let parts = div-add-mod x n in
-    let m = mod-lt x some in
-    let place : x ≡ length (flat_map (λ (bs : List ℕ). bs) (take (x / n) rows)) + x % n =
-    omega (arith, before, parts) in
-    ap (λ (i : ℕ). get_or (flat_map (λ (bs : List ℕ). bs) rows) i 0) place
-    ∙ get_or-flat_map (λ (bs : List ℕ). bs) rows (x / n) (x % n) [] 0 room (omega (arith, wide, m))
+-- A row has the bytes from its own place on.
+row_at : (n k r : ℕ) (bytes : List ℕ) → r < k → get_or (first_chunks n k bytes) r [] ≡ take n (drop (r * n) bytes)
+row_at n zero r bytes l = absurd (omega (arith, l))
+row_at n (suc k) zero bytes l =
+    let e : 0 ≡ 0 * n = omega arith in
+    ap (λ (i : ℕ). take n (drop i bytes)) e
+row_at n (suc k) (suc r) bytes l =
+    let e : n + r * n ≡ suc r * n = omega arith in
+    row_at n k r (drop n bytes) (omega (arith, l)) ∙ ap (take n) (drop-drop (r * n) n bytes)
+    ∙ ap (λ (i : ℕ). take n (drop i bytes)) e
 
--- Slots without a codeword are rows of bytes.
-pub slots_empty : (k n : ℕ) → AreSlotRows k (replicate n (replicate {A = ℕ} k 0))
-slots_empty k n = record {
-  wide =
-      λ r l. ap length (get_or-replicate n r (replicate {A = ℕ} k 0) []
-      (omega (arith, l, length-replicate n (replicate {A = ℕ} k 0)))) ∙ length-replicate k 0;
-  bytes =
-      λ r i l. subst (λ (bs : List ℕ). get_or bs i 0 < 256)
-      (sym (get_or-replicate n r (replicate {A = ℕ} k 0) []
-      (omega (arith, l, length-replicate n (replicate {A = ℕ} k 0))))) (zeros k i);
-}
+-- It has as many bytes as all rows.
+row_length : (n k r : ℕ) (bytes : List ℕ) → r < k → k * n ≤ length bytes →
+    length (get_or (first_chunks n k bytes) r []) ≡ n
+row_length n k r bytes l room =
+    let h : n * (r + 1) ≤ n * k = mul-le-mul_left n (omega (arith, l)) in
+    let e : n * (r + 1) ≡ r * n + n = omega arith in
+    let t : n * k ≡ k * n = omega arith in
+    let d = length-drop (r * n) bytes in
+    ap length (row_at n k r bytes l) ∙ length-take-le n (drop (r * n) bytes) (omega (arith, h, e, t, d, room))
+
+-- Its bytes stand at their own places among all.
+row_byte : (n k x : ℕ) (bytes : List ℕ) → 0 < n → x / n < k →
+    get_or (get_or (first_chunks n k bytes) (x / n) []) (x % n) 0 ≡ get_or bytes x 0
+row_byte n k x bytes some l =
+    let d = div-add-mod x n in
+    let t : n * (x / n) ≡ x / n * n = omega arith in
+    let e : x / n * n + x % n ≡ x = omega (arith, d, t) in
+    ap (λ (bs : List ℕ). get_or bs (x % n) 0) (row_at n k (x / n) bytes l)
+    ∙ get_or-take n (drop (x / n * n) bytes) (x % n) 0 (mod-lt x some)
+    ∙ get_or-drop (x / n * n) bytes (x % n) 0
+    ∙ ap (λ (i : ℕ). get_or bytes i 0) e
+
+taken_small : (n : ℕ) (bytes : List ℕ) → ((i : ℕ) → get_or bytes i 0 < 256) → (i : ℕ) → get_or (take n bytes) i 0 < 256
+taken_small zero bytes small i = omega arith
+taken_small (suc n) [] small i = omega arith
+taken_small (suc n) (b ∷ bytes) small zero = small 0
+taken_small (suc n) (b ∷ bytes) small (suc i) = taken_small n bytes (λ j. small (suc j)) i
+
+-- They are bytes.
+row_small : (n k r : ℕ) (bytes : List ℕ) → r < k → ((i : ℕ) → get_or bytes i 0 < 256) → (i : ℕ) →
+    get_or (get_or (first_chunks n k bytes) r []) i 0 < 256
+row_small n k r bytes l small i =
+    subst (λ (bs : List ℕ). get_or bs i 0 < 256) (sym (row_at n k r bytes l))
+    (taken_small n (drop (r * n) bytes)
+    (λ j. subst (λ (b : ℕ). b < 256) (sym (get_or-drop (r * n) bytes j 0)) (small (r * n + j))) i)
+
+-- Where a byte is put, it is put into its row.
+byte_put : (n k r i b : ℕ) (bytes : List ℕ) → r < k → i < n →
+    first_chunks n k (set bytes (r * n + i) b) ≡
+    set (first_chunks n k bytes) r (set (get_or (first_chunks n k bytes) r []) i b)
+byte_put n zero r i b bytes l li = absurd (omega (arith, l))
+byte_put n (suc k) zero i b bytes l li =
+    let e : 0 * n + i ≡ i = omega arith in
+    ap (λ (j : ℕ). first_chunks n (suc k) (set bytes j b)) e
+    ∙ ap (λ (bs : List ℕ). bs ∷ first_chunks n k (drop n (set bytes i b))) (take-set-lt n bytes i b li)
+    ∙ ap (λ (bs : List ℕ). set (take n bytes) i b ∷ first_chunks n k bs) (drop-set-lt n bytes i b li)
+byte_put n (suc k) (suc r) i b bytes l li =
+    let e : suc r * n + i ≡ n + (r * n + i) = omega arith in
+    ap (λ (j : ℕ). first_chunks n (suc k) (set bytes j b)) e
+    ∙ ap (λ (bs : List ℕ). bs ∷ first_chunks n k (drop n (set bytes (n + (r * n + i)) b)))
+    (take-set-le n bytes (n + (r * n + i)) b (omega arith))
+    ∙ ap (λ (bs : List ℕ). take n bytes ∷ first_chunks n k bs) (drop-set-add n bytes (r * n + i) b)
+    ∙ ap (λ (rows : List (List ℕ)). take n bytes ∷ rows) (byte_put n k r i b (drop n bytes) (omega (arith, l)) li)
+
+-- As many bytes stand where some were put.
+put_length : (a k : ℕ) (bytes news : List ℕ) → a + k ≤ length bytes → length news ≡ k →
+    length (put_mid a k bytes news) ≡ length bytes
+put_length a k bytes news room count =
+    let p : length (take a bytes) ≡ a = simp length-take (omega arith) in
+    let q : length (drop k (drop a bytes)) ≡ length bytes - a - k = simp length-drop (omega arith) in
+    omega (
+      arith,
+      length-append (take a bytes) (news ++ drop k (drop a bytes)),
+      length-append news (drop k (drop a bytes)),
+    )
+
+-- Where a row is put, it is put among the rows.
+row_put : (n k r : ℕ) (bytes news : List ℕ) → r < k → k * n ≤ length bytes → length news ≡ n →
+    first_chunks n k (put_mid (r * n) n bytes news) ≡ set (first_chunks n k bytes) r news
+row_put n zero r bytes news l room count = absurd (omega (arith, l))
+row_put n (suc k) zero bytes news l room count =
+    let e : 0 * n ≡ 0 = omega arith in
+    ap (λ (j : ℕ). first_chunks n (suc k) (put_mid j n bytes news)) e
+    ∙ ap (λ (bs : List ℕ). bs ∷ first_chunks n k (drop n (news ++ drop n bytes)))
+    (ap (λ (j : ℕ). take j (news ++ drop n bytes)) (sym count) ∙ take-append_seam news (drop n bytes))
+    ∙ ap (λ (bs : List ℕ). news ∷ first_chunks n k bs)
+    (ap (λ (j : ℕ). drop j (news ++ drop n bytes)) (sym count) ∙ drop-append_seam news (drop n bytes))
+row_put n (suc k) (suc r) bytes news l room count =
+    let e : suc r * n ≡ n + r * n = omega arith in
+    let t : suc k * n ≡ n + k * n = omega arith in
+    let d = length-drop n bytes in
+    let first : length (take n bytes) ≡ n = length-take-le n bytes (omega (arith, room, t)) in
+    ap (λ (j : ℕ). first_chunks n (suc k) (put_mid j n bytes news)) e
+    ∙ ap (first_chunks n (suc k)) parts
+    ∙ ap (λ (bs : List ℕ). bs ∷ first_chunks n k (drop n (take n bytes ++ rest)))
+    (ap (λ (j : ℕ). take j (take n bytes ++ rest)) (sym first) ∙ take-append_seam (take n bytes) rest)
+    ∙ ap (λ (bs : List ℕ). take n bytes ∷ first_chunks n k bs)
+    (ap (λ (j : ℕ). drop j (take n bytes ++ rest)) (sym first) ∙ drop-append_seam (take n bytes) rest)
+    ∙ ap (λ (rows : List (List ℕ)). take n bytes ∷ rows)
+    (row_put n k r (drop n bytes) news (omega (arith, l)) (omega (arith, room, t, d)) count)
   where
-    zeros : (k i : ℕ) → get_or (replicate k 0) i 0 < 256
-    zeros zero i = omega arith
-    zeros (suc k) zero = omega arith
-    zeros (suc k) (suc i) = zeros k i
+    rest : List ℕ
+    rest = put_mid (r * n) n (drop n bytes) news
 
--- Zeros have the number 0.
-zeros_number : (k : ℕ) → in_bytes (replicate k 0) ≡ 0
+    parts : put_mid (n + r * n) n bytes news ≡ take n bytes ++ rest
+    parts =
+        ap (λ (bs : List ℕ). bs ++ (news ++ drop n (drop (n + r * n) bytes))) (take-add n (r * n) bytes)
+        ∙ append_assoc (take n bytes) (take (r * n) (drop n bytes)) (news ++ drop n (drop (n + r * n) bytes))
+        ∙ ap (λ (bs : List ℕ). take n bytes ++ (take (r * n) (drop n bytes) ++ (news ++ drop n bs)))
+        (sym (drop-drop (r * n) n bytes))
+
+zeros_taken : (n : ℕ) (bytes : List ℕ) → ((i : ℕ) → get_or bytes i 0 ≡ 0) → in_bytes (take n bytes) ≡ 0
 unfolding in_bytes
-zeros_number zero = refl
-zeros_number (suc k) = let h = zeros_number k in omega (arith, h)
+zeros_taken zero bytes light = refl
+zeros_taken (suc n) [] light = refl
+zeros_taken (suc n) (b ∷ bytes) light =
+    let z = light 0 in
+    let h = zeros_taken n bytes (λ i. light (suc i)) in
+    omega (arith, z, h)
 
--- Slots without a codeword have rows of zeros.
-pub slots_light : (k n : ℕ) → slot_numbers (replicate n (replicate {A = ℕ} k 0)) ≡ replicate n 0
-slots_light k zero = refl
-slots_light k (suc n) =
-    ap (λ (x : ℕ). x ∷ slot_numbers (replicate n (replicate {A = ℕ} k 0))) (zeros_number k)
-    ∙ ap (λ (xs : List ℕ). 0 ∷ xs) (slots_light k n)
+-- Rows of zeros have zeros as their numbers.
+rows_light : (n k : ℕ) (bytes : List ℕ) → ((i : ℕ) → get_or bytes i 0 ≡ 0) →
+    slot_numbers (first_chunks n k bytes) ≡ replicate k 0
+rows_light n zero bytes light = refl
+rows_light n (suc k) bytes light =
+    ap (λ (x : ℕ). x ∷ slot_numbers (first_chunks n k (drop n bytes))) (zeros_taken n bytes light)
+    ∙ ap (λ (xs : List ℕ). 0 ∷ xs)
+    (rows_light n k (drop n bytes) (λ i. get_or-drop n bytes i 0 ∙ light (n + i)))
 
--- Slots stay rows of bytes when a row is replaced by one.
-pub slots_set : (n : ℕ) (rows : List (List ℕ)) (r : ℕ) (bs : List ℕ) → AreSlotRows n rows → r < length rows →
-    length bs ≡ n → ((i : ℕ) → get_or bs i 0 < 256) → AreSlotRows n (set rows r bs)
-slots_set n rows r bs are room count small = record {
-  wide = λ q l. either (λ (ys : List ℕ). length ys ≡ n) q count (λ lq. are.wide q lq) l;
-  bytes = λ q i l. either (λ (ys : List ℕ). get_or ys i 0 < 256) q (small i) (λ lq. are.bytes q i lq) l;
-}
-  where
-    either : (P : List ℕ → Type 0) (q : ℕ) → P bs → (q < length rows → P (get_or rows q [])) →
-        q < length (set rows r bs) → P (get_or (set rows r bs) q [])
-    either P q here other l = by_place (cases_eq q r)
-      where
-        by_place : (q ≡ r) ⊎ (q ≡ r → ⊥) → P (get_or (set rows r bs) q [])
-        by_place (inl e) =
-            subst P (sym (ap (λ (j : ℕ). get_or (set rows r bs) j []) e ∙ get_or-set_same rows r bs [] room)) here
-        by_place (inr ne) =
-            subst P (sym (get_or-set_other rows r q bs [] ne))
-            (other (let k = length-set rows r bs in omega (arith, l, k)))
+-- Slots without a codeword hold zeros.
+all_zeros : (n i : ℕ) → get_or (replicate {A = ℕ} n 0) i 0 ≡ 0
+all_zeros zero i = refl
+all_zeros (suc n) zero = refl
+all_zeros (suc n) (suc i) = all_zeros n i
 
-module _ (rows : List (List ℕ)) (r : ℕ) (room : r < length rows) where
-  abbrev bs : List ℕ
-  bs = get_or rows r []
+-- ---- rows as numbers
+
+module _ (n : ℕ) (bytes : List ℕ) (some : 0 < n) where
+  abbrev k : ℕ
+  k = length bytes / n
+
+  abbrev rows : List (List ℕ)
+  rows = slot_rows n bytes
+
+  abbrev numbers : List ℕ
+  numbers = slot_numbers (slot_rows n bytes)
+
+  whole : k * n ≤ length bytes
+  whole =
+      let d = div-add-mod (length bytes) n in
+      let t : n * k ≡ k * n = omega arith in
+      omega (arith, d, t)
+
+  inside : (r : ℕ) → r < k → r < length rows
+  inside r l = let e = rows_count n k bytes in omega (arith, l, e)
 
   -- The number of a row of slots is that of its bytes.
-  pub row_is : get_or (slot_numbers rows) r 0 ≡ in_bytes (get_or rows r [])
-  row_is = get_or-map in_bytes rows r [] 0 room
+  pub row_read : (r : ℕ) → r < k → in_bytes (get_or rows r []) ≡ get_or numbers r 0
+  row_read r l = sym (get_or-map in_bytes rows r [] 0 (inside r l))
 
-  module _ (n : ℕ) (count : length (get_or rows r []) ≡ n) (small : (i : ℕ) → get_or (get_or rows r []) i 0 < 256) where
-    -- A byte of a row of slots is that of its number.
-    pub byte_is : (k : ℕ) → get_or (slot_numbers rows) r 0 / 2 ^ (8 * k) % 256 ≡ get_or (get_or rows r []) k 0
-    byte_is k = ap (λ (x : ℕ). x / 2 ^ (8 * k) % 256) row_is ∙ in_bytes_byte bs k small
+  -- A row that is looked up among all.
+  pub row_found : (all : List (List ℕ)) (r : ℕ) (row : List ℕ) → all ≡ rows → r < k → row ≡ get_or all r row →
+      row ≡ get_or rows r []
+  row_found all r row same l is =
+      is ∙ ap (λ (xs : List (List ℕ)). get_or xs r row) same ∙ get_or_default rows r row [] (inside r l)
 
-    -- Where a byte is laid over one of a row of slots, it is laid over the row's number, moved to its place.
-    pub byte_added : (k y : ℕ) → k < n → y < 256 →
-        slot_numbers (set rows r (set (get_or rows r []) k (bit_or (get_or (get_or rows r []) k 0) y))) ≡
-        set (slot_numbers rows) r (bit_or (get_or (slot_numbers rows) r 0) (y * 2 ^ (8 * k)))
-    byte_added k y lk ly =
-        map-set in_bytes rows r _
-        ∙ ap (set (slot_numbers rows) r)
-        (byte_over n bs k y count small lk ly ∙ ap (λ (x : ℕ). bit_or x (y * 2 ^ (8 * k))) (sym row_is))
+  -- It has as many bytes as all.
+  pub row_bytes : (r : ℕ) → r < k → length (get_or rows r []) ≡ n
+  row_bytes r l = row_length n k r bytes l whole
+
+  -- Where a row is put, so is its number.
+  pub row_written : (r : ℕ) (news : List ℕ) → r < k → length news ≡ n →
+      slot_numbers (slot_rows n (put_mid (r * n) n bytes news)) ≡ set numbers r (in_bytes news)
+  row_written r news l count =
+      ap (λ (i : ℕ). slot_numbers (first_chunks n (i / n) (put_mid (r * n) n bytes news))) same
+      ∙ ap slot_numbers (row_put n k r bytes news l whole count)
+      ∙ map-set in_bytes rows r news
+    where
+      same : length (put_mid (r * n) n bytes news) ≡ length bytes
+      same =
+          let h : n * (r + 1) ≤ n * k = mul-le-mul_left n (omega (arith, l)) in
+          let e : n * (r + 1) ≡ r * n + n = omega arith in
+          let t : n * k ≡ k * n = omega arith in
+          put_length (r * n) n bytes news (omega (arith, h, e, t, whole)) count
+
+  module _ (small : (i : ℕ) → get_or bytes i 0 < 256) (x : ℕ) (l : x / n < k) where
+    abbrev r : ℕ
+    r = x / n
+
+    abbrev bs : List ℕ
+    bs = get_or rows r []
+
+    -- A byte is that of its slot.
+    pub slot_read : get_or bytes x 0 ≡ slot_byte n numbers x
+    slot_read =
+        sym (row_byte n k x bytes some l)
+        ∙ sym (in_bytes_byte bs (x % n) (row_small n k r bytes l small))
+        ∙ ap (λ (i : ℕ). i / 2 ^ (8 * (x % n)) % 256) (row_read r l)
+
+    -- Where a byte is laid over one of the bytes, it is laid over its slot.
+    pub slot_added : (y : ℕ) → y < 256 →
+        slot_numbers (slot_rows n (set bytes x (bit_or (get_or bytes x 0) y))) ≡ with_byte n numbers x y
+    slot_added y ly =
+        ap (λ (i : ℕ). slot_numbers (first_chunks n (i / n) (set bytes x new))) (length-set bytes x new)
+        ∙ ap (λ (i : ℕ). slot_numbers (first_chunks n k (set bytes i new))) (sym place)
+        ∙ ap slot_numbers (byte_put n k r (x % n) new bytes l (mod-lt x some))
+        ∙ ap (λ (b : ℕ). slot_numbers (set rows r (set bs (x % n) (bit_or b y)))) (sym (row_byte n k x bytes some l))
+        ∙ map-set in_bytes rows r _
+        ∙ ap (set numbers r)
+        (byte_over n bs (x % n) y (row_length n k r bytes l whole) (row_small n k r bytes l small) (mod-lt x some) ly
+        ∙ ap (λ (i : ℕ). bit_or i (y * 2 ^ (8 * (x % n)))) (row_read r l))
+      where
+        new : ℕ
+        new = bit_or (get_or bytes x 0) y
+
+        place : r * n + x % n ≡ x
+        place =
+            let d = div-add-mod x n in
+            let t : n * r ≡ r * n = omega arith in
+            omega (arith, d, t)
+
+-- Slots without a codeword are rows with the number 0.
+pub no_slots : (n count : ℕ) → slot_numbers (slot_rows n (replicate {A = ℕ} count 0)) ≡ replicate (count / n) 0
+no_slots n count =
+    ap (λ (i : ℕ). slot_numbers (first_chunks n (i / n) (replicate count 0))) (length-replicate count 0)
+    ∙ rows_light n (count / n) (replicate count 0) (all_zeros count)

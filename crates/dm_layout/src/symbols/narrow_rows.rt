@@ -15,8 +15,8 @@ pub(crate) const CORNER_8: u16 = 8 * NARROW_MATRIX;
 /// How many rows there are: two above such a matrix, and four below it, since wrapping looks there.
 const NARROW_WIDENED: usize = NARROW_MATRIX as usize + 6;
 
-/// How many rows of slots there are: one for each row of such a matrix, and behind them one for a corner.
-const NARROW_SLOTS: usize = NARROW_MATRIX as usize + 1;
+/// How many slots there are: eight for each row of such a matrix, and behind them as many for a corner.
+const NARROW_SLOTS: usize = 8 * (NARROW_MATRIX as usize + 1);
 
 /// The lowest two bits of each byte, of eight.
 const NARROW_LOW_TWO_BITS: u64 = 0x0303_0303_0303_0303;

@@ -18,8 +18,8 @@ pub(crate) const CORNER_32: u16 = 32 * LARGEST_MATRIX;
 /// How many rows there are: two above the largest matrix, and four below it, since wrapping looks there.
 const PAIR_WIDENED: usize = LARGEST_MATRIX as usize + 6;
 
-/// How many rows of slots there are: one for each row of the largest matrix, and behind them one for a corner.
-const PAIR_SLOTS: usize = LARGEST_MATRIX as usize + 1;
+/// How many slots there are: 32 for each row of the largest matrix, and behind them as many for a corner.
+const PAIR_SLOTS: usize = 32 * (LARGEST_MATRIX as usize + 1);
 
 /// Rows for mapping matrices of any size.
 pub(crate) type PairRows = [Pair; PAIR_WIDENED];

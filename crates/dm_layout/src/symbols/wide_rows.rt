@@ -15,8 +15,8 @@ pub(crate) const CORNER_16: u16 = 16 * WIDE_MATRIX;
 /// How many rows there are: two above such a matrix, and four below it, since wrapping looks there.
 const WIDENED: usize = WIDE_MATRIX as usize + 6;
 
-/// How many rows of slots there are: one for each row of such a matrix, and behind them one for a corner.
-const WIDE_SLOTS: usize = WIDE_MATRIX as usize + 1;
+/// How many slots there are: sixteen for each row of such a matrix, and behind them as many for a corner.
+const WIDE_SLOTS: usize = 16 * (WIDE_MATRIX as usize + 1);
 
 /// The lowest two bits of each byte, of sixteen.
 pub(crate) const LOW_TWO_BITS: u128 = 0x0303_0303_0303_0303_0303_0303_0303_0303;

@@ -3,6 +3,7 @@
 use Rattle.std.specs.Prelude.{◌≡◌, ◌⊎◌, ℕ, ◌+◌, ◌-◌, ◌*◌, ◌/◌, ◌%◌, ◌^◌, ◌<◌, Bool, ◌&&◌, ◌||◌, nat_eq, nat_le, nat_lt}
 use Rattle.std.specs.Prelude.{List, [], ◌∷◌, ◌++◌, map, take, drop, get_or, length, if◌then◌else◌}
 use Rattle.std.specs.Int.{bit_at}
+use Rattle.std.specs.Simd.{first_chunks}
 use Rattle.dm_layout.specs.symbols.Symbols.{is_dark_bit}
 use Rattle.dm_layout.specs.symbols.inner.Reading.{look_in}
 use Rattle.dm_place.specs.Placement.{cells_of}
@@ -78,10 +79,9 @@ in_bytes (b ∷ bs) = b + 256 * in_bytes bs
 abbrev pub slot_numbers : List (List ℕ) → List ℕ
 slot_numbers rows = map in_bytes rows
 
--- Each row of slots has so many bytes.
-pub record AreSlotRows (count : ℕ) (rows : List (List ℕ)) : Type 0 where
-  pub wide : (r : ℕ) → r < length rows → length (get_or rows r []) ≡ count
-  pub bytes : (r i : ℕ) → r < length rows → get_or (get_or rows r []) i 0 < 256
+-- Bytes stand row by row, so many in each.
+abbrev pub slot_rows : ℕ → List ℕ → List (List ℕ)
+slot_rows count bytes = first_chunks count (length bytes / count) bytes
 
 -- In rows of so many bytes a slot has its byte in the row of slots to which it belongs.
 abbrev pub slot_byte : ℕ → List ℕ → ℕ → ℕ

@@ -1,16 +1,17 @@
-use Rattle.std.proofs.Common.{◌∙◌, ℕ, List, set, ap, arith}
-use Rattle.std.proofs.lemmas.List.{map-set}
-use Rattle.dm_layout.specs.symbols.inner.Slots.{in_bytes}
-use Rattle.dm_layout.proofs.symbols.SlotPlaces.{slots_set}
+use Rattle.std.proofs.Common.{◌∙◌, ◌≡◌, ◌/◌, ◌+◌, ◌-◌, ◌*◌, ℕ, List, set, ap, arith}
+use borrow.Rule.Slice.PartMut.{put_mid}
+use Rattle.dm_layout.specs.symbols.inner.Slots.{in_bytes, slot_numbers, slot_rows}
+use Rattle.dm_layout.proofs.symbols.SlotPlaces.{row_written}
 use Rattle.dm_layout.proofs.symbols.slot_rows.Slots.put_row.Goals as goal
 
 pub returns : goal.returns
 returns g c =
-    map-set in_bytes c.self.inside.rows c.args.row _
+    let n : ℕ = g.row.BYTES in
+    let bytes = c.self.inside.bytes in
+    let e = ap (λ (i : ℕ). i / n) c.self.told in
+    let width : c.args.row * n + n - c.args.row * n ≡ n = omega arith in
+    ap (λ (i : ℕ). slot_numbers (slot_rows n (put_mid (c.args.row * n) i bytes c.copy_from_slice.new.self))) width
+    ∙ ap (λ (xs : List ℕ). slot_numbers (slot_rows n (put_mid (c.args.row * n) n bytes xs)))
+    c.copy_from_slice.ensures.after
+    ∙ row_written n bytes c.requires.some c.args.row c.args.bytes (omega (arith, c.requires.row, e)) c.requires.count
     ∙ ap (λ (xs : List ℕ). set xs c.args.row (in_bytes c.args.bytes)) c.self.view_is
-
-pub invariant_of-self : goal.invariant_of-self
-invariant_of-self g c =
-    let t = c.self.told in
-    slots_set g.row.BYTES c.self.inside.rows c.args.row c.args.bytes c.self.invariant (omega (arith, c.requires.row, t))
-    c.requires.count c.requires.bytes
