@@ -365,11 +365,12 @@ typedef struct ecc200_inspection {
     uint16_t dealing;                      /* as ecc200_reading has it: that by which no block is beyond correction, or
                                               else 0 */
     uint16_t designator_count;             /* 0 to ECC200_MOST_MARKS; 0 where a block is beyond correction, and where
-                                              WIDE reads nothing of the mended codewords */
+                                              WIDE reads nothing of the mended data codewords */
     ecc200_mark designators[ECC200_MOST_MARKS]; /* the first designator_count count: the number of an ECI assignment,
                                                    and as its place how many codewords stand before its ECI, 241,
-                                                   behind which its one to three codewords stand. A 241 in a run or a
-                                                   segment is none of these */
+                                                   behind which its one to three codewords stand. A 241 in a head, a
+                                                   run, a segment or a designator, or behind the first pad, is none of
+                                                   these */
     uint8_t corrected[ECC200_MOST_BLOCKS]; /* for each block, what ecc200_reading has, or ECC200_BEYOND */
     uint8_t erased[ECC200_MOST_BLOCKS];    /* the same, or 0 where the block is beyond correction */
     uint8_t left[ECC200_MOST_BLOCKS];      /* the same, or 0 where the block is beyond correction */

@@ -8,6 +8,7 @@ mod Fnc1Places
 mod WholeLetters
 mod SaidLetters
 mod LetterLoops
+mod DesignationLaws
 mod DesignationLoops
 mod LetterReadings
 mod WideLetters

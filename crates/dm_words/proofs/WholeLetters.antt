@@ -179,7 +179,7 @@ pub reads : (words : List ℕ) → IsBytes words → IsRightReading words (lette
 reads words fit = reading_tells words (opened words) (openings.judged words) fit
 
 -- What opens the words is found.
-opens_so : (words : List ℕ) (opening : Opening) (place : ℕ) (more : List ℕ) (a : AreOpened words opening place more)
+pub opens_so : (words : List ℕ) (opening : Opening) (place : ℕ) (more : List ℕ) (a : AreOpened words opening place more)
     → (opened words ≡ Some (record { opening = opening; count = length a.first })) × (drop (length a.first) words
     ≡ more)
 opens_so words opening place more a = (

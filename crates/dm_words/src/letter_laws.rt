@@ -1,12 +1,14 @@
 //! Laws of letters. Each function has an empty body: its contract is the law.
 
-ghost use Rattle.std.specs.Prelude.{◌≡◌, ℕ, ◌≤◌, ◌↔◌, ◌⊎◌, List, [], length, None};
+ghost use Rattle.std.specs.Prelude.{◌≡◌, ℕ, ◌≤◌, ◌↔◌, ◌⊎◌, List, [], length, map, None};
 ghost use Rattle.dm_words.specs.Messages.{most_data};
 ghost use Rattle.dm_words.specs.declared.extent.Extent.{Extent};
 ghost use Rattle.dm_words.specs.declared.item.Item.{Item};
 ghost use Rattle.dm_words.specs.declared.profile.Profile.{Profile};
 ghost use Rattle.dm_words.specs.Laws.{AreCodewords};
 ghost use Rattle.dm_words.specs.Messages.{most_data};
+ghost use Rattle.dm_words.specs.declared.letters.mark.Mark.{Mark};
+ghost use Rattle.dm_words.specs.Designations.{AreDesignations};
 ghost use Rattle.dm_words.specs.Designators.{IsDesignator, designator, most_assigned};
 ghost use Rattle.dm_words.specs.Pads.{padded};
 ghost use Rattle.dm_words.specs.Spells.{Spells};
@@ -28,6 +30,16 @@ pub fn one_letter()
 pub fn designators_are_read_back()
     ensures { (words : List ℕ) (number : ℕ) → number ≤ most_assigned
         → IsDesignator words number ↔ (words ≡ designator number) }
+{}
+
+/// A list of codewords has exactly one list of designators, and these have the numbers of the marks of the letter that it
+/// says, in order; the places of both are others.
+pub fn one_list_of_designators()
+    ensures list { (words : List ℕ) (found other : List Mark) → AreDesignations words found
+        → AreDesignations words other → found ≡ other }
+    ensures numbers { (words : List ℕ) (l : LetterView) (found : List Mark) → SpellsLetter words l
+        → AreDesignations words found
+        → map (λ mark. mark.number) found ≡ map (λ mark. mark.number) l.marks }
 {}
 
 /// What codewords say is a letter: its head is right, its bytes are 0 to 255, and its marks come in order.

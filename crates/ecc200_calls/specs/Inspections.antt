@@ -70,8 +70,8 @@ inspection_shown rows columns inspection before =
       designators = before.designators;
     }
 
--- The designators of an inspected symbol are those of the letter that its data codewords say, each a mark whose place
--- counts the codewords before its ECI. Where a block is beyond correction, there are none.
+-- The designators of an inspected symbol are those of the letter that its mended data codewords say, each a mark whose
+-- place counts the codewords before its ECI. Where these are refused, or a block is beyond correction, there are none.
 pub data AreDesignatorsOf {room : ℕ} (inspection : SymbolInspectionIn room) (marks : List Mark) : Type 0 where
   restored : ((b : ℕ) → b < length inspection.blocks.items → IsSome (get_or inspection.blocks.items b None))
       → AreDesignations (data_of inspection.mended) marks → AreDesignatorsOf inspection marks

@@ -4,7 +4,7 @@
 /// `ArrayVec` asks for one.
 #[derive(Clone, Copy, Debug, Default, PartialEq, Eq)]
 pub struct Mark {
-    /// How many items of the letter stand before it.
+    /// How many items of the letter stand before it; of a designator, how many codewords before its ECI.
     pub place: u16,
     /// The number of the assignment: 0 to 999999.
     pub number: u32,
