@@ -1,5 +1,5 @@
 -- The costs that lie in lanes are those of the definition.
-use Rattle.std.proofs.Common.{◌≡◌, ℕ, zero, suc, ◌+◌, ◌-◌, ◌^◌, ◌<◌, ◌≤◌, get_or, List, refl, sym, ap, subst}
+use Rattle.std.proofs.Common.{◌++◌, ◌≡◌, ℕ, zero, suc, ◌+◌, ◌-◌, ◌^◌, ◌<◌, ◌≤◌, get_or, List, refl, sym, ap, subst}
 use Rattle.std.proofs.Common.{◌∙◌, arith, Bool, true, false, cond, eqb, length, ltb, replicate, w16}
 use Rattle.std.specs.Prelude.{[], ◌∷◌, ◌&&◌, bit_and, map, nat_eq, nat_le, not}
 use Rattle.std.specs.List.{range_with_len}
@@ -347,3 +347,9 @@ cost_at item pair next g (suc (suc (suc (suc (suc zero))))) small = refl
 cost_at item pair next g (suc (suc (suc (suc (suc (suc zero)))))) small = refl
 cost_at item pair next g (suc (suc (suc (suc (suc (suc (suc zero))))))) small = refl
 cost_at item pair next g (suc (suc (suc (suc (suc (suc (suc (suc k)))))))) small = absurd (omega (arith, small))
+
+-- The last lane of all costs is 0.
+pub last_zero : (g : Going) (costs : GoingCosts) → HasGoing g costs → get_or (costs.first ++ costs.second) 15 0 ≡ 0
+last_zero g costs h =
+    ap (λ (xs : List ℕ). get_or (xs ++ costs.second) 15 0) h.first
+    ∙ ap (λ (xs : List ℕ). get_or (first_lanes g.c40 g.text g.segment.bytes g.segment.rest ++ xs) 15 0) h.others

@@ -54,6 +54,19 @@ least_in (a ∷ b ∷ c ∷ d ∷ e ∷ f ∷ []) long = absurd (omega (arith, l
 least_in (a ∷ b ∷ c ∷ d ∷ e ∷ f ∷ g ∷ []) long = absurd (omega (arith, long))
 least_in (a ∷ b ∷ c ∷ d ∷ e ∷ f ∷ g ∷ h ∷ i ∷ more) long = absurd (omega (arith, long))
 
+-- It isn't greater than the second.
+pub least_small : (xs : List ℕ) (most : ℕ) → length xs ≡ 8 → get_or xs 1 0 < most → least_of xs < most
+least_small (a ∷ b ∷ c ∷ d ∷ e ∷ f ∷ g ∷ h ∷ []) most long small = omega (arith, small)
+least_small [] most long small = absurd (omega (arith, long))
+least_small (a ∷ []) most long small = absurd (omega (arith, long))
+least_small (a ∷ b ∷ []) most long small = absurd (omega (arith, long))
+least_small (a ∷ b ∷ c ∷ []) most long small = absurd (omega (arith, long))
+least_small (a ∷ b ∷ c ∷ d ∷ []) most long small = absurd (omega (arith, long))
+least_small (a ∷ b ∷ c ∷ d ∷ e ∷ []) most long small = absurd (omega (arith, long))
+least_small (a ∷ b ∷ c ∷ d ∷ e ∷ f ∷ []) most long small = absurd (omega (arith, long))
+least_small (a ∷ b ∷ c ∷ d ∷ e ∷ f ∷ g ∷ []) most long small = absurd (omega (arith, long))
+least_small (a ∷ b ∷ c ∷ d ∷ e ∷ f ∷ g ∷ h ∷ i ∷ more) most long small = absurd (omega (arith, long))
+
 -- A number stands first behind all others, or, where the first one isn't it, so far behind that.
 abbrev StandsFirst : ℕ → List ℕ → ℕ → Bool → Type 0
 StandsFirst x xs m t =

@@ -1,5 +1,5 @@
 -- How many items and marks the codewords of a letter hold.
-use Rattle.std.proofs.Common.{◌≡◌, ℕ, ◌+◌, ◌-◌, ◌*◌, ◌/◌, ◌%◌, ◌≤◌, Bool, true, false, if◌then◌else◌, nat_lt, List}
+use Rattle.std.proofs.Common.{◌≡◌, ℕ, ◌+◌, ◌-◌, ◌*◌, ◌≤◌, Bool, true, false, if◌then◌else◌, nat_lt, List}
 use Rattle.std.proofs.Common.{[], ◌∷◌, ◌++◌, length, take, drop, Option, Some, None, sym, ◌∙◌, ap, arith, length-append}
 use Rattle.std.proofs.lemmas.List.{take-append-drop}
 use Rattle.dm_words.specs.declared.item.Item.{Item}
@@ -11,7 +11,6 @@ use Rattle.dm_words.specs.Designators.{designator}
 use Rattle.dm_words.specs.Heads.{head_words}
 use Rattle.dm_words.specs.Letters.{LetterView}
 use Rattle.dm_words.specs.LetterForm.{mark_words, ascii_with_marks, form_by, letter_form}
-use Rattle.dm_words.specs.NormalForm.{normal_form}
 use Rattle.dm_words.proofs.NormalForms.{normal_form_items, two_items}
 
 -- A list that is chosen from two has a codeword where both have.

@@ -7,7 +7,7 @@ use Rattle.std.proofs.lemmas.Bool.{cases_lt}
 use Rattle.std.proofs.lemmas.List.{get_or-set_same, get_or-set_other}
 use Rattle.dm_words.specs.Macros.{macro_header, macro_trailer, macro_text}
 use Rattle.dm_words.specs.inner.Costs.{most_behind}
-use Rattle.std.proofs.lemmas.List.{at_drop_more, at_drop_all, drop-drop, take_rest, length-take, length-drop}
+use Rattle.std.proofs.lemmas.List.{at_drop_more, drop-drop, take_rest, length-take, length-drop}
 use Rattle.std.proofs.Math.Seq.{take-suc, take-length}
 use Rattle.dm_words.specs.declared.item.Item.{Item}
 use Rattle.dm_words.specs.declared.letters.mark.Mark.{Mark}

@@ -12,8 +12,7 @@ use Rattle.dm_words.specs.declared.c40.set.CodeSet.{CodeSet}
 use Rattle.dm_words.specs.declared.c40.set.CodeSet.TheVariants.{C40, Text, X12}
 use Rattle.dm_words.specs.inner.Costs.{Pairs}
 use Rattle.dm_words.specs.inner.Costs.{Step}
-use Rattle.dm_words.specs.declared.smallest.run.Part.{Part}
-use Rattle.dm_words.specs.declared.smallest.run.Part.TheVariants as part
+use Rattle.dm_words.specs.inner.Written.{Waiting}
 use Rattle.dm_words.specs.inner.Costs.{never, owed, set_values, no_pairs, stay, leave, or_leave, going_from}
 use Rattle.dm_words.specs.inner.Costs.{going_pairs, row_pairs, row, parts_cost, IsRightStep}
 use Rattle.dm_words.specs.inner.Written.{part_values, is_empty, run_ends, IsItemPushed}
@@ -31,17 +30,17 @@ owed_more (suc n) r p =
     omega (arith, here, owed_more n r p)
 
 -- Where the run goes on, it can pay for that.
-pub goes_on : (p : Part) (cost k words total : ℕ) (next : Pairs)
+pub goes_on : (p : Waiting) (cost k words total : ℕ) (next : Pairs)
     → words + owed (length (part_values p)) (or_leave cost (stay k next)) ≤ total → total < never
     → is_empty p && nat_le (leave 1 cost) (stay k next).none ≡ false
     → (0 < k) × (words + owed (length (part_values p) + k) next ≤ total)
 unfolding owed
 goes_on p cost zero words total next budget small goes = absurd (by_part p budget goes) where
-  by_part : (p : Part) → words + owed (length (part_values p)) (or_leave cost no_pairs) ≤ total
+  by_part : (p : Waiting) → words + owed (length (part_values p)) (or_leave cost no_pairs) ≤ total
       → is_empty p && nat_le (leave 1 cost) never ≡ false → ⊥
-  by_part part.Empty b g = let lt : never < leave 1 cost = grind (arith, nat_tests) in omega (arith, lt, b, small)
-  by_part (part.One x) b g = omega (arith, b, small)
-  by_part (part.Two x y) b g = omega (arith, b, small)
+  by_part Waiting.Empty b g = let lt : never < leave 1 cost = grind (arith, nat_tests) in omega (arith, lt, b, small)
+  by_part (Waiting.One x) b g = omega (arith, b, small)
+  by_part (Waiting.Two x y) b g = omega (arith, b, small)
 goes_on p cost (suc k) words total next budget small goes =
     let over = stay (suc k) next in
     let e : owed (length (part_values p)) over ≡ owed (length (part_values p) + suc k) next =
@@ -49,22 +48,22 @@ goes_on p cost (suc k) words total next budget small goes =
     ∙ owed_values (suc k) (length (part_values p)) next in
     let b : words + owed (length (part_values p)) over ≤ total = by_part p over budget goes in
     (omega arith, omega (arith, b, e)) where
-      by_part : (p : Part) (over : Pairs) → words + owed (length (part_values p)) (or_leave cost over) ≤ total
+      by_part : (p : Waiting) (over : Pairs) → words + owed (length (part_values p)) (or_leave cost over) ≤ total
           → is_empty p && nat_le (leave 1 cost) over.none ≡ false → words + owed (length (part_values p)) over ≤ total
-      by_part part.Empty over b g = let lt : over.none < leave 1 cost = grind (arith, nat_tests) in omega (arith, lt, b)
-      by_part (part.One x) over b g = omega (arith, b, small)
-      by_part (part.Two x y) over b g = omega (arith, b, small)
+      by_part Waiting.Empty over b g = let lt : over.none < leave 1 cost = grind (arith, nat_tests) in omega (arith, lt, b)
+      by_part (Waiting.One x) over b g = omega (arith, b, small)
+      by_part (Waiting.Two x y) over b g = omega (arith, b, small)
 
 -- Where the run ends, it can pay for leaving.
-pub leaves : (p : Part) (cost words total : ℕ) (over : Pairs)
+pub leaves : (p : Waiting) (cost words total : ℕ) (over : Pairs)
     → words + owed (length (part_values p)) (or_leave cost over) ≤ total
     → is_empty p && nat_le (leave 1 cost) over.none ≡ true
     → words + leave 1 cost ≤ total
 unfolding owed
-leaves part.Empty cost words total over b g = let le : leave 1 cost ≤ over.none =
+leaves Waiting.Empty cost words total over b g = let le : leave 1 cost ≤ over.none =
     grind (arith, nat_tests) in omega (arith, le, b)
-leaves (part.One x) cost words total over b g = cc
-leaves (part.Two x y) cost words total over b g = cc
+leaves (Waiting.One x) cost words total over b g = cc
+leaves (Waiting.Two x y) cost words total over b g = cc
 
 -- The costs of a run are those of going on, or of leaving.
 pub pairs_are : (setting : Setting) (set : CodeSet) (m : List Item) → row_pairs set (row setting m)
@@ -85,7 +84,7 @@ ends_are setting Text m s r = ap (run_ends Text) r.ends
 ends_are setting X12 m s r = ap (run_ends X12) r.ends
 
 -- An item is pushed within the budget.
-pub item_paid : (set : CodeSet) (p p' : Part) (k n words words' total : ℕ) (next : Pairs)
+pub item_paid : (set : CodeSet) (p p' : Waiting) (k n words words' total : ℕ) (next : Pairs)
     → words + owed (length (part_values p) + k) next ≤ total
     → length (part_values p) + k ≡ 3 * n + length (part_values p') → words' ≡ words + 2 * n
     → words' + owed (length (part_values p')) next ≤ total
@@ -95,7 +94,7 @@ item_paid set p p' k n words words' total next budget e is =
     omega (arith, budget, o, is)
 
 -- Where a run goes on, the set has the item, and the run can pay for it.
-run_here : (setting : Setting) (set : CodeSet) (x : Item) (rest : List Item) (s : Step) (p : Part) (words total : ℕ)
+run_here : (setting : Setting) (set : CodeSet) (x : Item) (rest : List Item) (s : Step) (p : Waiting) (words total : ℕ)
     → IsRightStep setting (x ∷ rest) s
     → words + owed (length (part_values p)) (row_pairs set (row setting (x ∷ rest))) ≤ total
     → total < never → is_empty p && run_ends set s ≡ false
@@ -119,7 +118,7 @@ run_here setting set x rest s p words total right budget small goes =
         goes_on p (parts_cost setting (x ∷ rest)) (set_values X12 x) words total (row setting rest).x12 b small g
 
 -- Where a run goes on, an item is there.
-run_some : (setting : Setting) (set : CodeSet) (m : List Item) (s : Step) (p : Part) (words total : ℕ)
+run_some : (setting : Setting) (set : CodeSet) (m : List Item) (s : Step) (p : Waiting) (words total : ℕ)
     → IsRightStep setting m s → words + owed (length (part_values p)) (row_pairs set (row setting m)) ≤ total
     → total < never → is_empty p && run_ends set s ≡ false → 0 < length m
 run_some setting set [] s p words total right budget small goes =
@@ -139,14 +138,14 @@ run_some setting set [] s p words total right budget small goes =
 run_some setting set (x ∷ rest) s p words total right budget small goes = omega arith
 
 -- What is known of the item at an index where a run goes on.
-pub record IsPaidAt (setting : Setting) (set : CodeSet) (m : List Item) (i : ℕ) (d : Item) (p : Part) (words total : ℕ)
+pub record IsPaidAt (setting : Setting) (set : CodeSet) (m : List Item) (i : ℕ) (d : Item) (p : Waiting) (words total : ℕ)
     : Type 0 where
   pub there : i < length m
   pub held : 0 < set_values set (get_or m i d)
   pub budget : words + owed (length (part_values p) + set_values set (get_or m i d))
       (row_pairs set (row setting (drop (i + 1) m))) ≤ total
 
-pub run_at : (setting : Setting) (set : CodeSet) (m : List Item) (i : ℕ) (d : Item) (s : Step) (p : Part)
+pub run_at : (setting : Setting) (set : CodeSet) (m : List Item) (i : ℕ) (d : Item) (s : Step) (p : Waiting)
     (words total : ℕ) (on : Bool) → IsRightStep setting (drop i m) s
     → words + owed (length (part_values p)) (row_pairs set (row setting (drop i m))) ≤ total → total < never → on
     ≡ not (is_empty p && run_ends set s) → on ≡ true → IsPaidAt setting set m i d p words total
@@ -167,7 +166,7 @@ run_at setting set m i d s p words total on right budget small is so =
 -- The first item of a run.
 pub first_at : (setting : Setting) (set : CodeSet) (m : List Item) (i : ℕ) (d : Item) (words total : ℕ) → i < length m
     → words + owed 0 (going_pairs set (going_from setting (drop i m))) ≤ total → total < never
-    → IsPaidAt setting set m i d part.Empty words total
+    → IsPaidAt setting set m i d Waiting.Empty words total
 unfolding owed
 first_at setting set m i d words total lt budget small =
     let cons : drop i m ≡ get_or m i d ∷ drop (i + 1) m = at_drop_more (λ (l : List Item). l) m i d lt in
@@ -196,7 +195,7 @@ item_room n words total p b =
     omega (arith, b, o)
 
 -- The budget after an item.
-pub after_item : (set : CodeSet) (x : Item) (p p' : Part) (old new : List ℕ) (total : ℕ) (next : Pairs)
+pub after_item : (set : CodeSet) (x : Item) (p p' : Waiting) (old new : List ℕ) (total : ℕ) (next : Pairs)
     → IsItemPushed set x p old new p' → length old + owed (length (part_values p) + set_values set x) next ≤ total
     → length new + owed (length (part_values p')) next ≤ total
 after_item set x p p' old new total next i b =
@@ -217,7 +216,7 @@ one_more m from i d le lt =
     ∙ ap (λ (k : ℕ). take k (drop from m)) (sym e)
 
 -- Leaving a run.
-pub leave_at : (setting : Setting) (set : CodeSet) (m : List Item) (s : Step) (p : Part) (words total : ℕ) (on : Bool)
+pub leave_at : (setting : Setting) (set : CodeSet) (m : List Item) (s : Step) (p : Waiting) (words total : ℕ) (on : Bool)
     → IsRightStep setting m s → words + owed (length (part_values p)) (row_pairs set (row setting m)) ≤ total
     → on ≡ not (is_empty p && run_ends set s) → on ≡ false
     → (is_empty p ≡ true) × (words + leave 1 (parts_cost setting m) ≤ total)

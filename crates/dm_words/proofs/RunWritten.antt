@@ -13,8 +13,7 @@ use Rattle.dm_words.specs.declared.item.Item.TheVariants.{Byte}
 use Rattle.dm_words.specs.declared.c40.set.CodeSet.{CodeSet}
 use Rattle.dm_words.specs.declared.c40.set.CodeSet.TheVariants.{C40, Text, X12}
 use Rattle.dm_words.specs.declared.c40.set.Shift.TheVariants.{Two}
-use Rattle.dm_words.specs.declared.smallest.run.Part.{Part}
-use Rattle.dm_words.specs.declared.smallest.run.Part.TheVariants as part
+use Rattle.dm_words.specs.inner.Written.{Waiting}
 use Rattle.dm_words.specs.declared.extent.Extent.{Extent}
 use Rattle.dm_words.specs.declared.codeword.Codeword.TheVariants as codeword
 use Rattle.dm_words.specs.Codewords.{codeword_of}
@@ -52,7 +51,7 @@ spelled_raised set byte old new item two is high some p =
     raised (1 ∷ 30 ∷ []) p.0 (byte - 128) u p.2 e (is ∙ ap Byte b)
 
 -- Nothing is pushed yet.
-pub none_pushed : (old : List ℕ) (p : Part) → IsSmallPart p → ArePushed old (part_values p) [] old p
+pub none_pushed : (old : List ℕ) (p : Waiting) → IsSmallPart p → ArePushed old (part_values p) [] old p
 none_pushed old p small =
     record {
       pairs = [];
@@ -64,27 +63,27 @@ none_pushed old p small =
     }
 
 -- One more value is pushed.
-pub one_pushed : (old waiting values words words' : List ℕ) (p p' : Part) (v : ℕ) → v < 40
+pub one_pushed : (old waiting values words words' : List ℕ) (p p' : Waiting) (v : ℕ) → v < 40
     → ArePushed old waiting values words p → IsValuePushed p words v p' words'
     → ArePushed old waiting (values ++ v ∷ []) words' p'
-one_pushed old waiting values words words' part.Empty p' v lt a i = record {
+one_pushed old waiting values words words' Waiting.Empty p' v lt a i = record {
   pairs = a.pairs;
   each = a.each;
   values_are = sym (append_assoc waiting values (v ∷ [])) ∙ ap (λ (l : List ℕ). l ++ v ∷ []) a.values_are
-      ∙ append_assoc (gathered a.pairs) [] (v ∷ []) ∙ ap (λ (q : Part). gathered a.pairs ++ part_values q) (sym i.0);
+      ∙ append_assoc (gathered a.pairs) [] (v ∷ []) ∙ ap (λ (q : Waiting). gathered a.pairs ++ part_values q) (sym i.0);
   words_are = i.1 ∙ a.words_are;
   small = subst IsSmallPart (sym i.0) lt;
 }
-one_pushed old waiting values words words' (part.One x) p' v lt a i = record {
+one_pushed old waiting values words words' (Waiting.One x) p' v lt a i = record {
   pairs = a.pairs;
   each = a.each;
   values_are = sym (append_assoc waiting values (v ∷ [])) ∙ ap (λ (l : List ℕ). l ++ v ∷ []) a.values_are
       ∙ append_assoc (gathered a.pairs) (x ∷ []) (v ∷ [])
-      ∙ ap (λ (q : Part). gathered a.pairs ++ part_values q) (sym i.0);
+      ∙ ap (λ (q : Waiting). gathered a.pairs ++ part_values q) (sym i.0);
   words_are = i.1 ∙ a.words_are;
   small = subst IsSmallPart (sym i.0) (a.small, lt);
 }
-one_pushed old waiting values words words' (part.Two x y) p' v lt a i =
+one_pushed old waiting values words words' (Waiting.Two x y) p' v lt a i =
     let piece : Piece (List ℕ) = record { words = i.1.0; what = x ∷ y ∷ v ∷ [] } in
     record {
       pairs = a.pairs ++ piece ∷ [];
@@ -92,14 +91,14 @@ one_pushed old waiting values words words' (part.Two x y) p' v lt a i =
       values_are = sym (append_assoc waiting values (v ∷ [])) ∙ ap (λ (l : List ℕ). l ++ v ∷ []) a.values_are
           ∙ append_assoc (gathered a.pairs) (x ∷ y ∷ []) (v ∷ []) ∙ sym (gathered-last a.pairs piece)
           ∙ sym (append-nil (gathered (a.pairs ++ piece ∷ [])))
-          ∙ ap (λ (q : Part). gathered (a.pairs ++ piece ∷ []) ++ part_values q) (sym i.0);
+          ∙ ap (λ (q : Waiting). gathered (a.pairs ++ piece ∷ []) ++ part_values q) (sym i.0);
       words_are = i.1.2 ∙ ap (λ (l : List ℕ). l ++ i.1.0) a.words_are ∙ append_assoc old (spelled a.pairs) i.1.0
           ∙ ap (λ (l : List ℕ). old ++ l) (sym (spelled-last a.pairs piece));
       small = subst IsSmallPart (sym i.0) tt;
     }
 
 -- So many codewords were written, and so many values stand.
-pub pushed_lengths : (old waiting values new : List ℕ) (p : Part) → ArePushed old waiting values new p
+pub pushed_lengths : (old waiting values new : List ℕ) (p : Waiting) → ArePushed old waiting values new p
     → (n : ℕ) × (length new ≡ length old + 2 * n) × (length waiting + length values ≡ 3 * n + length (part_values p))
 pushed_lengths old waiting values new p a =
     let room = pairs_room a.pairs a.each in (
@@ -115,7 +114,7 @@ pushed_lengths old waiting values new p a =
     )
 
 -- One more value of a list is pushed.
-pub next_pushed : (old waiting values words words' : List ℕ) (p p' : Part) (i v d : ℕ) → i < length values → v
+pub next_pushed : (old waiting values words words' : List ℕ) (p p' : Waiting) (i v d : ℕ) → i < length values → v
     ≡ get_or values i d → v < 40 → ArePushed old waiting (take i values) words p → IsValuePushed p words v p' words'
     → ArePushed old waiting (take (i + 1) values) words' p'
 next_pushed old waiting values words words' p p' i v d lt is small a push =
@@ -125,7 +124,7 @@ next_pushed old waiting values words words' p p' i v d lt is small a push =
     (one_pushed old waiting (take i values) words words' p p' v small a push)
 
 -- More values are pushed.
-pushed_more : (old vs ws words words' : List ℕ) (p p' : Part) → ArePushed old [] vs words p
+pushed_more : (old vs ws words words' : List ℕ) (p p' : Waiting) → ArePushed old [] vs words p
     → ArePushed words (part_values p) ws words' p' → ArePushed old [] (vs ++ ws) words' p'
 pushed_more old vs ws words words' p p' a b = record {
   pairs = a.pairs ++ b.pairs;
@@ -141,7 +140,7 @@ pushed_more old vs ws words words' p p' a b = record {
 }
 
 -- So far a run has these items.
-pub record IsRunSoFar (set : CodeSet) (old new : List ℕ) (p : Part) (items : List Item) : Type 0 where
+pub record IsRunSoFar (set : CodeSet) (old new : List ℕ) (p : Waiting) (items : List Item) : Type 0 where
   pub latch : ℕ
   pub is_latch : codeword_of latch ≡ Some (codeword.Latch set)
   pub spellings : List (Piece Item)
@@ -151,19 +150,19 @@ pub record IsRunSoFar (set : CodeSet) (old new : List ℕ) (p : Part) (items : L
 
 -- A run begins with its latch.
 pub run_begun : (set : CodeSet) (old new : List ℕ) (l : ℕ) → codeword_of l ≡ Some (codeword.Latch set) → new ≡ old
-    ++ l ∷ [] → IsRunSoFar set old new part.Empty []
+    ++ l ∷ [] → IsRunSoFar set old new Waiting.Empty []
 run_begun set old new l is e = record {
   latch = l;
   is_latch = is;
   spellings = [];
   each = tt;
   items_are = refl;
-  pushed = subst (λ (w : List ℕ). ArePushed (old ++ l ∷ []) [] [] w part.Empty) (sym e)
-      (none_pushed (old ++ l ∷ []) part.Empty tt);
+  pushed = subst (λ (w : List ℕ). ArePushed (old ++ l ∷ []) [] [] w Waiting.Empty) (sym e)
+      (none_pushed (old ++ l ∷ []) Waiting.Empty tt);
 }
 
 -- One more item of a run.
-pub run_more : (set : CodeSet) (old words words' : List ℕ) (p p' : Part) (items : List Item) (x : Item)
+pub run_more : (set : CodeSet) (old words words' : List ℕ) (p p' : Waiting) (items : List Item) (x : Item)
     → IsRunSoFar set old words p items → IsItemPushed set x p words words' p'
     → IsRunSoFar set old words' p' (items ++ x ∷ [])
 run_more set old words words' p p' items x r i =
@@ -181,7 +180,7 @@ run_more set old words words' p p' items x r i =
 
 -- A run that is whole is a run, whatever end follows.
 pub run_whole : (extent : Extent) (set : CodeSet) (old words : List ℕ) (items : List Item)
-    (r : IsRunSoFar set old words part.Empty items)
+    (r : IsRunSoFar set old words Waiting.Empty items)
     → (pairs : List ℕ) × (words ≡ old ++ r.latch ∷ pairs) × ((end after : List ℕ) → IsRunEnd end after
     → IsRun extent set (r.latch ∷ (pairs ++ end)) after items)
 run_whole extent set old words items r = (
@@ -214,9 +213,9 @@ latch_begins set l more is e = (let none : codeword_of l ≡ None = ap codeword_
 
 -- A run is written: with an unlatch.
 pub written_unlatch : (extent : Extent) (set : CodeSet) (total : ℕ) (old words new : List ℕ) (items : List Item)
-    (p : Part) → is_empty p ≡ true → IsRunSoFar set old words p items → new ≡ words ++ 254 ∷ []
+    (p : Waiting) → is_empty p ≡ true → IsRunSoFar set old words p items → new ≡ words ++ 254 ∷ []
     → IsPartWritten extent total old new items
-written_unlatch extent set total old words new items part.Empty e r is =
+written_unlatch extent set total old words new items Waiting.Empty e r is =
     let w = run_whole extent set old words items r in
     record {
       part = r.latch ∷ (w.0 ++ 254 ∷ []);
@@ -225,14 +224,14 @@ written_unlatch extent set total old words new items part.Empty e r is =
       whole = is ∙ ap (λ (l : List ℕ). l ++ 254 ∷ []) w.1 ∙ append_assoc old (r.latch ∷ w.0) (254 ∷ []);
       right = λ after fills first. run set (w.2 (254 ∷ []) after (unlatch refl));
     }
-written_unlatch extent set total old words new items (part.One x) e r is = absurd cc
-written_unlatch extent set total old words new items (part.Two x y) e r is = absurd cc
+written_unlatch extent set total old words new items (Waiting.One x) e r is = absurd cc
+written_unlatch extent set total old words new items (Waiting.Two x y) e r is = absurd cc
 
 -- A run is written: with none, where at most one codeword is left.
-pub written_bare : (extent : Extent) (set : CodeSet) (total : ℕ) (old words : List ℕ) (items : List Item) (p : Part)
+pub written_bare : (extent : Extent) (set : CodeSet) (total : ℕ) (old words : List ℕ) (items : List Item) (p : Waiting)
     → is_empty p ≡ true → total ≤ length words + 1 → IsRunSoFar set old words p items
     → IsPartWritten extent total old words items
-written_bare extent set total old words items part.Empty e few r =
+written_bare extent set total old words items Waiting.Empty e few r =
     let w = run_whole extent set old words items r in
     record {
       part = r.latch ∷ w.0;
@@ -247,5 +246,5 @@ written_bare extent set total old words items part.Empty e few r =
       by_after [] le first = symbol_end refl refl
       by_after (v ∷ []) le first = last_word v first refl refl
       by_after (v ∷ u ∷ more) le first = absurd (omega (arith, le))
-written_bare extent set total old words items (part.One x) e few r = absurd cc
-written_bare extent set total old words items (part.Two x y) e few r = absurd cc
+written_bare extent set total old words items (Waiting.One x) e few r = absurd cc
+written_bare extent set total old words items (Waiting.Two x y) e few r = absurd cc

@@ -1,15 +1,13 @@
 -- How many items and marks codewords say: at most two items for each and seven more, and a mark for each two.
-use Rattle.std.proofs.Common.{◌≡◌, ℕ, ◌+◌, ◌*◌, ◌≤◌, List, [], ◌∷◌, ◌++◌, length, sym, ap, ◌∙◌, arith, length-append}
+use Rattle.std.proofs.Common.{◌≡◌, ℕ, ◌+◌, ◌*◌, ◌≤◌, List, [], ◌∷◌, ◌++◌, length, ap, ◌∙◌, arith, length-append}
 use Rattle.dm_words.specs.declared.extent.Extent.{Extent}
 use Rattle.dm_words.specs.declared.extent.Extent.TheVariants.{Wide}
-use Rattle.dm_words.specs.declared.item.Item.{Item}
 use Rattle.dm_words.specs.declared.letters.opening.Opening.{Opening}
 use Rattle.dm_words.specs.Designators.{IsDesignator, one, two, three}
 use Rattle.dm_words.specs.Joined.{Piece, spelled, whats, AreJoined}
-use Rattle.dm_words.specs.Letters.{LetterView, Said, Items, Number, IsLetterPart, part, mark, said_items, said_marks}
+use Rattle.dm_words.specs.Letters.{LetterView, Said, IsLetterPart, part, mark, said_items, said_marks}
 use Rattle.dm_words.specs.Letters.{IsOpening, headed, framed, plain, opening_items, closing_items, SpellsLetter}
 use Rattle.dm_words.specs.LetterExtents.{SaysIn}
-use Rattle.dm_words.specs.Macros.{macro_header, macro_trailer}
 use Rattle.dm_words.proofs.LetterExtents.{said_wide}
 use Rattle.dm_words.proofs.Parts.{room_of}
 

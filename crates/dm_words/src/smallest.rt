@@ -60,10 +60,10 @@ pub fn smallest_words_to(
     words: &mut ArrayVec<u8, MOST_DATA>,
 ) -> Result<SymbolSize, TooLong>
     requires few { length items.now ≤ LARGEST_ROOM }
-    requires message { IsMessage items.now }
     ensures smallest { IsSmallestResult extent choice items.now result words.new.items }
     ensures letter { IsSmallestLetterResult extent choice (as_letter items.now) result
         words.new.items }
+    ensures message { IsMessage items.now }
     ensures same { OnErr result (words.new.items ≡ words.old.items) }
 {
     smallest_items_to(extent, items, choice, words)
@@ -78,9 +78,9 @@ fn smallest_items_to(
     words: &mut ArrayVec<u8, MOST_DATA>,
 ) -> Result<SymbolSize, TooLong>
     requires few { length items.now ≤ LARGEST_ROOM }
-    requires message { IsMessage items.now }
     ensures smallest { IsSmallestResult extent choice items.now result words.new.items }
     ensures cheapest { (cost : ℕ) × IsLeastCost extent items.now cost × IsSizeFor choice cost result }
+    ensures message { IsMessage items.now }
     ensures same { OnErr result (words.new.items ≡ words.old.items) }
 {
     // To clear room for a long plan takes longer than to make a short one.
@@ -103,9 +103,9 @@ fn smallest_by<const STEPS: usize>(
     requires few { length items.now ≤ LARGEST_ROOM }
     requires steps { length items.now < STEPS }
     requires most { STEPS ≤ LONG_PLAN }
-    requires message { IsMessage items.now }
     ensures smallest { IsSmallestResult extent choice items.now result words.new.items }
     ensures cheapest { (cost : ℕ) × IsLeastCost extent items.now cost × IsSizeFor choice cost result }
+    ensures message { IsMessage items.now }
     ensures same { OnErr result (words.new.items ≡ words.old.items) }
 {
     let mut plan = [StepBits::NONE; STEPS];
@@ -148,6 +148,7 @@ fn least_way(extent: Extent, items: &[Item], plan: &mut [StepBits]) -> Found
     ensures least { IsLeastCost extent items.now result.way.cost }
     ensures ascii { result.ascii ≡ length (ascii items.now) }
     ensures plan { IsRightPlan (at_end extent) (text_of result.way.macro_word items.now) plan.new }
+    ensures message { IsMessage items.now }
 {
     let lengths = plan_to(Setting::at_end(extent), items, plan);
     match macro_of(extent, items) {

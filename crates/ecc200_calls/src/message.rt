@@ -4,7 +4,6 @@ ghost use Rattle.std.specs.Prelude.{◌≡◌, ◌≤◌, ◌<◌, ◌+◌, ◌*
 ghost use Rattle.dm_symbol.specs.declared.Item.{Item};
 ghost use Rattle.dm_symbol.specs.declared.Profile.{Profile};
 ghost use Rattle.dm_symbol.specs.Ascii.{ascii};
-ghost use Rattle.dm_symbol.specs.Messages.{IsMessage};
 ghost use Rattle.dm_symbol.specs.NormalForm.{normal_form};
 ghost use Rattle.ecc200_calls.specs.Arrays.{over};
 ghost use Rattle.ecc200_calls.specs.Items.{IsFirstForeign, number_of, numbers_of};
@@ -50,30 +49,24 @@ fn word_count(item: Item) -> u16
 pub(crate) fn message_of_numbers<const ROOM: usize>(numbers: &[u16]) -> MessageIn<ROOM>
     requires items { All (λ number. number ≤ 256) numbers.now }
     requires room { length numbers.now ≤ ROOM }
-    ensures numbers { numbers_of result ≡ numbers.now }
-    ensures message { IsMessage result }
+    ensures { numbers_of result ≡ numbers.now }
 {
     let mut message = MessageIn::new();
     for number in numbers {
         let _room = message.push(item_of(*number));
     }
-    // That its bytes are 0 to 255 is known from this call.
-    let _items = message.items();
     message
 }
 
 /// Gives the message of these bytes.
 pub(crate) fn message_of_bytes<const ROOM: usize>(bytes: &[u8]) -> MessageIn<ROOM>
     requires { length bytes.now ≤ ROOM }
-    ensures numbers { numbers_of result ≡ bytes.now }
-    ensures message { IsMessage result }
+    ensures { numbers_of result ≡ bytes.now }
 {
     let mut message = MessageIn::new();
     for byte in bytes {
         let _room = message.push(Item::Byte(*byte));
     }
-    // That its bytes are 0 to 255 is known from this call.
-    let _items = message.items();
     message
 }
 

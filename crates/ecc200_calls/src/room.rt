@@ -162,22 +162,6 @@ fn words_for(choice: SizeChoice, items: &[Item]) -> u16
     }
 }
 
-/// Whether the middle room surely serves for the symbols in which a message may be written in a choice of sizes. The
-/// items of a message for a square aren't looked at: to clear this room takes less.
-pub(crate) fn is_middle_enough(choice: SizeChoice, items: &[Item]) -> bool
-    requires { length items.now ≤ LARGEST_ITEMS }
-    ensures { IsTrue result
-        → HasRoomToWrite MIDDLE_DATA MIDDLE_ROWS MIDDLE_WORDS choice items.now }
-{
-    match choice {
-        SizeChoice::Square => 2 * items.len() <= MIDDLE_DATA,
-        _ => match SymbolSize::for_words(choice, words_for(choice, items)) {
-            Some(size) => usize::from(size.data_count()) <= MIDDLE_DATA,
-            None => false,
-        },
-    }
-}
-
 /// Gives the smallest size, for which each room serves.
 #[tactic(auto, unfolding(dm_layout::specs::symbols::Sizes::size_table))]
 pub(crate) fn smallest_size() -> SymbolSize

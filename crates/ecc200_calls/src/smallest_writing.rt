@@ -5,7 +5,6 @@ ghost use Rattle.std.specs.Prelude.{◌≡◌, ◌<◌, ◌≤◌, ◌⊎◌, Al
 ghost use Rattle.dm_words.specs.Heads.{IsHead};
 ghost use Rattle.dm_words.specs.Letters.{AreMarks};
 ghost use Rattle.dm_words.specs.LetterExtents.{as_letter};
-ghost use Rattle.dm_words.specs.Messages.{IsMessage};
 ghost use Rattle.ecc200_calls.specs.Letters.{marks_of};
 ghost use Rattle.ecc200_calls.specs.Writings.{IsLetterGiven, IsWritingGiven};
 ghost use Rattle.ecc200_calls.specs.inner.Rooms.{HasRoomToWrite};
@@ -122,8 +121,8 @@ fn may_be_said(items: usize, marks: usize) -> bool
     items <= LARGEST_ROOM && marks <= LARGEST_MARKS
 }
 
-/// Shows the smallest symbol of a message, or that it fits no size of the choice. It is made in the middle room, or in
-/// the largest one.
+/// Shows the smallest symbol of a message, or that it fits no size of the choice. It is made in the small room, or else
+/// in the largest one: to clear that takes little beside the work with a message that isn't short.
 #[inline(never)]
 pub(crate) fn write_smallest_message(
     items: &[Item],
@@ -131,14 +130,16 @@ pub(crate) fn write_smallest_message(
     size: SizeChoice,
     out: &mut SymbolOut,
 )
-    requires few { length items.now ≤ LARGEST_ITEMS }
-    requires message { IsMessage items.now }
+    requires { length items.now ≤ LARGEST_ITEMS }
     ensures { IsLetterGiven (Form.Smallest extent) size (as_letter items.now) out.old out.new }
 {
-    if is_middle_enough(size, items) {
-        write_symbol::<MIDDLE_DATA, MIDDLE_ROWS, MIDDLE_WORDS>(items, extent, size, out);
-    } else {
-        write_symbol::<LARGEST_DATA, LARGEST_ROWS, LARGEST_WORDS>(items, extent, size, out);
+    match Room::of_message(size, items) {
+        Room::Small => {
+            write_symbol::<SMALL_DATA, SMALL_ROWS, SMALL_WORDS>(items, extent, size, out);
+        }
+        Room::Middle | Room::Largest => {
+            write_symbol::<LARGEST_DATA, LARGEST_ROWS, LARGEST_WORDS>(items, extent, size, out);
+        }
     }
 }
 
@@ -152,7 +153,6 @@ fn write_symbol<const DATA: usize, const ROWS: usize, const WORDS: usize>(
     out: &mut SymbolOut,
 )
     requires few { length items.now ≤ LARGEST_ITEMS }
-    requires message { IsMessage items.now }
     requires room { HasRoomToWrite DATA ROWS WORDS size items.now }
     ensures { IsLetterGiven (Form.Smallest extent) size (as_letter items.now) out.old out.new }
 {

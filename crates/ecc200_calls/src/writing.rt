@@ -3,7 +3,6 @@
 ghost use Rattle.std.specs.Prelude.{◌≡◌, ◌<◌, ◌≤◌, ◌⊎◌, All, IsTrue, [], false, length};
 ghost use Rattle.dm_words.specs.Heads.{IsHead};
 ghost use Rattle.dm_words.specs.Letters.{AreMarks};
-ghost use Rattle.dm_words.specs.Messages.{IsMessage};
 ghost use Rattle.dm_words.specs.LetterExtents.{as_letter};
 ghost use Rattle.ecc200_calls.specs.Letters.{marks_of};
 ghost use Rattle.ecc200_calls.specs.Writings.{IsLetterGiven, IsWriteResult, IsWritingGiven};
@@ -210,8 +209,7 @@ pub(crate) fn write_these_bytes<const ITEMS: usize>(
 /// Shows the symbol in which a message is written, or that it fits no size of the choice.
 #[inline]
 fn write_message(items: &[Item], form: Form, size: SizeChoice, out: &mut SymbolOut)
-    requires few { length items.now ≤ LARGEST_ITEMS }
-    requires message { IsMessage items.now }
+    requires { length items.now ≤ LARGEST_ITEMS }
     ensures { IsLetterGiven form size (as_letter items.now) out.old out.new }
 {
     match form {
@@ -221,6 +219,7 @@ fn write_message(items: &[Item], form: Form, size: SizeChoice, out: &mut SymbolO
 }
 
 /// Shows it under a profile.
+#[inline(never)]
 pub(crate) fn write_normal(items: &[Item], how: WriteOptions, out: &mut SymbolOut)
     requires { length items.now ≤ LARGEST_ITEMS }
     ensures { IsLetterGiven (Form.Profiled how.profile) how.size (as_letter items.now) out.old

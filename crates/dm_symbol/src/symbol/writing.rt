@@ -92,9 +92,8 @@ pub(crate) fn write_words_to<const DATA: usize, const WORDS: usize, const ROWS: 
 /// letter with these items, too. `words` is room for the codewords, whatever they were before. The work grows with the
 /// number of items.
 ///
-/// Both have room for each size of the choice that is no larger than those that hold the message in ASCII. A
-/// [`Symbol`](dm_layout::symbols::Symbol) and [`SymbolWords`](dm_layout::symbols::SymbolWords) have room for every
-/// size.
+/// Both have room for each size of the choice up to the smallest that holds the message in ASCII, or for all of them
+/// where none does. A [`Symbol`] and [`SymbolWords`] have room for every size.
 pub fn write_smallest_to<const WORDS: usize, const ROWS: usize>(
     extent: Extent,
     items: &[Item],
@@ -103,7 +102,6 @@ pub fn write_smallest_to<const WORDS: usize, const ROWS: usize>(
     symbol: &mut SymbolIn<ROWS>,
 ) -> Result<(), TooLong>
     requires few { length items.now ≤ LARGEST_ROOM }
-    requires message { IsMessage items.now }
     requires room { HasRoomForSmallest choice items.now ROWS WORDS }
     ensures written { IsSmallestWritten extent choice items.now (outcome result symbol.new) }
     ensures letter { IsSmallestLetterWritten extent choice (as_letter items.now)

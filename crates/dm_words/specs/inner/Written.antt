@@ -1,15 +1,13 @@
 -- What the private functions give that write the codewords of a plan: values of runs, pairs and groups, length
 -- fields, and parts.
 use Rattle.std.specs.Prelude.{◌≡◌, ℕ, ◌+◌, ◌<◌, ◌≤◌, List, [], ◌∷◌, ◌++◌, length, Some, IsTrue, Bool, true, false, ◌≢◌}
-use Rattle.std.specs.Prelude.{◌⊎◌}
+use Rattle.std.specs.Prelude.{◌⊎◌, zero, suc, ◌/◌, ◌%◌}
 use Rattle.dm_words.specs.declared.c40.set.CodeSet.{CodeSet}
 use Rattle.dm_words.specs.declared.c40.set.CodeSet.TheVariants.{C40, Text, X12}
 use Rattle.dm_words.specs.declared.c40.set.Basic.TheVariants as basic
 use Rattle.dm_words.specs.declared.c40.set.Shifted.TheVariants as shifted
 use Rattle.dm_words.specs.declared.smallest.values.Low.{Low}
 use Rattle.dm_words.specs.declared.smallest.values.Low.TheVariants.{Plain, Shifted}
-use Rattle.dm_words.specs.declared.smallest.run.Part.{Part}
-use Rattle.dm_words.specs.declared.smallest.run.Part.TheVariants.{Empty, One, Two}
 use Rattle.std.specs.List.{AllByRecursion}
 use Rattle.dm_words.specs.Joined.{Piece, spelled, gathered, AreJoined}
 use Rattle.dm_words.specs.Codewords.{unlatch_word}
@@ -50,27 +48,39 @@ IsCharacterPushed set byte old new = (values : List ℕ) × (new ≡ old ++ valu
 
 -- ---- a run
 
--- Of a pair these values stand already.
-abbrev pub part_values : Part → List ℕ
+-- Of a pair some values stand already.
+pub data Waiting : Type 0 where
+  Empty : Waiting
+  One : ℕ → Waiting
+  Two : ℕ → ℕ → Waiting
+
+-- They are these.
+abbrev pub part_values : Waiting → List ℕ
 part_values Empty = []
 part_values (One first) = first ∷ []
 part_values (Two first second) = first ∷ second ∷ []
 
+-- So many values stand, which make this number.
+abbrev pub waiting_in : ℕ → ℕ → Waiting
+waiting_in zero number = Empty
+waiting_in (suc zero) number = One number
+waiting_in (suc (suc others)) number = Two (number / 40) (number % 40)
+
 -- Each value that stands is below 40.
-abbrev pub IsSmallPart : Part → Type 0
+abbrev pub IsSmallPart : Waiting → Type 0
 IsSmallPart Empty = Unit {0}
 IsSmallPart (One first) = first < 40
 IsSmallPart (Two first second) = (first < 40) × (second < 40)
 
 -- A value stands behind the others, or the codewords of their pair are written.
-abbrev pub IsValuePushed : Part → List ℕ → ℕ → Part → List ℕ → Type 0
+abbrev pub IsValuePushed : Waiting → List ℕ → ℕ → Waiting → List ℕ → Type 0
 IsValuePushed Empty old value part new = (part ≡ One value) × (new ≡ old)
 IsValuePushed (One first) old value part new = (part ≡ Two first value) × (new ≡ old)
 IsValuePushed (Two first second) old value part new =
     (part ≡ Empty) × ((pair : List ℕ) × IsPair pair (first ∷ second ∷ value ∷ []) × (new ≡ old ++ pair))
 
 -- Behind values that stood already, values were pushed: in whole pairs, and those that stand now.
-pub record ArePushed (old waiting values new : List ℕ) (part : Part) : Type 0 where
+pub record ArePushed (old waiting values new : List ℕ) (part : Waiting) : Type 0 where
   pub pairs : List (Piece (List ℕ))
   pub each : AllByRecursion (λ piece. IsPair piece.words piece.what) pairs
   pub values_are : waiting ++ values ≡ gathered pairs ++ part_values part
@@ -78,12 +88,12 @@ pub record ArePushed (old waiting values new : List ℕ) (part : Part) : Type 0 
   pub small : IsSmallPart part
 
 -- The values of an item were pushed.
-abbrev pub IsItemPushed : CodeSet → Item → Part → List ℕ → List ℕ → Part → Type 0
+abbrev pub IsItemPushed : CodeSet → Item → Waiting → List ℕ → List ℕ → Waiting → Type 0
 IsItemPushed set item part old new part_then =
     (values : List ℕ) × IsSpelling set values item × ArePushed old (part_values part) values new part_then
 
 -- No value stands.
-abbrev pub is_empty : Part → Bool
+abbrev pub is_empty : Waiting → Bool
 is_empty Empty = true
 is_empty (One first) = false
 is_empty (Two first second) = false

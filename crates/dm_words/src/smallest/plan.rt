@@ -1,10 +1,11 @@
 //! What to do at each item, so that the message takes the fewest codewords.
 
-ghost use Rattle.std.specs.Prelude.{◌≡◌, ◌+◌, ◌*◌, ◌^◌, ◌≤◌, ◌<◌, if◌then◌else◌, ℕ, nat_le, get_or, length};
+ghost use Rattle.std.specs.Prelude.{◌≡◌, ◌+◌, ◌++◌, ◌*◌, ◌^◌, ◌≤◌, ◌<◌, if◌then◌else◌, ℕ, nat_le, get_or, length};
 ghost use Prim.Native.Nat.{min};
 ghost use Rattle.std.specs.Prelude.{map, nat_eq, not, replicate};
 ghost use Rattle.std.specs.Simd.Lanes.{sel_l, zip2};
 ghost use Rattle.dm_words.specs.Ascii.{ascii};
+ghost use Rattle.dm_words.specs.Messages.{IsItem, IsMessage};
 ghost use Rattle.dm_words.specs.inner.Costs.{unit_cost};
 ghost use Rattle.dm_words.specs.inner.Costs.{Row, Going, cost_of, least, step_of, AreSmall};
 ghost use Rattle.dm_words.specs.inner.Costs.{parts_cost, is_digit_item, never, begin_at, step_in};
@@ -154,8 +155,10 @@ fn with_lane(lanes: Simd<u16, 8>, lane: [u16; 8], number: u16) -> Simd<u16, 8>
 fn costs_of(item: Item, pair: bool, next: &Costs, going: &GoingCosts) -> Simd<u16, 8>
     requires ascii { next.now.ascii ≤ 16384 }
     requires after { next.now.after ≤ 16384 }
-    ensures { (r : Row) (g : Going) → HasRow r next.now → AreSmall g → HasGoing g going.now
+    requires zero { get_or (going.now.first ++ going.now.second) 15 0 ≡ 0 }
+    ensures costs { (r : Row) (g : Going) → HasRow r next.now → AreSmall g → HasGoing g going.now
         → result ≡ cost_lanes item pair r g }
+    ensures small { get_or result 1 0 < 32768 }
 {
     let two = pair_cost(pair, next.after);
     let one = unit_cost(item) + next.ascii;
@@ -187,17 +190,20 @@ fn lesser(one: Simd<u16, 8>, other: Simd<u16, 8>) -> Simd<u16, 8>
 /// Gives the least of eight costs, by halves.
 #[inline]
 fn least(costs: Simd<u16, 8>) -> u16
+    requires { get_or costs 1 0 < 32768 }
     ensures { result ≡ least_of costs }
 {
     let four = lesser(costs, costs.swizzle([4, 5, 6, 7, 4, 5, 6, 7]));
     let two = lesser(four, four.swizzle([2, 3, 2, 3, 2, 3, 2, 3]));
     let one = lesser(two, two.swizzle([1, 1, 1, 1, 1, 1, 1, 1]));
-    one.to_array()[0]
+    // The mask leaves it as it is; without, it would be worked out once more where all lanes are compared with it.
+    one.to_array()[0] & 0x7FFF
 }
 
 /// Gives the least of eight costs, and the first place where it stands.
 #[inline]
 fn first_least(costs: Simd<u16, 8>) -> Choice
+    requires { get_or costs 1 0 < 32768 }
     ensures least { result.cost ≡ least_of costs }
     ensures found { get_or costs result.begins 0 ≡ result.cost }
     ensures place { result.begins < 8 }
@@ -216,6 +222,7 @@ fn first_least(costs: Simd<u16, 8>) -> Choice
 fn choose(item: Item, pair: bool, next: &Costs, going: &GoingCosts) -> Choice
     requires ascii { next.now.ascii ≤ 16384 }
     requires after { next.now.after ≤ 16384 }
+    requires zero { get_or (going.now.first ++ going.now.second) 15 0 ≡ 0 }
     ensures cost { (r : Row) (g : Going) → HasRow r next.now → AreSmall g → HasGoing g going.now
         → result.cost ≡ least item pair r g }
     ensures begins { (r : Row) (g : Going) → HasRow r next.now → AreSmall g → HasGoing g going.now
@@ -249,7 +256,8 @@ fn step_of(cost: u16, begins: u8, going: &GoingCosts) -> StepBits
 
 /// Whether the item is a digit.
 fn is_digit_item(item: Item) -> bool
-    ensures { result ≡ is_digit_item item }
+    ensures digit { result ≡ is_digit_item item }
+    ensures byte { IsItem item }
 {
     match item {
         Item::Fnc1 => false,
@@ -290,6 +298,7 @@ pub(crate) fn plan_to(setting: Setting, items: &[Item], plan: &mut [StepBits]) -
     ensures most { result.least ≤ setting.behind + 2 * length items.now }
     ensures ascii { result.ascii ≡ length (ascii items.now) }
     ensures plan { IsRightPlan setting items.now plan.new }
+    ensures message { IsMessage items.now }
 {
     let none = none_going(setting.behind);
     let mut costs = with_ascii(setting.behind, NEVER, &none);

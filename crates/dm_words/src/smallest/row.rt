@@ -3,15 +3,15 @@
 ghost use Rattle.std.specs.Prelude.{◌≡◌, ℕ, ◌+◌, ◌≤◌, ◌<◌, if◌then◌else◌};
 ghost use Rattle.std.specs.Prelude.{Bool, true};
 ghost use Rattle.dm_words.specs.inner.Costs.{Pairs, Groups, Going, Row, no_pairs, no_groups, values_before, never};
+ghost use Rattle.dm_words.specs.declared.c40.set.CodeSet.TheVariants.{C40, Text, X12};
 ghost use Rattle.dm_words.specs.inner.Costs.{stay, stay_edifact};
-ghost use Rattle.dm_words.specs.inner.Costs.{is_basic, unit_cost, set_values, has_edifact, leave, going_over};
+ghost use Rattle.dm_words.specs.inner.Costs.{unit_cost, set_values, has_edifact, leave, going_over};
 ghost use Rattle.dm_words.specs.inner.Costs.{with_ascii, none_going, rest_behind};
 ghost use Rattle.dm_words.specs.inner.Costs.{IsWithin, AreSmall};
 ghost use Rattle.dm_words.specs.inner.CostLanes.{read_edifact, one_or_two};
 ghost use Rattle.dm_words.specs.inner.CostLanes.{AreNext, end_lanes, limit_lanes, set_bits};
 ghost use Rattle.dm_words.specs.inner.CostLanes.{first_lanes, second_lanes, AreFirst, AreSecond, HasRow, HasGoing};
 
-use crate::c40::set::CodeSet;
 use crate::extent::Extent;
 use crate::item::Item;
 use crate::smallest::sets::{by_sets, sets_of, sets_read};
@@ -45,21 +45,6 @@ pub struct GoingCosts {
     pub second: Simd<u16, 8>,
     /// The fewest bytes with which the cost of a segment whose length is written out is met.
     pub near: u16,
-}
-
-/// Whether the byte is one value of a set.
-pub(crate) fn is_basic(set: CodeSet, byte: u8) -> bool
-    ensures { result ≡ is_basic set byte }
-{
-    byte == b' '
-        || b'0' <= byte && byte <= b'9'
-        || match set {
-            CodeSet::C40 => b'A' <= byte && byte <= b'Z',
-            CodeSet::Text => b'a' <= byte && byte <= b'z',
-            CodeSet::X12 => {
-                b'A' <= byte && byte <= b'Z' || byte == b'\r' || byte == b'*' || byte == b'>'
-            }
-        }
 }
 
 /// The bit of the set to whose runs each of the first costs belongs; segments have none.
@@ -153,8 +138,8 @@ fn second_over(extent: Extent, sets: u16, next: Simd<u16, 8>) -> Simd<u16, 8>
 #[inline]
 fn first_over_byte(byte: u8, next: Simd<u16, 8>) -> Simd<u16, 8>
     ensures { (c t : Pairs) (bytes rest : ℕ) → AreNext c t bytes rest next
-        → result ≡ first_lanes (stay (set_values CodeSet.C40 (Item.Byte byte)) c)
-        (stay (set_values CodeSet.Text (Item.Byte byte)) t) (1 + bytes) (1 + rest) }
+        → result ≡ first_lanes (stay (set_values C40 (Item.Byte byte)) c)
+        (stay (set_values Text (Item.Byte byte)) t) (1 + bytes) (1 + rest) }
 {
     if byte < 128 {
         return first_over(sets_of(byte), next);
@@ -166,7 +151,7 @@ fn first_over_byte(byte: u8, next: Simd<u16, 8>) -> Simd<u16, 8>
 #[inline]
 fn second_over_byte(extent: Extent, byte: u8, next: Simd<u16, 8>) -> Simd<u16, 8>
     ensures { (x : Pairs) (e : Groups) → AreSecond x e next
-        → result ≡ second_lanes (stay (set_values CodeSet.X12 (Item.Byte byte)) x)
+        → result ≡ second_lanes (stay (set_values X12 (Item.Byte byte)) x)
         (stay_edifact (has_edifact extent (Item.Byte byte)) e) }
 {
     second_over(extent, sets_of(byte), next)
@@ -280,6 +265,6 @@ pub(crate) fn unit_cost(item: Item) -> u16
 {
     match item {
         Item::Fnc1 => 1,
-        Item::Byte(byte) => { if byte < 128 { 1 } else { 2 } }
+        Item::Byte(byte) => 1 + u16::from(byte / 128),
     }
 }

@@ -7,7 +7,7 @@ ghost use Rattle.dm_words.specs.Codewords.{codeword_of};
 ghost use Rattle.dm_words.specs.Values.{IsRunValue};
 ghost use Rattle.dm_words.specs.inner.Costs.{step_in, set_values, owed, going_pairs, going_from, parts_cost};
 ghost use Rattle.dm_words.specs.inner.Costs.{IsRightPlan};
-ghost use Rattle.dm_words.specs.inner.Written.{part_values, IsSmallPart, IsValuePushed, ArePushed, IsItemPushed};
+ghost use Rattle.dm_words.specs.inner.Written.{Waiting, part_values, IsSmallPart, IsValuePushed, ArePushed, IsItemPushed};
 ghost use Rattle.dm_words.specs.inner.Written.{is_empty, run_ends, IsPartWritten};
 
 use crate::c40::set::CodeSet;
@@ -19,6 +19,7 @@ use crate::smallest::setting::Setting;
 use crate::smallest::values::{one_value, values_of};
 use arrayvec::ArrayVec;
 use dm_layout::symbols::MOST_DATA;
+use std::marker::Model;
 
 /// Gives the latch to a set.
 fn latch(set: CodeSet) -> u8
@@ -31,15 +32,43 @@ fn latch(set: CodeSet) -> u8
     }
 }
 
-/// The values of a pair that stand already.
-#[derive(Clone, Copy)]
-pub enum Part {
-    /// None.
-    Empty,
-    /// One value.
-    One(u8),
-    /// Two values.
-    Two(u8, u8),
+/// The values of a pair that stand already, at most two.
+#[derive(Drop)]
+pub struct Part {
+    /// How many they are.
+    count: u8,
+    /// What they make of the pair's number: a value, or 40 times the first and the second.
+    number: u16,
+}
+
+impl Model for Part {
+    ghost use Rattle.std.specs.Prelude.{◌≡◌};
+    ghost use Rattle.dm_words.specs.inner.Written.{Waiting, waiting_in};
+
+    ghost Value = { Waiting };
+
+    ghost view = { λ p. waiting_in p.count p.number };
+
+    ghost invariant = { λ p. p.count ≡ 0 → p.number ≡ 0 };
+}
+
+impl Part {
+    /// Gives no value.
+    fn empty() -> Part
+        ensures { result ≡ Waiting.Empty }
+    {
+        Part {
+            count: 0,
+            number: 0,
+        }
+    }
+
+    /// Whether no value stands.
+    fn is_empty(&self) -> bool
+        ensures { result ≡ is_empty self.now }
+    {
+        self.count == 0
+    }
 }
 
 /// Adds a value of a run behind those that stand, and gives those that stand then. A whole pair is written.
@@ -49,16 +78,16 @@ fn push_value<const N: usize>(part: Part, value: u8, words: &mut ArrayVec<u8, N>
     requires room { length words.old.items + 2 * ((length (part_values part) + 1) / 3) ≤ N }
     ensures { IsValuePushed part words.old.items value result words.new.items }
 {
-    match part {
-        Part::Empty => Part::One(value),
-        Part::One(first) => Part::Two(first, value),
-        Part::Two(first, second) => {
-            let number = 1600 * first as u16 + 40 * second as u16 + value as u16 + 1;
-            words.push((number / 256) as u8);
-            words.push((number % 256) as u8);
-            Part::Empty
-        }
+    let number = 40 * part.number + u16::from(value);
+    if part.count < 2 {
+        return Part {
+            count: part.count + 1,
+            number,
+        };
     }
+    words.push(((number + 1) / 256) as u8);
+    words.push(((number + 1) % 256) as u8);
+    Part::empty()
 }
 
 /// Adds values of a run.
@@ -66,8 +95,7 @@ fn push_values<const N: usize>(part: Part, values: &[u8], words: &mut ArrayVec<u
     requires small { All IsRunValue values.now }
     requires part { IsSmallPart part }
     requires few { length values.now ≤ 4 }
-    requires room { length words.old.items
-        + 2 * ((length (part_values part) + length values.now) / 3) ≤ N }
+    requires room { length words.old.items + 2 * ((length (part_values part) + length values.now) / 3) ≤ N }
     ensures { ArePushed words.old.items (part_values part) values.now words.new.items result }
 {
     let mut part = part;
@@ -88,8 +116,7 @@ fn push_spelling<const N: usize>(
 ) -> Part
     requires held { 0 < set_values set item }
     requires part { IsSmallPart part }
-    requires room { length words.old.items
-        + 2 * ((length (part_values part) + set_values set item) / 3) ≤ N }
+    requires room { length words.old.items + 2 * ((length (part_values part) + set_values set item) / 3) ≤ N }
     ensures { IsItemPushed set item part words.old.items words.new.items result }
 {
     let values = values_of(set, item);
@@ -105,8 +132,7 @@ fn push_item<const N: usize>(
 ) -> Part
     requires held { 0 < set_values set item }
     requires part { IsSmallPart part }
-    requires room { length words.old.items
-        + 2 * ((length (part_values part) + set_values set item) / 3) ≤ N }
+    requires room { length words.old.items + 2 * ((length (part_values part) + set_values set item) / 3) ≤ N }
     ensures { IsItemPushed set item part words.old.items words.new.items result }
 {
     match one_value(set, item) {
@@ -116,13 +142,10 @@ fn push_item<const N: usize>(
 }
 
 /// Whether a run goes on at a step.
-fn goes_on(part: Part, step: &StepBits, set: CodeSet) -> bool
-    ensures { result ≡ not (is_empty part && run_ends set (step_in step.now)) }
+fn goes_on(part: &Part, step: &StepBits, set: CodeSet) -> bool
+    ensures { result ≡ not (is_empty part.now && run_ends set (step_in step.now)) }
 {
-    match part {
-        Part::Empty => !step.run_ends(set),
-        _ => true,
-    }
+    !(part.is_empty() && step.run_ends(set))
 }
 
 /// Writes a run, and gives the index behind it.
@@ -152,9 +175,9 @@ pub(crate) fn write_run<const N: usize>(
 {
     words.push(latch(set));
     // So the other call stands in the loop alone, and is no call.
-    let mut part = push_spelling(set, items[at], Part::Empty, words);
+    let mut part = push_spelling(set, items[at], Part::empty(), words);
     let mut next = at + 1;
-    while goes_on(part, &plan[next], set) {
+    while goes_on(&part, &plan[next], set) {
         part = push_item(set, items[next], part, words);
         next += 1;
     }

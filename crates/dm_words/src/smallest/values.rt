@@ -1,16 +1,15 @@
 //! The values of an item in a run of C40, Text or X12.
 
-ghost use Rattle.std.specs.Prelude.{◌≡◌, ◌≤◌, ◌<◌, ◌∷◌, [], IfSome, IsTrue, Some, length};
+ghost use Rattle.std.specs.Prelude.{◌≡◌, ◌≤◌, ◌<◌, ◌∷◌, [], false, IfSome, IfNone, Some, length};
 ghost use Rattle.dm_words.specs.declared.c40.set.CodeSet.{CodeSet};
 ghost use Rattle.dm_words.specs.declared.c40.set.Basic.TheVariants as Basic;
 ghost use Rattle.dm_words.specs.CodeSets.{basic_of};
 ghost use Rattle.dm_words.specs.Values.{IsSpelling};
-ghost use Rattle.dm_words.specs.inner.Costs.{is_basic, set_values};
+ghost use Rattle.dm_words.specs.inner.Costs.{first_letter, is_basic, is_sign, set_values};
 ghost use Rattle.dm_words.specs.inner.Written.{HasShifts, IsHeldBy, IsLow, IsCharacterPushed};
 
 use crate::c40::set::{CodeSet, Shift};
 use crate::item::Item;
-use crate::smallest::row::is_basic;
 use arrayvec::ArrayVec;
 
 /// How a byte below 128 is written in a set.
@@ -22,20 +21,44 @@ pub enum Low {
     Shifted(Shift, u8),
 }
 
-/// Gives the value of a byte in a basic set.
-fn basic_value(set: CodeSet, byte: u8) -> u8
-    requires { IsTrue (is_basic set byte) }
-    ensures value { basic_of set result ≡ Some (Basic.Character byte) }
-    ensures small { result < 40 }
+/// Gives the value of a byte in a basic set, if it is one value there. Letters come first, since most bytes are.
+fn basic_value(set: CodeSet, byte: u8) -> Option<u8>
+    ensures value { IfSome result (λ value. basic_of set value ≡ Some (Basic.Character byte)) }
+    ensures small { IfSome result (λ value. value < 40) }
+    ensures none { IfNone result (is_basic set byte ≡ false) }
+{
+    let letter = byte.wrapping_sub(first_letter(set));
+    if letter < 26 {
+        return Some(letter + 14);
+    }
+    match byte {
+        b'0'..=b'9' => Some(byte - 44),
+        b' ' => Some(3),
+        _ => sign_value(set, byte),
+    }
+}
+
+/// Gives the first of the letters that are one value of a set.
+fn first_letter(set: CodeSet) -> u8
+    ensures { result ≡ first_letter set }
+{
+    match set {
+        CodeSet::C40 | CodeSet::X12 => b'A',
+        CodeSet::Text => b'a',
+    }
+}
+
+/// Gives the value of a byte that is neither a letter nor a digit nor a space in a basic set, if it is one value there.
+fn sign_value(set: CodeSet, byte: u8) -> Option<u8>
+    ensures value { IfSome result (λ value. basic_of set value ≡ Some (Basic.Character byte)) }
+    ensures small { IfSome result (λ value. value < 3) }
+    ensures none { IfNone result (is_sign set byte ≡ false) }
 {
     match (set, byte) {
-        (CodeSet::X12, b'\r') => 0,
-        (CodeSet::X12, b'*') => 1,
-        (CodeSet::X12, b'>') => 2,
-        (_, b' ') => 3,
-        (_, b'0'..=b'9') => byte - 44,
-        (CodeSet::Text, _) => byte - 83,
-        _ => byte - 51,
+        (CodeSet::X12, b'\r') => Some(0),
+        (CodeSet::X12, b'*') => Some(1),
+        (CodeSet::X12, b'>') => Some(2),
+        _ => None,
     }
 }
 
@@ -45,8 +68,8 @@ fn low_value(set: CodeSet, byte: u8) -> Low
     requires has { IsHeldBy set byte }
     ensures { IsLow set byte result }
 {
-    if is_basic(set, byte) {
-        return Low::Plain(basic_value(set, byte));
+    if let Some(value) = basic_value(set, byte) {
+        return Low::Plain(value);
     }
     match byte {
         0..=31 => Low::Shifted(Shift::One, byte),
@@ -93,8 +116,8 @@ pub(crate) fn one_value(set: CodeSet, item: Item) -> Option<u8>
     ensures small { IfSome result (λ value. value < 40) }
 {
     match item {
-        Item::Byte(byte) if is_basic(set, byte) => Some(basic_value(set, byte)),
-        _ => None,
+        Item::Byte(byte) => basic_value(set, byte),
+        Item::Fnc1 => None,
     }
 }
 

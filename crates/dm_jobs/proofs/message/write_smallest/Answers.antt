@@ -9,10 +9,7 @@ write_smallest_to-requires c = (
     search rules,
     (
       omega (arith, c.items.ensures.most, ap length c.items.ensures.value),
-      (
-        rw c.items.ensures.value c.items.ensures.bytes,
-        smallest_room_for_most c.args.size c.items.result.now 144 2178 (omega arith) (omega arith),
-      ),
+      smallest_room_for_most c.args.size c.items.result.now 144 2178 (omega arith) (omega arith),
     ),
   ),
 )

@@ -1,4 +1,4 @@
-use Rattle.std.proofs.Common.{rules, ◌∙◌, ℕ, List, ap, sym, subst, arith, length}
+use Rattle.std.proofs.Common.{rules, ℕ, List, ap, sym, subst, arith, length}
 use Rattle.dm_words.specs.Pads.{padded}
 use Rattle.dm_words.specs.Smallest.{SpellsThenPads}
 use Rattle.dm_words.proofs.LawLemmas.{ascii_padded}

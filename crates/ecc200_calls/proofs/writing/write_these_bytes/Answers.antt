@@ -8,7 +8,7 @@ pub returns : goal.returns
 returns g c =
     let made = c.message_of_bytes-message in
     let a = c.args in
-    writing_given a.form a.size a.bytes.now made.result a.out.now c.write_message.new.out made.ensures.message
-    made.ensures.numbers
+    writing_given a.form a.size a.bytes.now made.result a.out.now c.write_message.new.out c.items.ensures.bytes
+    made.ensures
     (subst (λ m. IsLetterGiven a.form a.size (as_letter m) a.out.now c.write_message.new.out) c.items.ensures.value
     c.write_message.ensures)

@@ -20,13 +20,13 @@ pub complete_with-requires : goal.complete_with-requires
 complete_with-requires g c =
     let r = c.in-Ok.ensures.smallest in
     let room = room_for_smallest c.args.extent c.args.choice c.args.items.now c.in-Ok.size
-    c.smallest_words_to.new.words.items g.row.ROWS g.row.WORDS c.requires.message r.smallest c.requires.room in
+    c.smallest_words_to.new.words.items g.row.ROWS g.row.WORDS c.in-Ok.ensures.message r.smallest c.requires.room in
     (search rules, (room.1, ap length c.deref.ensures.0 ∙ r.smallest.sized))
 
 pub lay_to-requires : goal.lay_to-requires
 lay_to-requires g c =
     let room = room_for_smallest c.args.extent c.args.choice c.args.items.now c.in-Ok.size
-    c.smallest_words_to.new.words.items g.row.ROWS g.row.WORDS c.requires.message c.in-Ok.ensures.smallest.smallest
+    c.smallest_words_to.new.words.items g.row.ROWS g.row.WORDS c.in-Ok.ensures.message c.in-Ok.ensures.smallest.smallest
     c.requires.room in
     let same = ap (λ (s : SizeEntry). s.rows) c.complete_with.ensures.size in
     (search rules, (search rules, omega (arith, room.0, same)))

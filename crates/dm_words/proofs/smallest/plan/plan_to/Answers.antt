@@ -1,8 +1,10 @@
 use Rattle.std.proofs.Common.{◌≡◌, ◌∙◌, ◌+◌, ◌-◌, ◌∷◌, ◌&&◌, Bool, cond, sym, ℕ, drop, get_or, rules, ap, subst, arith}
-use Rattle.std.proofs.Common.{List, length, refl}
-use Rattle.std.proofs.lemmas.List.{drop_all, length-drop}
+use Rattle.std.proofs.Common.{List, length, refl, inl, inr}
+use Rattle.std.proofs.lemmas.Bool.{cases_eq}
+use Rattle.std.proofs.lemmas.List.{drop_all, get_or_default, length-drop}
 use Rattle.dm_words.specs.declared.item.Item.{Item}
 use Rattle.dm_words.specs.Ascii.{ascii}
+use Rattle.dm_words.specs.Messages.{IsItem}
 use Rattle.dm_words.specs.inner.Costs.{pair_first, unit_cost}
 use Rattle.dm_words.proofs.NormalForms.{two_words}
 use Rattle.dm_words.proofs.Plans.{ascii_turn}
@@ -11,6 +13,7 @@ use Rattle.dm_words.specs.declared.item.Item.TheVariants.{Fnc1}
 use Rattle.dm_words.specs.inner.Costs.{Row, row, going_over, is_digit_item, with_ascii, begin_at, step_in, none_going}
 use Rattle.dm_words.specs.inner.CostLanes.{HasRow}
 use Rattle.dm_words.proofs.Plans.{within, turn, plan_more, plan_first, cost_most, last_costs, none_small, going_small}
+use Rattle.dm_words.proofs.CostLanes.{last_zero}
 use Rattle.dm_words.proofs.Plans.{digit_here, digit_last, least_small, kept_small}
 use Rattle.dm_words.proofs.smallest.plan.plan_to.Goals as goal
 
@@ -28,6 +31,7 @@ loop-at-init c = record {
       c.none_going-none.ensures);
   plan = plan_first c.args.setting c.args.items.now c.args.plan.now Two c.step_of.result c.requires.steps
       (c.step_of.ensures (none_going c.args.setting.behind) c.none_going-none.ensures);
+  message = λ i other from to. absurd (omega (arith, from, to));
 }
 
 pub going_over-going-requires : goal.going_over-going-requires
@@ -47,6 +51,12 @@ choose-choice-requires-clause-after c =
     let w = within c.args.setting c.args.items.now c.loop-at.at _ (omega (arith, c.requires.few)) c.requires.behind refl
     (omega (arith, length-drop c.loop-at.at c.args.items.now)) in
     (kept_small _ c.loop-at.costs w c.loop-at.invariant.row).1
+
+pub choose-choice-requires-clause-zero : goal.choose-choice-requires-clause-zero
+choose-choice-requires-clause-zero c =
+    let w = within c.args.setting c.args.items.now c.loop-at.at _ (omega (arith, c.requires.few)) c.requires.behind refl
+    (omega (arith, length-drop c.loop-at.at c.args.items.now)) in
+    last_zero _ c.going_over-going.result (c.going_over-going.ensures _ w c.loop-at.invariant.row)
 
 pub step_of-requires-in-loop-at : goal.step_of-requires-in-loop-at
 step_of-requires-in-loop-at c =
@@ -108,7 +118,7 @@ loop-at-preserved c =
     let behind = c.loop-at.digit_behind in
     let pair = c.is_digit_item-digit.result && behind in
     let is_pair : pair ≡ pair_first (x ∷ drop at m) =
-    ap (λ (b : Bool). b && behind) c.is_digit_item-digit.ensures ∙ ap (λ (b : Bool). is_digit_item x && b) v.digit in
+    ap (λ (b : Bool). b && behind) c.is_digit_item-digit.ensures.digit ∙ ap (λ (b : Bool). is_digit_item x && b) v.digit in
     let at_again : at ≡ at - 1 + 1 = omega (arith, c.loop-at-test.true) in
     let t = turn setting m at x Fnc1 next new pair g (begin_at choice.begins) choice.cost
     (step_in c.step_of-in-loop-at.result) (omega (arith, c.loop-at-test.true)) v.in_range refl refl
@@ -117,7 +127,7 @@ loop-at-preserved c =
     record {
       in_range = omega (arith, v.in_range);
       room = search rules;
-      digit = c.is_digit_item-digit.ensures
+      digit = c.is_digit_item-digit.ensures.digit
           ∙ digit_here m at x Fnc1 (omega (arith, c.loop-at-test.true)) v.in_range refl;
       row = subst (λ (r : Row). HasRow r c.with_ascii-costs-in-loop-at.result)
           (ap (λ (n : ℕ). with_ascii choice.cost n g) v.row.ascii ∙ t.0)
@@ -129,6 +139,12 @@ loop-at-preserved c =
       in_ascii_behind = v.in_ascii ∙ ap (λ (i : ℕ). length (ascii (drop i m))) at_again;
       plan = plan_more setting m at c.loop-at.plan c.step_of-in-loop-at.result (omega (arith, c.loop-at-test.true))
           v.in_range (omega (arith, v.room)) t.1 v.plan;
+      message = λ i other from to. elim (cases_eq i (at - 1)) [
+        | inl here ↦ subst (λ (j : ℕ). IsItem (get_or m j other)) (sym here)
+            (subst IsItem (get_or_default m (at - 1) Fnc1 other (omega (arith, c.loop-at-test.true, v.in_range)))
+            c.is_digit_item-digit.ensures.byte)
+        | inr other_place ↦ v.message i other (omega (arith, from, other_place)) to
+      ];
     }
 
 pub returns-clause-ascii : goal.returns-clause-ascii
@@ -136,6 +152,9 @@ returns-clause-ascii c =
     c.loop-at.invariant.in_ascii
     ∙ ap (λ (i : ℕ). length (ascii (drop i c.args.items.now)))
     (let none : c.loop-at.at ≡ 0 = omega (arith, c.loop-at-test.false) in none)
+
+pub returns-clause-message : goal.returns-clause-message
+returns-clause-message c = λ i other to. c.loop-at.invariant.message i other (omega (arith, c.loop-at-test.false)) to
 
 pub returns-clause-most : goal.returns-clause-most
 returns-clause-most c =

@@ -1,6 +1,8 @@
 use Rattle.std.proofs.Common.{◌≡◌, ◌+◌, ◌<◌, ◌≤◌, ℕ, length, drop, get_or}
 use Rattle.dm_words.specs.declared.smallest.plan.StepBits.{StepBits}
 use Rattle.dm_words.specs.Ascii.{ascii}
+use Rattle.dm_words.specs.Messages.{IsItem}
+use Rattle.dm_words.specs.declared.item.Item.{Item}
 use Rattle.dm_words.specs.inner.Costs.{digit_first, row, step_in, IsRightStep}
 use Rattle.dm_words.specs.inner.CostLanes.{HasRow}
 use Rattle.dm_words.proofs.smallest.plan.plan_to.Given as goal
@@ -15,4 +17,5 @@ invariant-loop-at l = record {
   in_ascii_behind : l.ascii_behind ≡ length (ascii (drop (l.at + 1) l.items));
   plan : (i : ℕ) (other : StepBits) → l.at ≤ i → i ≤ length l.items
       → IsRightStep l.setting (drop i l.items) (step_in (get_or l.plan i other));
+  message : (i : ℕ) (other : Item) → l.at ≤ i → i < length l.items → IsItem (get_or l.items i other);
 }

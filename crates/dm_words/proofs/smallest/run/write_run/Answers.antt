@@ -1,7 +1,7 @@
-use Rattle.std.proofs.Common.{arith, ap, subst, ◌≡◌, ℕ, ◌-◌, List, length, take, drop, rules}
+use Rattle.std.proofs.Common.{arith, get_or, ap, subst, ◌≡◌, ℕ, ◌-◌, List, length, take, drop, rules}
 use Rattle.dm_words.specs.declared.item.Item.{Item}
 use Rattle.dm_words.specs.declared.item.Item.TheVariants.{Fnc1}
-use Rattle.dm_words.specs.declared.smallest.run.Part.TheVariants as part
+use Rattle.dm_words.specs.inner.Written.{Waiting, part_values, IsItemPushed}
 use Rattle.dm_words.specs.inner.Costs.{parts_cost}
 use Rattle.dm_words.proofs.LowerBounds.{leave_bounds}
 use Rattle.dm_words.proofs.RunWritten.{run_begun, run_more, written_unlatch, written_bare, IsRunSoFar}
@@ -25,6 +25,7 @@ push_spelling-part-requires g c =
                 c.args.total c.requires.at (omega (arith, c.requires.budget, c.push.ensures.len))
                 (omega (arith, c.requires.total))).budget,
             c.requires.total,
+            ap (λ (p : Waiting). length (part_values p)) c.empty.ensures,
           ),
         ),
       ),
@@ -38,19 +39,22 @@ loop-set-init g c =
     let begun =
     run_begun c.args.set c.args.words.now.items c.push.new.self.items c.latch.result c.latch.ensures
     c.push.ensures.items in
+    let pushed = subst
+    (λ (p : Waiting). IsItemPushed c.args.set (get_or c.args.items.now c.args.at Fnc1) p c.push.new.self.items
+    c.push_spelling-part.new.words.items c.push_spelling-part.result) c.empty.ensures c.push_spelling-part.ensures in
     record {
       from = omega arith;
       within = omega (arith, c.requires.at);
-      budget = after_item c.args.set _ part.Empty c.push_spelling-part.result c.push.new.self.items
-          c.push_spelling-part.new.words.items c.args.total _ c.push_spelling-part.ensures f.budget;
+      budget = after_item c.args.set _ Waiting.Empty c.push_spelling-part.result c.push.new.self.items
+          c.push_spelling-part.new.words.items c.args.total _ pushed f.budget;
       so_far = subst
           (λ (l : List Item). IsRunSoFar c.args.set c.args.words.now.items c.push_spelling-part.new.words.items
           c.push_spelling-part.result l)
           (one_more c.args.items.now c.args.at c.args.at Fnc1 (omega arith) c.requires.at)
           (run_more c.args.set c.args.words.now.items c.push.new.self.items c.push_spelling-part.new.words.items
-          part.Empty c.push_spelling-part.result (take (c.args.at - c.args.at) (drop c.args.at c.args.items.now)) _
-          (subst (λ (l : List Item). IsRunSoFar c.args.set c.args.words.now.items c.push.new.self.items part.Empty l)
-          (ap (λ (k : ℕ). take k (drop c.args.at c.args.items.now)) zero_is) begun) c.push_spelling-part.ensures);
+          Waiting.Empty c.push_spelling-part.result (take (c.args.at - c.args.at) (drop c.args.at c.args.items.now)) _
+          (subst (λ (l : List Item). IsRunSoFar c.args.set c.args.words.now.items c.push.new.self.items Waiting.Empty l)
+          (ap (λ (k : ℕ). take k (drop c.args.at c.args.items.now)) zero_is) begun) pushed);
     } where
       zero_is : 0 ≡ c.args.at - c.args.at
       zero_is = omega arith

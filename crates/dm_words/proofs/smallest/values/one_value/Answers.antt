@@ -1,7 +1,20 @@
-use Rattle.std.proofs.Common.{refl}
+use Rattle.std.proofs.Common.{ℕ, ◌≡◌, [], ◌∷◌, refl, Some, None}
+use Rattle.std.specs.Prelude.{Option, IfSome}
+use Rattle.dm_words.specs.declared.c40.set.CodeSet.{CodeSet}
+use Rattle.dm_words.specs.declared.c40.set.Basic.TheVariants as Basic
+use Rattle.dm_words.specs.declared.item.Item.{Item}
+use Rattle.dm_words.specs.declared.item.Item.TheVariants.{Byte}
+use Rattle.dm_words.specs.CodeSets.{basic_of}
 use Rattle.dm_words.specs.Values.{IsSpelling, plain}
 use Rattle.dm_words.proofs.smallest.values.one_value.Goals as goal
 
+-- The value of a byte in a basic set spells it.
+spelled : (set : CodeSet) (byte : ℕ) (item : Item) (found : Option ℕ) → item ≡ Byte byte
+    → IfSome found (λ value. basic_of set value ≡ Some (Basic.Character byte))
+    → IfSome found (λ value. IsSpelling set (value ∷ []) item)
+spelled set byte item None is means = tt
+spelled set byte item (Some value) is means = IsSpelling.character byte (plain value means refl) is
+
 pub returns-in-Byte-clause-value : goal.returns-in-Byte-clause-value
 returns-in-Byte-clause-value c =
-    IsSpelling.character c.in-Byte.byte (plain c.basic_value.result c.basic_value.ensures.value refl) c.in-Byte.is
+    spelled c.args.set c.in-Byte.byte c.args.item c.basic_value.result c.in-Byte.is c.basic_value.ensures.value
