@@ -48,8 +48,8 @@ NoneIsRead extent choice message = (other : SymbolView) (doubtful : Option Symbo
     → IsTaken choice other.size → ReadsSymbol extent other doubtful limit message → ⊥
 
 -- There are at most so many rows and so many codewords in each size of the choice for which no smaller size of the
--- choice holds the message in ASCII: in all up to the smallest that does, or in all where none does. The smallest symbol
--- of the message has such a size, if there is one, so there is room for it.
+-- choice holds the message in ASCII: in all up to the smallest that does, or in all where none does. The smallest
+-- symbol of the message has such a size, if there is one, so there is room for it.
 abbrev pub HasRoomForSmallest : SizeChoice → List Item → ℕ → ℕ → Type 0
 HasRoomForSmallest choice message rows words = (size : SizeEntry) → IsTaken choice size
     → ((smaller : SizeEntry) → IsTaken choice smaller → length (ascii message) ≤ smaller.data_count

@@ -119,7 +119,8 @@ numbered before items [] = refl
 numbered before items (p ∷ ps) = by_said p.what (λ n. numbered (before + length p.words) n ps)
   where
     by_said : (said : Said) → ((n : ℕ) → numbers (designations (before + length p.words) ps)
-        ≡ numbers (said_marks n (whats ps))) → numbers (designation before said ++ designations (before + length p.words) ps)
+        ≡ numbers (said_marks n (whats ps)))
+        → numbers (designation before said ++ designations (before + length p.words) ps)
         ≡ numbers (said_marks items (said ∷ whats ps))
     by_said (Items said) rest = rest (items + length said)
     by_said (Number number) rest = ap (λ (l : List ℕ). number ∷ l) (rest items)

@@ -50,7 +50,8 @@ goes_on p cost (suc k) words total next budget small goes =
     (omega arith, omega (arith, b, e)) where
       by_part : (p : Waiting) (over : Pairs) → words + owed (length (part_values p)) (or_leave cost over) ≤ total
           → is_empty p && nat_le (leave 1 cost) over.none ≡ false → words + owed (length (part_values p)) over ≤ total
-      by_part Waiting.Empty over b g = let lt : over.none < leave 1 cost = grind (arith, nat_tests) in omega (arith, lt, b)
+      by_part Waiting.Empty over b g =
+          let lt : over.none < leave 1 cost = grind (arith, nat_tests) in omega (arith, lt, b)
       by_part (Waiting.One x) over b g = omega (arith, b, small)
       by_part (Waiting.Two x y) over b g = omega (arith, b, small)
 
@@ -138,8 +139,8 @@ run_some setting set [] s p words total right budget small goes =
 run_some setting set (x ∷ rest) s p words total right budget small goes = omega arith
 
 -- What is known of the item at an index where a run goes on.
-pub record IsPaidAt (setting : Setting) (set : CodeSet) (m : List Item) (i : ℕ) (d : Item) (p : Waiting) (words total : ℕ)
-    : Type 0 where
+pub record IsPaidAt (setting : Setting) (set : CodeSet) (m : List Item) (i : ℕ) (d : Item) (p : Waiting)
+    (words total : ℕ) : Type 0 where
   pub there : i < length m
   pub held : 0 < set_values set (get_or m i d)
   pub budget : words + owed (length (part_values p) + set_values set (get_or m i d))
@@ -216,7 +217,8 @@ one_more m from i d le lt =
     ∙ ap (λ (k : ℕ). take k (drop from m)) (sym e)
 
 -- Leaving a run.
-pub leave_at : (setting : Setting) (set : CodeSet) (m : List Item) (s : Step) (p : Waiting) (words total : ℕ) (on : Bool)
+pub leave_at : (setting : Setting) (set : CodeSet) (m : List Item) (s : Step) (p : Waiting) (words total : ℕ)
+    (on : Bool)
     → IsRightStep setting m s → words + owed (length (part_values p)) (row_pairs set (row setting m)) ≤ total
     → on ≡ not (is_empty p && run_ends set s) → on ≡ false
     → (is_empty p ≡ true) × (words + leave 1 (parts_cost setting m) ≤ total)

@@ -19,8 +19,8 @@ designations before (piece ∷ pieces) =
     designation before piece.what ++ designations (before + length piece.words) pieces
 
 -- These are the designators of the letter that the words say in the wide extent, in order; or the words are refused
--- there, and there are none, not even those before the fault. A 241 in the head of a letter, in a run or a segment, in a
--- designator or behind the first pad isn't the ECI of one.
+-- there, and there are none, not even those before the fault. A 241 in the head of a letter, in a run or a segment, in
+-- a designator or behind the first pad isn't the ECI of one.
 pub data AreDesignations (words : List ℕ) (found : List Mark) : Type 0 where
   of_letter : (opening : Opening) (place : ℕ) (more : List ℕ) (opened : AreOpened words opening place more)
       (said : List Said) (parts : AreLetterParts place more said)

@@ -32,8 +32,8 @@ pub fn designators_are_read_back()
         → IsDesignator words number ↔ (words ≡ designator number) }
 {}
 
-/// A list of codewords has exactly one list of designators, and these have the numbers of the marks of the letter that it
-/// says, in order; the places of both are others.
+/// A list of codewords has exactly one list of designators, and these have the numbers of the marks of the letter that
+/// it says, in order; the places of both are others.
 pub fn one_list_of_designators()
     ensures list { (words : List ℕ) (found other : List Mark) → AreDesignations words found
         → AreDesignations words other → found ≡ other }

@@ -9,7 +9,8 @@ use borrow.Rule.Slice.PartMut.{put_mid}
 use Rattle.std.proofs.Math.Nat.{div-add-mod, mod-lt, mul-le-mul_left}
 use Rattle.std.proofs.Math.Seq.{take-add, take-append_seam, drop-append_seam, take-set-lt}
 use Rattle.std.proofs.lemmas.List.{get_or-map, get_or-take, get_or-drop, map-set, drop-drop, length-drop}
-use Rattle.std.proofs.lemmas.List.{get_or_default, length-set, length-replicate, length-take-le, take-set-le, drop-set-lt, drop-set-add}
+use Rattle.std.proofs.lemmas.List.{get_or_default, length-set, length-replicate, length-take-le, take-set-le}
+use Rattle.std.proofs.lemmas.List.{drop-set-lt, drop-set-add}
 use Rattle.dm_layout.specs.symbols.inner.Laying.{with_byte}
 use Rattle.dm_layout.specs.symbols.inner.Slots.{in_bytes, slot_byte, slot_numbers, slot_rows}
 use Rattle.dm_layout.proofs.symbols.SlotBytes.{byte_over, in_bytes_byte}

@@ -119,8 +119,8 @@ pub fn has_eci(words: &[u8]) -> bool
 /// Leaves in `found` where the ECI designators stand among the data codewords of a symbol, as the letter has them that
 /// these say at [`Extent::Wide`], and the number of each; none where the codewords say no letter. The place of one
 /// counts the codewords before its ECI, which is the codeword 241; behind that the one to three codewords of the
-/// designator stand. A 241 in a head, a run, a segment or a designator, or behind the first pad, is none. ISO/IEC 16022,
-/// ECI encodation.
+/// designator stand. A 241 in a head, a run, a segment or a designator, or behind the first pad, is none. ISO/IEC
+/// 16022, ECI encodation.
 pub fn designations_to<const MARKS: usize>(words: &[u8], found: &mut ArrayVec<Mark, MARKS>)
     requires short { length words.now ≤ MOST_DATA }
     requires marks { length words.now ≤ 2 * MARKS }

@@ -7,7 +7,8 @@ ghost use Rattle.dm_words.specs.Codewords.{codeword_of};
 ghost use Rattle.dm_words.specs.Values.{IsRunValue};
 ghost use Rattle.dm_words.specs.inner.Costs.{step_in, set_values, owed, going_pairs, going_from, parts_cost};
 ghost use Rattle.dm_words.specs.inner.Costs.{IsRightPlan};
-ghost use Rattle.dm_words.specs.inner.Written.{Waiting, part_values, IsSmallPart, IsValuePushed, ArePushed, IsItemPushed};
+ghost use Rattle.dm_words.specs.inner.Written.{Waiting, part_values, IsSmallPart, IsValuePushed, ArePushed};
+ghost use Rattle.dm_words.specs.inner.Written.{IsItemPushed};
 ghost use Rattle.dm_words.specs.inner.Written.{is_empty, run_ends, IsPartWritten};
 
 use crate::c40::set::CodeSet;

@@ -118,7 +118,8 @@ loop-at-preserved c =
     let behind = c.loop-at.digit_behind in
     let pair = c.is_digit_item-digit.result && behind in
     let is_pair : pair ≡ pair_first (x ∷ drop at m) =
-    ap (λ (b : Bool). b && behind) c.is_digit_item-digit.ensures.digit ∙ ap (λ (b : Bool). is_digit_item x && b) v.digit in
+    ap (λ (b : Bool). b && behind) c.is_digit_item-digit.ensures.digit
+    ∙ ap (λ (b : Bool). is_digit_item x && b) v.digit in
     let at_again : at ≡ at - 1 + 1 = omega (arith, c.loop-at-test.true) in
     let t = turn setting m at x Fnc1 next new pair g (begin_at choice.begins) choice.cost
     (step_in c.step_of-in-loop-at.result) (omega (arith, c.loop-at-test.true)) v.in_range refl refl
