@@ -80,6 +80,11 @@ is_basic Text byte = byte == 32 || is_digit byte || (nat_le 97 byte && nat_le by
 is_basic X12 byte = byte == 32 || is_digit byte || (nat_le 65 byte && nat_le byte 90) || byte == 13 || byte ==
     42 || byte == 62
 
+-- An item is one value of a set.
+abbrev pub is_one_value : CodeSet → Item → Bool
+is_one_value set (Byte byte) = is_basic set byte
+is_one_value set Fnc1 = false
+
 -- A byte below 128 has this many values in a set that has shifts.
 abbrev pub low_values : CodeSet → ℕ → ℕ
 low_values set byte = if is_basic set byte then 1 else 2

@@ -5,7 +5,7 @@ ghost use Rattle.dm_words.specs.declared.c40.set.CodeSet.{CodeSet};
 ghost use Rattle.dm_words.specs.declared.c40.set.Basic.TheVariants as Basic;
 ghost use Rattle.dm_words.specs.CodeSets.{basic_of};
 ghost use Rattle.dm_words.specs.Values.{IsSpelling};
-ghost use Rattle.dm_words.specs.inner.Costs.{first_letter, is_basic, is_sign, set_values};
+ghost use Rattle.dm_words.specs.inner.Costs.{first_letter, is_basic, is_one_value, is_sign, set_values};
 ghost use Rattle.dm_words.specs.inner.Written.{HasShifts, IsHeldBy, IsLow, IsCharacterPushed};
 
 use crate::c40::set::{CodeSet, Shift};
@@ -114,6 +114,7 @@ fn push_low(set: CodeSet, byte: u8, values: &mut ArrayVec<u8, 4>)
 pub(crate) fn one_value(set: CodeSet, item: Item) -> Option<u8>
     ensures value { IfSome result (λ value. IsSpelling set (value ∷ []) item) }
     ensures small { IfSome result (λ value. value < 40) }
+    ensures none { IfNone result (is_one_value set item ≡ false) }
 {
     match item {
         Item::Byte(byte) => basic_value(set, byte),
