@@ -1,6 +1,7 @@
 //! Reading: the message that a grid says.
 
 ghost use Rattle.std.specs.Prelude.{◌≡◌, ◌≤◌, ℕ, [], length, map};
+ghost use Rattle.dm_layout.specs.Sizes.{codeword_count};
 ghost use Rattle.dm_words.specs.Outcomes.{outcome};
 ghost use Rattle.dm_symbol.specs.Reading.{IsRead, reading_of};
 
@@ -10,6 +11,9 @@ use arrayvec::ArrayVec;
 use dm_layout::symbols::SymbolWordsIn;
 use dm_layout::{Grid, MOST_GRID_BLOCKS, MOST_GRID_CODEWORDS};
 use dm_words::{Extent, Message, WordFault};
+
+/// How many codewords the room has that serves for small squares, up to 32 x 32.
+const FEW_CODEWORDS: usize = 98;
 
 /// What a grid says, and how much of it was wrong.
 #[derive(Clone, Debug, Default, Drop, PartialEq, Eq)]
@@ -66,7 +70,7 @@ pub fn read(grid: &Grid, border_limit: u16) -> Result<Reading, ReadFault>
 ///
 /// After `Ok`, `reading` holds what the grid says, whatever it held before. After `Border` it is as it was, and after
 /// another fault it holds some reading. One `Reading` serves any number of grids, and isn't cleared for the largest
-/// symbol; the codewords are, [`MOST_GRID_CODEWORDS`](dm_layout::MOST_GRID_CODEWORDS) bytes a call.
+/// symbol; room for codewords is, for those of the largest one where the square has more than 98.
 pub fn read_to(
     extent: Extent,
     grid: &Grid,
@@ -78,9 +82,29 @@ pub fn read_to(
         → reading.new ≡ reading.old }
 {
     let size = grid.size();
-    // For the proof alone: what `check_count` ensures says that the codewords fit.
-    let _checks = size.check_count();
-    let mut words = SymbolWordsIn::<MOST_GRID_CODEWORDS>::zeros(size.symbol());
+    let count = usize::from(size.data_count() + size.check_count());
+    // To clear room for the largest square takes longer than much of the reading of a small one.
+    if count <= FEW_CODEWORDS {
+        read_by::<FEW_CODEWORDS>(extent, grid, border_limit, reading)
+    } else {
+        read_by::<MOST_GRID_CODEWORDS>(extent, grid, border_limit, reading)
+    }
+}
+
+/// Does the same with room for so many codewords.
+fn read_by<const WORDS: usize>(
+    extent: Extent,
+    grid: &Grid,
+    border_limit: u16,
+    reading: &mut Reading,
+) -> Result<(), ReadFault>
+    requires room { codeword_count grid.now.size ≤ WORDS }
+    requires most { WORDS ≤ MOST_GRID_CODEWORDS }
+    ensures read { IsRead extent grid.now border_limit (outcome result reading.new) }
+    ensures same { (count : ℕ) → result ≡ Err (ReadFault.Border count)
+        → reading.new ≡ reading.old }
+{
+    let mut words = SymbolWordsIn::<WORDS>::zeros(grid.size().symbol());
     let mut blocks = ArrayVec::new();
     // By no other is a square of up to 104 rows read.
     let mut dealing = Dealing::Standard;
@@ -101,17 +125,18 @@ pub fn read_to(
         Ok(()) => {}
         Err(fault) => return Err(fault),
     }
-    count_corrected(&blocks, &mut reading.corrected);
+    reading.corrected = corrected_in(&blocks);
     Ok(())
 }
 
-/// Leaves in `counts` in how many codewords each of these blocks was wrong.
-fn count_corrected(blocks: &[BlockReading], counts: &mut ArrayVec<u8, MOST_GRID_BLOCKS>)
+/// Gives in how many codewords each of these blocks was wrong.
+fn corrected_in(blocks: &[BlockReading]) -> ArrayVec<u8, MOST_GRID_BLOCKS>
     requires { length blocks.now ≤ MOST_GRID_BLOCKS }
-    ensures { counts.new.items ≡ map (λ block. block.corrected) blocks.now }
+    ensures { result.items ≡ map (λ block. block.corrected) blocks.now }
 {
-    counts.clear();
+    let mut counts = ArrayVec::new();
     for block in blocks {
         counts.push(block.corrected);
     }
+    counts
 }
