@@ -14,10 +14,12 @@ use Rattle.dm_place.proofs.Exported.{same_tests, all_below}
 use Rattle.dm_layout.specs.symbols.Symbols.{is_dark_bit}
 use Rattle.dm_layout.specs.symbols.Sizes.{SizeEntry, IsSize}
 use Rattle.dm_layout.proofs.symbols.TableEntries.{size_facts}
-use Rattle.dm_layout.specs.symbols.inner.BorderMasks.{AreBorders, AreRuled}
+use Rattle.dm_layout.specs.symbols.inner.BorderMasks.{AreBorders, AreRuled, AreBorderCells, AreDarkCells}
+use Rattle.std.proofs.lemmas.Bool.Decides.{nat_tests}
 use Rattle.dm_layout.specs.declared.symbols.borders.TheConstants.{EVEN_COLUMNS, EVEN_END}
 use Rattle.dm_layout.proofs.symbols.Rows.{darkened, darkened_cell, darkened_narrow}
 use Rattle.dm_layout.proofs.symbols.SlotRows.{and_dark}
+use Rattle.dm_layout.proofs.symbols.SureCells.{row_inside}
 
 -- ---- the columns of borders, region by region
 
@@ -310,3 +312,78 @@ module _ (size : SizeEntry) (last left both even all : ℕ) (b : AreBorders size
       ∙ ap (λ (t : Bool). (p || nat_eq inner (d + 1) || t || s)
       && cond (p || nat_eq inner (d + 1)) true (cond t (nat_eq (c % (e + 2) % 2) 0) (nat_eq (inner % 2) 1)))
       (sym (eq-eqb inner 0 z))
+
+-- ---- the rows between the first and the last one of a region
+
+-- The border cells of such rows lie in the same columns.
+same_edges : (n c i j column : ℕ) → 1 ≤ i → i ≤ n → 1 ≤ j → j ≤ n →
+    is_on_edge n c j column ≡ is_on_edge n c i column
+same_edges n c i j column li ui lj uj = grind (arith, nat_tests)
+
+-- Those that are to be dark do, too, where both rows are odd or even.
+same_dark_edges : (n i j column : ℕ) → 1 ≤ i → i ≤ n → 1 ≤ j → j ≤ n → i % 2 ≡ j % 2 →
+    edge_is_dark n j column ≡ edge_is_dark n i column
+same_dark_edges n i j column li ui lj uj same = grind (arith, nat_tests)
+
+module _ (m s : SizeEntry) (first i row x : ℕ) (e : s ≡ m) (start : first % (m.region_rows + 2) ≡ 0)
+    (at : row ≡ first + i) (l : i < m.region_rows + 2) where
+  -- A row of a region stands at this place.
+  place : i ≡ row % (m.region_rows + 2)
+  place =
+      row_inside (m.region_rows + 2) first i start l ∙ ap (λ (r : ℕ). r % (m.region_rows + 2)) (sym at)
+
+  -- What its border cells are is so of the row.
+  pub row_cells : AreBorderCells s i x → AreBorderCells m (row % (m.region_rows + 2)) x
+  row_cells cells =
+      subst (λ (k : ℕ). AreBorderCells m k x) place (subst (λ (t : SizeEntry). AreBorderCells t i x) e cells)
+
+  pub row_dark : AreDarkCells s i x → AreDarkCells m (row % (m.region_rows + 2)) x
+  row_dark cells =
+      subst (λ (k : ℕ). AreDarkCells m k x) place (subst (λ (t : SizeEntry). AreDarkCells t i x) e cells)
+
+  -- So is what those of another row of these are.
+  pub row_cells_by : (j : ℕ) → 1 ≤ i → i ≤ s.region_rows → 1 ≤ j → j ≤ s.region_rows → AreBorderCells s j x →
+      AreBorderCells m (row % (m.region_rows + 2)) x
+  row_cells_by j li ui lj uj cells =
+      row_cells (λ c lc. cells c lc
+      ∙ same_edges s.region_rows s.region_columns i j (c % (s.region_columns + 2)) li ui lj uj)
+
+  pub row_dark_by : (j : ℕ) → 1 ≤ i → i ≤ s.region_rows → 1 ≤ j → j ≤ s.region_rows → i % 2 ≡ j % 2 →
+      AreDarkCells s j x → AreDarkCells m (row % (m.region_rows + 2)) x
+  row_dark_by j li ui lj uj same cells =
+      row_dark (λ c lc. cells c lc
+      ∙ ap (λ (b : Bool). b && edge_is_dark s.region_rows j (c % (s.region_columns + 2)))
+      (same_edges s.region_rows s.region_columns i j (c % (s.region_columns + 2)) li ui lj uj)
+      ∙ ap (λ (b : Bool). is_on_edge s.region_rows s.region_columns i (c % (s.region_columns + 2)) && b)
+      (same_dark_edges s.region_rows i j (c % (s.region_columns + 2)) li ui lj uj same))
+
+-- In the first of these rows the border cells are the left and right ones of the regions, and all are to be dark.
+side_cells : (n c column : ℕ) → 6 ≤ n → (nat_eq column 0 || nat_eq column (c + 1)) ≡ is_on_edge n c 1 column
+side_cells n c column l = grind (arith, nat_tests)
+
+side_dark : (n c column : ℕ) → 6 ≤ n →
+    (nat_eq column 0 || nat_eq column (c + 1)) ≡ (is_on_edge n c 1 column && edge_is_dark n 1 column)
+side_dark n c column l = grind (arith, nat_tests)
+
+-- In the second the left ones are.
+left_dark : (n c column : ℕ) → 6 ≤ n → nat_eq column 0 ≡ (is_on_edge n c 2 column && edge_is_dark n 2 column)
+left_dark n c column l = grind (arith, nat_tests)
+
+module _ (size : SizeEntry) (last left both even all : ℕ) (b : AreBorders size last left both even all) where
+  pub sides_are : AreBorderCells size 1 both
+  sides_are c l =
+      b.both_columns c l
+      ∙ side_cells size.region_rows size.region_columns (c % (size.region_columns + 2))
+      (size_facts size b.entry).least_rows
+
+  pub sides_dark : AreDarkCells size 1 both
+  sides_dark c l =
+      b.both_columns c l
+      ∙ side_dark size.region_rows size.region_columns (c % (size.region_columns + 2))
+      (size_facts size b.entry).least_rows
+
+  pub left_sides_dark : AreDarkCells size 2 left
+  left_sides_dark c l =
+      b.left_columns c l
+      ∙ left_dark size.region_rows size.region_columns (c % (size.region_columns + 2))
+      (size_facts size b.entry).least_rows

@@ -4,7 +4,7 @@ ghost use Rattle.std.specs.Prelude.{◌≡◌, ℕ, ◌+◌, ◌*◌, ◌%◌, �
 ghost use Rattle.dm_place.specs.Border.{is_on_edge, edge_is_dark};
 ghost use Rattle.dm_layout.specs.symbols.Symbols.{is_dark_bit};
 ghost use Rattle.dm_layout.specs.symbols.Sizes.{IsSize};
-ghost use Rattle.dm_layout.specs.symbols.inner.BorderMasks.{AreRuled};
+ghost use Rattle.dm_layout.specs.symbols.inner.BorderMasks.{AreRuled, AreBorderCells, AreDarkCells};
 ghost use Rattle.dm_layout.specs.symbols.inner.Reading.{whole_row};
 
 use crate::symbols::size::SymbolSize;
@@ -142,6 +142,25 @@ impl Borders {
         } else {
             self.both
         }
+    }
+
+    /// Gives the border modules of a row between the first and the last one of its region, all of which are to be dark
+    /// in an odd row.
+    #[inline(always)]
+    pub(crate) fn sides(&self) -> (u128, u16)
+        ensures cells { AreBorderCells self.now 1 (whole_row result.0 result.1) }
+        ensures dark { AreDarkCells self.now 1 (whole_row result.0 result.1) }
+        ensures width { whole_row result.0 result.1 < 2 ^ self.now.columns }
+    {
+        self.both
+    }
+
+    /// Gives those of them that are to be dark in an even row.
+    #[inline(always)]
+    pub(crate) fn left_sides(&self) -> (u128, u16)
+        ensures { AreDarkCells self.now 2 (whole_row result.0 result.1) }
+    {
+        self.left
     }
 
     /// Gives the border modules of a row that are to be dark.

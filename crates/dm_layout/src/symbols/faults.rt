@@ -6,7 +6,9 @@ ghost use Rattle.std.specs.List.{range_with_len};
 ghost use Rattle.dm_layout.specs.symbols.Symbols.{SymbolView, is_dark_bit};
 ghost use Rattle.dm_layout.specs.symbols.Sizes.{most_columns};
 ghost use Rattle.dm_layout.specs.symbols.SureFaults.{is_doubtful, is_sure_fault, sure_fault_count};
+ghost use Rattle.dm_layout.specs.symbols.inner.BorderMasks.{AreBorderCells, AreDarkCells};
 ghost use Rattle.dm_layout.specs.symbols.inner.BorderMasks.{sure_faults_in, sure_part};
+ghost use Rattle.dm_layout.specs.symbols.inner.Reading.{whole_row};
 
 use crate::symbols::borders::Borders;
 use crate::symbols::borrowed::BorrowedSymbol;
@@ -88,27 +90,28 @@ fn ones(row: u128, columns: u16) -> u16
     }
 }
 
-/// Gives how many modules of a row have the wrong colour in a border and aren't doubtful. Which row it is inside a
-/// region with its border, counted from 0 at the top, is told with it.
+/// Gives how many modules of a row have the wrong colour in a border and aren't doubtful. The border modules of the row
+/// are told with it, and those of them that are to be dark.
 #[inline(always)]
 fn row_faults<D: Doubt>(
     symbol: &BorrowedSymbol,
     doubt: &D,
-    borders: &Borders,
     row: u16,
-    inner: u16,
+    cells: (u128, u16),
+    dark: (u128, u16),
 ) -> u16
-    requires size { borders.now ≡ symbol.now.size }
     requires doubt { IfSome (D.doubtful doubt.now) (λ m. m.size ≡ symbol.now.size) }
     requires row { row < symbol.now.size.rows }
-    requires inner { inner ≡ row % (symbol.now.size.region_rows + 2) }
+    requires cells { AreBorderCells symbol.now.size (row % (symbol.now.size.region_rows + 2))
+        (whole_row cells.0 cells.1) }
+    requires width { whole_row cells.0 cells.1 < 2 ^ symbol.now.size.columns }
+    requires dark { AreDarkCells symbol.now.size (row % (symbol.now.size.region_rows + 2))
+        (whole_row dark.0 dark.1) }
     ensures count { result
         ≡ count_by (is_sure_fault symbol.now (D.doubtful doubt.now) row)
         (range_with_len 0 symbol.now.size.columns) }
     ensures most { result ≤ most_columns }
 {
-    let cells = borders.cells(inner);
-    let dark = borders.dark(inner);
     let sure = wrong(symbol.row(row), dark.0, cells.0, doubt.row(row));
     let columns = symbol.size().columns();
     if columns <= FIRST_COLUMNS {
@@ -121,8 +124,8 @@ fn row_faults<D: Doubt>(
 }
 
 /// Gives how many modules of one row of regions with their borders, which begins at the row `first` of the symbol, have
-/// the wrong colour and aren't doubtful. The first and the last row stand apart, so that in the loop between them the
-/// borders of a row depend on nothing but whether it is odd.
+/// the wrong colour and aren't doubtful. The first and the last row stand apart. The rows between them come in pairs,
+/// all of whose odd rows have the borders of the first one, and all of whose even rows those of the second.
 #[inline(always)]
 fn region_faults<D: Doubt>(symbol: &BorrowedSymbol, doubt: &D, borders: &Borders, first: u16) -> u16
     requires size { borders.now ≡ symbol.now.size }
@@ -134,11 +137,16 @@ fn region_faults<D: Doubt>(symbol: &BorrowedSymbol, doubt: &D, borders: &Borders
     ensures most { result ≤ (symbol.now.size.region_rows + 2) * most_columns }
 {
     let last = borders.last();
-    let mut faults = row_faults(symbol, doubt, borders, first, 0);
-    for inner in 1..last {
-        faults += row_faults(symbol, doubt, borders, first + inner, inner);
+    let sides = borders.sides();
+    let left = borders.left_sides();
+    let mut faults = row_faults(symbol, doubt, first, borders.cells(0), borders.dark(0));
+    for pair in 0..last / 2 {
+        let row = first + 2 * pair + 1;
+        faults += row_faults(symbol, doubt, row, sides, sides);
+        faults += row_faults(symbol, doubt, row + 1, sides, left);
     }
-    faults + row_faults(symbol, doubt, borders, first + last, last)
+    let (cells, dark) = (borders.cells(last), borders.dark(last));
+    faults + row_faults(symbol, doubt, first + last, cells, dark)
 }
 
 /// Gives how many border modules have the wrong colour and aren't doubtful.

@@ -4,6 +4,7 @@ use Rattle.std.specs.Prelude.{count_by, sum_by, Option}
 use Rattle.std.specs.Prelude.{bit_and, bit_xor}
 use Rattle.std.specs.Int.{bit_not, w128}
 use Rattle.std.specs.List.{range_with_len}
+use Rattle.dm_place.specs.Border.{is_on_edge, edge_is_dark}
 use Rattle.dm_layout.specs.symbols.Symbols.{SymbolView, is_dark_bit}
 use Rattle.dm_layout.specs.symbols.SureFaults.{is_sure_fault}
 use Rattle.dm_layout.specs.symbols.Sizes.{SizeEntry, IsSize}
@@ -32,6 +33,17 @@ pub record AreRuled (last a left both : ℕ) : Type 0 where
       && (nat_eq (c % (last + 1)) 0 || nat_eq (c % (last + 1)) last)
   pub left_width : left < 2 ^ (a * (last + 1))
   pub both_width : both < 2 ^ (a * (last + 1))
+
+-- These bits are the border modules of a row at this place inside a region with its border.
+abbrev pub AreBorderCells : SizeEntry → ℕ → ℕ → Type 0
+AreBorderCells size inner x = (c : ℕ) → c < size.columns →
+    is_dark_bit x c ≡ is_on_edge size.region_rows size.region_columns inner (c % (size.region_columns + 2))
+
+-- They are those of these that are to be dark.
+abbrev pub AreDarkCells : SizeEntry → ℕ → ℕ → Type 0
+AreDarkCells size inner x = (c : ℕ) → c < size.columns →
+    is_dark_bit x c ≡ (is_on_edge size.region_rows size.region_columns inner (c % (size.region_columns + 2))
+    && edge_is_dark size.region_rows inner (c % (size.region_columns + 2)))
 
 -- The sure border faults in so many rows of a symbol, from one row on.
 abbrev pub sure_faults_in : SymbolView → Option SymbolView → ℕ → ℕ → ℕ
