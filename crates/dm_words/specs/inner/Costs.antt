@@ -61,13 +61,13 @@ never = 16384
 
 -- ---- values of a run
 
--- The letters that are one value of a set are 26 from this one on.
+-- The letters that are one value of a set are the 26 from this one on.
 abbrev pub first_letter : CodeSet → ℕ
 first_letter C40 = 65
 first_letter Text = 97
 first_letter X12 = 65
 
--- Three other bytes are one value of X12.
+-- Three other bytes are one value of X12: CR, * and >.
 abbrev pub is_sign : CodeSet → ℕ → Bool
 is_sign C40 byte = false
 is_sign Text byte = false
@@ -77,8 +77,7 @@ is_sign X12 byte = byte == 13 || byte == 42 || byte == 62
 abbrev pub is_basic : CodeSet → ℕ → Bool
 is_basic C40 byte = byte == 32 || is_digit byte || (nat_le 65 byte && nat_le byte 90)
 is_basic Text byte = byte == 32 || is_digit byte || (nat_le 97 byte && nat_le byte 122)
-is_basic X12 byte = byte == 32 || is_digit byte || (nat_le 65 byte && nat_le byte 90) || byte == 13 || byte ==
-    42 || byte == 62
+is_basic X12 byte = byte == 32 || is_digit byte || (nat_le 65 byte && nat_le byte 90) || is_sign X12 byte
 
 -- An item is one value of a set.
 abbrev pub is_one_value : CodeSet → Item → Bool
@@ -94,7 +93,7 @@ abbrev pub shift_values : CodeSet → Item → ℕ
 shift_values set Fnc1 = 2
 shift_values set (Byte byte) = if nat_lt byte 128 then low_values set byte else 2 + low_values set (byte - 128)
 
--- An item has this many values in a set, and none where the set doesn't have it.
+-- An item has this many values in a set, and none where X12 doesn't have it.
 abbrev pub set_values : CodeSet → Item → ℕ
 set_values C40 item = shift_values C40 item
 set_values Text item = shift_values Text item

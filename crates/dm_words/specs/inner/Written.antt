@@ -48,19 +48,19 @@ IsCharacterPushed set byte old new = (values : List ℕ) × (new ≡ old ++ valu
 
 -- ---- a run
 
--- Of a pair some values stand already.
+-- Of the three values of a pair of codewords none, one or two stand already.
 pub data Waiting : Type 0 where
   Empty : Waiting
   One : ℕ → Waiting
   Two : ℕ → ℕ → Waiting
 
--- They are these.
+-- They are these, in their order.
 abbrev pub part_values : Waiting → List ℕ
 part_values Empty = []
 part_values (One first) = first ∷ []
 part_values (Two first second) = first ∷ second ∷ []
 
--- So many values stand, which make this number.
+-- So many values stand, none, one or two, which make this number: a value, or 40 times the first and the second.
 abbrev pub waiting_in : ℕ → ℕ → Waiting
 waiting_in zero number = Empty
 waiting_in (suc zero) number = One number
@@ -72,14 +72,14 @@ IsSmallPart Empty = Unit {0}
 IsSmallPart (One first) = first < 40
 IsSmallPart (Two first second) = (first < 40) × (second < 40)
 
--- A value stands behind the others, or the codewords of their pair are written.
+-- A value stands behind the others, or is the third, and the codewords of the pair are written.
 abbrev pub IsValuePushed : Waiting → List ℕ → ℕ → Waiting → List ℕ → Type 0
 IsValuePushed Empty old value part new = (part ≡ One value) × (new ≡ old)
 IsValuePushed (One first) old value part new = (part ≡ Two first value) × (new ≡ old)
 IsValuePushed (Two first second) old value part new =
     (part ≡ Empty) × ((pair : List ℕ) × IsPair pair (first ∷ second ∷ value ∷ []) × (new ≡ old ++ pair))
 
--- Behind values that stood already, values were pushed: in whole pairs, and those that stand now.
+-- Behind values that stood already, values were pushed: each three were written as a pair, and the others stand now.
 pub record ArePushed (old waiting values new : List ℕ) (part : Waiting) : Type 0 where
   pub pairs : List (Piece (List ℕ))
   pub each : AllByRecursion (λ piece. IsPair piece.words piece.what) pairs
@@ -98,7 +98,7 @@ is_empty Empty = true
 is_empty (One first) = false
 is_empty (Two first second) = false
 
--- A run of a set ends at a step, between pairs.
+-- A run of a set ends at a step if no value stands.
 abbrev pub run_ends : CodeSet → Step → Bool
 run_ends C40 step = step.c40_ends
 run_ends Text step = step.text_ends

@@ -43,14 +43,14 @@ pub struct Part {
 }
 
 impl Model for Part {
-    ghost use Rattle.std.specs.Prelude.{◌≡◌};
+    ghost use Rattle.std.specs.Prelude.{◌≡◌, ◌≤◌};
     ghost use Rattle.dm_words.specs.inner.Written.{Waiting, waiting_in};
 
     ghost Value = { Waiting };
 
     ghost view = { λ p. waiting_in p.count p.number };
 
-    ghost invariant = { λ p. p.count ≡ 0 → p.number ≡ 0 };
+    ghost invariant = { λ p. (p.count ≤ 2) × (p.count ≡ 0 → p.number ≡ 0) };
 }
 
 impl Part {

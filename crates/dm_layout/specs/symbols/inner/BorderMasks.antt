@@ -9,8 +9,9 @@ use Rattle.dm_layout.specs.symbols.Symbols.{SymbolView, is_dark_bit}
 use Rattle.dm_layout.specs.symbols.SureFaults.{is_sure_fault}
 use Rattle.dm_layout.specs.symbols.Sizes.{SizeEntry, IsSize}
 
--- Of the rows, `left` marks the left columns of the regions with their borders, `both` the left and right ones, `even`
--- the even columns of the symbol and `all` all of them; `last` is the last row of a region with its border.
+-- Masks of a row of a symbol: `left` has the left columns of the regions with their borders, `both` their left and
+-- right ones, `even` the even columns of the symbol and `all` all of them. `last` is the last row of a region with its
+-- border, counted from 0.
 pub record AreBorders (size : SizeEntry) (last left both even all : ℕ) : Type 0 where
   pub entry : IsSize size
   pub last_row : last ≡ size.region_rows + 1
@@ -34,23 +35,25 @@ pub record AreRuled (last a left both : ℕ) : Type 0 where
   pub left_width : left < 2 ^ (a * (last + 1))
   pub both_width : both < 2 ^ (a * (last + 1))
 
--- These bits are the border modules of a row at this place inside a region with its border.
+-- Among the columns of the symbol a mask has the border modules of a row that is the row `inner`, 0 to region_rows + 1,
+-- of its regions with their borders.
 abbrev pub AreBorderCells : SizeEntry → ℕ → ℕ → Type 0
 AreBorderCells size inner x = (c : ℕ) → c < size.columns →
     is_dark_bit x c ≡ is_on_edge size.region_rows size.region_columns inner (c % (size.region_columns + 2))
 
--- They are those of these that are to be dark.
+-- Among the columns of the symbol a mask has those border modules of such a row that are to be dark.
 abbrev pub AreDarkCells : SizeEntry → ℕ → ℕ → Type 0
 AreDarkCells size inner x = (c : ℕ) → c < size.columns →
     is_dark_bit x c ≡ (is_on_edge size.region_rows size.region_columns inner (c % (size.region_columns + 2))
     && edge_is_dark size.region_rows inner (c % (size.region_columns + 2)))
 
--- The sure border faults in so many rows of a symbol, from one row on.
+-- How many sure border faults there are in so many rows of a symbol, of which this is the first.
 abbrev pub sure_faults_in : SymbolView → Option SymbolView → ℕ → ℕ → ℕ
 sure_faults_in modules doubtful first rows =
     sum_by (λ r. count_by (is_sure_fault modules doubtful r) (range_with_len 0 modules.size.columns))
     (range_with_len first rows)
 
--- Of the modules of a part of a row, those of a mask that have another colour than the dark ones and aren't doubtful.
+-- Of the modules of a part of a row, of at most 128 columns, those in a mask that aren't as `dark` says and aren't
+-- doubtful.
 abbrev pub sure_part : ℕ → ℕ → ℕ → ℕ → ℕ
 sure_part row dark mask doubtful = bit_and (bit_and (bit_xor row dark) mask) (bit_not w128 doubtful)

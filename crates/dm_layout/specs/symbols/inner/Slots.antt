@@ -39,8 +39,8 @@ reversed_bits x =
     128 * (x % 2) + 64 * (x / 2 % 2) + 32 * (x / 4 % 2) + 16 * (x / 8 % 2) + 8 * (x / 16 % 2) + 4 * (x / 32 % 2)
     + 2 * (x / 64 % 2) + x / 128 % 2
 
--- Three rows are joined in one: of each byte the lowest two bits are those of the first row, the next three those of
--- the second, and the highest three those of the third.
+-- Three rows are joined in one: each byte has, from its lowest bit on, the lowest two bits of that byte of the first
+-- row, the lowest three of that of the second, and the lowest three of that of the third.
 abbrev pub is_joined : ℕ → ℕ → ℕ → ℕ → Bool
 is_joined first second third column =
     ((is_dark_bit first column && nat_lt (column % 8) 2)
@@ -51,8 +51,8 @@ is_joined first second third column =
 abbrev pub first_column : ℕ → ℕ
 first_column r = (4 + 3 * r) % 8 + 2
 
--- The bytes of this number are the codewords whose anchors lie in row r of a mapping matrix of C columns, with their
--- bits in the opposite order, as widened rows have them.
+-- Byte k of this number, for each 8k below the C columns of a mapping matrix, has the cells of the shape that begins
+-- there if its anchor lies in row r, as widened rows have them, in the opposite order. No anchor need lie there.
 pub record IsJoined (C : ℕ) (rows : List ℕ) (r x : ℕ) : Type 0 where
   pub first : (k t : ℕ) → 8 * k < C → t < 2 → is_dark_bit (x / 2 ^ (8 * k) % 256) t ≡
       look_in rows r (first_column r + (8 * k + t))
@@ -65,33 +65,35 @@ pub record IsJoined (C : ℕ) (rows : List ℕ) (r x : ℕ) : Type 0 where
 abbrev pub AreJoined : ℕ → ℕ → List ℕ → List ℕ → Type 0
 AreJoined R C rows news = (r : ℕ) → r < R → IsJoined C rows r (get_or news r 0)
 
--- In rows of so many bytes a slot is that of a corner, which lies behind all others, or lies in the rows of a mapping
--- matrix of at most `most` rows and columns.
+-- In rows of so many bytes a slot is that of a corner, or lies in the rows of a mapping matrix of at most `most` rows
+-- and columns, of which eight times as many as a row has bytes have room.
 abbrev pub HasSlot : ℕ → ℕ → ℕ → Type 0
 HasSlot bytes most x = (x ≡ bytes * most) ⊎ ((x / bytes < most) × (8 * (x % bytes) < most))
 
--- Bytes are one number, whose lowest byte is the first.
+-- Bytes, each below 256, are one number, whose lowest byte is the first.
 unfoldable pub in_bytes : List ℕ → ℕ
 in_bytes [] = 0
 in_bytes (b ∷ bs) = b + 256 * in_bytes bs
 
--- Rows of slots are numbers.
+-- Rows of slots are numbers, a row each.
 abbrev pub slot_numbers : List (List ℕ) → List ℕ
 slot_numbers rows = map in_bytes rows
 
--- Bytes stand row by row, so many in each.
+-- Bytes stand row by row, so many in each. What fills no row is left out.
 abbrev pub slot_rows : ℕ → List ℕ → List (List ℕ)
 slot_rows count bytes = first_chunks count (length bytes / count) bytes
 
--- In rows of so many bytes a slot has its byte in the row of slots to which it belongs.
+-- In rows of so many bytes this is the byte of a slot, and 0 behind the last row.
 abbrev pub slot_byte : ℕ → List ℕ → ℕ → ℕ
 slot_byte bytes rows x = get_or rows (x / bytes) 0 / 2 ^ (8 * (x % bytes)) % 256
 
--- The codeword of a corner has the lowest byte of the row behind those of `most` rows of a matrix.
+-- The codeword of a corner is the lowest byte of the row behind those of `most` rows of a matrix, with its bits in the
+-- opposite order.
 abbrev pub corner_in : ℕ → List ℕ → ℕ
 corner_in most news = reversed_bits (get_or news most 0 % 256)
 
--- The codewords of a mapping matrix of R rows and C columns stand in their slots, as widened rows have them.
+-- The codewords of a mapping matrix of R rows, at most `most`, and C columns stand in their slots, which are the rows
+-- `news`, as the widened rows `rows` have them.
 pub record HasSlots (most R C : ℕ) (rows news : List ℕ) : Type 0 where
   pub anchors : AreJoined R C rows news
   pub corner1 : R % 8 ≡ 4 → C % 8 ≡ 4 → corner_in most news ≡ word_in rows (cells_of R C Corner1)
@@ -100,8 +102,8 @@ pub record HasSlots (most R C : ℕ) (rows news : List ℕ) : Type 0 where
   pub corner4 : R % 8 ≡ 6 → C % 8 ≡ 0 → corner_in most news ≡ word_in rows (cells_of R C Corner4)
 
 -- In rows of so many bytes, as many as `most` and one more, the codeword of a standard shape has slot
--- bytes * r + c div 8, r and c being the row and the column of its anchor, and that of a corner the slot behind all
--- others.
+-- bytes * r + c div 8, r and c being the row and the column of its anchor, and that of a corner the first slot of the
+-- last row.
 abbrev pub slot_of : ℕ → ℕ → Shape → ℕ
 slot_of bytes most (Standard r c) = bytes * r + c / 8
 slot_of bytes most Corner1 = bytes * most
