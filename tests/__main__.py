@@ -14,7 +14,7 @@ import sys
 import unittest
 
 from tests.support import places
-from tests.support.tally import Tally
+from tests.support.tally import Tally, times
 
 PROOFS = places.path("tests", "proofs")
 
@@ -38,8 +38,8 @@ def cases_of(loader, name):
 
 
 def prove(tally):
-    """Runs tests/proofs, which ends with a line that counts what it proved and tried, and adds that. Whether all of it
-    passed."""
+    """Runs tests/proofs, which ends with a line that counts what it proved and tried, adds that, and tells its
+    processor time. Whether all of it passed."""
     if not shutil.which("rt"):
         tally.left_out["the Rattle toolchain (rt) isn't on the path, so nothing is proved"].append("tests.proofs")
         return True
@@ -51,6 +51,7 @@ def prove(tally):
             if counts := re.fullmatch(r"(\d+) passed, (\d+) failed\n", line):
                 counted = int(counts[1]), int(counts[2])
     passed, failed = counted
+    tally.say(f"proofs: of a processor {times()[1]:.0f} s")
     tally.passed += passed
     tally.failed += max(failed, 1) if run.returncode or not passed else 0
     return not tally.failed

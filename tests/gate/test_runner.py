@@ -69,6 +69,18 @@ class Slow(Case):
         time.sleep(60)
 '''
 
+# A case whose work a child does.
+BUSY = '''
+import subprocess
+import sys
+from tests.support.case import Case
+
+
+class Busy(Case):
+    def test_working(self):
+        subprocess.run([sys.executable, "-c", "import time\\nwhile time.process_time() < 1: pass"], check=True)
+'''
+
 
 class Runner(Case):
     @classmethod
@@ -121,6 +133,16 @@ class Runner(Case):
     def test_the_time_of_a_class_is_told_with_what_prepares_it(self):
         told = re.search(r"sample.test_sample.Prepared: 1 passed, ([\d.]+) s", "\n".join(self.ran()[1]))
         self.assertGreaterEqual(float(told[1]), 0.3)
+
+    def test_the_processor_time_of_a_class_is_told_with_that_of_its_children(self):
+        self.write("tests/busy/__init__.py", "")
+        self.write("tests/busy/test_busy.py", BUSY)
+        self.addCleanup(shutil.rmtree, os.path.join(self.top, "tests", "busy"))
+        said = "\n".join(self.ran("busy")[1])
+        of_class = re.search(r"busy.test_busy.Busy: 1 passed, [\d.]+ s, of a processor ([\d.]+) s", said)
+        of_all = re.search(r"(?m)^all of it: of a processor (\d+) s$", said)
+        self.row("of the class", float(of_class[1]) >= 1, True)
+        self.row("of all", float(of_all[1]) >= 1, True)
 
     def test_cases_are_chosen_by_words_and_names(self):
         for words, last in ((["-k", "left_out"], "1 passed, 0 failed, 1 skipped"),

@@ -1,13 +1,19 @@
 """Counts cases and rows as they are run, and tells each failure at once and, at the end, what was left out."""
 import collections
+import os
 import time
 import traceback
 import unittest
 
 
+def times():
+    """Seconds by the clock, and of processor time of this process and of its children that have ended."""
+    return time.monotonic(), sum(os.times()[:4])
+
+
 class Tally(unittest.TestResult):
     """Counts a case once, or each of its rows in its place, as passed, failed, or left out with a reason. A line is
-    printed for each class."""
+    printed for each class, with its seconds by the clock and of processor time."""
 
     def __init__(self, say=print):
         super().__init__()
@@ -15,7 +21,7 @@ class Tally(unittest.TestResult):
         self.left_out = collections.defaultdict(list)
         self.say = say
         self.kind, self.before = None, (0, 0, 0)
-        self.begun = self.ended = time.monotonic()
+        self.begun = self.ended = times()
         self.rows = 0
 
     @property
@@ -46,7 +52,7 @@ class Tally(unittest.TestResult):
 
     def stopTest(self, test):
         super().stopTest(test)
-        self.ended = time.monotonic()
+        self.ended = times()
 
     def addSuccess(self, test):
         super().addSuccess(test)
@@ -93,16 +99,18 @@ class Tally(unittest.TestResult):
         if self.kind:
             changes = zip(("passed", "failed", "skipped"), self.before, self.counts())
             told = ", ".join(f"{now - was} {word}" for word, was, now in changes if now > was)
-            self.say(f"{self.kind.removeprefix('tests.')}: {told}, {self.ended - self.begun:.1f} s")
+            clock, processor = (now - was for was, now in zip(self.begun, self.ended))
+            self.say(f"{self.kind.removeprefix('tests.')}: {told}, {clock:.1f} s, of a processor {processor:.1f} s")
             self.begun = self.ended
         self.kind = None
 
     def end(self):
-        """Tells what was left out, and the counts of all in the last line. Gives the status that a run has to end
-        with."""
+        """Tells what was left out, what all took, and the counts of all in the last line. Gives the status that a run
+        has to end with."""
         self.end_class()
         for reason, names in self.left_out.items():
             self.say(f"left out, since {reason}: {', '.join(together(names))}")
+        self.say(f"all of it: of a processor {times()[1]:.0f} s")
         self.say(f"{self.passed} passed, {self.failed} failed, {self.skips} skipped")
         return 1 if self.failed or not self.passed and not self.skips else 0
 
