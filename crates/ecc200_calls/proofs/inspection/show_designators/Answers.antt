@@ -31,6 +31,6 @@ returns-else-has_eci g c =
     let all = rw c.as_slice.ensures.value at c.has_lost.ensures.none c.if-has_lost.false in
     record {
       marks = [];
-      are_designators = restored all (rw c.data_part-words.ensures.value at c.has_eci.ensures c.if-has_eci.false);
+      are_designators = restored all (rw c.data_part-words.ensures.value at c.has_eci.ensures.none c.if-has_eci.false);
       shown = refl;
     }
