@@ -19,7 +19,7 @@ help:
 	@echo "make sampler   builds what finds symbols in pictures, over the library: seconds"
 	@echo "make wheel     builds the Python package's wheel, with the libraries that are built: seconds"
 	@echo "make try       shows the program at work, unproved if it isn't built yet: half a minute"
-	@echo "make test      the merge gate, every proof from scratch and all tests: an hour of processor time"
+	@echo "make test      the merge gate, every proof from scratch and all tests: an hour and a half of processor time"
 	@echo "make install   installs program, library, callers, man pages and docs below PREFIX=/usr/local; \
 	DESTDIR, LIBDIR and PYTHONDIR as usual"
 	@echo "make install-library, make uninstall   the library alone; removes what make install put there"
