@@ -1,6 +1,7 @@
 //! Where the ECI designators of a letter stand among its codewords (ISO/IEC 16022, ECI encodation).
 
-ghost use Rattle.std.specs.Prelude.{◌≡◌, ℕ, ◌+◌, ◌*◌, ◌<◌, ◌≤◌, List, [], IsTrue, IsFalse, length, drop, get_or};
+ghost use Rattle.std.specs.Prelude.{◌≡◌, ℕ, ◌+◌, ◌*◌, ◌<◌, ◌≤◌, List, [], IsTrue, IsFalse, length, drop};
+ghost use Rattle.std.specs.Prelude.{◌≢◌, get_or};
 ghost use Rattle.dm_words.specs.Designations.{AreDesignations};
 ghost use Rattle.dm_words.specs.Designators.{eci_word};
 ghost use Rattle.dm_words.specs.Letters.{BeginNoEci};
@@ -108,6 +109,7 @@ fn add_designations<const MARKS: usize>(
 /// Whether ECI is among the codewords. Where it isn't, no designator is.
 pub fn has_eci(words: &[u8]) -> bool
     ensures some { IsTrue result → (i : ℕ) × (i < length words.now) × (get_or words.now i 0 ≡ eci_word) }
+    ensures no { IsFalse result → (i : ℕ) → i < length words.now → get_or words.now i 0 ≢ eci_word }
     ensures none { IsFalse result → AreDesignations words.now [] }
 {
     for word in words {

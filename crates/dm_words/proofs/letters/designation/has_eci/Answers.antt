@@ -6,3 +6,6 @@ pub returns-clause-none : goal.returns-clause-none
 returns-clause-none c is_false =
     none_without_eci c.args.words.now (λ i. omega (arith, c.type_inv.words i))
     (λ i lt. c.loop-word.invariant i (omega (arith, lt, c.loop-word-test.false)))
+
+pub returns-clause-no : goal.returns-clause-no
+returns-clause-no c is_false i lt = c.loop-word.invariant i (omega (arith, lt, c.loop-word-test.false))
