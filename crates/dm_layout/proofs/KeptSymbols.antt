@@ -139,11 +139,3 @@ square_put s row colour m is_row far put =
     let inside : c < s.side = subst (λ (t : SizeEntry). c < t.columns) e lc in
     put.above r c (omega (arith, below, far)) inside ∙ sym (module_by s.side s.side colour r c below inside)) in
     ap (λ (n : SymbolView). n.rows) all
-
--- After the last row of a symbol's own colours the modules are those of the symbol.
-pub symbol_put : (symbol m : SymbolView) (row : ℕ) → IsSymbol symbol → symbol.size.rows ≤ row →
-    IsPut symbol.size row (module_at symbol) m → m ≡ symbol
-symbol_put symbol m row well far put =
-    same_modules m symbol put.symbol well put.same_size (λ r c lr lc.
-    let below : r < symbol.size.rows = subst (λ (t : SizeEntry). r < t.rows) put.same_size lr in
-    put.above r c (omega (arith, below, far)) (subst (λ (t : SizeEntry). c < t.columns) put.same_size lc))

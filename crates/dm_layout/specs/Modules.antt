@@ -1,14 +1,9 @@
 -- What single modules of a square are, by row and column: ISO/IEC 16022, symbol structure and module placement.
-use Rattle.std.specs.Prelude.{◌≡◌, ℕ, ◌<◌, Bool, true, Option}
-use Rattle.dm_layout.specs.symbols.Border as symbols
-use Rattle.dm_layout.specs.Sizes.{SizeRow, IsRow, symbol_size}
+use Rattle.std.specs.Prelude.{◌≡◌, ℕ, ◌<◌, true}
+use Rattle.dm_layout.specs.Sizes.{SizeRow, IsRow}
 use Rattle.dm_layout.specs.Border.{is_border, is_fixed, symbol_line}
 use Rattle.dm_layout.specs.Placement.{IsPlace}
 use Rattle.dm_place.specs.declared.shape.Cell.{Cell}
-
--- A module has the colour that a border prescribes, as in a symbol of any size.
-abbrev pub border_colour : SizeRow → ℕ → ℕ → Option Bool
-border_colour size = symbols.border_colour (symbol_size size)
 
 -- A module is of a border, or of the fixed square, or it is a bit, 1 to 8, of a codeword, counted from 0.
 pub data Kind : Type 0 where

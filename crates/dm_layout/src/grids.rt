@@ -10,11 +10,11 @@ mod placing;
 mod size;
 mod words;
 
-pub use blocks::{block, put_block, put_block_checks};
-pub use border::{border_colour, border_faults, border_faults_but, symbol_line};
+pub use blocks::{block, put_block};
+pub use border::border_faults;
 pub use cells::{Cells, Place};
 pub use grid::{Grid, GridFault};
-pub use placing::{lay, lay_symbol_to, lay_to, lift, lift_to};
+pub use placing::{lay, lay_symbol_to, lift};
 pub use size::{
     GRID_SIZE_COUNT, LARGEST_SIDE, MOST_GRID_BLOCKS, MOST_GRID_CODEWORDS, MOST_GRID_DATA, Size,
     table,

@@ -6,16 +6,15 @@
 //! many data codewords.
 //!
 //! A [`Symbol`] has the dark and light modules of a symbol of any size, a row as a number, or as two where it has more
-//! than 128. It is put row by row ([`SymbolIn::put_row()`]), or module by module ([`SymbolIn::put()`]), and read so
-//! ([`SymbolIn::row()`] with [`SymbolIn::end()`], [`SymbolIn::is_dark()`]). [`SymbolWords`] are the codewords of a
-//! symbol, given all at once ([`SymbolWordsIn::new()`]), or the data codewords first ([`SymbolWordsIn::put_data()`])
-//! and the check codewords later ([`SymbolWordsIn::put_checks()`]). Both have room for the largest size; [`SymbolIn`]
-//! and [`SymbolWordsIn`] have as much as a caller wants, so that a small symbol needs no room for the largest.
+//! than 128. It is put row by row ([`SymbolIn::put_row()`]), and read so ([`SymbolIn::row()`] with [`SymbolIn::end()`])
+//! or module by module ([`SymbolIn::is_dark()`]). [`SymbolWords`] are the codewords of a symbol, given all at once
+//! ([`SymbolWordsIn::new()`]), or the data codewords first ([`SymbolWordsIn::put_data()`]) and the check codewords
+//! later ([`SymbolWordsIn::put_checks()`]). Both have room for the largest size; [`SymbolIn`] and [`SymbolWordsIn`]
+//! have as much as a caller wants, so that a small symbol needs no room for the largest.
 //!
-//! [`lay()`] gives the only symbol with correct borders and the fixed square that holds given codewords, and [`lift()`]
-//! the codewords that a symbol holds, whatever stands in its borders and its fixed square. [`lay_to()`] and
-//! [`lift_to()`] leave the same in a symbol, or in codewords, of the caller's, whatever these were before and whatever
-//! their size.
+//! [`lay_to()`] turns a symbol of the caller's, whatever it was, into the only one with correct borders and the fixed
+//! square that holds given codewords. [`lift()`] gives the codewords that a symbol holds, whatever stands in its
+//! borders and its fixed square, and [`lift_to()`] leaves them in codewords of the caller's.
 //!
 //! [`block()`] reads one Reed-Solomon block of the codewords, [`put_block()`] writes one, and [`put_block_checks()`]
 //! its check codewords; in 144 x 144 the blocks have two lengths. [`border_faults()`] counts the border modules that
@@ -54,7 +53,7 @@ mod words;
 
 pub use blocks::{block, put_block, put_block_checks};
 pub use border::{border_colour, border_faults, symbol_column, symbol_row};
-pub use placing::{lay, lay_to, lift, lift_to};
+pub use placing::{lay_to, lift, lift_to};
 pub use size::{
     LONGEST_BLOCK, MOST_BLOCKS, MOST_CODEWORDS, MOST_COLUMNS, MOST_DATA, MOST_MODULES, MOST_ROWS,
     SIZE_COUNT, SizeChoice, SymbolSize, table,

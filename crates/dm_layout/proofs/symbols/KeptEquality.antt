@@ -1,15 +1,11 @@
--- Rows with the same modules, and rows in which one module is put.
+-- Rows with the same modules.
 use Rattle.std.proofs.Common.{◌≡◌, ◌↔◌, ◌⊎◌, inl, inr, IsTrue, ℕ, ◌+◌, ◌-◌, ◌*◌, ◌%◌, ◌^◌, ◌<◌, ◌≤◌, Bool, true, false}
-use Rattle.std.proofs.Common.{nat_eq, ◌≢◌, ◌&&◌, refl, sym, ◌∙◌, ap, arith, eq-eqb, bit_and}
-use Rattle.std.specs.Prelude.{if◌then◌else◌}
-use Rattle.std.specs.Int.{bit_not, w128}
-use Rattle.std.proofs.lemmas.Bool.{eqb-true, eqb-false, ne_eqb, cases_lt}
-use Rattle.std.proofs.lemmas.Nat.Bits.{bit_at_clear_other, bit_at_clear_same}
+use Rattle.std.proofs.Common.{nat_eq, refl, sym, ◌∙◌, ap, arith, eq-eqb}
+use Rattle.std.proofs.lemmas.Bool.{eqb-true, cases_lt}
 use Rattle.std.proofs.Math.Pow.{pow_pos}
 use Rattle.dm_layout.specs.symbols.Equality.{equal_modules, modules_equiv}
 use Rattle.dm_layout.specs.symbols.Symbols.{SymbolView, IsSymbol, is_dark_bit, module_at}
 use Rattle.dm_layout.specs.symbols.Sizes.{SizeEntry}
-use Rattle.dm_place.proofs.Exported.{same_tests}
 use Rattle.dm_layout.proofs.symbols.EqualityLaws.{equal_itself, told_modules}
 use Rattle.dm_layout.proofs.symbols.ModulesLemmas.{same_modules}
 use Rattle.dm_layout.proofs.symbols.Rows.{prefix_cell, same_row_numbers, weight}
@@ -37,89 +33,6 @@ same_below a b n result small is = (
 
     to_true : result ≡ true → IsTrue result
     to_true e = e
-
--- In a row with one module made light, that module is light and all others are as before.
-pub lightened_cell : (row c e : ℕ) → c < 128 → e < 128 →
-    is_dark_bit (bit_and row (bit_not w128 (1 * 2 ^ c % 2 ^ 128))) e ≡ (if nat_eq e c then false else is_dark_bit row e)
-lightened_cell row c e l le = by_column (nat_eq e c) refl
-  where
-    new : ℕ
-    new = bit_and row (bit_not w128 (1 * 2 ^ c % 2 ^ 128))
-
-    by_column : (t : Bool) → nat_eq e c ≡ t → is_dark_bit new e ≡ (if t then false else is_dark_bit row e)
-    by_column true h =
-        ap (is_dark_bit new) (eqb-true e c h) ∙ ap (λ (i : ℕ). nat_eq i 1) (bit_at_clear_same w128 row c l)
-    by_column false h = ap (λ (i : ℕ). nat_eq i 1) (bit_at_clear_other w128 row c l e le (eqb-false e c h))
-
--- ---- one module that is put
-
-module _ (m n : SymbolView) (row column : ℕ) (dark : Bool) where
-  -- The module of a row and a column is the one that is put, or as before.
-  abbrev put_colour : ℕ → ℕ → Bool
-  put_colour r c = if nat_eq r row && nat_eq c column then dark else module_at m r c
-
-  -- Where one module of a row is put and the other rows stay, one module is put.
-  pub put_one : ((c : ℕ) → c < m.size.columns → module_at n row c ≡ (if nat_eq c column then dark else module_at m row
-      c)) →
-      ((r c : ℕ) → r < m.size.rows → c < m.size.columns → r ≢ row → module_at n r c ≡ module_at m r c) →
-      (r c : ℕ) → r < m.size.rows → c < m.size.columns →
-      module_at n r c ≡ (if nat_eq r row && nat_eq c column then dark else module_at m r c)
-  put_one here others r c lr lc = by_row (nat_eq r row) refl
-    where
-      by_row : (t : Bool) → nat_eq r row ≡ t →
-          module_at n r c ≡ (if t && nat_eq c column then dark else module_at m r c)
-      by_row true e =
-          let is = eqb-true r row e in
-          ap (λ (i : ℕ). module_at n i c) is ∙ here c lc
-          ∙ ap (λ (i : ℕ). if nat_eq c column then dark else module_at m i c) (sym is)
-      by_row false e = others r c lr lc (eqb-false r row e)
-
-  -- A module among the first 128 is put in the first number of its row.
-  pub here_first : (cells end x : ℕ) → column < 128 →
-      ((c : ℕ) → c < 128 → is_dark_bit x c ≡ (if nat_eq c column then dark else is_dark_bit cells c)) →
-      ((c : ℕ) → c < 128 → c < m.size.columns → is_dark_bit cells c ≡ module_at m row c) →
-      ((c : ℕ) → 128 + c < m.size.columns → is_dark_bit end c ≡ module_at m row (128 + c)) →
-      ((c : ℕ) → c < 128 → c < m.size.columns → module_at n row c ≡ is_dark_bit x c) →
-      ((c : ℕ) → 128 + c < m.size.columns → module_at n row (128 + c) ≡ is_dark_bit end c) →
-      (c : ℕ) → c < m.size.columns → module_at n row c ≡ (if nat_eq c column then dark else module_at m row c)
-  here_first cells end x low put old old_end start behind c lc = by_column (cases_lt c 128)
-    where
-      by_column : (c < 128) ⊎ (128 ≤ c) →
-          module_at n row c ≡ (if nat_eq c column then dark else module_at m row c)
-      by_column (inl l) =
-          start c l lc ∙ put c l ∙ ap (λ (b : Bool). if nat_eq c column then dark else b) (old c l lc)
-      by_column (inr far) =
-          let e : 128 + (c - 128) ≡ c = omega (arith, far) in
-          ap (module_at n row) (sym e) ∙ behind (c - 128) (omega (arith, lc, far))
-          ∙ old_end (c - 128) (omega (arith, lc, far)) ∙ ap (module_at m row) e
-          ∙ sym (ap (λ (b : Bool). if b then dark else module_at m row c)
-          (ne_eqb c column (λ z. omega (arith, z, far, low))))
-
-  -- One behind them is put in the second.
-  pub here_end : (cells end x : ℕ) → 128 ≤ column → column < 256 →
-      ((c : ℕ) → c < 128 → is_dark_bit x c ≡ (if nat_eq c (column - 128) then dark else is_dark_bit end c)) →
-      ((c : ℕ) → c < 128 → c < m.size.columns → is_dark_bit cells c ≡ module_at m row c) →
-      ((c : ℕ) → 128 + c < m.size.columns → is_dark_bit end c ≡ module_at m row (128 + c)) →
-      ((c : ℕ) → c < 128 → c < m.size.columns → module_at n row c ≡ is_dark_bit cells c) →
-      ((c : ℕ) → 128 + c < m.size.columns → module_at n row (128 + c) ≡ is_dark_bit x c) →
-      m.size.columns ≤ 144 →
-      (c : ℕ) → c < m.size.columns → module_at n row c ≡ (if nat_eq c column then dark else module_at m row c)
-  here_end cells end x high few put old old_end start behind most c lc = by_column (cases_lt c 128)
-    where
-      by_column : (c < 128) ⊎ (128 ≤ c) →
-          module_at n row c ≡ (if nat_eq c column then dark else module_at m row c)
-      by_column (inl l) =
-          start c l lc ∙ old c l lc
-          ∙ sym (ap (λ (b : Bool). if b then dark else module_at m row c)
-          (ne_eqb c column (λ z. omega (arith, z, l, high))))
-      by_column (inr far) =
-          let k : ℕ = c - 128 in
-          let e : 128 + k ≡ c = omega (arith, far) in
-          ap (module_at n row) (sym e) ∙ behind k (omega (arith, lc, far)) ∙ put k (omega (arith, lc, most, far))
-          ∙ ap (λ (b : Bool). if nat_eq k (column - 128) then dark else b) (old_end k (omega (arith, lc, far))
-          ∙ ap (module_at m row) e)
-          ∙ ap (λ (b : Bool). if b then dark else module_at m row c)
-          (same_tests k (column - 128) c column (λ z. omega (arith, z, e, high)) (λ z. omega (arith, z, e, high)))
 
 -- ---- symbols that are the same
 

@@ -1,7 +1,7 @@
 //! The Reed-Solomon blocks into which the codewords of a square are dealt: ISO/IEC 16022, error correction.
 
-ghost use Rattle.std.specs.Prelude.{◌≡◌, ◌≢◌, ℕ, ◌<◌, ◌++◌, length, take};
-ghost use Rattle.dm_layout.specs.Sizes.{block_check, block_data, block_length};
+ghost use Rattle.std.specs.Prelude.{◌≡◌, ◌≢◌, ℕ, ◌<◌, length, take};
+ghost use Rattle.dm_layout.specs.Sizes.{block_data, block_length};
 ghost use Rattle.dm_layout.specs.Words.{IsWords, data_of};
 ghost use Rattle.dm_layout.specs.Blocks.{block_of};
 
@@ -36,22 +36,4 @@ pub fn put_block(words: &mut Words, b: usize, list: &[u8])
     ensures words { IsWords words.new }
 {
     crate::symbols::put_block(&mut words.symbol, b, list);
-}
-
-/// Puts the check codewords of block `b` at its last places; its data codewords and the other blocks stay. `b` is below
-/// the number of blocks, and there are as many checks as a block has.
-#[inline]
-pub fn put_block_checks(words: &mut Words, b: usize, checks: &[u8])
-    requires block { b < words.old.size.blocks }
-    requires length { length checks.now ≡ block_check words.old.size }
-    ensures size { words.new.size ≡ words.old.size }
-    ensures put { block_of words.old.size.blocks b words.new.list
-        ≡ take (block_data words.old.size) (block_of words.old.size.blocks b words.old.list)
-        ++ checks.now }
-    ensures others { (a : ℕ) → a < words.old.size.blocks → a ≢ b
-        → block_of words.old.size.blocks a words.new.list
-        ≡ block_of words.old.size.blocks a words.old.list }
-    ensures words { IsWords words.new }
-{
-    crate::symbols::put_block_checks(&mut words.symbol, b, checks);
 }

@@ -119,21 +119,6 @@ impl Grid {
         }
     }
 
-    /// Becomes the grid of a symbol with as many columns as rows, at most the largest side, which has its modules as
-    /// cells.
-    pub fn set_symbol<const ROWS: usize>(&mut self, symbol: &SymbolIn<ROWS>)
-        requires square { symbol.now.size.rows ≡ symbol.now.size.columns }
-        requires fits { symbol.now.size.rows ≤ largest_side }
-        ensures modules { symbol_modules self.new ≡ symbol.now }
-        ensures grid { IsGrid self.new }
-    {
-        let size = symbol.size();
-        self.symbol.resize(size);
-        for row in 0..size.rows() {
-            self.symbol.put_row(row, symbol.row(row), 0);
-        }
-    }
-
     /// Gives the cells as the modules of a symbol.
     #[inline]
     pub fn as_symbol(&self) -> &SymbolIn<LARGEST_SIDE>
@@ -162,18 +147,6 @@ impl Grid {
         ensures { result ≡ cell_at self.now row column }
     {
         self.symbol.is_dark(row, column)
-    }
-
-    /// Gives a row, counted from 0 at the top and below the side, as a number: the cell of column `c`, counted from 0
-    /// at the left, is the bit of weight 2^c, 1 for dark. The bits from the side on are 0.
-    #[inline]
-    pub fn row(&self, row: u16) -> u128
-        requires { row < self.now.size.side }
-        ensures width { result < 2 ^ self.now.size.side }
-        ensures cells { (column : ℕ) → column < self.now.size.side → is_dark_in result column
-            ≡ cell_at self.now row column }
-    {
-        self.symbol.row(row) % (1 << self.symbol.size().columns())
     }
 }
 

@@ -24,25 +24,12 @@ pub fn lay(words: &Words) -> Grid
     ensures no_other_words { (other : WordsView) → Holds result other → other ≡ words.now }
 {
     let mut grid = Grid::light(words.size());
-    lay_to(words, &mut grid);
+    crate::symbols::lay_to(&words.symbol, &mut grid.symbol);
     grid
 }
 
-/// Turns `grid`, whatever it was, into the one in which these codewords are laid; the same as [`lay()`], for callers
-/// that keep one grid for many symbols.
-#[inline]
-pub fn lay_to(words: &Words, grid: &mut Grid)
-    ensures holds { Holds grid.new words.now }
-    ensures border { border_fault_count grid.new ≡ 0 }
-    ensures fixed_square { HasFixedSquare grid.new }
-    ensures no_other_grid { (other : GridView) → IsLaid words.now other → other ≡ grid.new }
-    ensures no_other_words { (other : WordsView) → Holds grid.new other → other ≡ words.now }
-{
-    crate::symbols::lay_to(&words.symbol, &mut grid.symbol);
-}
-
 /// Turns `grid`, whatever it was, into the one in which these codewords of a symbol are laid, which has as many columns
-/// as rows, at most the largest side; as [`lay_to()`] does with those of a square, without a copy of them.
+/// as rows, at most the largest side; as [`lay()`] does with those of a square, without a copy of them.
 #[inline]
 pub fn lay_symbol_to(words: &SymbolWordsIn<MOST_GRID_CODEWORDS>, grid: &mut Grid)
     requires square { words.now.size.rows ≡ words.now.size.columns }
@@ -61,16 +48,6 @@ pub fn lift(grid: &Grid) -> Words
     ensures no_other_words { (other : WordsView) → Holds grid.now other → other ≡ result }
 {
     let mut words = Words::zeros(grid.size());
-    lift_to(grid, &mut words);
-    words
-}
-
-/// Turns `words`, whatever they were, into the codewords that the grid holds; the same as [`lift()`], for callers that
-/// keep one list of codewords for many symbols.
-#[inline]
-pub fn lift_to(grid: &Grid, words: &mut Words)
-    ensures holds { Holds grid.now words.new }
-    ensures no_other_words { (other : WordsView) → Holds grid.now other → other ≡ words.new }
-{
     crate::symbols::lift_to(&grid.symbol, &mut words.symbol);
+    words
 }

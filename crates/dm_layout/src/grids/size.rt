@@ -90,7 +90,7 @@ impl Size {
     }
 
     /// Gives a symbol's size as that of a square, or None where it isn't square or its side is above the largest.
-    pub fn of_symbol(symbol: SymbolSize) -> Option<Size>
+    fn of_symbol(symbol: SymbolSize) -> Option<Size>
         ensures value { result ≡ row_of_symbol symbol }
         ensures same { IfSome result (λ size. symbol_size size ≡ symbol) }
     {

@@ -1,8 +1,8 @@
 //! The codewords of a square.
 
-ghost use Rattle.std.specs.Prelude.{◌≡◌, ◌≤◌, ◌++◌, drop, length, replicate};
+ghost use Rattle.std.specs.Prelude.{◌≡◌, length, replicate};
 ghost use Rattle.dm_layout.specs.Sizes.{codeword_count};
-ghost use Rattle.dm_layout.specs.Words.{WordsView, IsWords, symbol_words, data_of};
+ghost use Rattle.dm_layout.specs.Words.{IsWords, data_of};
 
 use crate::grids::size::{MOST_GRID_CODEWORDS, Size};
 use crate::symbols::SymbolWordsIn;
@@ -42,46 +42,9 @@ impl Words {
         }
     }
 
-    /// Gives codewords of this size with these data codewords, as many as the size has. The check codewords are 0 until
-    /// they are put.
+    /// Gives codewords of this size that are all 0.
     #[inline]
-    pub fn with_data(size: Size, prefix: &[u8]) -> Words
-        requires { length prefix.now ≡ size.data_count }
-        ensures value { result
-            ≡ record { size = size; list = prefix.now ++ replicate size.check_count 0 } }
-        ensures words { IsWords result }
-    {
-        let mut words = Words::zeros(size);
-        words.put_data(prefix);
-        words
-    }
-
-    /// Puts the data codewords, as many as the size has. The check codewords stay.
-    #[inline]
-    pub fn put_data(&mut self, prefix: &[u8])
-        requires { length prefix.now ≡ self.old.size.data_count }
-        ensures value { let rest = drop self.old.size.data_count self.old.list in
-            self.new ≡ record { size = self.old.size; list = prefix.now ++ rest } }
-        ensures words { IsWords self.new }
-    {
-        self.symbol.put_data(prefix);
-    }
-
-    /// Puts the check codewords, as many as the size has. The data codewords stay.
-    #[inline]
-    pub fn put_checks(&mut self, checks: &[u8])
-        requires { length checks.now ≡ self.old.size.check_count }
-        ensures value { self.new
-            ≡ record { size = self.old.size; list = data_of self.old ++ checks.now } }
-        ensures words { IsWords self.new }
-    {
-        self.symbol.put_checks(checks);
-    }
-
-    /// Gives codewords of this size that are all 0, for [`lift_to`](crate::lift_to) to replace: whoever lifts into
-    /// these spares the copies that [`lift`](crate::lift) makes of what it gives back.
-    #[inline]
-    pub fn zeros(size: Size) -> Words
+    pub(crate) fn zeros(size: Size) -> Words
         ensures value { result
             ≡ record { size = size; list = replicate (codeword_count size) 0 } }
         ensures words { IsWords result }
@@ -91,14 +54,6 @@ impl Words {
         Words {
             symbol: SymbolWordsIn::zeros(size.symbol()),
         }
-    }
-
-    /// Gives the codewords as those of a symbol.
-    #[inline]
-    pub fn as_symbol(&self) -> &SymbolWordsIn<MOST_GRID_CODEWORDS>
-        ensures { result.now ≡ symbol_words self.now }
-    {
-        &self.symbol
     }
 
     /// Gives the size of the symbol.

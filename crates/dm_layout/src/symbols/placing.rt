@@ -19,23 +19,8 @@ use crate::symbols::symbol::SymbolIn;
 use crate::symbols::wide_rows::{WIDE_MATRIX, WideRows};
 use crate::symbols::words::SymbolWordsIn;
 
-/// Gives the symbol in which these codewords are laid: the only one that holds them, has no border fault, and has the
-/// fixed square (ISO/IEC 16022, module placement and symbol structure).
-pub fn lay<const ROOM: usize, const ROWS: usize>(words: &SymbolWordsIn<ROOM>) -> SymbolIn<ROWS>
-    requires { words.now.size.rows ≤ ROWS }
-    ensures holds { Holds result words.now }
-    ensures border { border_fault_count result ≡ 0 }
-    ensures fixed_square { HasFixedSquare result }
-    ensures no_other_modules { (other : SymbolView) → IsLaid words.now other → other ≡ result }
-    ensures no_other_words { (other : WordsView) → Holds result other → other ≡ words.now }
-{
-    let mut symbol = SymbolIn::light(words.size());
-    lay_to(words, &mut symbol);
-    symbol
-}
-
-/// Turns `symbol`, whatever it was, into the one in which these codewords are laid; the same as [`lay()`], for callers
-/// that keep one for many symbols.
+/// Turns `symbol`, whatever it was, into the one in which these codewords are laid: the only one that holds them, has
+/// no border fault, and has the fixed square (ISO/IEC 16022, module placement and symbol structure).
 pub fn lay_to<const ROOM: usize, const ROWS: usize>(
     words: &SymbolWordsIn<ROOM>,
     symbol: &mut SymbolIn<ROWS>,

@@ -107,13 +107,6 @@ pub fn table() -> [SymbolSize; SIZE_COUNT]
 }
 
 impl SizeChoice {
-    /// Whether the size is one of the choice.
-    pub fn takes(self, size: SymbolSize) -> bool
-        ensures { result ≡ takes self size }
-    {
-        self.takes_sides(size.rows, size.columns, size.extended)
-    }
-
     /// Whether a size with these rows and columns is one of the choice, given whether it is one of the extension.
     pub(crate) fn takes_sides(self, rows: u16, columns: u16, extended: bool) -> bool
         ensures { result ≡ takes_sides self rows columns extended }

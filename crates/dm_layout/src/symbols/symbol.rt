@@ -45,20 +45,6 @@ impl<const ROWS: usize> Model for SymbolIn<ROWS> {
     ghost invariant = { λ s. IsKept ROWS s.size s.rows s.ends };
 }
 
-/// Gives a row with the module of a column in this colour, true for dark.
-fn with_module(row: u128, column: u16, dark: bool) -> u128
-    requires { column < 128 }
-    ensures modules { (c : ℕ) → c < 128 → is_dark_bit result c
-        ≡ (if nat_eq c column then dark else is_dark_bit row c) }
-    ensures width { (n : ℕ) → column < n → row < 2 ^ n → result < 2 ^ n }
-{
-    if dark {
-        row | 1 << column
-    } else {
-        row & !(1 << column)
-    }
-}
-
 /// Whether two rows have the same modules in so many columns.
 fn same_modules(row: u128, other: u128, columns: u16) -> bool
     requires { columns < 128 }
@@ -181,28 +167,6 @@ impl<const ROWS: usize> SymbolIn<ROWS> {
             (self.row(row) >> column) % 2 == 1
         } else {
             (self.end(row) >> (column - FIRST_COLUMNS)) % 2 == 1
-        }
-    }
-
-    /// Gives a module this colour, true for dark. Row and column count from 0, from the top and from the left, and are
-    /// below those of the size.
-    pub fn put(&mut self, row: u16, column: u16, dark: bool)
-        requires row { row < self.old.size.rows }
-        requires column { column < self.old.size.columns }
-        ensures size { self.new.size ≡ self.old.size }
-        ensures modules { IsSymbol self.new }
-        ensures colours { (r c : ℕ) → r < self.old.size.rows → c < self.old.size.columns
-            → module_at self.new r c
-            ≡ (if nat_eq r row && nat_eq c column then dark else module_at self.old r c) }
-    {
-        // For the proof alone: what `size` ensures says how many columns there are at most.
-        let _size = self.size();
-        if column < FIRST_COLUMNS {
-            let cells = with_module(self.row(row), column, dark);
-            self.put_row(row, cells, self.end(row));
-        } else {
-            let end = with_module(u128::from(self.end(row)), column - FIRST_COLUMNS, dark);
-            self.put_row(row, self.row(row), end as u16);
         }
     }
 

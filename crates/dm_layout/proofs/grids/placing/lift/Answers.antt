@@ -3,7 +3,7 @@ use Rattle.dm_layout.specs.Holds.{Holds}
 use Rattle.dm_layout.specs.inner.Keeping.{kept_words}
 use Rattle.dm_layout.proofs.KeptSymbols.{kept_holds, kept_room}
 use Rattle.dm_layout.proofs.Squares.{one_list}
-use Rattle.dm_layout.proofs.grids.placing.lift_to.Goals as goal
+use Rattle.dm_layout.proofs.grids.placing.lift.Goals as goal
 
 pub lift_to-requires : goal.lift_to-requires
 lift_to-requires c = (lit< tt, (lit< tt, kept_room c.grid.inside.symbol.size c.grid.invariant))

@@ -7,7 +7,7 @@ use Rattle.dm_layout.specs.Holds.{IsLaid}
 use Rattle.dm_layout.specs.inner.Keeping.{IsKept, kept_grid, kept_words}
 use Rattle.dm_layout.proofs.KeptSymbols.{kept_fits, kept_laid}
 use Rattle.dm_layout.proofs.Squares.{one_laid, one_list}
-use Rattle.dm_layout.proofs.grids.placing.lay_to.Goals as goal
+use Rattle.dm_layout.proofs.grids.placing.lay.Goals as goal
 
 pub lay_to-requires : goal.lay_to-requires
 lay_to-requires c = (lit< tt, (lit< tt, kept_fits c.words.inside.symbol.size c.words.invariant))
