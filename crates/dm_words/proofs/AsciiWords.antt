@@ -28,11 +28,11 @@ AreItems m = AllByRecursion IsItem m
 -- ---- the words of a unit mean it
 
 -- The codeword of a byte below 128 is the byte and one.
-character_of : (b : ℕ) → b < 128 → codeword_of (b + 1) ≡ Some (codeword.Character b)
+pub character_of : (b : ℕ) → b < 128 → codeword_of (b + 1) ≡ Some (codeword.Character b)
 character_of b lt = grind (arith, nat_tests)
 
 -- The codeword of a number below 100 is the number and 130.
-digits_of : (n : ℕ) → n < 100 → codeword_of (130 + n) ≡ Some (codeword.Digits n)
+pub digits_of : (n : ℕ) → n < 100 → codeword_of (130 + n) ≡ Some (codeword.Digits n)
 digits_of n lt = grind (arith, nat_tests)
 
 -- ---- the form from the left spells the message

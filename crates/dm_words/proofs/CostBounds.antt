@@ -8,6 +8,8 @@ use Rattle.dm_words.specs.declared.item.Item.{Item}
 use Rattle.dm_words.specs.declared.item.Item.TheVariants.{Byte}
 use Rattle.dm_words.specs.declared.smallest.plan.Begin.TheVariants.{Edifact}
 use Rattle.dm_words.specs.declared.smallest.setting.Setting.{Setting}
+use Rattle.dm_words.specs.Letters.{BeginsFrame}
+use Rattle.dm_words.specs.Plain.{FramesNoFnc1}
 use Rattle.dm_words.specs.Spells.{IsPart, AreParts, Spells, plain, by_macro}
 use Rattle.dm_words.specs.inner.Costs.{Groups, never, owed_group, leave, byte_before, has_edifact, stay_edifact}
 use Rattle.dm_words.specs.inner.Costs.{or_leave_edifact, row, parts_cost, at_end, before_words}
@@ -147,9 +149,21 @@ part_no_fewer behind place words after items m small p le =
     part_lower (parts_cost s) (owes s) (are_costs s small) Wide (edifact_is_lower Wide behind small) place words after
     items m p le
 
--- No words that spell a message are fewer than its least cost.
+-- No words that spell a message, and have no macro before FNC1, are fewer than its least cost.
 pub no_fewer_words : (extent : Extent) (words : List ℕ) (m : List Item) (cost : ℕ) → IsLeastCost extent m cost
-    → Spells extent words m → cost ≤ length words
-no_fewer_words extent words m cost least (plain a) = omega (arith, least.parts, no_fewer extent 1 words m a)
-no_fewer_words extent words m cost least (by_macro word digit more text wide k e a is) =
-    omega (arith, least.macros word digit text wide k is, no_fewer extent 2 more text a, ap length e)
+    → FramesNoFnc1 words m → Spells extent words m → cost ≤ length words
+no_fewer_words extent words m cost least framed (plain a) = omega (arith, least.parts, no_fewer extent 1 words m a)
+no_fewer_words extent words m cost least framed (by_macro word digit more text wide k e a is) =
+    let begins : BeginsFrame words = record {
+      first = word ∷ [];
+      digit = digit;
+      more = more;
+      is_frame = record { runs = []; word = word; are_empty = tt; is_macro = k; whole = refl };
+      whole = e;
+    } in
+    omega (
+      arith,
+      least.macros word digit text wide k is (λ fnc1. framed (digit, text, is, fnc1) begins),
+      no_fewer extent 2 more text a,
+      ap length e,
+    )

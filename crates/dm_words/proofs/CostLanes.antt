@@ -1,5 +1,6 @@
 -- The costs that lie in lanes are those of the definition.
-use Rattle.std.proofs.Common.{◌++◌, ◌≡◌, ℕ, zero, suc, ◌+◌, ◌-◌, ◌^◌, ◌<◌, ◌≤◌, get_or, List, refl, sym, ap, subst}
+use Rattle.std.proofs.Common.{◌++◌, ◌≡◌, ◌⊎◌, inl, inr, ℕ, zero, suc, ◌+◌, ◌-◌, ◌^◌, ◌<◌, ◌≤◌, get_or, List, refl}
+use Rattle.std.proofs.Common.{sym, ap, subst}
 use Rattle.std.proofs.Common.{◌∙◌, arith, Bool, true, false, cond, eqb, length, ltb, replicate, w16}
 use Rattle.std.specs.Prelude.{[], ◌∷◌, ◌&&◌, bit_and, map, nat_eq, nat_le, not}
 use Rattle.std.specs.List.{range_with_len}
@@ -347,6 +348,23 @@ cost_at item pair next g (suc (suc (suc (suc (suc zero))))) small = refl
 cost_at item pair next g (suc (suc (suc (suc (suc (suc zero)))))) small = refl
 cost_at item pair next g (suc (suc (suc (suc (suc (suc (suc zero))))))) small = refl
 cost_at item pair next g (suc (suc (suc (suc (suc (suc (suc (suc k)))))))) small = absurd (omega (arith, small))
+
+-- What a way to begin costs stands in its lane.
+pub lane_costs : (item : Item) (pair : Bool) (next : Row) (g : Going) (k : ℕ) (costs : List ℕ) (cost : ℕ) → k < 8
+    → costs ≡ cost_lanes item pair next g → cost_of item pair next g (begin_at k) ≡ cost → get_or costs k 0 ≡ cost
+lane_costs item pair next g k costs cost small are is =
+    ap (λ (l : List ℕ). get_or l k 0) are ∙ cost_at item pair next g k small ∙ is
+
+-- The place behind which none is taken is the first one.
+pub first_begin : (n : ℕ) → (0 < n → ⊥) → begin_at n ≡ begin_at 0
+first_begin zero none = refl
+first_begin (suc n) none = absurd (none (omega arith))
+
+-- Or the second one.
+pub second_begin : (n : ℕ) → (1 < n → ⊥) → (begin_at n ≡ begin_at 1) ⊎ (begin_at n ≡ begin_at 0)
+second_begin zero none = inr refl
+second_begin (suc zero) none = inl refl
+second_begin (suc (suc n)) none = absurd (none (omega arith))
 
 -- The last lane of all costs is 0.
 pub last_zero : (g : Going) (costs : GoingCosts) → HasGoing g costs → get_or (costs.first ++ costs.second) 15 0 ≡ 0

@@ -86,7 +86,7 @@ is_least item pair next going Rest = omega arith
 
 module _ (setting : Setting) where
   -- The costs where runs go on over an item.
-  abbrev going : CodeSet → Item → List Item → Pairs
+  abbrev pub going : CodeSet → Item → List Item → Pairs
   going set x m = stay (set_values set x) (pairs_of set (row setting m))
 
   abbrev pub is_pair : Item → List Item → Bool
@@ -104,7 +104,7 @@ module _ (setting : Setting) where
   least_is x m begin = is_least x (is_pair x m) (row setting m) (going_over setting.extent x (row setting m)) begin
 
   -- The costs of a run are those of going on, or of leaving.
-  pairs_is : (set : CodeSet) (x : Item) (m : List Item) → pairs_of set (row setting (x ∷ m))
+  pub pairs_is : (set : CodeSet) (x : Item) (m : List Item) → pairs_of set (row setting (x ∷ m))
       ≡ or_leave (parts_cost setting (x ∷ m)) (going set x m)
   unfolding row
   pairs_is C40 x m = refl
@@ -139,7 +139,7 @@ module _ (setting : Setting) where
   none_begins Text small = omega (arith, small, (leave_bounds 1 setting.behind).0)
   none_begins X12 small = omega (arith, small, (leave_bounds 1 setting.behind).0)
 
-  begins : setting.behind ≤ never → (set : CodeSet) (m : List Item) → parts_cost setting m ≤ 1 + owes set 0 m
+  pub begins : setting.behind ≤ never → (set : CodeSet) (m : List Item) → parts_cost setting m ≤ 1 + owes set 0 m
   unfolding owed
   begins small set [] = none_begins set small
   begins small set (x ∷ m) =

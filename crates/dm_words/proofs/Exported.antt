@@ -14,4 +14,5 @@ pub use Rattle.dm_words.proofs.LetterExtents.{form_says_in, said_or_refused, spe
 pub use Rattle.dm_words.proofs.LetterForms.{letter_form_count}
 pub use Rattle.dm_words.proofs.SpelledBounds.{room_for_spelled, spelled_is_few}
 pub use Rattle.dm_words.proofs.SaidBounds.{said_few}
+pub use Rattle.dm_words.proofs.NormalPlain.{letter_form_plain}
 pub use Rattle.dm_words.proofs.SmallestLaws.{normal_is_no_smaller}

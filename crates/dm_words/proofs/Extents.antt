@@ -29,7 +29,7 @@ dropped_wider set values (filler f) = filler f
 dropped_wider set values (waiting is w) = waiting refl w
 
 -- A part in the usual extent is one in the wide extent.
-part_wider : (place : ℕ) (words after : List ℕ) (items : List Item) → IsPart Usual place words after items
+pub part_wider : (place : ℕ) (words after : List ℕ) (items : List Item) → IsPart Usual place words after items
     → IsPart Wide place words after items
 part_wider place words after items (ascii u) = ascii u
 part_wider place words after items (segment s) = segment s
@@ -56,7 +56,8 @@ part_wider place words after items (run set r) =
     })
 
 -- Parts in the usual extent are parts in the wide one.
-joined_wider : (place : ℕ) (ps : List (Piece (List Item))) (after : List ℕ) → AreJoined (IsPart Usual) place ps after
+pub joined_wider : (place : ℕ) (ps : List (Piece (List Item))) (after : List ℕ)
+    → AreJoined (IsPart Usual) place ps after
     → AreJoined (IsPart Wide) place ps after
 joined_wider place [] after h = tt
 joined_wider place (p ∷ ps) after h =

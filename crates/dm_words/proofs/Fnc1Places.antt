@@ -350,7 +350,7 @@ by_rest words o start behind more there_is at no_macro = by_list more refl where
   by_list (w ∷ m ∷ ms) e = by_more w m ms e (w == 232) refl
 
 -- A codeword that is a macro or a latch isn't FNC1.
-other_word : (w : ℕ) (k : Codeword) → codeword_of w ≡ Some k → (k ≡ codeword.Fnc1 → ⊥) → (w == 232) ≡ true → ⊥
+pub other_word : (w : ℕ) (k : Codeword) → codeword_of w ≡ Some k → (k ≡ codeword.Fnc1 → ⊥) → (w == 232) ≡ true → ⊥
 other_word w k e other is =
     let same : w ≡ 232 = grind (arith, nat_tests) in
     let f : Some k ≡ Some codeword.Fnc1 = sym e ∙ ap codeword_of same in
@@ -478,7 +478,7 @@ some_marks [] e = absurd (grind (arith, nat_tests))
 some_marks (m ∷ marks) e = refl
 
 -- Codewords have one number by their first two behind a head.
-one_number : (words : List ℕ) (behind m n : ℕ) → IsFnc1Number words behind m → IsFnc1Number words behind n → m ≡ n
+pub one_number : (words : List ℕ) (behind m n : ℕ) → IsFnc1Number words behind m → IsFnc1Number words behind n → m ≡ n
 one_number words behind m n (symbology.first x e) (symbology.first y f) = e ∙ sym f
 one_number words behind m n (symbology.first x e) (symbology.second none y f) = absurd (none x)
 one_number words behind m n (symbology.first x e) (symbology.neither none nor f) = absurd (none x)

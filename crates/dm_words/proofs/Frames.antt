@@ -1,12 +1,12 @@
 -- Items that begin with the header of a macro and end with its trailer.
 use Rattle.std.proofs.Common.{◌≡◌, ℕ, zero, suc, ◌+◌, ◌-◌, ◌<◌, ◌≤◌, List, [], ◌∷◌, ◌++◌, length, take, drop, get_or}
-use Rattle.std.proofs.Common.{add-one, append_assoc, refl, sym, ap, ◌∙◌, arith}
+use Rattle.std.proofs.Common.{add-one, append_assoc, refl, sym, ap, subst, ◌∙◌, arith}
 use Rattle.std.proofs.lemmas.List.{length-append, take-append-drop, drop-drop}
 use Rattle.std.proofs.Math.Seq.{take-suc, drop-append_seam}
 use Rattle.dm_words.specs.declared.item.Item.{Item}
-use Rattle.dm_words.specs.declared.item.Item.TheVariants.{Byte}
+use Rattle.dm_words.specs.declared.item.Item.TheVariants.{Byte, Fnc1}
 use Rattle.dm_words.specs.Messages.{byte_items}
-use Rattle.dm_words.specs.Macros.{macro_header, macro_trailer, macro_text}
+use Rattle.dm_words.specs.Macros.{macro_header, macro_trailer, macro_text, BeginsFnc1, FramesFnc1}
 use Rattle.dm_words.specs.inner.Ways.{inner_text}
 use Rattle.dm_words.proofs.SegmentLoops.{byte_items-append}
 
@@ -51,3 +51,26 @@ frame_is m digit text is =
           ∙ ap (drop (length front)) (is ∙ sym (append_assoc (macro_header digit) text macro_trailer))
           ∙ drop-append_seam front macro_trailer,
     )
+
+-- Where FNC1 doesn't come first between a header and a trailer, these frame no FNC1.
+pub frames_not : (m : List Item) (digit : ℕ) (text : List Item) → m ≡ macro_text digit text → (BeginsFnc1 text → ⊥)
+    → FramesFnc1 m → ⊥
+frames_not m digit text is none f = by_texts text f.1 (sym is ∙ f.2) none f.3 where
+  by_texts : (text other : List Item) → macro_text digit text ≡ macro_text f.0 other → (BeginsFnc1 text → ⊥)
+      → BeginsFnc1 other → ⊥
+  by_texts text [] e none b = b
+  by_texts text (Byte byte ∷ other) e none b = b
+  by_texts [] (Fnc1 ∷ other) e none b = absurd cc
+  by_texts (Byte byte ∷ text) (Fnc1 ∷ other) e none b = absurd cc
+  by_texts (Fnc1 ∷ text) (Fnc1 ∷ other) e none b = none tt
+
+-- FNC1 that comes first between them comes first in the text.
+pub fnc1_inside : (m : List Item) (digit : ℕ) (text : List Item) (count : ℕ) → m ≡ macro_text digit text
+    → BeginsFnc1 (take count (drop 7 m)) → BeginsFnc1 text
+fnc1_inside m digit text count is b =
+    by_text text count (subst (λ (l : List Item). BeginsFnc1 (take count (drop 7 l))) is b) where
+      by_text : (text : List Item) (count : ℕ) → BeginsFnc1 (take count (text ++ macro_trailer)) → BeginsFnc1 text
+      by_text text zero b = absurd b
+      by_text [] (suc count) b = absurd b
+      by_text (Byte byte ∷ text) (suc count) b = absurd b
+      by_text (Fnc1 ∷ text) (suc count) b = tt

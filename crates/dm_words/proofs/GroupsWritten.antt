@@ -12,7 +12,8 @@ use Rattle.dm_words.specs.declared.item.Item.TheVariants.{Byte}
 use Rattle.dm_words.specs.declared.smallest.edifact.Group.{Group}
 use Rattle.dm_words.specs.declared.smallest.edifact.Group.TheVariants.{Empty, One, Two, Three}
 use Rattle.dm_words.specs.Joined.{Piece, spelled, gathered}
-use Rattle.dm_words.specs.Edifact.{IsGroup, edifact_byte, IsEdifactEnd, few_left, first, fourth}
+use Rattle.dm_words.specs.Edifact.{IsGroup, edifact_byte, IsEdifactEnd, IsEdifactRun, few_left, first, fourth}
+use Rattle.dm_words.specs.Plain as plainly
 use Rattle.dm_words.specs.Spells.{edifact}
 use Rattle.dm_words.specs.inner.Written.{waiting_values, IsSmallGroup, IsGroupPushed, IsEdifactEnded, IsPartWritten}
 use Rattle.dm_words.specs.Messages.{byte_of, byte_items}
@@ -116,15 +117,20 @@ edifact_item old words words' g g' m from i d b byte le lt is low high is_byte s
 
 -- A run of EDIFACT with an end is a part.
 edifact_part : (total : ℕ) (old words new : List ℕ) (items : List Item) (g : Group)
-    (s : IsEdifactSoFar old words g items) (end : List ℕ) → new ≡ words ++ end
+    (s : IsEdifactSoFar old words g items) (end : List ℕ) → 0 < length items → new ≡ words ++ end
     → ((after : List ℕ) → length new + length after ≡ total → IsEdifactEnd end after (waiting_values g))
     → IsPartWritten Wide total old new items
-edifact_part total old words new items g s end is ended = record {
+edifact_part total old words new items g s end some is ended = record {
   part = 240 ∷ (spelled s.groups ++ end);
   some = omega arith;
   begins = λ e. absurd (omega (arith, e));
   whole = is ∙ ap (λ (l : List ℕ). l ++ end) s.words_are ∙ append_assoc old (240 ∷ spelled s.groups) end;
-  right = λ after fills none. edifact refl (record {
+  right = λ after fills none. edifact refl (run_is after fills);
+  plain = λ after fills none. plainly.edifact (run_is after fills) some;
+} where
+  run_is : (after : List ℕ) → length new + length after ≡ total
+      → IsEdifactRun (240 ∷ (spelled s.groups ++ end)) after items
+  run_is after fills = record {
     latch = 240;
     is_latch = refl;
     groups = s.groups;
@@ -135,27 +141,28 @@ edifact_part total old words new items g s end is ended = record {
     no_unlatch = s.no_unlatch;
     whole = refl;
     items_are = s.items_are;
-  });
-}
+  }
 
 -- A run of EDIFACT was written.
 pub edifact_written : (extent : Extent) (total : ℕ) (old words new : List ℕ) (items : List Item) (g : Group) → extent
     ≡ Wide → length words ≤ total → (length (waiting_values g) ≡ 0) ⊎ (length (waiting_values g) ≡ 3)
-    → IsEdifactSoFar old words g items → IsEdifactEnded g total words new → IsPartWritten extent total old new items
-edifact_written extent total old words new items g wide fits stopped s ended =
+    → 0 < length items → IsEdifactSoFar old words g items → IsEdifactEnded g total words new
+    → IsPartWritten extent total old new items
+edifact_written extent total old words new items g wide fits stopped some s ended =
     subst (λ (x : Extent). IsPartWritten x total old new items) (sym wide) (by_group g stopped s ended) where
       by_group : (g : Group) → (length (waiting_values g) ≡ 0) ⊎ (length (waiting_values g) ≡ 3)
           → IsEdifactSoFar old words g items → IsEdifactEnded g total words new → IsPartWritten Wide total old new items
       by_group Empty stopped s ended =
           elim ended [
-            | inl more ↦ edifact_part total old words new items Empty s (124 ∷ []) more.1
+            | inl more ↦ edifact_part total old words new items Empty s (124 ∷ []) some more.1
                 (λ after fills. first 124 0 refl (omega arith) refl refl
                 (omega (arith, fills, ap length more.1, length-append words (124 ∷ []), more.0)))
-            | inr few ↦ edifact_part total old words new items Empty s [] (few.1 ∙ sym (append-nil words))
+            | inr few ↦ edifact_part total old words new items Empty s [] some (few.1 ∙ sym (append-nil words))
                 (λ after fills. few_left refl refl (omega (arith, fills, ap length few.1, few.0)))
           ]
       by_group (One x) stopped s ended = absurd (elim stopped [ inl e ↦ omega (arith, e) | inr e ↦ omega (arith, e) ])
       by_group (Two x y) stopped s ended = absurd (elim stopped [ inl e ↦ omega (arith, e) | inr e ↦ omega (arith, e) ])
       by_group (Three x y z) stopped s ended =
           let p = ended.1 in
-          edifact_part total old words new items (Three x y z) s p.1.0 p.1.2 (λ after fills. fourth x y z p.1.1 refl)
+          edifact_part total old words new items (Three x y z) s p.1.0 some p.1.2
+          (λ after fills. fourth x y z p.1.1 refl)

@@ -13,9 +13,11 @@ use Rattle.dm_words.specs.Heads.{head_words}
 use Rattle.dm_words.specs.Joined.{Piece, spelled, whats, AreJoined}
 use Rattle.dm_words.specs.Letters.{LetterView, AreMarks, Said, Items, Number, IsLetterPart, part, mark, AreLetterParts}
 use Rattle.dm_words.specs.Letters.{said_items, said_marks, IsOpening, headed, framed, plain, said_letter, SpellsLetter}
+use Rattle.dm_words.specs.Letters.{BeginsFrame}
 use Rattle.dm_words.specs.LetterForm.{mark_words}
 use Rattle.dm_words.specs.LetterExtents.{SaysIn}
 use Rattle.dm_words.specs.Macros.{macro_text, macro_header, macro_trailer}
+use Rattle.dm_words.specs.Plain.{FramesNoFnc1}
 use Rattle.dm_words.specs.Spells.{IsPart}
 use Rattle.dm_words.specs.inner.Costs.{never, at_end, before_words}
 use Rattle.dm_words.specs.inner.LetterCosts.{marked_cost, IsLeastLetterCost}
@@ -66,7 +68,7 @@ seen_after seen (Items items) = seen + length items
 seen_after seen (Number number) = seen
 
 -- Marks that are said stand no further in front than the items that were seen.
-starts : (seen least : ℕ) (said : List Said) → least ≤ seen → StartAt least (said_marks seen said)
+pub starts : (seen least : ℕ) (said : List Said) → least ≤ seen → StartAt least (said_marks seen said)
 starts seen least [] le = tt
 starts seen least (Items items ∷ said) le = starts (seen + length items) least said (omega (arith, le))
 starts seen least (Number number ∷ said) le = le
@@ -126,7 +128,7 @@ parts_lower seen place words said a few =
     rw (a.said_are, a.whole) (joined_lower seen place a.parts a.after a.joined (rw a.said_are at few))
 
 module _ (words : List ℕ) (l : LetterView) (cost : ℕ) (few : 2 * length l.items + 4 * length l.marks ≤ never)
-    (least : IsLeastLetterCost l cost) (s : SpellsLetter words l) where
+    (least : IsLeastLetterCost l cost) (no_fnc1 : FramesNoFnc1 words l.items) (s : SpellsLetter words l) where
   -- The codewords are those of the opening and those behind it.
   whole : length words ≡ length s.opened.first + length s.more
   whole = omega (arith, ap length s.opened.whole, length-append s.opened.first s.more)
@@ -157,11 +159,14 @@ module _ (words : List ℕ) (l : LetterView) (cost : ℕ) (few : 2 * length l.it
   by_opening (framed digit f is) =
       let e = letter_by _ is in
       let text = said_items s.said in
+      let begins : BeginsFrame words =
+      record { first = s.opened.first; digit = digit; more = s.more; is_frame = f; whole = s.opened.whole } in
       let items : l.items ≡ macro_text digit text = ap (λ (k : LetterView). k.items) e in
       let marks : l.marks ≡ said_marks 7 s.said = ap (λ (k : LetterView). k.marks) e in
       let in_order : AreMarks 7 (7 + length text) l.marks = rw marks (said_in_order 7 s.place s.more s.said s.parts) in
       let c : cost ≤ 1 + said_cost 7 s.said =
-      (rw marks at (least.framed f.word digit text f.is_macro (ap (λ (k : LetterView). k.head) e) items in_order)) in
+      (rw marks at (least.framed f.word digit text f.is_macro (ap (λ (k : LetterView). k.head) e) items
+      (λ fnc1. no_fnc1 (digit, text, items, fnc1) begins) in_order)) in
       let long : length text ≤ length l.items = omega (
         arith,
         ap length items,
@@ -178,10 +183,10 @@ module _ (words : List ℕ) (l : LetterView) (cost : ℕ) (few : 2 * length l.it
         parts_lower 7 s.place s.more s.said s.parts enough,
       )
 
--- No codewords that say a letter in an extent are fewer than its least cost.
+-- No codewords that say a letter in an extent, and have no macro before FNC1, are fewer than its least cost.
 pub no_fewer_letter : (extent : Extent) (words : List ℕ) (l : LetterView) (cost : ℕ)
-    → 2 * length l.items + 4 * length l.marks ≤ never → IsLeastLetterCost l cost → SaysIn extent words l
-    → cost ≤ length words
-no_fewer_letter extent words l cost few least says =
+    → 2 * length l.items + 4 * length l.marks ≤ never → IsLeastLetterCost l cost → FramesNoFnc1 words l.items
+    → SaysIn extent words l → cost ≤ length words
+no_fewer_letter extent words l cost few least no_fnc1 says =
     let s = said_wide extent words l says in
-    by_opening words l cost few least s s.opened.is_opening
+    by_opening words l cost few least no_fnc1 s s.opened.is_opening

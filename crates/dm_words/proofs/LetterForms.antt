@@ -15,10 +15,11 @@ use Rattle.dm_words.specs.Messages.{IsItem, most_data}
 use Rattle.dm_words.specs.Ascii.{IsAsciiUnit, ascii}
 use Rattle.dm_words.specs.Joined.{Piece, spelled, gathered, whats, AreJoined}
 use Rattle.dm_words.specs.Pads.{pads, padded}
-use Rattle.dm_words.specs.Spells.{ascii as ascii_part}
+use Rattle.dm_words.specs.Plain.{IsPlainSaid}
+use Rattle.dm_words.specs.Plain as plainly
 use Rattle.dm_words.specs.Designators.{designator}
 use Rattle.dm_words.specs.Heads.{IsHead, head_words}
-use Rattle.dm_words.specs.Letters.{LetterView, AreMarks, IsLetter, Said, Items, Number, IsLetterPart, part, mark}
+use Rattle.dm_words.specs.Letters.{LetterView, AreMarks, IsLetter, Said, Items, Number, IsLetterPart}
 use Rattle.dm_words.specs.Letters.{AreLetterParts, said_items, said_marks, headed, SpellsLetter}
 use Rattle.dm_words.specs.LetterForm.{mark_words, ascii_with_marks, form_by, letter_form}
 use Rattle.dm_words.proofs.AsciiWords.{AreItems, units_of, pads_end}
@@ -26,18 +27,28 @@ use Rattle.dm_words.proofs.Designators.{designator_says}
 use Rattle.dm_words.proofs.Heads.{head_says}
 use Rattle.dm_words.proofs.NormalForms.{normal_form_spells}
 use Rattle.dm_words.proofs.PadWords.{length-padded}
+use Rattle.dm_words.proofs.PlainParts.{plain_said}
 use Rattle.dm_words.proofs.WideLetters.{plain_letter, wide_is_letter}
 
--- A part of a letter is one wherever it stands.
+-- A piece is right wherever it stands.
+abbrev pub IsPlace : (ℕ → List ℕ → List ℕ → Said → Type 0) → Piece Said → Type 0
+IsPlace R p = (place : ℕ) (after : List ℕ) → R place p.words after p.what
+
+-- A plain part of a letter is one wherever it stands.
 abbrev pub IsFree : Piece Said → Type 0
-IsFree p = (place : ℕ) (after : List ℕ) → IsLetterPart place p.words after p.what
+IsFree = IsPlace IsPlainSaid
 
 -- Such parts are joined.
-pub free_joined : (place : ℕ) (ps : List (Piece Said)) (after : List ℕ) → AllByRecursion IsFree ps
-    → AreJoined IsLetterPart place ps after
-free_joined place [] after h = tt
-free_joined place (p ∷ ps) after h =
-    (h.0 place (spelled ps ++ after), free_joined (place + length p.words) ps after h.1)
+pub free_joined : (R : ℕ → List ℕ → List ℕ → Said → Type 0) (place : ℕ) (ps : List (Piece Said)) (after : List ℕ)
+    → AllByRecursion (IsPlace R) ps → AreJoined R place ps after
+free_joined R place [] after h = tt
+free_joined R place (p ∷ ps) after h =
+    (h.0 place (spelled ps ++ after), free_joined R (place + length p.words) ps after h.1)
+
+-- What is plain is a part of a letter.
+pub all_said : (ps : List (Piece Said)) → AllByRecursion IsFree ps → AllByRecursion (IsPlace IsLetterPart) ps
+all_said [] h = tt
+all_said (p ∷ ps) h = ((λ place after. plain_said place p.words after p.what (h.0 place after)), all_said ps h.1)
 
 -- Units of ASCII as parts of a letter, before others.
 abbrev units_then : List (Piece (List Item)) → List (Piece Said) → List (Piece Said)
@@ -49,7 +60,8 @@ units_free : (us : List (Piece (List Item))) (rest : List (Piece Said))
     → AllByRecursion (λ u. IsAsciiUnit u.words u.what) us → AllByRecursion IsFree rest
     → AllByRecursion IsFree (units_then us rest)
 units_free [] rest each h = h
-units_free (u ∷ us) rest each h = ((λ place after. part u.what (ascii_part each.0) refl), units_free us rest each.1 h)
+units_free (u ∷ us) rest each h =
+    ((λ place after. plainly.part u.what (plainly.ascii each.0) refl), units_free us rest each.1 h)
 
 -- Their words.
 units_words : (us : List (Piece (List Item))) (rest : List (Piece Said)) → spelled (units_then us rest) ≡ spelled us
@@ -132,7 +144,7 @@ parts_of before items (m ∷ marks) fit are =
     let r = parts_of m.place (drop n items) marks fits.1 (subst (λ (k : ℕ). AreMarks m.place k marks) last are.2) in
     let p : Piece Said = record { words = mark_words m; what = Number m.number } in
     let free : IsFree p =
-    λ place after. mark (designator m.number) m.number (designator_says m.number are.1) refl refl in
+    λ place after. plainly.mark (designator m.number) m.number (designator_says m.number are.1) refl refl in
     let first = same_mark m (before + length (take n items)) there in
     let marked : said_marks (before + length (take n items)) (whats (p ∷ r.parts)) ≡ m ∷ marks =
     ap (λ (k : ℕ). (let q : Mark = record { place = k; number = m.number } in q) ∷ said_marks k (whats r.parts)) there
@@ -149,7 +161,7 @@ letter_parts : (place first count : ℕ) (ps : List (Piece Said)) (words : List 
 letter_parts place first count ps words free whole = record {
   parts = ps;
   after = pads first count;
-  joined = free_joined place ps (pads first count) free;
+  joined = free_joined IsLetterPart place ps (pads first count) (all_said ps free);
   ended = pads_end first count;
   whole = ap (λ (w : List ℕ). w ++ pads first count) whole;
   said_are = refl;

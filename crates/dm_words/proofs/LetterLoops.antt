@@ -1,6 +1,6 @@
 -- The loop that reads one part of a letter after the other.
 use Rattle.std.proofs.Common.{◌≡◌, ℕ, suc, ◌+◌, ◌*◌, ◌<◌, ◌≤◌, List, [], ◌∷◌, ◌++◌, length, take, drop, refl, sym, ap}
-use Rattle.std.proofs.Common.{subst, ◌∙◌, append_assoc, arith, length-append, Option, Some, None, Result, Ok}
+use Rattle.std.proofs.Common.{subst, ◌∙◌, append_assoc, arith, length-append, Option, Some, None, Result, Ok, true}
 use Rattle.std.proofs.lemmas.List.{append-nil, length-drop, length-take, drop-drop}
 use Rattle.dm_words.specs.declared.extent.Extent.TheVariants.{Wide}
 use Rattle.dm_words.specs.declared.letters.designator.Designator.{Designator}
@@ -8,17 +8,20 @@ use Rattle.dm_words.specs.declared.letters.fault.LetterFault.{LetterFault}
 use Rattle.dm_words.specs.declared.letters.mark.Mark.{Mark}
 use Rattle.dm_words.specs.Designators.{most_assigned, IsDesignator, one, two, three}
 use Rattle.dm_words.specs.Letters.{LetterView, Said, Items, Number, IsLetterPart, part, mark, said_items}
-use Rattle.dm_words.specs.Letters.{said_marks}
+use Rattle.dm_words.specs.Letters.{said_marks, eci_count}
 use Rattle.dm_words.specs.inner.Scan.Walk.{Takes, Stops, walk}
-use Rattle.dm_words.specs.inner.LetterScan.{mark_by, first_letter_part, with_said}
+use Rattle.dm_words.specs.inner.LetterScan.{as_said, mark_by, first_letter_part, with_said, items_with}
+use Rattle.dm_words.specs.inner.Scan.Results.{IsOneWordTaken}
+use Rattle.dm_words.specs.declared.item.Item.{Item}
 use Rattle.dm_words.specs.inner.LetterScan.{extended, letter_to, letter_on}
 use Rattle.dm_words.specs.inner.LetterContents.{IsContentAt, IsLetterPartTaken}
 use Rattle.dm_words.proofs.Walks.{walk-fuel}
 use Rattle.dm_words.proofs.Pairs.{IsBytes}
 use Rattle.dm_words.proofs.Parts.{room_of}
-use Rattle.dm_words.proofs.LetterParts.{letter_part_sound}
+use Rattle.dm_words.proofs.LetterParts.{letter_part_sound, as_part, no_eci}
 use Rattle.dm_words.proofs.SaidLetters.{assigned}
 use Rattle.dm_words.proofs.Marks.{more_items, one_more}
+use Rattle.dm_words.proofs.EciCounts.{mark_count, taken_away, no_more_left}
 
 -- What one part says and then others is what all of them say.
 with_extended : (l : LetterView) (s : Said) (rest : List Said) → extended (with_said l s) rest ≡ extended l (s ∷ rest)
@@ -72,26 +75,28 @@ room_by place words after said (mark d number e whole is) =
 
 -- What is known after a part was taken: the room that is left.
 stays : (most : ℕ) (words : List ℕ) (at n : ℕ) (old new : LetterView) (said : Said) → IsContentAt most words at old
-    → HasRoom n said → 0 < n → new ≡ with_said old said
-    → IsContentAt most words (at + n) new
-stays most words at n old new (Items items) v room some is =
+    → HasRoom n said → mark_count said + eci_count (drop (at + n) words) ≤ eci_count (drop at words) → 0 < n
+    → new ≡ with_said old said → IsContentAt most words (at + n) new
+stays most words at n old new (Items items) v room left some is =
     let message : new.items ≡ old.items ++ items = ap (λ (l : LetterView). l.items) is in
     let marks : new.marks ≡ old.marks = ap (λ (l : LetterView). l.marks) is in
     record {
       item_room = rw message (omega (arith, v.item_room, room, length-append old.items items));
       mark_room = rw marks (omega (arith, v.mark_room));
+      eci_left = rw marks (omega (arith, v.eci_left, left));
       in_order =
           rw (message, marks)
           (more_items 0 (length old.items) (length (old.items ++ items)) old.marks v.in_order
           (omega (arith, length-append old.items items)));
     }
-stays most words at n old new (Number number) v room some is =
+stays most words at n old new (Number number) v room left some is =
     let message : new.items ≡ old.items = ap (λ (l : LetterView). l.items) is in
     let m : Mark = record { place = length old.items; number = number } in
     let marks : new.marks ≡ old.marks ++ m ∷ [] = ap (λ (l : LetterView). l.marks) is in
     record {
       item_room = rw message (omega (arith, v.item_room));
       mark_room = rw marks (omega (arith, v.mark_room, room.0, length-append old.marks (m ∷ [])));
+      eci_left = rw marks (omega (arith, v.eci_left, left, length-append old.marks (m ∷ [])));
       in_order = rw (message, marks) (one_more 0 (length old.items) number old.marks v.in_order room.1);
     }
 
@@ -136,7 +141,7 @@ goes_on most words start at n first old new total fit in_range v count took so_f
     record {
       in_range = omega (arith, r.2, length-drop at words);
       some = r.1;
-      content = stays most words at n old new said v room r.1 took.2;
+      content = stays most words at n old new said v room (taken_away at n words said r.0) r.1 took.2;
       count = omega (arith, counted n old new said room took.2);
       so_far = rw (took.2, ← place, ← rest) (sym once ∙ so_far);
     }
@@ -148,6 +153,39 @@ pub stops_on : (words : List ℕ) (at : ℕ) (old : LetterView) (why : Option Le
     ≡ total → total ≡ letter_to old why
 stops_on words at old why total e so_far = sym so_far
     ∙ letter_on-stops old (at + 1) (drop at words) why e
+
+-- ---- parts of one codeword
+
+-- A turn of the loop that takes parts of one codeword keeps to what is read in all of a letter.
+pub one_word_said : (words : List ℕ) (start at word : ℕ) (first old new : List Item) → IsBytes words
+    → drop at words ≡ word ∷ drop (at + 1) words → IsOneWordTaken true old new word
+    → ((marks : List Mark) → letter_on (items_with marks old) (at + 1) (drop at words)
+    ≡ letter_on (items_with marks first) (start + 1) (drop start words))
+    → (marks : List Mark) → letter_on (items_with marks new) (at + 1 + 1) (drop (at + 1) words)
+    ≡ letter_on (items_with marks first) (start + 1) (drop start words)
+one_word_said words start at word first old new fit here taken so_far marks =
+    let more = drop (at + 1) words in
+    let took = taken Wide (at + 1) more in
+    let behind : first_letter_part (at + 1) (word ∷ more) ≡ Takes 1 (Items took.0) =
+    as_part (at + 1) word more (no_eci (at + 1) word 1 more took.0 took.1) ∙ ap as_said took.1 in
+    let found : first_letter_part (at + 1) (drop at words) ≡ Takes 1 (Items took.0) =
+    ap (first_letter_part (at + 1)) here ∙ behind in
+    let once = letter_on-takes (items_with marks old) (at + 1) (drop at words) 1 (Items took.0)
+    (letter_part_sound.fits at words fit) found in
+    let behind_it = subst (λ (r : List ℕ). letter_on (items_with marks old) (at + 1) (drop at words)
+    ≡ letter_on (with_said (items_with marks old) (Items took.0)) (at + 1 + 1) r) (drop-drop 1 at words) once in
+    rw took.2 (sym behind_it ∙ so_far marks)
+
+-- Behind parts of one codeword there is room for what is left.
+pub one_words_leave : (most : ℕ) (words : List ℕ) (at to : ℕ) (old new : List Item) (marks : List Mark)
+    → IsContentAt most words at (items_with marks old) → at ≤ to → length old ≤ length new
+    → length new + 2 * at ≤ length old + 2 * to → IsContentAt most words to (items_with marks new)
+one_words_leave most words at to old new marks v on more few = record {
+  item_room = omega (arith, v.item_room, few);
+  mark_room = omega (arith, v.mark_room, on);
+  eci_left = omega (arith, v.eci_left, no_more_left at to words on);
+  in_order = more_items 0 (length old) (length new) marks v.in_order more;
+}
 
 -- ---- one part
 

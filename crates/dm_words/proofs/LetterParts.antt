@@ -111,7 +111,7 @@ as_part place w more other = by_test (w == 241) refl where
   by_test false e = refl
 
 -- No part of a message begins with ECI.
-no_eci : (place w n : ℕ) (more : List ℕ) (items : List Item) → first_part Wide place (w ∷ more) ≡ Takes n items → w
+pub no_eci : (place w n : ℕ) (more : List ℕ) (items : List Item) → first_part Wide place (w ∷ more) ≡ Takes n items → w
     ≡ 241 → ⊥
 no_eci place w n more items e is =
     let there : first_part Wide place (241 ∷ more)

@@ -20,6 +20,7 @@ use Rattle.dm_words.proofs.Pairs.{IsBytes}
 use Rattle.dm_words.proofs.Openings as openings
 use Rattle.dm_words.proofs.Openings.{OpeningJudged}
 use Rattle.dm_words.proofs.Marks.{more_items}
+use Rattle.dm_words.proofs.EciCounts.{no_more_behind}
 use Rattle.dm_words.proofs.SaidLetters.{said_is_letter}
 use Rattle.dm_words.proofs.SpelledBounds.{room_of_two}
 use Rattle.dm_words.proofs.WholeLetters.{reads, spelled_reads, refused_reads}
@@ -82,6 +83,7 @@ begins_at most words o before items none marks e le message empty is same =
       record {
         item_room = rw all (omega (arith, r));
         mark_room = rw no_mark (omega arith);
+        eci_left = rw no_mark (omega (arith, no_more_behind o.count words));
         in_order = rw no_mark (omega arith);
       },
       rw (all, no_mark) refl,

@@ -18,20 +18,24 @@ use Rattle.dm_words.specs.Joined.{Piece, spelled, whats, AreJoined}
 use Rattle.dm_words.specs.Letters.{LetterView, AreMarks, Said, Items, Number, IsLetterPart, mark, AreLetterParts}
 use Rattle.dm_words.specs.Letters.{said_items, said_marks, AreOpened, headed, framed, said_letter, SpellsLetter}
 use Rattle.dm_words.specs.LetterForm.{ascii_with_marks}
-use Rattle.dm_words.specs.Macros.{macro_text}
+use Rattle.dm_words.specs.Macros.{macro_text, BeginsFnc1, FramesFnc1}
 use Rattle.dm_words.specs.Pads.{pads, padded}
+use Rattle.dm_words.specs.Plain.{IsPlainSaid}
+use Rattle.dm_words.specs.Plain as plainly
 use Rattle.dm_words.specs.Smallest.{ArePads}
 use Rattle.dm_words.specs.SmallestLetters.{SaysThenPads, of_letter}
 use Rattle.dm_words.specs.inner.LetterCosts.{AreSaid, view_of}
 use Rattle.dm_words.specs.inner.Written.{NoUnlatchFirst, ArePartsWritten}
 use Rattle.dm_words.proofs.AsciiWords.{AreItems, pads_end}
 use Rattle.dm_words.proofs.Designators.{designator_says}
+use Rattle.dm_words.proofs.Frames.{frames_not}
 use Rattle.dm_words.proofs.Heads.{head_says}
-use Rattle.dm_words.proofs.LetterForms.{parts_of, free_joined}
+use Rattle.dm_words.proofs.LetterForms.{parts_of, free_joined, all_said}
 use Rattle.dm_words.proofs.PadWords.{pads_are}
 use Rattle.dm_words.proofs.Pieces.{spelled-append, whats-append}
 use Rattle.dm_words.proofs.SmallestSymbols.{filled, pads_begin}
-use Rattle.dm_words.proofs.WideLetters.{as_said, said_words, same_items, no_marks, said_joined, opened_plain}
+use Rattle.dm_words.proofs.WideLetters.{as_said, said_words, same_items, no_marks, said_joined, plainly_joined}
+use Rattle.dm_words.proofs.WideLetters.{opened_plain}
 
 -- Nothing is written yet.
 pub nothing_said : (total : ℕ) (base : List ℕ) (seen : ℕ) → AreSaid total base base seen [] []
@@ -41,6 +45,7 @@ nothing_said total base seen = record {
   items_are = refl;
   marks_are = refl;
   right = λ after fills first. tt;
+  plain = λ after fills first. tt;
 }
 
 -- What is said, and more behind it.
@@ -62,19 +67,19 @@ marks-append seen (Number number ∷ a) b =
     ap (λ (r : List Mark). (let m : Mark = record { place = seen; number = number } in m) ∷ r) (marks-append seen a b)
 
 -- Parts that are joined, and more behind them.
-joined-append : (place : ℕ) (a b : List (Piece Said)) (after : List ℕ)
-    → AreJoined IsLetterPart place a (spelled b ++ after)
-    → AreJoined IsLetterPart (place + length (spelled a)) b after → AreJoined IsLetterPart place (a ++ b) after
-joined-append place [] b after h k =
-    let e : place + 0 ≡ place = omega arith in subst (λ (p : ℕ). AreJoined IsLetterPart p b after) e k
-joined-append place (p ∷ a) b after h k =
+joined-append : (R : ℕ → List ℕ → List ℕ → Said → Type 0) (place : ℕ) (a b : List (Piece Said)) (after : List ℕ)
+    → AreJoined R place a (spelled b ++ after)
+    → AreJoined R (place + length (spelled a)) b after → AreJoined R place (a ++ b) after
+joined-append R place [] b after h k =
+    let e : place + 0 ≡ place = omega arith in subst (λ (p : ℕ). AreJoined R p b after) e k
+joined-append R place (p ∷ a) b after h k =
     let all : spelled a ++ (spelled b ++ after) ≡ spelled (a ++ b) ++ after =
     sym (append_assoc (spelled a) (spelled b) after) ∙ ap (λ (l : List ℕ). l ++ after) (sym (spelled-append a b)) in
     let there : place + length (p.words ++ spelled a) ≡ (place + length p.words) + length (spelled a) =
     omega (arith, length-append p.words (spelled a)) in (
-      subst (λ (l : List ℕ). IsLetterPart place p.words l p.what) all h.0,
-      joined-append (place + length p.words) a b after h.1
-          (subst (λ (q : ℕ). AreJoined IsLetterPart q b after) there k),
+      subst (λ (l : List ℕ). R place p.words l p.what) all h.0,
+      joined-append R (place + length p.words) a b after h.1
+          (subst (λ (q : ℕ). AreJoined R q b after) there k),
     )
 
 -- More parts are written.
@@ -82,7 +87,8 @@ said_more : (total : ℕ) (base old new : List ℕ) (seen : ℕ) (items : List I
     (more : List (Piece Said))
     → AreSaid total base old seen items marks → new ≡ old ++ spelled more
     → ((after : List ℕ) → length new + length after ≡ total → NoUnlatchFirst after
-    → AreJoined IsLetterPart (length old + 1) more after × NoUnlatchFirst (spelled more ++ after))
+    → AreJoined IsLetterPart (length old + 1) more after × AreJoined IsPlainSaid (length old + 1) more after
+    × NoUnlatchFirst (spelled more ++ after))
     → AreSaid total base new seen (items ++ said_items (whats more))
     (marks ++ said_marks (seen + length items) (whats more))
 said_more total base old new seen items marks more w is right = record {
@@ -96,19 +102,27 @@ said_more total base old new seen items marks more w is right = record {
       ∙ sym (marks-append seen (whats w.parts) (whats more)) ∙ ap (said_marks seen) (sym (whats-append w.parts more));
   right = λ after fills first.
       (let r = right after fills first in
-      let place : length old + 1 ≡ length base + 1 + length (spelled w.parts) =
-      omega (arith, ap length w.whole, length-append base (spelled w.parts)) in
-      joined-append (length base + 1) w.parts more after
-      (w.right (spelled more ++ after)
-      (omega (
-        arith,
-        fills,
-        ap length is,
-        length-append old (spelled more),
-        length-append (spelled more) after,
-      )) r.1)
+      joined-append IsLetterPart (length base + 1) w.parts more after
+      (w.right (spelled more ++ after) (fills_so after fills) r.2)
       (subst (λ (p : ℕ). AreJoined IsLetterPart p more after) place r.0));
-}
+  plain = λ after fills first.
+      (let r = right after fills first in
+      joined-append IsPlainSaid (length base + 1) w.parts more after
+      (w.plain (spelled more ++ after) (fills_so after fills) r.2)
+      (subst (λ (p : ℕ). AreJoined IsPlainSaid p more after) place r.1));
+} where
+  place : length old + 1 ≡ length base + 1 + length (spelled w.parts)
+  place = omega (arith, ap length w.whole, length-append base (spelled w.parts))
+
+  fills_so : (after : List ℕ) → length new + length after ≡ total
+      → length old + length (spelled more ++ after) ≡ total
+  fills_so after fills = omega (
+    arith,
+    fills,
+    ap length is,
+    length-append old (spelled more),
+    length-append (spelled more) after,
+  )
 
 -- The parts of a text are written.
 pub text_said : (total : ℕ) (base old new : List ℕ) (seen : ℕ) (items text : List Item) (marks : List Mark)
@@ -121,6 +135,7 @@ text_said total base old new seen items text marks w t =
     (t.whole ∙ ap (λ (l : List ℕ). old ++ l) (sym words))
     (λ after fills first. (
       said_joined (length old + 1) t.parts after (t.right after fills first),
+      plainly_joined (length old + 1) t.parts after (t.plain after fills first),
       subst (λ (l : List ℕ). NoUnlatchFirst (l ++ after)) (sym words) (t.begins after first),
     )) in
     subst (λ (l : List Item). AreSaid total base new seen (items ++ l) marks) (same_items t.parts ∙ sym t.items_are)
@@ -139,6 +154,7 @@ mark_said total base old new seen number items marks w assigned is =
     let a = said_more total base old new seen items marks more w (is ∙ ap (λ (l : List ℕ). old ++ l) (sym all))
     (λ after fills first. (
       (mark (designator number) number (designator_says number assigned) refl refl, tt),
+      (plainly.mark (designator number) number (designator_says number assigned) refl refl, tt),
       λ e. absurd (omega (arith, e)),
     )) in
     subst (λ (l : List Item). AreSaid total base new seen l
@@ -192,7 +208,8 @@ form_said total base new items marks fit are is =
       whole = is ∙ ap (λ (l : List ℕ). base ++ l) h.whole;
       items_are = sym h.items_are;
       marks_are = sym h.marks_are;
-      right = λ after fills first. free_joined (length base + 1) h.parts after h.free;
+      right = λ after fills first. free_joined IsLetterPart (length base + 1) h.parts after (all_said h.parts h.free);
+      plain = λ after fills first. free_joined IsPlainSaid (length base + 1) h.parts after h.free;
     }
 
 -- ---- the whole
@@ -205,6 +222,7 @@ record IsPadded (count : ℕ) (base new : List ℕ) (seen : ℕ) (items : List I
   parts : AreLetterParts (length base + 1) more said
   items_are : items ≡ said_items said
   marks_are : marks ≡ said_marks seen said
+  plain : AreJoined IsPlainSaid (length base + 1) parts.parts parts.after
   pads_are : ArePads (padded new count) parts.after
 
 padded_parts : (count : ℕ) (base new : List ℕ) (seen : ℕ) (items : List Item) (marks : List Mark)
@@ -226,24 +244,42 @@ padded_parts count base new seen items marks w fits =
       parts = parts;
       items_are = w.items_are;
       marks_are = w.marks_are;
+      plain = w.plain after (filled new count fits) (pads_begin (length new + 1) (count - length new));
       pads_are = pads_are new count;
     }
+
+-- The words say a letter in plain parts, with pads behind them.
+pub record SaysPlainly (words : List ℕ) (l : LetterView) : Type 0 where
+  pub spells : SpellsLetter words l
+  pub plain : AreJoined IsPlainSaid spells.place spells.parts.parts spells.parts.after
+  pub macro_first : (digit : ℕ) → spells.opening ≡ Framed digit → spells.place ≡ 2
+  pub no_fnc1 : (digit : ℕ) → spells.opening ≡ Framed digit → FramesFnc1 l.items → ⊥
+  pub pads_are : ArePads words spells.parts.after
+
+-- So they say it, with pads behind them.
+pub says_so : (words : List ℕ) (l : LetterView) → SaysPlainly words l → SaysThenPads Wide words l
+says_so words l p = of_letter refl p.spells p.pads_are
 
 -- An opening and parts say a letter, with pads behind them.
 says_padded : (words : List ℕ) (l : LetterView) (opening : Opening) (place : ℕ) (more : List ℕ) (said : List Said)
     → AreOpened words opening place more → (parts : AreLetterParts place more said) → l ≡ said_letter opening said
-    → ArePads words parts.after → SaysThenPads Wide words l
-says_padded words l opening place more said opened parts is pads =
-    let s : SpellsLetter words l = record {
-      opening = opening;
-      place = place;
-      more = more;
-      opened = opened;
-      said = said;
-      parts = parts;
-      letter_is = is;
-    } in
-    of_letter refl s pads
+    → ((digit : ℕ) → opening ≡ Framed digit → (place ≡ 2) × (FramesFnc1 l.items → ⊥))
+    → AreJoined IsPlainSaid place parts.parts parts.after → ArePads words parts.after → SaysPlainly words l
+says_padded words l opening place more said opened parts is first plain pads = record {
+  spells = record {
+    opening = opening;
+    place = place;
+    more = more;
+    opened = opened;
+    said = said;
+    parts = parts;
+    letter_is = is;
+  };
+  plain = plain;
+  macro_first = λ digit e. (first digit e).0;
+  no_fnc1 = λ digit e. (first digit e).1;
+  pads_are = pads;
+}
 
 -- A letter is its head, items and marks.
 view_is : (head : Option Head) (items other : List Item) (marks those : List Mark) → items ≡ other → marks ≡ those
@@ -252,9 +288,9 @@ view_is head items other marks those i m =
     ap (λ (l : List Item). view_of head l marks) i ∙ ap (λ (l : List Mark). view_of head other l) m
 
 -- Behind nothing they say a letter without a head.
-says_plain : (count : ℕ) (new : List ℕ) (items : List Item) (marks : List Mark)
+pub says_plain : (count : ℕ) (new : List ℕ) (items : List Item) (marks : List Mark)
     → AreSaid count [] new 0 items marks → length new ≤ count
-    → SaysThenPads Wide (padded new count) (view_of None items marks)
+    → SaysPlainly (padded new count) (view_of None items marks)
 says_plain count new items marks w fits =
     let p = padded_parts count [] new 0 items marks w fits in
     let here : AreLetterParts 1 p.more p.said = p.parts in
@@ -262,12 +298,12 @@ says_plain count new items marks w fits =
     (opened_plain (padded new count) p.more p.said p.whole here) here
     (view_is None items (said_items p.said ++ []) marks (said_marks 0 p.said)
     (p.items_are ∙ sym (append-nil (said_items p.said))) p.marks_are)
-    p.pads_are
+    (λ digit e. absurd cc) p.plain p.pads_are
 
 -- Behind a head they say a letter with it.
 says_headed : (count : ℕ) (new : List ℕ) (head : Head) (items : List Item) (marks : List Mark) → IsHead (Some head)
     → AreSaid count (head_words (Some head)) new 0 items marks → length new ≤ count
-    → SaysThenPads Wide (padded new count) (view_of (Some head) items marks)
+    → SaysPlainly (padded new count) (view_of (Some head) items marks)
 says_headed count new head items marks right w fits =
     let first = head_words (Some head) in
     let p = padded_parts count first new 0 items marks w fits in
@@ -281,12 +317,12 @@ says_headed count new head items marks right w fits =
     p.parts
     (view_is (Some head) items (said_items p.said ++ []) marks (said_marks 0 p.said)
     (p.items_are ∙ sym (append-nil (said_items p.said))) p.marks_are)
-    p.pads_are
+    (λ digit e. absurd cc) p.plain p.pads_are
 
 -- Behind the codewords of a head, or none, they say a letter with that.
 pub says_by_head : (count : ℕ) (base new : List ℕ) (head : Option Head) (items : List Item) (marks : List Mark)
     → IsHead head → base ≡ head_words head → AreSaid count base new 0 items marks → length new ≤ count
-    → SaysThenPads Wide (padded new count) (view_of head items marks)
+    → SaysPlainly (padded new count) (view_of head items marks)
 says_by_head count base new None items marks right is w fits =
     says_plain count new items marks (subst (λ (b : List ℕ). AreSaid count b new 0 items marks) is w) fits
 says_by_head count base new (Some head) items marks right is w fits =
@@ -296,9 +332,9 @@ says_by_head count base new (Some head) items marks right is w fits =
 -- Behind a macro they say a letter whose items it frames.
 pub says_framed : (count word digit : ℕ) (base new : List ℕ) (items text : List Item) (marks : List Mark)
     → codeword_of word ≡ Some (codeword.Macro digit) → items ≡ macro_text digit text → base ≡ word ∷ []
-    → AreSaid count base new 7 text marks → length new ≤ count
-    → SaysThenPads Wide (padded new count) (view_of None items marks)
-says_framed count word digit base new items text marks k is one w fits =
+    → AreSaid count base new 7 text marks → (BeginsFnc1 text → ⊥) → length new ≤ count
+    → SaysPlainly (padded new count) (view_of None items marks)
+says_framed count word digit base new items text marks k is one w none fits =
     let p = padded_parts count (word ∷ []) new 7 text marks
     (subst (λ (b : List ℕ). AreSaid count b new 7 text marks) one w) fits in
     says_padded (padded new count) (view_of None items marks) (Framed digit) 2 p.more p.said
@@ -311,4 +347,4 @@ says_framed count word digit base new items text marks k is one w fits =
     p.parts
     (view_is None items (macro_text digit (said_items p.said)) marks (said_marks 7 p.said)
     (is ∙ ap (macro_text digit) p.items_are) p.marks_are)
-    p.pads_are
+    (λ other e. (refl, frames_not items digit text is none)) p.plain p.pads_are

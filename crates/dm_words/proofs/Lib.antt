@@ -3,6 +3,7 @@ mod Designators
 mod Heads
 mod Openings
 mod Marks
+mod EciCounts
 mod LetterParts
 mod Fnc1Places
 mod WholeLetters
@@ -12,6 +13,7 @@ mod DesignationLaws
 mod DesignationLoops
 mod LetterReadings
 mod WideLetters
+mod PlainParts
 mod LetterForms
 mod LetterExtents
 mod LetterBytes
@@ -47,6 +49,7 @@ mod CostBounds
 mod CostLanes
 mod LeastLanes
 mod Plans
+mod Exchanges
 mod RunWritten
 mod RunBudget
 mod PartsWritten
@@ -56,11 +59,15 @@ mod GroupBudget
 mod SegmentWritten
 mod PartBudget
 mod UnitWritten
+mod SignParts
 mod Frames
 mod SmallestSymbols
 mod SmallestLaws
 mod MarkedCosts
 mod LetterBounds
 mod LetterWritten
+mod Signs
+mod PlainForms
+mod NormalPlain
 mod SmallestLetters
 pub mod Exported

@@ -60,7 +60,7 @@ StartAt place [] = Unit {0}
 StartAt place (m ∷ marks) = place ≤ m.place
 
 -- Marks in order do.
-start_at : (place most : ℕ) (marks : List Mark) → AreMarks place most marks → StartAt place marks
+pub start_at : (place most : ℕ) (marks : List Mark) → AreMarks place most marks → StartAt place marks
 start_at place most [] are = tt
 start_at place most (m ∷ marks) are = are.0
 

@@ -18,8 +18,8 @@ use Rattle.dm_words.specs.Codewords.{codeword_of, unlatch_word}
 use Rattle.dm_words.specs.Heads.{SpellsHead, programming, appended, BeginsNoHead}
 use Rattle.dm_words.specs.Letters.{AreEmptyRuns, AreFrame, BeginsFrame, BeginsWithHeadWord, IsOpening, headed, framed}
 use Rattle.dm_words.specs.Letters.{plain}
-use Rattle.dm_words.specs.inner.Scan.Prefixes.{digit_by}
-use Rattle.dm_words.specs.inner.LetterScan.{first_head, head_length, is_latch, moved, is_empty_run, frame_by}
+use Rattle.dm_words.specs.inner.Scan.Prefixes.{digit_by, is_one_word, begins_with_one_word}
+use Rattle.dm_words.specs.inner.LetterScan.{append_by, first_head, head_length, is_latch, moved, is_empty_run, frame_by}
 use Rattle.dm_words.specs.inner.LetterScan.{first_frame, begins_append, opened_by, opened}
 use Rattle.dm_words.proofs.WholeReading.{digit_is}
 use Rattle.dm_words.proofs.Heads as heads
@@ -379,3 +379,61 @@ none_at_end words at total e so_far = by_more (drop at words) refl where
   by_more : (more : List ℕ) → drop at words ≡ more → None ≡ total
   by_more [] here = sym (so_far ∙ rw here refl)
   by_more (n ∷ more) here = (let there = at_first words at n more here in absurd cc)
+
+-- ---- a first codeword that is a part by itself
+
+-- A codeword that is a part by itself is neither a macro nor a latch.
+alone_is : (k : Option Codeword) → is_one_word k ≡ true → (digit_by k ≡ None) × (is_latch k ≡ false)
+alone_is (Some (codeword.Character b)) e = (refl, refl)
+alone_is (Some (codeword.Digits n)) e = (refl, refl)
+alone_is (Some codeword.Pad) e = absurd cc
+alone_is (Some (codeword.Latch set)) e = absurd cc
+alone_is (Some codeword.Base256) e = absurd cc
+alone_is (Some codeword.Fnc1) e = absurd cc
+alone_is (Some codeword.UpperShift) e = absurd cc
+alone_is (Some codeword.Edifact) e = absurd cc
+alone_is (Some (codeword.Macro d)) e = absurd cc
+alone_is (Some codeword.LeftOut) e = absurd cc
+alone_is None e = absurd cc
+
+-- It begins no frame.
+no_frame_alone : (w : ℕ) (more : List ℕ) → digit_by (codeword_of w) ≡ None → is_latch (codeword_of w) ≡ false
+    → first_frame (w ∷ more) ≡ None
+unfolding first_frame
+no_frame_alone w [] d l = ap (λ (o : Option ℕ). frame_by o None) d
+no_frame_alone w (next ∷ more) d l =
+    ap (λ (o : Option ℕ). frame_by o
+    (cond (is_empty_run (codeword_of w) (Some next)) (moved 2 (first_frame more)) None)) d
+    ∙ ap (λ (b : Bool). cond (b && (next == unlatch_word)) (moved 2 (first_frame more)) None) l
+
+-- It isn't structured append or reader programming.
+alone_other : (w v : ℕ) → is_one_word (codeword_of w) ≡ true → is_one_word (codeword_of v) ≡ false → w ≡ v → ⊥
+alone_other w v e f is = (let g : true ≡ false = sym e ∙ ap (λ (x : ℕ). is_one_word (codeword_of x)) is ∙ f in cc)
+
+no_append_alone : (w : ℕ) → (w ≡ 233 → ⊥) → (w == 233) ≡ false
+no_append_alone w other = by_test (w == 233) refl where
+  by_test : (t : Bool) → (w == 233) ≡ t → t ≡ false
+  by_test true e = absurd (other (grind (arith, nat_tests)))
+  by_test false e = refl
+
+no_head_alone : (w : ℕ) (more : List ℕ) → (w ≡ 233 → ⊥) → (w ≡ 234 → ⊥) → first_head (w ∷ more) ≡ None
+no_head_alone w more not_append not_programming = by_tests (w == 234) (w == 233) refl refl where
+  by_tests : (s t : Bool) → (w == 234) ≡ s → (w == 233) ≡ t
+      → cond s (Some head.Programming)
+      (cond t (append_by (slice_get (w ∷ more) 1) (slice_get (w ∷ more) 2) (slice_get (w ∷ more) 3)) None) ≡ None
+  by_tests true t e f = absurd (not_programming (grind (arith, nat_tests)))
+  by_tests false true e f = absurd (not_append (grind (arith, nat_tests)))
+  by_tests false false e f = refl
+
+-- Where it is the first one, nothing opens the letter.
+pub alone_opens : (words : List ℕ) → begins_with_one_word words ≡ true
+    → (let o : Opened = record { opening = Plain; count = 0 } in Some o) ≡ opened words
+alone_opens [] e = absurd cc
+alone_opens (w ∷ more) e =
+    let a = alone_is (codeword_of w) e in
+    let not_append : w ≡ 233 → ⊥ = alone_other w 233 e refl in
+    let not_programming : w ≡ 234 → ⊥ = alone_other w 234 e refl in
+    sym (ap (λ (h : Option Head). opened_by h (w == 233) (first_frame (w ∷ more)))
+    (no_head_alone w more not_append not_programming)
+    ∙ ap (λ (b : Bool). opened_by None b (first_frame (w ∷ more))) (no_append_alone w not_append)
+    ∙ ap (λ (f : Option Frame). opened_by None false f) (no_frame_alone w more a.0 a.1))

@@ -88,9 +88,10 @@ digits_taken extent place word number more old new e is =
     (Byte (48 + number / 10) ∷ Byte (48 + number % 10) ∷ [], rw e refl, is)
 
 -- After a turn of the loop that takes parts of one codeword, this is known.
-pub record OneWordLeaves (words : List ℕ) (start at : ℕ) (first new : List Item) : Type 0 where
+pub record OneWordLeaves (words : List ℕ) (start at : ℕ) (first old new : List Item) : Type 0 where
   pub in_range : at + 1 ≤ length words
   pub room : length new + 2 * start ≤ length first + 2 * (at + 1)
+  pub no_fewer : length old ≤ length new
   pub so_far : (extent : Extent) → read_on extent new (at + 1 + 1) (drop (at + 1) words)
       ≡ read_on extent first (start + 1) (drop start words)
 
@@ -100,7 +101,7 @@ pub one_word_turn : (words : List ℕ) (start at word : ℕ) (first old new : Li
     → length old + 2 * start ≤ length first + 2 * at → drop at words ≡ word ∷ drop (at + 1) words
     → IsOneWordTaken true old new word
     → ((extent : Extent) → read_on extent old (at + 1) (drop at words)
-    ≡ read_on extent first (start + 1) (drop start words)) → OneWordLeaves words start at first new
+    ≡ read_on extent first (start + 1) (drop start words)) → OneWordLeaves words start at first old new
 one_word_turn words start at word first old new fit in_range from room here taken so_far =
     let took : (extent : Extent) → IsPartTakenOrEnd (Ok (Some 1)) old new (first_part extent (at + 1) (drop at words)) =
     λ extent. subst (λ (r : List ℕ). IsPartTakenOrEnd (Ok (Some 1)) old new (first_part extent (at + 1) r)) (sym here)
@@ -111,6 +112,7 @@ one_word_turn words start at word first old new fit in_range from room here take
     record {
       in_range = usual.0;
       room = usual.1;
+      no_fewer = rw (took Usual).2 (omega (arith, length-append old (took Usual).0));
       so_far = λ extent.
           (goes_on extent words start at 1 first old new (read_on extent first (start + 1) (drop start words)) fit
           in_range from room (took extent) (so_far extent)).3;

@@ -6,6 +6,7 @@ use Rattle.dm_words.proofs.Pieces.{spelled-last, gathered-last}
 use Rattle.dm_words.specs.declared.extent.Extent.{Extent}
 use Rattle.dm_words.specs.declared.item.Item.{Item}
 use Rattle.dm_words.specs.Joined.{Piece, spelled, AreJoined}
+use Rattle.dm_words.specs.Plain.{IsPlainPart}
 use Rattle.dm_words.specs.Spells.{IsPart, IsEnd, AreParts}
 use Rattle.dm_words.specs.inner.Written.{NoUnlatchFirst, IsPartWritten, ArePartsWritten}
 
@@ -36,6 +37,7 @@ no_parts extent total base =
       items_are = refl;
       begins = λ after first. first;
       right = λ after fills first. tt;
+      plain = λ after fills first. tt;
     }
 
 -- No unlatch comes first where it doesn't in a part.
@@ -49,6 +51,11 @@ pub parts_more : (extent : Extent) (total : ℕ) (base old new : List ℕ) (item
     → ArePartsWritten extent total base new (items ++ more)
 parts_more extent total base old new items more w p =
     let piece : Piece (List Item) = record { words = p.part; what = more } in
+    let place : length old + 1 ≡ length base + 1 + length (spelled w.parts) =
+    omega (arith, ap length w.whole, length-append base (spelled w.parts)) in
+    let fills_so : (after : List ℕ) → length new + length after ≡ total
+    → length old + length (p.part ++ after) ≡ total =
+    λ after fills. omega (arith, fills, ap length p.whole, length-append old p.part, length-append p.part after) in
     record {
       parts = w.parts ++ piece ∷ [];
       whole = p.whole ∙ ap (λ (l : List ℕ). l ++ p.part) w.whole ∙ append_assoc base (spelled w.parts) p.part
@@ -60,14 +67,13 @@ parts_more extent total base old new items more w p =
           ∙ ap (λ (l : List ℕ). l ++ after) (sym (spelled-last w.parts piece)) in
           subst NoUnlatchFirst all (w.begins (p.part ++ after) (no_unlatch p.part after p.some p.begins)));
       right = λ after fills first.
-          (let place : length old + 1 ≡ length base + 1 + length (spelled w.parts) =
-          omega (arith, ap length w.whole, length-append base (spelled w.parts)) in
           joined-last (IsPart extent) (length base + 1) w.parts piece after
-          (w.right (p.part
-          ++ after)
-          (omega (arith, fills, ap length p.whole, length-append old p.part, length-append p.part after))
-          (no_unlatch p.part after p.some p.begins))
-          (subst (λ (k : ℕ). IsPart extent k p.part after more) place (p.right after fills first)));
+          (w.right (p.part ++ after) (fills_so after fills) (no_unlatch p.part after p.some p.begins))
+          (subst (λ (k : ℕ). IsPart extent k p.part after more) place (p.right after fills first));
+      plain = λ after fills first.
+          joined-last IsPlainPart (length base + 1) w.parts piece after
+          (w.plain (p.part ++ after) (fills_so after fills) (no_unlatch p.part after p.some p.begins))
+          (subst (λ (k : ℕ). IsPlainPart k p.part after more) place (p.plain after fills first));
     }
 
 -- Parts with an end behind them are parts.

@@ -1,6 +1,6 @@
 -- The plan and the cost that the loop finds are those of the definition.
 use Rattle.std.proofs.Common.{◌≡◌, ℕ, zero, suc, ◌+◌, ◌-◌, ◌*◌, ◌<◌, ◌≤◌, List, [], ◌∷◌, length, drop, get_or, refl}
-use Rattle.std.proofs.Common.{sym, ap, subst, ◌∙◌, ◌++◌, ◌&&◌, arith, Bool, true, false, cond, ltb, inl, inr}
+use Rattle.std.proofs.Common.{◌⊎◌, sym, ap, subst, ◌∙◌, ◌++◌, ◌&&◌, arith, Bool, true, false, cond, ltb, inl, inr}
 use Rattle.std.specs.Prelude.{nat_le, ◌==◌}
 use Rattle.std.proofs.lemmas.Bool.{cases_lt}
 use Rattle.std.proofs.lemmas.List.{append-nil, at_drop_all, drop-drop, get_or-set_same, get_or-set_other, length-append}
@@ -17,7 +17,7 @@ use Rattle.dm_words.specs.inner.Costs.{Groups}
 use Rattle.dm_words.specs.inner.Costs.{Going}
 use Rattle.dm_words.specs.inner.Costs.{Row}
 use Rattle.dm_words.specs.declared.smallest.plan.Begin.{Begin}
-use Rattle.dm_words.specs.declared.smallest.plan.Begin.TheVariants.{One}
+use Rattle.dm_words.specs.declared.smallest.plan.Begin.TheVariants.{One, Two}
 use Rattle.dm_words.specs.inner.Costs.{Step}
 use Rattle.dm_words.specs.inner.Costs.{never, is_basic, low_values, shift_values, set_values, has_edifact, stay}
 use Rattle.dm_words.specs.inner.Costs.{stay_edifact, ArePaid, ArePaidGroups, least, cost_of, going_over, with_ascii}
@@ -169,24 +169,33 @@ within setting m at r few small is shorter =
     } in
     subst (IsWithin 3200) (sym is) w
 
+-- Of equally cheap ways ASCII is taken.
+pub record TakesAscii (x : Item) (pair : Bool) (next : Row) (going : Going) (cost : ℕ) (begins : Begin) : Type 0 where
+  pub two : cost_of x pair next going Two ≡ cost → begins ≡ Two
+  pub one : cost_of x pair next going One ≡ cost → (begins ≡ One) ⊎ (begins ≡ Two)
+
 -- What is found of an item is right.
 right_here : (setting : Setting) (x : Item) (rest : List Item) (begins : Begin) (step : Step)
     → let next = row setting rest in let pair = pair_first (x ∷ rest) in let going = going_over setting.extent x next in
-    cost_of x pair next going begins ≡ least x pair next going → step ≡ step_of (least x pair next going) begins going
+    cost_of x pair next going begins ≡ least x pair next going
+    → TakesAscii x pair next going (least x pair next going) begins
+    → step ≡ step_of (least x pair next going) begins going
     → IsRightStep setting (x ∷ rest) step
 unfolding row
-right_here setting x rest begins step chosen is =
-    subst (IsRightStep setting (x ∷ rest)) (sym is) (record { begins = sym chosen; ends = refl })
+right_here setting x rest begins step chosen takes is =
+    subst (IsRightStep setting (x ∷ rest)) (sym is)
+    (record { begins = sym chosen; pair = λ e. takes.two (sym e); one = λ e. takes.one (sym e); ends = refl })
 
 -- What is found of an item and what follows is right.
 turn_here : (setting : Setting) (x : Item) (rest : List Item) (next new : Row) (pair : Bool) (going : Going)
     (begins : Begin) (cost : ℕ) (step : Step)
     → next ≡ row setting rest → pair ≡ pair_first (x ∷ rest) → going ≡ going_over setting.extent x next → cost
-    ≡ least x pair next going → cost_of x pair next going begins ≡ cost
+    ≡ least x pair next going → cost_of x pair next going begins ≡ cost → TakesAscii x pair next going cost begins
     → step ≡ step_of cost begins going → new ≡ with_ascii cost next.ascii going
     → (new ≡ row setting (x ∷ rest)) × IsRightStep setting (x ∷ rest) step
 unfolding row
-turn_here setting x rest next new pair going begins cost step is_next is_pair is_going is_cost chosen is_step is_new =
+turn_here setting x rest next new pair going begins cost step is_next is_pair is_going is_cost chosen takes is_step
+    is_new =
     let right : cost_of x (pair_first (x ∷ rest)) (row setting rest)
     (going_over setting.extent x (row setting rest)) begins
     ≡ least x (pair_first (x ∷ rest)) (row setting rest) (going_over setting.extent x (row setting rest)) =
@@ -196,7 +205,10 @@ turn_here setting x rest next new pair going begins cost step is_next is_pair is
     begins
     (going_over setting.extent x (row setting rest)) =
     (rw (is_cost, is_going, is_next, is_pair) at is_step) in
-    (rw (is_new, is_cost, is_going, is_next, is_pair) refl, right_here setting x rest begins step right steps)
+    let ascii : TakesAscii x (pair_first (x ∷ rest)) (row setting rest) (going_over setting.extent x (row setting rest))
+    (least x (pair_first (x ∷ rest)) (row setting rest) (going_over setting.extent x (row setting rest))) begins =
+    (rw (is_cost, is_going, is_next, is_pair) at takes) in
+    (rw (is_new, is_cost, is_going, is_next, is_pair) refl, right_here setting x rest begins step right ascii steps)
 
 -- No digit stands behind the last item.
 pub digit_last : (m : List Item) → digit_first (drop (length m) m) ≡ false
@@ -215,18 +227,18 @@ pub turn : (setting : Setting) (m : List Item) (at : ℕ) (x d : Item) (next new
     → 0 < at → at ≤ length m → x ≡ get_or m (at - 1) d
     → next ≡ row setting (drop at m) → pair ≡ pair_first (x ∷ drop at m)
     → going ≡ going_over setting.extent x next → cost
-    ≡ least x pair next going → cost_of x pair next going begins ≡ cost
+    ≡ least x pair next going → cost_of x pair next going begins ≡ cost → TakesAscii x pair next going cost begins
     → step ≡ step_of cost begins going → new ≡ with_ascii cost next.ascii going
     → (new ≡ row setting (drop (at - 1) m)) × IsRightStep setting (drop (at - 1) m) step
 turn setting m at x d next new pair going begins cost step some within is_x is_next is_pair is_going is_cost chosen
-    is_step is_new =
+    takes is_step is_new =
     let k : suc (at - 1) ≡ at = omega (arith, some) in
     let cons : drop (at - 1) m ≡ x ∷ drop at m = drop-cons m (at - 1) d (omega (arith, some, within))
     ∙ ap (λ (i : ℕ). get_or m (at - 1) d ∷ drop i m) k ∙ ap (λ (y : Item). y ∷ drop at m) (sym is_x) in
     let P : List Item → Type 0 = λ r. (new ≡ row setting r) × IsRightStep setting r step in
     subst P (sym cons)
     (turn_here setting x (drop at m) next new pair going begins cost step is_next is_pair is_going is_cost chosen
-    is_step is_new)
+    takes is_step is_new)
 
 -- A byte by itself takes so many codewords of ASCII.
 single_length : (b : ℕ) → length (single b) ≡ unit_cost (Byte b)
@@ -301,15 +313,16 @@ plan_more setting m at old step some within room right others i other from to =
     ]
 
 -- The first step of the plan that is written is that behind the last item.
-pub plan_first : (setting : Setting) (m : List Item) (old : List StepBits) (begins : Begin) (step : StepBits)
-    → length m < length old → step_in step ≡ step_of setting.behind begins (none_going setting.behind)
+pub plan_first : (setting : Setting) (m : List Item) (old : List StepBits) (step : StepBits)
+    → length m < length old → step_in step ≡ step_of setting.behind Two (none_going setting.behind)
     → (i : ℕ) (other : StepBits) → length m ≤ i → i ≤ length m
     → IsRightStep setting (drop i m) (step_in (get_or (set old (length m) step) i other))
 unfolding row
-plan_first setting m old begins step room is i other from to =
+plan_first setting m old step room is i other from to =
     let all : drop (length m) m ≡ [] = at_drop_all (λ (l : List Item). l) m (length m) (omega arith) in
     let right : IsRightStep setting [] (step_in step) =
-    subst (IsRightStep setting []) (sym is) (record { begins = tt; ends = refl }) in
+    subst (IsRightStep setting []) (sym is)
+    (record { begins = tt; pair = λ e. refl; one = λ e. inr refl; ends = refl }) in
     let here : IsRightStep setting (drop (length m) m) (step_in (get_or (set old (length m) step) (length m) other)) =
     subst (λ (s : StepBits). IsRightStep setting (drop (length m) m) (step_in s))
     (sym (get_or-set_same old (length m) step other room))

@@ -1,9 +1,10 @@
 -- The runs that are written are runs.
-use Rattle.std.proofs.Common.{◌≡◌, ℕ, ◌+◌, ◌-◌, ◌*◌, ◌/◌, ◌<◌, ◌≤◌, List, [], ◌∷◌, ◌++◌, length, take, get_or, add-one}
+use Rattle.std.proofs.Common.{◌≡◌, ℕ, ◌+◌, ◌-◌, ◌*◌, ◌/◌, ◌<◌, ◌≤◌, List, [], ◌∷◌, ◌++◌, length, take, drop, get_or}
+use Rattle.std.proofs.Common.{add-one}
 use Rattle.std.proofs.Common.{append_assoc, refl, sym, ap, subst, ◌∙◌, arith, Some, None, true, false}
 use Rattle.std.specs.List.{AllByRecursion}
 use Rattle.std.proofs.lemmas.Bool.Decides.{nat_tests}
-use Rattle.std.proofs.lemmas.List.{append-nil, length-append}
+use Rattle.std.proofs.lemmas.List.{append-nil, length-append, length-take, length-drop}
 use Rattle.std.proofs.Math.Seq.{take-suc}
 use Rattle.dm_words.proofs.Pieces.{all-append, spelled-append, spelled-last, whats-append, gathered-append}
 use Rattle.dm_words.proofs.Pieces.{gathered-last}
@@ -15,11 +16,13 @@ use Rattle.dm_words.specs.declared.c40.set.CodeSet.TheVariants.{C40, Text, X12}
 use Rattle.dm_words.specs.declared.c40.set.Shift.TheVariants.{Two}
 use Rattle.dm_words.specs.inner.Written.{Waiting}
 use Rattle.dm_words.specs.declared.extent.Extent.{Extent}
+use Rattle.dm_words.specs.declared.extent.Extent.TheVariants.{Usual}
 use Rattle.dm_words.specs.declared.codeword.Codeword.TheVariants as codeword
 use Rattle.dm_words.specs.Codewords.{codeword_of}
 use Rattle.dm_words.specs.Joined.{Piece, spelled, gathered, whats}
 use Rattle.dm_words.specs.Values.{IsUpperShift, IsSpelling, character, raised, filler, nothing}
 use Rattle.dm_words.specs.Runs.{IsPair, IsRun, IsRunEnd, unlatch, symbol_end, last_word}
+use Rattle.dm_words.specs.Plain as plainly
 use Rattle.dm_words.specs.Spells.{run}
 use Rattle.dm_words.specs.inner.Costs.{is_basic, set_values}
 use Rattle.dm_words.specs.inner.Written.{IsCharacterPushed, part_values, IsSmallPart, IsValuePushed, ArePushed}
@@ -178,32 +181,45 @@ run_more set old words words' p p' items x r i =
           (pushed_more (old ++ r.latch ∷ []) (spelled r.spellings) i.0 words words' p p' r.pushed i.2);
     }
 
+-- A run that went on has some items.
+pub run_some : (m : List Item) (at next : ℕ) → at + 1 ≤ next → next ≤ length m
+    → 0 < length (take (next - at) (drop at m))
+run_some m at next from within =
+    omega (arith, length-take (next - at) (drop at m), length-drop at m, from, within)
+
+-- All values of a run spell items.
+abbrev IsWholeRun : Extent → CodeSet → List ℕ → List ℕ → List Item → Type 0
+IsWholeRun extent set words after items = (is : IsRun extent set words after items) × (is.values.filler ≡ [])
+
 -- A run that is whole is a run, whatever end follows.
-pub run_whole : (extent : Extent) (set : CodeSet) (old words : List ℕ) (items : List Item)
+pub run_whole : (set : CodeSet) (old words : List ℕ) (items : List Item)
     (r : IsRunSoFar set old words Waiting.Empty items)
-    → (pairs : List ℕ) × (words ≡ old ++ r.latch ∷ pairs) × ((end after : List ℕ) → IsRunEnd end after
-    → IsRun extent set (r.latch ∷ (pairs ++ end)) after items)
-run_whole extent set old words items r = (
+    → (pairs : List ℕ) × (words ≡ old ++ r.latch ∷ pairs) × ((extent : Extent) (end after : List ℕ) → IsRunEnd end after
+    → IsWholeRun extent set (r.latch ∷ (pairs ++ end)) after items)
+run_whole set old words items r = (
   spelled r.pushed.pairs,
   r.pushed.words_are ∙ append_assoc old (r.latch ∷ []) (spelled r.pushed.pairs),
-  λ end after is. record {
-    latch = r.latch;
-    is_latch = r.is_latch;
-    pairs = r.pushed.pairs;
-    each = r.pushed.each;
-    end = end;
-    ended = is;
-    whole = refl;
-    values = record {
-      spellings = r.spellings;
-      each = r.each;
-      filler = [];
-      ended = filler (nothing refl);
-      whole = sym (append-nil (gathered r.pushed.pairs)) ∙ sym r.pushed.values_are
-          ∙ sym (append-nil (spelled r.spellings));
-      items_are = r.items_are;
-    };
-  },
+  λ extent end after is. (
+    record {
+      latch = r.latch;
+      is_latch = r.is_latch;
+      pairs = r.pushed.pairs;
+      each = r.pushed.each;
+      end = end;
+      ended = is;
+      whole = refl;
+      values = record {
+        spellings = r.spellings;
+        each = r.each;
+        filler = [];
+        ended = filler (nothing refl);
+        whole = sym (append-nil (gathered r.pushed.pairs)) ∙ sym r.pushed.values_are
+            ∙ sym (append-nil (spelled r.spellings));
+        items_are = r.items_are;
+      };
+    },
+    refl,
+  ),
 )
 
 -- A latch isn't the unlatch.
@@ -213,38 +229,47 @@ latch_begins set l more is e = (let none : codeword_of l ≡ None = ap codeword_
 
 -- A run is written: with an unlatch.
 pub written_unlatch : (extent : Extent) (set : CodeSet) (total : ℕ) (old words new : List ℕ) (items : List Item)
-    (p : Waiting) → is_empty p ≡ true → IsRunSoFar set old words p items → new ≡ words ++ 254 ∷ []
+    (p : Waiting) → is_empty p ≡ true → 0 < length items → IsRunSoFar set old words p items → new ≡ words ++ 254 ∷ []
     → IsPartWritten extent total old new items
-written_unlatch extent set total old words new items Waiting.Empty e r is =
-    let w = run_whole extent set old words items r in
+written_unlatch extent set total old words new items Waiting.Empty e some r is =
+    let w = run_whole set old words items r in
     record {
       part = r.latch ∷ (w.0 ++ 254 ∷ []);
       some = omega arith;
       begins = latch_begins set r.latch (w.0 ++ 254 ∷ []) r.is_latch;
       whole = is ∙ ap (λ (l : List ℕ). l ++ 254 ∷ []) w.1 ∙ append_assoc old (r.latch ∷ w.0) (254 ∷ []);
-      right = λ after fills first. run set (w.2 (254 ∷ []) after (unlatch refl));
+      right = λ after fills first. run set (w.2 extent (254 ∷ []) after (unlatch refl)).0;
+      plain = λ after fills first. (
+          let q = w.2 Usual (254 ∷ []) after (unlatch refl) in
+          plainly.run set q.0 q.1 some
+          );
     }
-written_unlatch extent set total old words new items (Waiting.One x) e r is = absurd cc
-written_unlatch extent set total old words new items (Waiting.Two x y) e r is = absurd cc
+written_unlatch extent set total old words new items (Waiting.One x) e some r is = absurd cc
+written_unlatch extent set total old words new items (Waiting.Two x y) e some r is = absurd cc
 
 -- A run is written: with none, where at most one codeword is left.
 pub written_bare : (extent : Extent) (set : CodeSet) (total : ℕ) (old words : List ℕ) (items : List Item) (p : Waiting)
-    → is_empty p ≡ true → total ≤ length words + 1 → IsRunSoFar set old words p items
+    → is_empty p ≡ true → 0 < length items → total ≤ length words + 1 → IsRunSoFar set old words p items
     → IsPartWritten extent total old words items
-written_bare extent set total old words items Waiting.Empty e few r =
-    let w = run_whole extent set old words items r in
+written_bare extent set total old words items Waiting.Empty e some few r =
+    let w = run_whole set old words items r in
     record {
       part = r.latch ∷ w.0;
       some = omega arith;
       begins = latch_begins set r.latch w.0 r.is_latch;
       whole = w.1;
       right = λ after fills first. run set
-          (subst (λ (l : List ℕ). IsRun extent set (r.latch ∷ l) after items) (append-nil w.0)
-          (w.2 [] after (by_after after (omega (arith, fills, few)) first)));
+          (subst (λ (l : List ℕ). IsWholeRun extent set (r.latch ∷ l) after items) (append-nil w.0)
+          (w.2 extent [] after (by_after after (omega (arith, fills, few)) first))).0;
+      plain = λ after fills first. (
+          let q = subst (λ (l : List ℕ). IsWholeRun Usual set (r.latch ∷ l) after items) (append-nil w.0)
+          (w.2 Usual [] after (by_after after (omega (arith, fills, few)) first)) in
+          plainly.run set q.0 q.1 some
+          );
     } where
       by_after : (after : List ℕ) → length after ≤ 1 → NoUnlatchFirst after → IsRunEnd [] after
       by_after [] le first = symbol_end refl refl
       by_after (v ∷ []) le first = last_word v first refl refl
       by_after (v ∷ u ∷ more) le first = absurd (omega (arith, le))
-written_bare extent set total old words items (Waiting.One x) e few r = absurd cc
-written_bare extent set total old words items (Waiting.Two x y) e few r = absurd cc
+written_bare extent set total old words items (Waiting.One x) e some few r = absurd cc
+written_bare extent set total old words items (Waiting.Two x y) e some few r = absurd cc

@@ -8,8 +8,9 @@ use Rattle.std.proofs.lemmas.List.Elements.{recursion_from_All}
 use Rattle.dm_words.specs.declared.extent.Extent.{Extent}
 use Rattle.dm_words.specs.declared.item.Item.{Item}
 use Rattle.dm_words.specs.Messages.{byte_of, IsItem, IsMessage}
-use Rattle.dm_words.specs.Base256.{written, randomised, IsLengthField, to_the_end}
+use Rattle.dm_words.specs.Base256.{written, randomised, IsLengthField, IsSegment, to_the_end}
 use Rattle.dm_words.specs.NormalForm.{has_fnc1, length_numbers}
+use Rattle.dm_words.specs.Plain as plainly
 use Rattle.dm_words.specs.Spells.{segment}
 use Rattle.dm_words.specs.inner.Written.{IsFieldWritten, IsPartWritten}
 use Rattle.dm_words.proofs.Segments.{length-written}
@@ -18,30 +19,33 @@ use Rattle.dm_words.proofs.NormalForms.{segment_whole}
 
 -- A latch, a field and bytes were written.
 pub field_written : (extent : Extent) (total : ℕ) (old latched counted new field : List ℕ) (m : List Item)
-    → IsMessage m → has_fnc1 m ≡ false
+    → 0 < length m → IsMessage m → has_fnc1 m ≡ false
     → latched ≡ old ++ 231 ∷ [] → counted ≡ latched ++ written (length latched + 1) field → new ≡ counted
     ++ written (length counted + 1) (map byte_of m)
     → ((after : List ℕ) → length new + length after ≡ total → IsLengthField field (length (map byte_of m)) after)
     → IsPartWritten extent total old new m
-field_written extent total old latched counted new field m fit none latch count all counts =
+field_written extent total old latched counted new field m some fit none latch count all counts =
     let bytes = map byte_of m in
     let whole = segment_whole old latched counted new field bytes latch count all in
     let place : length old + 2 ≡ (length old + 1) + 1 = omega arith in
+    let is : (after : List ℕ) → length new + length after ≡ total
+    → IsSegment (length old + 1) (231 ∷ written (length old + 2) (field ++ bytes)) after m = λ after fills. record {
+      latch = 231;
+      is_latch = refl;
+      field = field;
+      bytes = bytes;
+      in_range = bytes_of_items m (recursion_from_All IsItem m fit);
+      counted = counts after fills;
+      whole = ap (λ (k : ℕ). 231 ∷ written k (field ++ bytes)) place;
+      items_are = bytes_are_items m none;
+    } in
     record {
       part = 231 ∷ written (length old + 2) (field ++ bytes);
       some = omega arith;
       begins = λ e. absurd (omega (arith, e));
       whole = whole;
-      right = λ after fills first. segment (record {
-        latch = 231;
-        is_latch = refl;
-        field = field;
-        bytes = bytes;
-        in_range = bytes_of_items m (recursion_from_All IsItem m fit);
-        counted = counts after fills;
-        whole = ap (λ (k : ℕ). 231 ∷ written k (field ++ bytes)) place;
-        items_are = bytes_are_items m none;
-      });
+      right = λ after fills first. segment (is after fills);
+      plain = λ after fills first. plainly.segment (is after fills) some;
     }
 
 -- The bytes take a codeword each.
@@ -118,12 +122,13 @@ field_of_count total count old new some most which room is = record {
   )
 
 -- A segment was written.
-pub segment_written : (extent : Extent) (total : ℕ) (old latched counted new : List ℕ) (m : List Item) → IsMessage m
+pub segment_written : (extent : Extent) (total : ℕ) (old latched counted new : List ℕ) (m : List Item)
+    → 0 < length m → IsMessage m
     → has_fnc1 m ≡ false → latched ≡ old ++ 231 ∷ []
     → (f : IsFieldWritten total (length m) latched counted) → new ≡ counted
     ++ written (length counted + 1) (map byte_of m) → IsPartWritten extent total old new m
-segment_written extent total old latched counted new m fit none latch f all =
+segment_written extent total old latched counted new m some fit none latch f all =
     let long = bytes_length counted new m all in
-    field_written extent total old latched counted new f.field m fit none latch f.words_are all
+    field_written extent total old latched counted new f.field m some fit none latch f.words_are all
     (λ after fills. subst (λ (n : ℕ). IsLengthField f.field n after) (sym (length-map m byte_of))
     (f.counts after (omega (arith, fills, long))))

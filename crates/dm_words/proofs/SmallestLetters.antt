@@ -12,9 +12,10 @@ use Rattle.dm_words.specs.declared.letters.mark.Mark.{Mark}
 use Rattle.dm_words.specs.declared.profile.Profile.TheVariants.{Ascii}
 use Rattle.dm_words.specs.Heads.{head_words}
 use Rattle.dm_words.specs.Letters.{LetterView}
-use Rattle.dm_words.specs.LetterForm.{form_by, letter_form, ascii_with_marks}
+use Rattle.dm_words.specs.LetterForm.{letter_form, ascii_with_marks}
 use Rattle.dm_words.specs.LetterExtents.{as_letter, SaysIn}
 use Rattle.dm_words.specs.Pads.{padded}
+use Rattle.dm_words.specs.Plain.{FramesNoFnc1, IsPlainForm}
 use Rattle.dm_words.specs.Smallest.{IsSmallestResult}
 use Rattle.dm_words.specs.SmallestLetters.{IsSmallestLetterFor, NoSizeSays, IsPlainestLetter, SaysThenPads, of_message}
 use Rattle.dm_words.specs.SmallestLetters.{of_letter, IsSmallestLetterResult}
@@ -26,6 +27,7 @@ use Rattle.dm_words.proofs.CostBounds.{no_fewer_words}
 use Rattle.dm_words.proofs.LetterBounds.{no_fewer_letter}
 use Rattle.dm_words.proofs.LetterExtents.{spelled_said, usual_spells}
 use Rattle.dm_words.proofs.PadWords.{length-padded}
+use Rattle.dm_words.proofs.PlainForms.{form_is}
 use Rattle.dm_words.proofs.SmallestLaws.{one_is_smaller}
 use Rattle.dm_words.proofs.SmallestSymbols.{none_smaller, none_has, padded_spells}
 
@@ -35,16 +37,16 @@ use Rattle.dm_words.proofs.SmallestSymbols.{none_smaller, none_has, padded_spell
 least_letter : (m : List Item) (cost : ℕ) → IsLeastCost Wide m cost → IsLeastLetterCost (as_letter m) cost
 least_letter m cost least = record {
   parts = omega (arith, least.parts);
-  framed = λ word digit text k none e marks. least.macros word digit text refl k e;
+  framed = λ word digit text k none e no_fnc1 marks. least.macros word digit text refl k e no_fnc1;
 }
 
--- No words that say a message as a letter are fewer than its least cost.
+-- No words that say a message as a letter, and have no macro before FNC1, are fewer than its least cost.
 no_fewer_message : (extent : Extent) (m : List Item) (cost : ℕ) → length m ≤ 3123 → IsLeastCost extent m cost
-    → (words : List ℕ) → SaysIn extent words (as_letter m) → cost ≤ length words
-no_fewer_message Usual m cost few least words says =
-    no_fewer_words Usual words m cost least (usual_spells words (as_letter m) says).1
-no_fewer_message Wide m cost few least words says =
-    no_fewer_letter Wide words (as_letter m) cost (omega (arith, few)) (least_letter m cost least) says
+    → (words : List ℕ) → FramesNoFnc1 words m × SaysIn extent words (as_letter m) → cost ≤ length words
+no_fewer_message Usual m cost few least words s =
+    no_fewer_words Usual words m cost least s.0 (usual_spells words (as_letter m) s.1).1
+no_fewer_message Wide m cost few least words s =
+    no_fewer_letter Wide words (as_letter m) cost (omega (arith, few)) (least_letter m cost least) s.0 s.1
 
 -- The smallest words of a message are those of it as a letter.
 pub message_letter : (extent : Extent) (choice : SizeChoice) (m : List Item) (result : Result SizeEntry TooLong)
@@ -60,9 +62,10 @@ message_letter extent choice m (Ok size) words few r c =
         says = spelled_said extent words m s.spells;
         taken = s.taken;
         sized = s.sized;
-        smallest = λ smaller other taken less sized says.
-            none_smaller (λ w. SaysIn extent w (as_letter m)) choice c.0 size smaller other lower c.2.smallest
-            c.2.narrowest taken less sized says;
+        form = s.form;
+        smallest = λ smaller other taken less sized framed says.
+            none_smaller (λ w. FramesNoFnc1 w m × SaysIn extent w (as_letter m)) choice c.0 size smaller other lower
+            c.2.smallest c.2.narrowest taken less sized (framed, says);
       };
       plainest = record {
         ascii = p.ascii;
@@ -70,15 +73,15 @@ message_letter extent choice m (Ok size) words few r c =
             (p.usual other same (usual_spells other (as_letter m) says).1) refl;
       };
       padded = of_message m refl r.padded;
-      too_long = λ err size other taken sized says. absurd cc;
+      too_long = λ err size other taken sized framed says. absurd cc;
     }
 message_letter extent choice m (Err fault) words few r c = record {
   smallest = tt;
   plainest = tt;
   padded = tt;
-  too_long = λ err size other taken sized says.
-      none_has (λ w. SaysIn extent w (as_letter m)) choice c.0 size other (no_fewer_message extent m c.0 few c.1) c.2
-      taken sized says;
+  too_long = λ err size other taken sized framed says.
+      none_has (λ w. FramesNoFnc1 w m × SaysIn extent w (as_letter m)) choice c.0 size other
+      (no_fewer_message extent m c.0 few c.1) c.2 taken sized (framed, says);
 }
 
 -- A letter without a head and marks is a message.
@@ -99,13 +102,6 @@ not_usual words l marked says =
     let plain : is_plain l.head l.marks ≡ true = ap (λ (k : LetterView). is_plain k.head k.marks) e in
     absurd cc
 
--- The normal form of one is its head, and its items with their marks.
-form_is : (head : Option Head) (items : List Item) (marks : List Mark) → is_plain head marks ≡ false
-    → form_by Ascii head items marks ≡ head_words head ++ ascii_with_marks 0 items marks
-form_is None items [] marked = absurd cc
-form_is None items (m ∷ marks) marked = refl
-form_is (Some head) items marks marked = refl
-
 -- With pads behind them or not, words say a letter.
 said_padded : (words : List ℕ) (l : LetterView) → SaysThenPads Wide words l → SaysIn Wide words l
 said_padded words l (of_message m is s) =
@@ -118,20 +114,22 @@ pub marked_smallest : (choice : SizeChoice) (l : LetterView) (cost count : ℕ) 
     → IsLeastSize choice cost size → count ≡ size.data_count → words ≡ padded new count → length new ≤ count
     → SaysThenPads Wide (padded new count) l
     → (length (head_words l.head ++ ascii_with_marks 0 l.items l.marks) ≤ count → new
-    ≡ head_words l.head ++ ascii_with_marks 0 l.items l.marks)
+    ≡ head_words l.head ++ ascii_with_marks 0 l.items l.marks) → IsPlainForm (padded new count) l
     → IsSmallestLetterResult Wide choice l (Ok size) words
-marked_smallest choice l cost count size new words few marked least fit counts is fits says ascii =
+marked_smallest choice l cost count size new words few marked least fit counts is fits says ascii written =
     let long : length words ≡ count = ap length is ∙ length-padded new count fits in
-    let form = form_is l.head l.items l.marks marked in
+    let form = form_is l.head l.items l.marks in
     let all : SaysThenPads Wide words l = subst (λ (w : List ℕ). SaysThenPads Wide w l) (sym is) says in
     record {
       smallest = record {
         says = said_padded words l all;
         taken = fit.taken;
         sized = long ∙ counts;
-        smallest = λ smaller other taken less sized other_says.
-            none_smaller (λ w. SaysIn Wide w l) choice cost size smaller other
-            (λ w s. no_fewer_letter Wide w l cost few least s) fit.smallest fit.narrowest taken less sized other_says;
+        form = subst (λ (w : List ℕ). IsPlainForm w l) (sym is) written;
+        smallest = λ smaller other taken less sized framed other_says.
+            none_smaller (λ w. FramesNoFnc1 w l.items × SaysIn Wide w l) choice cost size smaller other
+            (λ w s. no_fewer_letter Wide w l cost few least s.0 s.1) fit.smallest fit.narrowest taken less sized
+            (framed, other_says);
       };
       plainest = record {
         ascii = λ room. (let e = ascii (omega (arith, room, ap length form, long)) in
@@ -139,7 +137,7 @@ marked_smallest choice l cost count size new words few marked least fit counts i
         usual = λ other same other_says. absurd (not_usual other l marked other_says);
       };
       padded = all;
-      too_long = λ err other_size other taken sized other_says. absurd cc;
+      too_long = λ err other_size other taken sized framed other_says. absurd cc;
     }
 
 -- Where no size is enough for one, none has words that say it.
@@ -150,9 +148,9 @@ marked_too_long choice l cost fault words few least none = record {
   smallest = tt;
   plainest = tt;
   padded = tt;
-  too_long = λ err size other taken sized says.
-      none_has (λ w. SaysIn Wide w l) choice cost size other (λ w s. no_fewer_letter Wide w l cost few least s) none
-      taken sized says;
+  too_long = λ err size other taken sized framed says.
+      none_has (λ w. FramesNoFnc1 w l.items × SaysIn Wide w l) choice cost size other
+      (λ w s. no_fewer_letter Wide w l cost few least s.0 s.1) none taken sized (framed, says);
 }
 
 -- ---- how far they are determined
@@ -164,13 +162,13 @@ pub one_letter_size : (extent : Extent) (choice : SizeChoice) (size other_size :
     → size ≡ other_size
 one_letter_size extent choice size other_size l words other s o =
     one_is_smaller size other_size s.taken.0 o.taken.0
-    (λ less. o.smallest size words s.taken less s.sized s.says)
-    (λ less. s.smallest other_size other o.taken less o.sized o.says)
+    (λ less. o.smallest size words s.taken less s.sized s.form.framed s.says)
+    (λ less. s.smallest other_size other o.taken less o.sized o.form.framed o.says)
 
 -- Where there are some, it isn't so that none of any size says the letter.
 pub some_or_none : (extent : Extent) (choice : SizeChoice) (size : SizeEntry) (l : LetterView) (words : List ℕ)
     → IsSmallestLetterFor extent choice size words l → NoSizeSays extent choice l → ⊥
-some_or_none extent choice size l words s none = none size words s.taken s.sized s.says
+some_or_none extent choice size l words s none = none size words s.taken s.sized s.form.framed s.says
 
 -- Where there is room for the ASCII form, both are this with pads.
 pub one_letter_with_ascii : (l : LetterView) (words other : List ℕ) → IsPlainestLetter words l

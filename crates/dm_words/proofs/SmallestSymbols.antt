@@ -12,7 +12,9 @@ use Rattle.dm_words.specs.declared.item.Item.{Item}
 use Rattle.dm_words.specs.Macros.{macro_text}
 use Rattle.dm_words.specs.Messages.{IsMessage}
 use Rattle.dm_words.specs.Ascii.{ascii}
+use Rattle.dm_words.specs.LetterExtents.{as_letter}
 use Rattle.dm_words.specs.Pads.{pads, padded}
+use Rattle.dm_words.specs.Plain.{FramesNoFnc1, IsPlainForm}
 use Rattle.dm_words.specs.Smallest.{IsTaken, IsSmaller, NoneSpells, IsSmallestFor, IsPlainest, ArePads, SpellsThenPads}
 use Rattle.dm_words.specs.Smallest.{plain_padded, macro_padded}
 use Rattle.dm_words.specs.Spells.{Spells, plain, by_macro, AreParts}
@@ -25,7 +27,7 @@ use Rattle.dm_words.proofs.LawLemmas.{ascii_spells}
 use Rattle.dm_words.proofs.Extents.{wide_reads_the_padded}
 use Rattle.dm_words.proofs.PartsWritten.{parts_whole}
 use Rattle.dm_words.proofs.SpelledBounds.{spelled_is_few}
-use Rattle.dm_words.proofs.CostBounds.{no_fewer_words}
+use Rattle.dm_words.proofs.CostBounds.{no_fewer, no_fewer_words}
 
 -- ---- what is written spells the message
 
@@ -92,7 +94,10 @@ macro_spells extent count word base new m text one is_text is parts fits =
 pub least_plain : (extent : Extent) (m : List Item) (cost : ℕ) → cost ≡ parts_cost (at_end extent) m
     → HasNoMacro extent m → IsLeastCost extent m cost
 least_plain extent m cost is none =
-    record { parts = omega (arith, is); macros = λ word digit text wide k e. absurd (none word digit text wide k e) }
+    record {
+      parts = omega (arith, is);
+      macros = λ word digit text wide k e no_fnc1. absurd (none word digit text wide k e no_fnc1);
+    }
 
 -- ---- the size
 
@@ -145,22 +150,24 @@ pub is_smallest : (extent : Extent) (choice : SizeChoice) (m : List Item) (cost 
     (words : List ℕ)
     → IsLeastCost extent m cost → IsTaken choice size → All (HasNoFewer choice cost size) size_table
     → All (IsNoNarrower choice cost size) size_table
-    → length words ≡ size.data_count → Spells extent words m → IsSmallestFor extent choice size words m
-is_smallest extent choice m cost size words least taken smallest narrowest long spells = record {
+    → length words ≡ size.data_count → Spells extent words m → IsPlainForm words (as_letter m)
+    → IsSmallestFor extent choice size words m
+is_smallest extent choice m cost size words least taken smallest narrowest long spells form = record {
   spells = spells;
   taken = taken;
   sized = long;
-  smallest = λ smaller other is less sized says.
-      none_smaller (λ w. Spells extent w m) choice cost size smaller other
-      (λ w s. no_fewer_words extent w m cost least s) smallest narrowest is less sized says;
+  form = form;
+  smallest = λ smaller other is less sized framed says.
+      none_smaller (λ w. FramesNoFnc1 w m × Spells extent w m) choice cost size smaller other
+      (λ w s. no_fewer_words extent w m cost least s.0 s.1) smallest narrowest is less sized (framed, says);
 }
 
 -- Where no size of the choice is enough, none has words that spell the message.
 pub none_spells : (extent : Extent) (choice : SizeChoice) (m : List Item) (cost : ℕ) → IsLeastCost extent m cost
     → All (IsTooSmall choice cost) size_table → NoneSpells extent choice m
-none_spells extent choice m cost least none size other is sized says =
-    none_has (λ w. Spells extent w m) choice cost size other (λ w s. no_fewer_words extent w m cost least s) none is
-    sized says
+none_spells extent choice m cost least none size other is sized framed says =
+    none_has (λ w. FramesNoFnc1 w m × Spells extent w m) choice cost size other
+    (λ w s. no_fewer_words extent w m cost least s.0 s.1) none is sized (framed, says)
 
 -- ---- the plainest words
 
@@ -170,9 +177,10 @@ pub wider : (extent : Extent) (words : List ℕ) (m : List Item) → SpellsThenP
 wider Usual words m says = says
 wider Wide words m says = wide_reads_the_padded words m says
 
--- No macro is read in the usual extent.
-usual_cost : (m : List Item) → IsLeastCost Usual m (parts_cost (at_end Usual) m)
-usual_cost m = record { parts = omega arith; macros = λ word digit text wide k e. absurd cc }
+-- No words that spell a message in the usual extent, which reads no macro, are fewer than the cost of its parts.
+usual_few : (words : List ℕ) (m : List Item) → Spells Usual words m → parts_cost (at_end Usual) m ≤ length words
+usual_few words m (plain a) = no_fewer Usual 1 words m a
+usual_few words m (by_macro word digit more text wide k e a is) = absurd cc
 
 -- ASCII is the plainest.
 pub ascii_plainest : (m : List Item) (words : List ℕ) (count : ℕ) → IsMessage m → words ≡ ascii m
@@ -207,7 +215,7 @@ any_plainest m words count usual fits none is more =
       usual = λ other same says. absurd
           (omega (
             arith,
-            no_fewer_words Usual other m (parts_cost (at_end Usual) m) (usual_cost m) says,
+            usual_few other m says,
             same,
             long,
             is,

@@ -11,6 +11,7 @@ use Rattle.dm_words.specs.declared.codeword.Codeword.TheVariants as codeword
 use Rattle.dm_words.specs.Codewords.{codeword_of}
 use Rattle.dm_words.specs.Messages.{byte_of, IsItem, IsMessage}
 use Rattle.dm_words.specs.Ascii.{IsAsciiUnit, character, digits, fnc1, raised, is_digit, digit_pair}
+use Rattle.dm_words.specs.Plain as plainly
 use Rattle.dm_words.specs.Spells.{ascii}
 use Rattle.dm_words.specs.inner.Scan.Results.{item_words}
 use Rattle.dm_words.specs.inner.Costs.{unit_cost, is_digit_item}
@@ -38,7 +39,14 @@ pub unit_written : (extent : Extent) (total : ℕ) (old new words : List ℕ) (i
     → IsAsciiUnit words items → new ≡ old ++ words → IsPartWritten extent total old new items
 unit_written extent total old new words items unit is =
     let b = unit_begins words items unit in
-    record { part = words; some = b.0; begins = b.1; whole = is; right = λ after fills first. ascii unit }
+    record {
+      part = words;
+      some = b.0;
+      begins = b.1;
+      whole = is;
+      right = λ after fills first. ascii unit;
+      plain = λ after fills first. plainly.ascii unit;
+    }
 
 -- An item by itself is a unit.
 item_unit : (x : Item) → IsItem x → IsAsciiUnit (item_words x) (x ∷ [])

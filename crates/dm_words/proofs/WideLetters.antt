@@ -24,6 +24,8 @@ use Rattle.dm_words.specs.Letters.{closing_items, AreOpened, SpellsLetter, IsLet
 use Rattle.dm_words.specs.declared.letters.head.Head.{Head}
 use Rattle.dm_words.specs.declared.letters.opening.Opening.{Opening}
 use Rattle.dm_words.specs.Macros.{macro_text}
+use Rattle.dm_words.specs.Plain.{IsPlainPart, IsPlainSaid}
+use Rattle.dm_words.specs.Plain as plainly
 use Rattle.dm_words.specs.LetterResults.{BeginsLateFrame}
 use Rattle.dm_words.specs.inner.LetterScan.{first_letter_part}
 use Rattle.dm_words.proofs.LetterLoops.{letter_on-stops}
@@ -102,7 +104,7 @@ abbrev nothing_read : LetterView
 nothing_read = record { head = None; items = []; marks = [] }
 
 -- Parts of a letter begin with no macro behind empty runs.
-no_frame : (words : List ℕ) (said : List Said) → AreLetterParts 1 words said → BeginsFrame words → ⊥
+pub no_frame : (words : List ℕ) (said : List Said) → AreLetterParts 1 words said → BeginsFrame words → ⊥
 no_frame words said parts b =
     let f = frame_faulty words b in
     let reads = parts_read nothing_read 1 words said parts in
@@ -183,8 +185,18 @@ said_joined place (p ∷ ps) after h = (
   said_joined (place + length p.words) ps after h.1,
 )
 
+-- Plain parts are plain parts of a letter.
+pub plainly_joined : (place : ℕ) (ps : List (Piece (List Item))) (after : List ℕ) → AreJoined IsPlainPart place ps after
+    → AreJoined IsPlainSaid place (as_said ps) after
+plainly_joined place [] after h = tt
+plainly_joined place (p ∷ ps) after h = (
+  plainly.part p.what (subst (λ (r : List ℕ). IsPlainPart place p.words (r ++ after) p.what) (sym (said_words ps)) h.0)
+      refl,
+  plainly_joined (place + length p.words) ps after h.1,
+)
+
 -- Parts of a message are parts of a letter.
-said_parts : (place : ℕ) (words : List ℕ) (items : List Item) (p : AreParts Wide place words items)
+pub said_parts : (place : ℕ) (words : List ℕ) (items : List Item) (p : AreParts Wide place words items)
     → AreLetterParts place words (whats (as_said p.parts))
 said_parts place words items p = record {
   parts = as_said p.parts;

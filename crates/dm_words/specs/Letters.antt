@@ -3,7 +3,8 @@
 -- 255, so their end is the end of the symbol. The extents of `Spells` are those of messages; a letter says more. What
 -- is left out, which fault is named and at which place, and that the places of marks count items, the header of a macro
 -- with them, are choices of this project.
-use Rattle.std.specs.Prelude.{◌≡◌, ◌≢◌, ℕ, ◌+◌, ◌≤◌, List, [], ◌∷◌, ◌++◌, length, Option, Some, None, ◌⊎◌}
+use Rattle.std.specs.Prelude.{◌≡◌, ◌≢◌, ℕ, ◌+◌, ◌*◌, ◌≤◌, List, [], ◌∷◌, ◌++◌, length, Option, Some, None, ◌⊎◌}
+use Rattle.std.specs.Prelude.{◌==◌, if◌then◌else◌}
 use Rattle.dm_words.specs.declared.extent.Extent.TheVariants.{Wide}
 use Rattle.dm_words.specs.declared.item.Item.{Item}
 use Rattle.dm_words.specs.declared.fault.WordFault.{WordFault}
@@ -44,6 +45,15 @@ pub record IsLetter (letter : LetterView) : Type 0 where
   pub head : IsHead letter.head
   pub items : IsMessage letter.items
   pub marks : AreMarks 0 (length letter.items) letter.marks
+
+-- So many of the codewords are ECI. What they say has no more marks.
+unfoldable pub eci_count : List ℕ → ℕ
+eci_count [] = 0
+eci_count (word ∷ words) = (if word == eci_word then 1 else 0) + eci_count words
+
+-- There is room for the marks that these codewords can say: one for each two of them, or one for each ECI.
+abbrev pub HasMarkRoom : ℕ → List ℕ → Type 0
+HasMarkRoom room words = (length words ≤ 2 * room) ⊎ (eci_count words ≤ room)
 
 -- This is the letter with one more mark of this number, behind all of its items.
 abbrev pub with_mark : LetterView → ℕ → LetterView

@@ -17,7 +17,6 @@ pub mod Refused
 pub mod Outcomes
 pub mod Results
 pub mod Laws
-pub mod Smallest
 pub mod Designators
 pub mod Heads
 pub mod Letters
@@ -25,6 +24,8 @@ pub mod Designations
 pub mod LetterResults
 pub mod LetterForm
 pub mod LetterExtents
-pub mod SmallestLetters
 pub mod Symbology
+pub mod Plain
+pub mod Smallest
+pub mod SmallestLetters
 pub mod inner

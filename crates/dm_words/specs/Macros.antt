@@ -1,7 +1,8 @@
 -- Macros (ISO/IEC 16022, 05 and 06 macro characters): one codeword, the first of the symbol, for the header and the
 -- trailer of a message.
-use Rattle.std.specs.Prelude.{ℕ, List, [], ◌∷◌, ◌++◌}
+use Rattle.std.specs.Prelude.{◌≡◌, ℕ, List, [], ◌∷◌, ◌++◌}
 use Rattle.dm_words.specs.declared.item.Item.{Item}
+use Rattle.dm_words.specs.declared.item.Item.TheVariants.{Byte, Fnc1}
 use Rattle.dm_words.specs.Messages.{byte_items}
 
 -- The header of the format whose second digit is this byte: `[)>`, the record separator, the digit 0 and this one, and
@@ -16,3 +17,13 @@ macro_trailer = byte_items (30 ∷ 4 ∷ [])
 -- A macro stands for its header and its trailer, with this text between them.
 abbrev pub macro_text : ℕ → List Item → List Item
 macro_text digit text = macro_header digit ++ (text ++ macro_trailer)
+
+-- The items begin with FNC1.
+abbrev pub BeginsFnc1 : List Item → Type 0
+BeginsFnc1 [] = ⊥
+BeginsFnc1 (Byte byte ∷ rest) = ⊥
+BeginsFnc1 (Fnc1 ∷ rest) = Unit {0}
+
+-- The items are a header and a trailer, and FNC1 stands first between them.
+abbrev pub FramesFnc1 : List Item → Type 0
+FramesFnc1 items = (digit : ℕ) × (text : List Item) × (items ≡ macro_text digit text) × BeginsFnc1 text

@@ -12,8 +12,10 @@ use Rattle.dm_words.specs.declared.fault.TooLong.{TooLong}
 use Rattle.dm_words.specs.declared.codeword.Codeword.TheVariants as codeword
 use Rattle.dm_words.specs.Ascii.{ascii}
 use Rattle.dm_words.specs.Codewords.{codeword_of}
+use Rattle.dm_words.specs.LetterExtents.{as_letter}
 use Rattle.dm_words.specs.Macros.{macro_text}
 use Rattle.dm_words.specs.Pads.{pads, padded}
+use Rattle.dm_words.specs.Plain.{FramesNoFnc1, IsPlainForm}
 use Rattle.dm_words.specs.Spells.{AreParts, Spells}
 
 -- The size stands in the table, and the choice takes it.
@@ -26,19 +28,22 @@ abbrev pub IsSmaller : SizeEntry → SizeEntry → Type 0
 IsSmaller size other = (area size < area other) ⊎ ((area size ≡ area other) × (size.columns < other.columns))
 
 -- The words are the smallest for a message in an extent, in a size of a choice: they are as many as it has data
--- codewords and spell the message there, and no list of the data codewords of a smaller size of the choice does.
+-- codewords and spell the message there, as words that are written do, and no list of the data codewords of a smaller
+-- size of the choice spells it, but for those that have a macro before FNC1.
 pub record IsSmallestFor (extent : Extent) (choice : SizeChoice) (size : SizeEntry) (words : List ℕ)
     (message : List Item) : Type 0 where
   pub spells : Spells extent words message
   pub taken : IsTaken choice size
   pub sized : length words ≡ size.data_count
+  pub form : IsPlainForm words (as_letter message)
   pub smallest : (smaller : SizeEntry) (other : List ℕ) → IsTaken choice smaller → IsSmaller smaller size
-      → length other ≡ smaller.data_count → Spells extent other message → ⊥
+      → length other ≡ smaller.data_count → FramesNoFnc1 other message → Spells extent other message → ⊥
 
--- The data codewords of no size of the choice spell the message in an extent.
+-- The data codewords of no size of the choice spell the message in an extent, but for those that have a macro before
+-- FNC1.
 abbrev pub NoneSpells : Extent → SizeChoice → List Item → Type 0
 NoneSpells extent choice message = (size : SizeEntry) (other : List ℕ) → IsTaken choice size
-    → length other ≡ size.data_count → Spells extent other message → ⊥
+    → length other ≡ size.data_count → FramesNoFnc1 other message → Spells extent other message → ⊥
 
 -- Of the codewords of one size, those are the plainest that the most readers read: the ASCII form with pads where
 -- there is room for it; else some that spell the message in the usual extent, where there are any. That these are

@@ -14,22 +14,25 @@ use Rattle.dm_words.specs.Letters.{LetterView, SpellsLetter}
 use Rattle.dm_words.specs.LetterForm.{letter_form}
 use Rattle.dm_words.specs.LetterExtents.{as_letter, SaysIn}
 use Rattle.dm_words.specs.Pads.{padded}
+use Rattle.dm_words.specs.Plain.{FramesNoFnc1, IsPlainForm}
 use Rattle.dm_words.specs.Smallest.{IsTaken, IsSmaller, ArePads, SpellsThenPads}
 
 -- The words are the smallest for a letter in an extent, in a size of a choice: they are as many as it has data
--- codewords and say the letter there, and no list of the data codewords of a smaller size of the choice does.
+-- codewords and say the letter there, as words that are written do, and no list of the data codewords of a smaller
+-- size of the choice says it, but for those that have a macro before FNC1.
 pub record IsSmallestLetterFor (extent : Extent) (choice : SizeChoice) (size : SizeEntry) (words : List ℕ)
     (letter : LetterView) : Type 0 where
   pub says : SaysIn extent words letter
   pub taken : IsTaken choice size
   pub sized : length words ≡ size.data_count
+  pub form : IsPlainForm words letter
   pub smallest : (smaller : SizeEntry) (other : List ℕ) → IsTaken choice smaller → IsSmaller smaller size
-      → length other ≡ smaller.data_count → SaysIn extent other letter → ⊥
+      → length other ≡ smaller.data_count → FramesNoFnc1 other letter.items → SaysIn extent other letter → ⊥
 
--- The data codewords of no size of the choice say the letter in an extent.
+-- The data codewords of no size of the choice say the letter in an extent, but for those that have a macro before FNC1.
 abbrev pub NoSizeSays : Extent → SizeChoice → LetterView → Type 0
 NoSizeSays extent choice letter = (size : SizeEntry) (other : List ℕ) → IsTaken choice size
-    → length other ≡ size.data_count → SaysIn extent other letter → ⊥
+    → length other ≡ size.data_count → FramesNoFnc1 other letter.items → SaysIn extent other letter → ⊥
 
 -- Of the codewords of one size, those are the plainest that the most readers read: the ASCII form with pads where
 -- there is room for it; else some that say the letter in the usual extent, where there are any. That these are

@@ -1,12 +1,14 @@
 -- The symbology identifier of a symbol (ISO/IEC 15424, ISO/IEC 16022, symbology identifiers): `]d` and one of these
 -- numbers, 1 to 6. FNC1 counts where it is a codeword of its own, 232 in ASCII encodation, by its place among the
 -- codewords and not among the items. So the number belongs to the codewords and not to the letter that they say.
-use Rattle.std.specs.Prelude.{◌≡◌, ℕ, ◌+◌, List, [], ◌∷◌, ◌++◌, length}
+use Rattle.std.specs.Prelude.{◌≡◌, ◌↔◌, ℕ, ◌+◌, List, [], ◌∷◌, ◌++◌, length}
 use Rattle.dm_words.specs.declared.letters.mark.Mark.{Mark}
 use Rattle.dm_words.specs.declared.letters.opening.Opening.{Opening}
 use Rattle.dm_words.specs.Codewords.{fnc1_word}
 use Rattle.dm_words.specs.Heads.{head_words}
 use Rattle.dm_words.specs.Joined.{Piece, spelled, AreJoined}
+use Rattle.dm_words.specs.declared.profile.Profile.TheVariants.{Ascii}
+use Rattle.dm_words.specs.LetterForm.{letter_form}
 use Rattle.dm_words.specs.Letters.{LetterView, Said, IsLetterPart, AreOpened}
 
 -- FNC1 is a codeword of its own at a place: the words are an opening and parts, and then FNC1 stands where the next
@@ -41,3 +43,8 @@ pub record IsIdentifier (words : List ℕ) (letter : LetterView) (number : ℕ) 
   pub fnc1 : ℕ
   pub is_fnc1 : IsFnc1Number words (length (head_words letter.head)) fnc1
   pub number_is : number ≡ fnc1 + marks_number letter.marks
+
+-- The identifier of the words, which say the letter, is that of its ASCII form.
+abbrev pub KeepsIdentifier : List ℕ → LetterView → Type 0
+KeepsIdentifier words letter = (number : ℕ) → IsIdentifier words letter number
+    ↔ IsIdentifier (letter_form Ascii letter) letter number

@@ -5,6 +5,7 @@ pub mod CostLanes
 pub mod Written
 pub mod Ways
 pub mod Fnc1
+pub mod Signs
 pub mod LetterScan
 pub mod LetterContents
 pub mod MarkedForms

@@ -11,6 +11,7 @@ ghost use Rattle.dm_words.specs.declared.letters.mark.Mark.{Mark};
 ghost use Rattle.dm_words.specs.Designations.{AreDesignations};
 ghost use Rattle.dm_words.specs.Designators.{IsDesignator, designator, most_assigned};
 ghost use Rattle.dm_words.specs.Pads.{padded};
+ghost use Rattle.dm_words.specs.Plain.{IsPlainWithPads};
 ghost use Rattle.dm_words.specs.Spells.{Spells};
 ghost use Rattle.dm_words.specs.Letters.{LetterView, IsLetter, SpellsLetter};
 ghost use Rattle.dm_words.specs.LetterForm.{letter_form};
@@ -58,7 +59,8 @@ pub fn wide_is_letter()
 {}
 
 /// The normal form of a letter under each profile, with pads up to any number of codewords that holds it and that a
-/// symbol can have, has that many codewords, each of 0 to 255, and they say the letter.
+/// symbol can have, has that many codewords, each of 0 to 255, and they say the letter; and they are plain, with the
+/// identifier of the ASCII form.
 pub fn letter_form_says()
     ensures letter { (profile : Profile) (l : LetterView) (count : ℕ) → IsLetter l
         → length (letter_form profile l) ≤ count → count ≤ most_data
@@ -68,6 +70,8 @@ pub fn letter_form_says()
         → length (padded (letter_form profile l) count) ≡ count }
     ensures codewords { (profile : Profile) (l : LetterView) (count : ℕ) → IsLetter l
         → AreCodewords (padded (letter_form profile l) count) }
+    ensures plain { (profile : Profile) (l : LetterView) → IsLetter l
+        → length (letter_form profile l) ≤ most_data → IsPlainWithPads (letter_form profile l) l }
 {}
 
 /// How far the smallest codewords of a letter in an extent and a choice of sizes are determined, as

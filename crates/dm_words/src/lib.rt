@@ -16,7 +16,8 @@
 //! none, items and [`Mark`]s, or gives the [`LetterFault`] with which the list is refused. [`letter_words_in()`] writes
 //! the codewords of a letter, and [`smallest_letter_words_to()`] those of the smallest size of a choice. [`head_of()`],
 //! [`head_words()`], [`designator_of()`] and [`designator_words()`] read and write a head or a designator alone.
-//! [`designations_to()`] tells where the designators of a letter stand among its codewords.
+//! [`designations_to()`] tells where the designators of a letter stand among its codewords, and [`eci_count()`] how
+//! many there may be.
 //!
 //! Limits: up to [`MOST_DATA`] codewords are read and written. A square has up to [`MOST_GRID_DATA`], for which a
 //! [`Message`] or a [`Letter`] serves: it has room for [`MESSAGE_ROOM`] items, of which the usual extent takes
@@ -53,7 +54,7 @@ pub use dm_layout::symbols::MOST_DATA;
 pub use extent::Extent;
 pub use fault::{TooLong, WordFault};
 pub use item::Item;
-pub use letters::designation::{designations_to, has_eci};
+pub use letters::designation::{designations_to, eci_count, has_eci};
 pub use letters::designator::{
     DESIGNATOR_ROOM, Designator, MOST_ASSIGNED, designator_of, designator_words,
 };
@@ -61,7 +62,7 @@ pub use letters::fault::LetterFault;
 pub use letters::head::{Appended, HEAD_ROOM, Head, head_of, head_words};
 pub use letters::letter::{Letter, LetterIn};
 pub use letters::mark::Mark;
-pub use letters::normal_form::letter_words_in;
+pub use letters::normal_form::{content_words_in, letter_words_in};
 pub use letters::reading::letter_to_as;
 pub use letters::symbology::{message_symbology_number, symbology_number};
 pub use limits::{LARGEST_MARKS, LARGEST_ROOM, MESSAGE_ROOM, MOST_ITEMS, MOST_MARKS};

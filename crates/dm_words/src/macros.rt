@@ -3,7 +3,7 @@
 ghost use Rattle.std.specs.Prelude.{◌≡◌, ◌+◌, ◌≤◌, ◌++◌, List, length, IsTrue, IfSome, IfNone};
 ghost use Rattle.dm_words.specs.declared.item.Item.{Item};
 ghost use Rattle.dm_words.specs.Messages.{byte_items};
-ghost use Rattle.dm_words.specs.Macros.{macro_header, macro_trailer, macro_text};
+ghost use Rattle.dm_words.specs.Macros.{macro_header, macro_trailer, macro_text, BeginsFnc1};
 ghost use Rattle.dm_words.specs.inner.Ways.{inner_text, IsMacroOf, HasNoMacro};
 ghost use Rattle.dm_words.specs.Codewords.{codeword_of};
 ghost use Rattle.dm_words.specs.inner.Scan.Prefixes.{macro_digit, digit_by};
@@ -98,11 +98,24 @@ fn are_bytes(items: &[Item], bytes: &[u8]) -> bool
     true
 }
 
-/// Whether the items have the header of the macro of this digit and its trailer.
+/// Whether the items begin with FNC1.
+fn begin_with_fnc1(items: &[Item]) -> bool
+    ensures yes { IsTrue result → BeginsFnc1 items.now }
+    ensures no { BeginsFnc1 items.now → IsTrue result }
+{
+    match items {
+        [Item::Fnc1, ..] => true,
+        _ => false,
+    }
+}
+
+/// Whether the items have the header of the macro of this digit and its trailer, and FNC1 doesn't come first between
+/// them. Behind a macro it would be the second codeword, and readers would take it for a sign.
 fn is_framed(items: &[Item], digit: u8) -> bool
     ensures long { IsTrue result → 9 ≤ length items.now }
     ensures yes { IsTrue result → items.now ≡ macro_text digit (inner_text items.now) }
-    ensures no { (text : List Item) → items.now ≡ macro_text digit text → IsTrue result }
+    ensures no_fnc1 { IsTrue result → BeginsFnc1 (inner_text items.now) → ⊥ }
+    ensures no { (text : List Item) → items.now ≡ macro_text digit text → (BeginsFnc1 text → ⊥) → IsTrue result }
 {
     let count = items.len();
     if count < HEADER_LENGTH + TRAILER_LENGTH {
@@ -112,10 +125,14 @@ fn is_framed(items: &[Item], digit: u8) -> bool
     if !are_bytes(&items[..HEADER_LENGTH], &header) {
         return false;
     }
+    if begin_with_fnc1(&items[HEADER_LENGTH..count - TRAILER_LENGTH]) {
+        return false;
+    }
     are_bytes(&items[count - TRAILER_LENGTH..], &[RS, EOT])
 }
 
-/// Gives the macro that stands for the header and the trailer of these items, where one is read in this extent.
+/// Gives the macro that stands for the header and the trailer of these items, where one is read in this extent and FNC1
+/// doesn't come first between them.
 pub(crate) fn macro_of(extent: Extent, items: &[Item]) -> Option<u8>
     ensures found { IfSome result (λ word. IsMacroOf extent items.now word) }
     ensures none { IfNone result (HasNoMacro extent items.now) }

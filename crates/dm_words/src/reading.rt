@@ -14,6 +14,8 @@ ghost use Rattle.dm_words.specs.Macros.{macro_header};
 ghost use Rattle.dm_words.specs.inner.Scan.Prefixes.{first_part, part_by, raised_unit, is_one_word};
 ghost use Rattle.dm_words.specs.inner.Scan.Prefixes.{begins_with_one_word, read_on, and_trailer};
 ghost use Rattle.dm_words.specs.inner.Scan.Walk.{Step};
+ghost use Rattle.dm_words.specs.declared.letters.mark.Mark.{Mark};
+ghost use Rattle.dm_words.specs.inner.LetterScan.{items_with, letter_on};
 ghost use Rattle.dm_words.specs.inner.Scan.Results.{HasRoomAt, IsPartTakenOrEnd, IsPartTaken, IsOneWordTaken};
 
 use crate::base256::segment_part;
@@ -150,8 +152,8 @@ fn one_word_part<const ROOM: usize>(word: u8, message: &mut MessageIn<ROOM>) -> 
 
 /// Takes the parts of one codeword that stand at an index, all that there are one after the other: adds their items to
 /// the message, and gives the index behind them.
-// Most codewords are such parts, and this loop has nothing else in it.
-fn one_word_parts<const ROOM: usize>(
+// Most codewords are such parts, of a message and of a letter, and this loop has nothing else in it.
+pub(crate) fn one_word_parts<const ROOM: usize>(
     words: &[u8],
     start: usize,
     message: &mut MessageIn<ROOM>,
@@ -163,10 +165,14 @@ fn one_word_parts<const ROOM: usize>(
     ensures within { result ≤ length words.now }
     ensures two_for_each_codeword { length message.new + 2 * start
         ≤ length message.old + 2 * result }
+    ensures no_fewer { length message.old ≤ length message.new }
     ensures all { begins_with_one_word (drop result words.now) ≡ false }
     ensures read { (extent : Extent)
         → read_on extent message.new (result + 1) (drop result words.now)
         ≡ read_on extent message.old (start + 1) (drop start words.now) }
+    ensures said { (marks : List Mark)
+        → letter_on (items_with marks message.new) (result + 1) (drop result words.now)
+        ≡ letter_on (items_with marks message.old) (start + 1) (drop start words.now) }
 {
     let mut at = start;
     while let Some(word) = number_at(words, at) {

@@ -8,6 +8,7 @@ ghost use Rattle.dm_words.specs.LetterExtents.{as_letter};
 ghost use Rattle.dm_words.specs.Messages.{IsMessage};
 ghost use Rattle.dm_words.specs.Outcomes.{outcome};
 ghost use Rattle.dm_words.specs.Pads.{padded};
+ghost use Rattle.dm_words.specs.Plain.{IsPlainForm};
 ghost use Rattle.dm_words.specs.Smallest.{IsPlainest, IsSmallestResult, SpellsThenPads};
 ghost use Rattle.dm_words.specs.SmallestLetters.{IsSmallestLetterResult};
 ghost use Rattle.dm_words.specs.inner.Costs.{at_end, parts_cost, IsRightPlan};
@@ -48,11 +49,12 @@ const MIDDLE_PLAN: usize = 512;
 const LONG_PLAN: usize = LARGEST_ROOM + 1;
 
 /// Chooses data codewords, with pads, that spell the message of these items, at most [`LARGEST_ROOM`], in an extent, in
-/// the smallest size of the choice that has any: no list of codewords of a smaller size spells it there. After `Ok`,
-/// which has that size, `words` holds them, whatever it held before. They are ASCII where the size has room for that;
-/// else codewords that spell the message in the usual extent, where there are any. `TooLong` exactly where the
-/// codewords of no size of the choice spell the message; then `words` holds what it held before. The same holds of what
-/// says the message as a letter. ISO/IEC 16022, encodation schemes.
+/// the smallest size of the choice that has any: no list of codewords of a smaller size spells it there, but for lists
+/// that have a macro before FNC1. After `Ok`, which has that size, `words` holds them, whatever it held before. They
+/// are ASCII where the size has room for that; else codewords that spell the message in the usual extent, where there
+/// are any. They are plain, and their symbology identifier is that of the ASCII form. `TooLong` exactly where the
+/// codewords of no size of the choice spell the message, but for such lists; then `words` holds what it held before.
+/// The same holds of what says the message as a letter. ISO/IEC 16022, encodation schemes.
 pub fn smallest_words_to(
     extent: Extent,
     items: &[Item],
@@ -221,6 +223,7 @@ fn write_plainest<const N: usize>(
     ensures spells { SpellsThenPads extent (padded words.new.items count) items.now }
     ensures fits { length words.new.items ≤ count }
     ensures plainest { IsPlainest (padded words.new.items count) items.now }
+    ensures form { IsPlainForm (padded words.new.items count) (as_letter items.now) }
 {
     if found.ascii <= count {
         let _form = write_ascii(items, words);
@@ -249,9 +252,11 @@ fn write_usual_if_fits<const N: usize>(
     requires no_ascii { count < length (ascii items.now) }
     requires spells { SpellsThenPads extent (padded words.old.items count) items.now }
     requires fits { length words.old.items ≤ count }
+    requires form { IsPlainForm (padded words.old.items count) (as_letter items.now) }
     ensures spells { SpellsThenPads extent (padded words.new.items count) items.now }
     ensures fits { length words.new.items ≤ count }
     ensures plainest { IsPlainest (padded words.new.items count) items.now }
+    ensures form { IsPlainForm (padded words.new.items count) (as_letter items.now) }
 {
     // In the usual extent a codeword spells at most two items.
     if 2 * usize::from(count) < items.len() {
@@ -283,6 +288,7 @@ fn write_way<const N: usize>(
     ensures spells { SpellsThenPads extent (padded words.new.items count) items.now }
     ensures usual { IsTrue result → SpellsThenPads Usual (padded words.new.items count) items.now }
     ensures fits { length words.new.items ≤ count }
+    ensures form { IsPlainForm (padded words.new.items count) (as_letter items.now) }
 {
     match way.macro_word {
         None => write_plain(extent, items, plan, words, count),
@@ -320,6 +326,7 @@ fn write_plain<const N: usize>(
     ensures spells { SpellsThenPads extent (padded words.new.items count) items.now }
     ensures usual { IsTrue result → SpellsThenPads Usual (padded words.new.items count) items.now }
     ensures fits { length words.new.items ≤ count }
+    ensures form { IsPlainForm (padded words.new.items count) (as_letter items.now) }
 {
     words.clear();
     write_parts(

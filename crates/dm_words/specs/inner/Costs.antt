@@ -2,7 +2,7 @@
 -- that attains these costs. A run is said to be in a state where some values of its next pair or group stand already.
 -- Their codewords count as paid.
 use Rattle.std.specs.Prelude.{◌≡◌, ℕ, zero, suc, ◌+◌, ◌-◌, ◌*◌, ◌/◌, ◌%◌, ◌≤◌, List, [], ◌∷◌, Bool, false, nat_le}
-use Rattle.std.specs.Prelude.{nat_lt, ◌==◌}
+use Rattle.std.specs.Prelude.{nat_lt, ◌==◌, ◌⊎◌}
 use Rattle.std.specs.Prelude.{◌&&◌, ◌||◌, if◌then◌else◌, length, drop, get_or}
 use Prim.Native.Nat.{min}
 use Rattle.dm_words.specs.declared.extent.Extent.{Extent}
@@ -362,9 +362,12 @@ step_in bits = record {
   segment_ends = has_bit 64 bits.first;
 }
 
--- The plan says what is right at these items.
+-- The plan says what is right at these items. Of equally cheap ways it takes two digits together, or else the item by
+-- itself, before any run or segment.
 pub record IsRightStep (setting : Setting) (items : List Item) (step : Step) : Type 0 where
   pub begins : IsRightBegin setting items step.begins
+  pub pair : IsRightBegin setting items Two → step.begins ≡ Two
+  pub one : IsRightBegin setting items One → (step.begins ≡ One) ⊎ (step.begins ≡ Two)
   pub ends : step ≡ step_of (parts_cost setting items) step.begins (going_from setting items)
 
 -- The plan says what is right at each item, and behind the last one.

@@ -4,7 +4,7 @@ use Rattle.dm_words.specs.declared.letters.content.Content.{Content}
 use Rattle.dm_words.specs.declared.letters.fault.LetterFault.{LetterFault}
 use Rattle.dm_words.specs.declared.letters.head.Head.{Head}
 use Rattle.dm_words.specs.declared.letters.mark.Mark.{Mark}
-use Rattle.dm_words.specs.Letters.{LetterView, Said, AreMarks, AreLetterParts, HaveLetterFault}
+use Rattle.dm_words.specs.Letters.{LetterView, Said, AreMarks, AreLetterParts, HaveLetterFault, eci_count}
 use Rattle.dm_words.specs.Designations.{designation, designations}
 use Rattle.dm_words.specs.inner.Scan.Walk.{Step, Takes, Stops}
 use Rattle.dm_words.specs.inner.Scan.Results.{HasRoomAt}
@@ -18,11 +18,12 @@ headed_view head content = record { head = head; items = content.message; marks 
 abbrev pub content_view : {room most : ℕ} → Content room most → LetterView
 content_view content = headed_view None content
 
--- A letter with room for so many items has room for what the codewords from an index on say, and the marks so far are
--- in order.
+-- A letter with room for so many items has room for what the codewords from an index on say; the marks so far are in
+-- order, and no more than one for each two codewords before that index, or one for each ECI there.
 pub record IsContentAt (room : ℕ) (words : List ℕ) (at : ℕ) (so_far : LetterView) : Type 0 where
   pub item_room : HasRoomAt room words at so_far.items
   pub mark_room : 2 * length so_far.marks ≤ at
+  pub eci_left : length so_far.marks + eci_count (drop at words) ≤ eci_count words
   pub in_order : AreMarks 0 (length so_far.items) so_far.marks
 
 -- A part with the given number of words was taken, and what it says stands behind what was there; or the end was met;

@@ -16,7 +16,8 @@ use Rattle.dm_words.specs.Heads.{head_words}
 use Rattle.dm_words.specs.Joined.{Piece, spelled, whats, AreJoined}
 use Rattle.dm_words.specs.Letters.{LetterView, AreMarks, Said, IsLetterPart, said_items, said_marks}
 use Rattle.dm_words.specs.LetterForm.{mark_words}
-use Rattle.dm_words.specs.Macros.{macro_text}
+use Rattle.dm_words.specs.Macros.{macro_text, BeginsFnc1}
+use Rattle.dm_words.specs.Plain.{IsPlainSaid}
 use Rattle.dm_words.specs.Smallest.{IsTaken}
 use Rattle.dm_words.specs.inner.Costs.{at_end, before_words, parts_cost}
 use Rattle.dm_words.specs.inner.Ways.{IsMacroOf, inner_text}
@@ -57,12 +58,12 @@ abbrev pub view_of : Option Head → List Item → List Mark → LetterView
 view_of head items marks = record { head = head; items = items; marks = marks }
 
 -- No way to write a letter costs less: not its head and its parts, nor a macro and the text in it, where there is no
--- head and each mark stands in that text.
+-- head, each mark stands in that text, and FNC1 doesn't come first in it.
 pub record IsLeastLetterCost (letter : LetterView) (cost : ℕ) : Type 0 where
   pub parts : cost ≤ length (head_words letter.head) + marked_cost 0 letter.items letter.marks
   pub framed : (word digit : ℕ) (text : List Item) → codeword_of word ≡ Some (codeword.Macro digit)
-      → letter.head ≡ None → letter.items ≡ macro_text digit text → AreMarks 7 (7 + length text) letter.marks
-      → cost ≤ 1 + marked_cost 7 text letter.marks
+      → letter.head ≡ None → letter.items ≡ macro_text digit text → (BeginsFnc1 text → ⊥)
+      → AreMarks 7 (7 + length text) letter.marks → cost ≤ 1 + marked_cost 7 text letter.marks
 
 -- The codeword is a macro for the header and the trailer of the items of a letter, and each mark stands between them.
 pub record IsLetterMacro (letter : LetterView) (word : ℕ) : Type 0 where
@@ -73,7 +74,8 @@ pub record IsLetterMacro (letter : LetterView) (word : ℕ) : Type 0 where
 -- There is no such macro.
 abbrev pub HasNoLetterMacro : LetterView → Type 0
 HasNoLetterMacro letter = (word digit : ℕ) (text : List Item) → codeword_of word ≡ Some (codeword.Macro digit)
-    → letter.head ≡ None → letter.items ≡ macro_text digit text → AreMarks 7 (7 + length text) letter.marks → ⊥
+    → letter.head ≡ None → letter.items ≡ macro_text digit text → (BeginsFnc1 text → ⊥)
+    → AreMarks 7 (7 + length text) letter.marks → ⊥
 
 -- By a macro this many items are seen before the text that is written, and else none.
 abbrev pub seen_by : Option ℕ → ℕ
@@ -95,6 +97,8 @@ pub record AreSaid (total : ℕ) (base new : List ℕ) (seen : ℕ) (items : Lis
   pub marks_are : marks ≡ said_marks seen (whats parts)
   pub right : (after : List ℕ) → length new + length after ≡ total → NoUnlatchFirst after
       → AreJoined IsLetterPart (length base + 1) parts after
+  pub plain : (after : List ℕ) → length new + length after ≡ total → NoUnlatchFirst after
+      → AreJoined IsPlainSaid (length base + 1) parts after
 
 -- A size of a choice is the least one that has at least so many data codewords.
 pub record IsLeastSize (choice : SizeChoice) (cost : ℕ) (size : SizeEntry) : Type 0 where

@@ -13,6 +13,7 @@ use Rattle.dm_words.specs.declared.letters.fault.LetterFault.TheVariants as faul
 use Rattle.dm_words.specs.declared.letters.head.Appended.{Appended}
 use Rattle.dm_words.specs.declared.letters.head.Head.{Head}
 use Rattle.dm_words.specs.declared.letters.head.Head.TheVariants as head
+use Rattle.dm_words.specs.declared.letters.mark.Mark.{Mark}
 use Rattle.dm_words.specs.declared.letters.opening.Frame.{Frame}
 use Rattle.dm_words.specs.declared.letters.opening.Opened.{Opened}
 use Rattle.dm_words.specs.declared.letters.opening.Opening.{Opening}
@@ -176,6 +177,10 @@ extended letter said = record letter {
   items = letter.items ++ said_items said;
   marks = letter.marks ++ said_marks (length letter.items) said;
 }
+
+-- Items and marks are a letter without a head.
+abbrev pub items_with : List Mark → List Item → LetterView
+items_with marks items = record { head = None; items = items; marks = marks }
 
 -- The letter is given if the walk came to the end, and else the fault.
 abbrev pub letter_to : LetterView → Option LetterFault → Result LetterView LetterFault

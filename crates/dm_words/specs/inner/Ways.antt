@@ -6,32 +6,34 @@ use Rattle.dm_words.specs.declared.extent.Extent.TheVariants.{Wide}
 use Rattle.dm_words.specs.declared.item.Item.{Item}
 use Rattle.dm_words.specs.declared.codeword.Codeword.TheVariants as codeword
 use Rattle.dm_words.specs.Codewords.{codeword_of}
-use Rattle.dm_words.specs.Macros.{macro_text}
+use Rattle.dm_words.specs.Macros.{macro_text, BeginsFnc1}
 use Rattle.dm_words.specs.inner.Costs.{at_end, parts_cost}
 
--- No way to write a message costs less: not its parts, nor the text of a macro and the macro itself.
+-- No way to write a message costs less: not its parts, nor the text of a macro and the macro itself, where FNC1 doesn't
+-- come first in that text.
 pub record IsLeastCost (extent : Extent) (message : List Item) (cost : ℕ) : Type 0 where
   pub parts : cost ≤ parts_cost (at_end extent) message
   pub macros : (word digit : ℕ) (text : List Item) → extent ≡ Wide → codeword_of word ≡ Some (codeword.Macro digit)
-      → message ≡ macro_text digit text
+      → message ≡ macro_text digit text → (BeginsFnc1 text → ⊥)
       → cost ≤ 1 + parts_cost (at_end extent) text
 
 -- The items between a header and a trailer are these, if there are as many.
 abbrev pub inner_text : List Item → List Item
 inner_text items = take (length items - 2 - 7) (drop 7 items)
 
--- The codeword is a macro for the header and the trailer of these items.
+-- The codeword is a macro for the header and the trailer of these items, and FNC1 doesn't come first between them.
 pub record IsMacroOf (extent : Extent) (items : List Item) (word : ℕ) : Type 0 where
   pub wide : extent ≡ Wide
   pub digit : ℕ
   pub is_macro : codeword_of word ≡ Some (codeword.Macro digit)
   pub framed : items ≡ macro_text digit (inner_text items)
+  pub no_fnc1 : BeginsFnc1 (inner_text items) → ⊥
   pub long : 9 ≤ length items
 
--- No macro stands for a header and a trailer of these items.
+-- No macro stands for a header and a trailer of these items, or FNC1 comes first between them.
 abbrev pub HasNoMacro : Extent → List Item → Type 0
 HasNoMacro extent items = (word digit : ℕ) (text : List Item) → extent ≡ Wide → codeword_of word
-    ≡ Some (codeword.Macro digit) → items ≡ macro_text digit text → ⊥
+    ≡ Some (codeword.Macro digit) → items ≡ macro_text digit text → (BeginsFnc1 text → ⊥) → ⊥
 
 -- To write a message by this macro, or by none, costs at most this much.
 abbrev pub IsWay : Extent → List Item → Option ℕ → ℕ → Type 0

@@ -15,6 +15,7 @@ use Rattle.dm_words.specs.Runs.{IsPair}
 use Rattle.dm_words.specs.Edifact.{IsGroup}
 use Rattle.dm_words.specs.Base256.{written, IsLengthField}
 use Rattle.dm_words.specs.NormalForm.{length_numbers}
+use Rattle.dm_words.specs.Plain.{IsPlainPart}
 use Rattle.dm_words.specs.Spells.{IsPart}
 use Rattle.dm_words.specs.declared.smallest.edifact.Group.{Group}
 use Rattle.dm_words.specs.declared.smallest.edifact.Group.TheVariants as group
@@ -172,6 +173,8 @@ pub record IsPartWritten (extent : Extent) (total : ℕ) (old new : List ℕ) (i
   pub whole : new ≡ old ++ part
   pub right : (after : List ℕ) → length new + length after ≡ total → NoUnlatchFirst after
       → IsPart extent (length old + 1) part after items
+  pub plain : (after : List ℕ) → length new + length after ≡ total → NoUnlatchFirst after
+      → IsPlainPart (length old + 1) part after items
 
 -- Parts of these items were written behind the base.
 pub record ArePartsWritten (extent : Extent) (total : ℕ) (base new : List ℕ) (items : List Item) : Type 0 where
@@ -181,3 +184,5 @@ pub record ArePartsWritten (extent : Extent) (total : ℕ) (base new : List ℕ)
   pub begins : (after : List ℕ) → NoUnlatchFirst after → NoUnlatchFirst (spelled parts ++ after)
   pub right : (after : List ℕ) → length new + length after ≡ total → NoUnlatchFirst after
       → AreJoined (IsPart extent) (length base + 1) parts after
+  pub plain : (after : List ℕ) → length new + length after ≡ total → NoUnlatchFirst after
+      → AreJoined IsPlainPart (length base + 1) parts after

@@ -4,7 +4,7 @@ ghost use Rattle.std.specs.Prelude.{◌≡◌, ℕ, ◌+◌, ◌*◌, ◌<◌, �
 ghost use Rattle.std.specs.Prelude.{◌≢◌, get_or};
 ghost use Rattle.dm_words.specs.Designations.{AreDesignations};
 ghost use Rattle.dm_words.specs.Designators.{eci_word};
-ghost use Rattle.dm_words.specs.Letters.{BeginNoEci};
+ghost use Rattle.dm_words.specs.Letters.{BeginNoEci, eci_count};
 ghost use Rattle.dm_words.specs.inner.LetterContents.{AreDesignationsFrom, IsDesignationTaken};
 ghost use Rattle.dm_words.specs.inner.LetterScan.{first_designator, first_letter_part, mark_by};
 
@@ -104,6 +104,20 @@ fn add_designations<const MARKS: usize>(
         at += count;
     }
     Ok(())
+}
+
+/// Gives how many of the codewords of a symbol are ECI, 241: the letter that they say has no more marks.
+pub fn eci_count(words: &[u8]) -> u16
+    requires { length words.now ≤ MOST_DATA }
+    ensures { result ≡ eci_count words.now }
+{
+    let mut count = 0;
+    for word in words {
+        if *word == ECI {
+            count += 1;
+        }
+    }
+    count
 }
 
 /// Whether ECI is among the codewords. Where it isn't, no designator is.

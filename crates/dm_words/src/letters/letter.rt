@@ -128,6 +128,8 @@ impl<const ROOM: usize, const MARKS: usize> LetterIn<ROOM, MARKS> {
 }
 
 impl<const ROOM: usize, const MARKS: usize> Default for LetterIn<ROOM, MARKS> {
+    ghost is_default = { λ l. l ≡ record { head = None; items = []; marks = [] } };
+
     fn default() -> Self {
         LetterIn::new()
     }

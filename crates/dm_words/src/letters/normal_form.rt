@@ -5,7 +5,9 @@ ghost use Rattle.dm_words.specs.Ascii.{ascii};
 ghost use Rattle.dm_words.specs.Designators.{eci_word, designator};
 ghost use Rattle.dm_words.specs.Heads.{IsHead, head_words};
 ghost use Rattle.dm_words.specs.Letters.{AreMarks};
-ghost use Rattle.dm_words.specs.LetterForm.{letter_form, ascii_with_marks};
+ghost use Rattle.dm_words.specs.LetterForm.{letter_form, form_by, ascii_with_marks};
+ghost use Rattle.dm_words.specs.Messages.{IsMessage};
+ghost use Rattle.dm_words.specs.Plain.{IsPlainWithPads};
 ghost use Rattle.dm_words.specs.inner.MarkedForms.{is_plain};
 
 use crate::ascii::{ascii_form, unit_at, write_unit};
@@ -164,12 +166,39 @@ fn write_marked<const N: usize>(
     Ok(())
 }
 
-/// Writes the codewords of a letter under a profile, without pads, into a target with room for `N` codewords, at least
-/// 3 as each symbol has; the letter may have any room, at most [`LARGEST_ROOM`] items and [`LARGEST_MARKS`] marks.
-/// Those of a letter without a head and marks are the codewords of its items, as [`normal_words_in()`] writes them.
-/// Those of another letter are its head's, and its items in ASCII from mark to mark with each mark at its place, as ECI
-/// and the designator. After `Ok`, `words` holds these codewords, whatever it held before. `TooLong` exactly where they
-/// are more than `N`; then it holds what it held before.
+/// Writes the codewords of a letter with this head or none, these items and these marks under a profile, without pads,
+/// into a target with room for `N` codewords, at least 3 as each symbol has. Those of a letter without a head and marks
+/// are the codewords of its items, as [`normal_words_in()`] writes them. Those of another letter are its head's, and
+/// its items in ASCII from mark to mark with each mark at its place, as ECI and the designator. After `Ok`, `words`
+/// holds these codewords, whatever it held before. `TooLong` exactly where they are more than `N`; then it holds what
+/// it held before.
+pub fn content_words_in<const N: usize>(
+    profile: Profile,
+    head: Option<Head>,
+    items: &[Item],
+    marks: &[Mark],
+    words: &mut ArrayVec<u8, N>,
+) -> Result<(), TooLong>
+    requires head { IsHead head }
+    requires few { length items.now ≤ LARGEST_ROOM }
+    requires few_marks { length marks.now ≤ LARGEST_MARKS }
+    requires in_order { AreMarks 0 (length items.now) marks.now }
+    requires least { 3 ≤ N }
+    requires most { N ≤ MOST_DATA }
+    ensures form { OnOk result (words.new.items ≡ form_by profile head items.now marks.now) }
+    ensures too_long { IsErr result ↔ (N < length (form_by profile head items.now marks.now)) }
+    ensures same { OnErr result (words.new.items ≡ words.old.items) }
+    ensures plain { OnOk result (IsMessage items.now
+        → IsPlainWithPads words.new.items
+        (record { head = head; items = items.now; marks = marks.now })) }
+{
+    if is_plain(head, marks) {
+        return normal_words_in(profile, items, words);
+    }
+    write_marked(head, items, marks, words)
+}
+
+/// Does so for a letter of any room, at most [`LARGEST_ROOM`] items and [`LARGEST_MARKS`] marks.
 pub fn letter_words_in<const ROOM: usize, const MARKS: usize, const N: usize>(
     profile: Profile,
     letter: &LetterIn<ROOM, MARKS>,
@@ -182,11 +211,13 @@ pub fn letter_words_in<const ROOM: usize, const MARKS: usize, const N: usize>(
     ensures form { OnOk result (words.new.items ≡ letter_form profile letter.now) }
     ensures too_long { IsErr result ↔ (N < length (letter_form profile letter.now)) }
     ensures same { OnErr result (words.new.items ≡ words.old.items) }
+    ensures plain { OnOk result (IsPlainWithPads words.new.items letter.now) }
 {
-    let head = letter.head();
-    let marks = letter.marks();
-    if is_plain(head, marks) {
-        return normal_words_in(profile, letter.items(), words);
-    }
-    write_marked(head, letter.items(), marks, words)
+    content_words_in(
+        profile,
+        letter.head(),
+        letter.items(),
+        letter.marks(),
+        words,
+    )
 }

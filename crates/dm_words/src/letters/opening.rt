@@ -2,10 +2,10 @@
 
 ghost use Rattle.std.specs.Prelude.{◌≡◌, ◌∷◌, ◌++◌, [], List, length};
 ghost use Rattle.dm_words.specs.Codewords.{codeword_of};
-ghost use Rattle.dm_words.specs.inner.Scan.Prefixes.{digit_by};
+ghost use Rattle.dm_words.specs.inner.Scan.Prefixes.{digit_by, begins_with_one_word};
 ghost use Rattle.dm_words.specs.inner.LetterScan.{begins_append, first_frame, is_empty_run, opened};
 
-use crate::codeword::{Codeword, UNLATCH, meaning};
+use crate::codeword::{Codeword, Lone, UNLATCH, lone_of, meaning};
 use crate::letters::designator::word_at;
 use crate::letters::head::{APPEND, Head, first_head, head_length};
 use crate::macros::digit_of;
@@ -79,8 +79,36 @@ fn begins_append(words: &[u8]) -> bool
     }
 }
 
-/// Gives the opening of the words, `None` where structured append begins no head.
+/// Whether the first word is by itself a character or a pair of digits, and so opens nothing.
+fn begins_alone(words: &[u8]) -> bool
+    ensures { result ≡ begins_with_one_word words.now }
+{
+    match word_at(words, 0) {
+        Some(word) => match lone_of(word) {
+            Lone::Character(_) | Lone::Digits(_) => true,
+            Lone::Other => false,
+        },
+        None => false,
+    }
+}
+
+/// Gives the opening of the words, `None` where structured append begins no head. Most begin with a character or a pair
+/// of digits, and then nothing else is asked for.
 pub(crate) fn opening_of(words: &[u8]) -> Option<Opened>
+    ensures { result ≡ opened words.now }
+{
+    if begins_alone(words) {
+        return Some(Opened {
+            opening: Opening::Plain,
+            count: 0,
+        });
+    }
+    opening_asked(words)
+}
+
+/// Does the same for any words. It stands by itself, so that what is read behind most openings stays short.
+#[inline(never)]
+fn opening_asked(words: &[u8]) -> Option<Opened>
     ensures { result ≡ opened words.now }
 {
     if let Some(head) = first_head(words) {

@@ -1,20 +1,20 @@
 //! Reading: the letter that data codewords say, or the fault with which they are refused.
 
-ghost use Rattle.std.specs.Prelude.{◌≡◌, ◌+◌, ◌*◌, ◌≤◌, ◌<◌, ◌++◌, [], length, drop, None, Some, OnOk, OnErr};
-ghost use Rattle.dm_words.specs.declared.extent.Extent.TheVariants.{Wide};
+ghost use Rattle.std.specs.Prelude.{◌≡◌, ◌+◌, ◌*◌, ◌≤◌, ◌<◌, ◌++◌, [], ◌∷◌, length, drop, None, Some, OnOk, OnErr};
+ghost use Rattle.dm_words.specs.declared.extent.Extent.TheVariants.{Usual, Wide};
+ghost use Rattle.dm_words.specs.Designators.{eci_word};
 ghost use Rattle.dm_words.specs.Messages.{most_spelled};
-ghost use Rattle.dm_words.specs.Letters.{AreMarks, BeginNoEci, opening_head, opening_items, closing_items};
+ghost use Rattle.dm_words.specs.Letters.{AreMarks, BeginNoEci, HasMarkRoom, opening_head, opening_items, closing_items};
 ghost use Rattle.dm_words.specs.LetterResults.{IsLetterResult};
 ghost use Rattle.dm_words.specs.LetterExtents.{IsLetterResultIn};
 ghost use Rattle.dm_words.specs.Outcomes.{outcome};
-ghost use Rattle.dm_words.specs.Refused.{Refused};
 ghost use Rattle.dm_words.specs.inner.LetterScan.{first_designator, mark_by, first_letter_part, letter_on, letter_by};
 ghost use Rattle.dm_words.specs.inner.LetterScan.{opened};
 ghost use Rattle.dm_words.specs.inner.LetterContents.{content_view, headed_view, headed_outcome, IsContentAt};
 ghost use Rattle.dm_words.specs.inner.LetterContents.{IsLetterPartTaken};
 
+use crate::codeword::FIRST_PAD;
 use crate::extent::Extent;
-use crate::fault::WordFault;
 use crate::letters::content::Content;
 use crate::letters::designator::{ECI, first_designator};
 use crate::letters::fault::LetterFault;
@@ -25,7 +25,7 @@ use crate::limits::LARGEST_ROOM;
 use crate::macros::{add_header, add_trailer};
 use crate::message::MessageIn;
 use crate::numbers::number_at;
-use crate::reading::{message_to_as, next_part};
+use crate::reading::{message_to_as, next_part, one_word_parts};
 use dm_layout::symbols::MOST_DATA;
 
 /// Takes the mark whose ECI stands at an index: adds it, and gives the number of its codewords.
@@ -35,9 +35,10 @@ fn mark_part<const ROOM: usize, const MARKS: usize>(
     content: &mut Content<ROOM, MARKS>,
 ) -> Result<Option<usize>, LetterFault>
     requires in_range { at < length words.now }
+    requires eci { drop at words.now ≡ eci_word ∷ drop (at + 1) words.now }
     requires short { length words.now ≤ MOST_DATA }
     requires most { ROOM ≤ LARGEST_ROOM }
-    requires marks { length words.now ≤ 2 * MARKS }
+    requires marks { HasMarkRoom MARKS words.now }
     requires so_far { IsContentAt ROOM words.now at (content_view content.old) }
     ensures { IsLetterPartTaken result (content_view content.old) (content_view content.new)
         (mark_by (at + 1) (first_designator (drop (at + 1) words.now))) }
@@ -80,14 +81,15 @@ pub(crate) fn next_letter_part<const ROOM: usize, const MARKS: usize>(
     requires in_range { at ≤ length words.now }
     requires short { length words.now ≤ MOST_DATA }
     requires most { ROOM ≤ LARGEST_ROOM }
-    requires marks { length words.now ≤ 2 * MARKS }
+    requires marks { HasMarkRoom MARKS words.now }
     requires so_far { IsContentAt ROOM words.now at (content_view content.old) }
     ensures { IsLetterPartTaken result (content_view content.old) (content_view content.new)
         (first_letter_part (at + 1) (drop at words.now)) }
 {
     match number_at(words, at) {
+        None | Some(FIRST_PAD) => Ok(None),
         Some(ECI) => mark_part(words, at, content),
-        _ => item_part(words, at, content),
+        Some(_) => item_part(words, at, content),
     }
 }
 
@@ -100,7 +102,7 @@ fn add_letter_parts<const ROOM: usize, const MARKS: usize>(
     requires in_range { start ≤ length words.now }
     requires short { length words.now ≤ MOST_DATA }
     requires most { ROOM ≤ LARGEST_ROOM }
-    requires marks { length words.now ≤ 2 * MARKS }
+    requires marks { HasMarkRoom MARKS words.now }
     requires so_far { IsContentAt ROOM words.now start (content_view content.old) }
     ensures read { outcome result (content_view content.new)
         ≡ letter_on (content_view content.old) (start + 1) (drop start words.now) }
@@ -110,9 +112,9 @@ fn add_letter_parts<const ROOM: usize, const MARKS: usize>(
     ensures in_order { OnOk result
         (AreMarks 0 (length content.new.message) content.new.marks.items) }
 {
-    let mut at = start;
+    let mut at = one_word_parts(words, start, &mut content.message);
     while let Some(count) = next_letter_part(words, at, content)? {
-        at += count;
+        at = one_word_parts(words, at + count, &mut content.message);
     }
     Ok(())
 }
@@ -159,7 +161,7 @@ fn read_behind<const ROOM: usize, const MARKS: usize>(
     requires short { length words.now ≤ MOST_DATA }
     requires most { ROOM ≤ LARGEST_ROOM }
     requires room { most_spelled Wide (length words.now) ≤ ROOM }
-    requires marks { length words.now ≤ 2 * MARKS }
+    requires marks { HasMarkRoom MARKS words.now }
     requires no_item { content.old.message ≡ [] }
     requires no_mark { content.old.marks.items ≡ [] }
     ensures read { outcome result (headed_view (opening_head found.opening) content.new)
@@ -183,7 +185,7 @@ fn read_content<const ROOM: usize, const MARKS: usize>(
     requires short { length words.now ≤ MOST_DATA }
     requires most { ROOM ≤ LARGEST_ROOM }
     requires room { most_spelled Wide (length words.now) ≤ ROOM }
-    requires marks { length words.now ≤ 2 * MARKS }
+    requires marks { HasMarkRoom MARKS words.now }
     ensures letter { IsLetterResult words.now (headed_outcome result content.new) }
     ensures no_item { OnErr result (content.new.message ≡ []) }
     ensures no_mark { OnErr result (content.new.marks.items ≡ []) }
@@ -202,14 +204,14 @@ fn read_content<const ROOM: usize, const MARKS: usize>(
 }
 
 /// Reads the letter that the data codewords of a symbol say, in an extent, into a target with room for all that so many
-/// codewords, at most [`MOST_DATA`], can say, and for one mark for each two of them: after `Ok`, `letter` holds the
-/// letter, whatever it held before. After a fault it has no head, no item and no mark. The list is the whole data part,
-/// so its end is the end of the symbol.
+/// codewords, at most [`MOST_DATA`], can say, and for one mark for each two of them or for each ECI among them
+/// ([`eci_count()`](crate::eci_count())): after `Ok`, `letter` holds the letter, whatever it held before. After a fault
+/// it has no head, no item and no mark. The list is the whole data part, so its end is the end of the symbol.
 ///
 /// At [`Extent::Usual`] the codewords are read as [`message_to_as()`] reads them, and what they spell is a letter
 /// without a head and marks. At [`Extent::Wide`] they are read so too, and with ECI, structured append and reader
 /// programming; a macro may stand behind empty runs of C40, Text or X12. What is read at [`Extent::Usual`] is read at
-/// [`Extent::Wide`] as the same. Codewords that spell a message take no more work than that message does.
+/// [`Extent::Wide`] as the same, and codewords that spell a message take no more work than that message does.
 /// [`LetterFault`] says when each fault comes. ISO/IEC 16022, ECI encodation, structured append, reader programming.
 pub fn letter_to_as<const ROOM: usize, const MARKS: usize>(
     extent: Extent,
@@ -219,41 +221,35 @@ pub fn letter_to_as<const ROOM: usize, const MARKS: usize>(
     requires short { length words.now ≤ MOST_DATA }
     requires most { ROOM ≤ LARGEST_ROOM }
     requires room { most_spelled extent (length words.now) ≤ ROOM }
-    requires marks { length words.now ≤ 2 * MARKS }
-    ensures read { IsLetterResultIn extent words.now (outcome result letter.new) }
-    ensures emptied { OnErr result
-        (letter.new ≡ record { head = None; items = []; marks = [] }) }
-{
-    letter.clear();
-    match message_to_as(extent, words, &mut letter.content.message) {
-        Ok(()) => Ok(()),
-        Err(fault) => refused_to(extent, words, fault, letter),
-    }
-}
-
-/// Reads codewords that spell no message in an extent, and have this fault in it, into the letter: they may say a
-/// letter that is no message.
-fn refused_to<const ROOM: usize, const MARKS: usize>(
-    extent: Extent,
-    words: &[u8],
-    fault: WordFault,
-    letter: &mut LetterIn<ROOM, MARKS>,
-) -> Result<(), LetterFault>
-    requires short { length words.now ≤ MOST_DATA }
-    requires most { ROOM ≤ LARGEST_ROOM }
-    requires room { most_spelled extent (length words.now) ≤ ROOM }
-    requires marks { length words.now ≤ 2 * MARKS }
-    requires refused { Refused extent words.now fault }
+    requires marks { HasMarkRoom MARKS words.now }
     ensures read { IsLetterResultIn extent words.now (outcome result letter.new) }
     ensures emptied { OnErr result
         (letter.new ≡ record { head = None; items = []; marks = [] }) }
 {
     match extent {
-        Extent::Usual => {
+        Extent::Usual => usual_letter_to(words, letter),
+        Extent::Wide => wide_letter_to(words, letter),
+    }
+}
+
+/// Reads the message that codewords spell in the usual extent, as a letter.
+fn usual_letter_to<const ROOM: usize, const MARKS: usize>(
+    words: &[u8],
+    letter: &mut LetterIn<ROOM, MARKS>,
+) -> Result<(), LetterFault>
+    requires short { length words.now ≤ MOST_DATA }
+    requires room { most_spelled Usual (length words.now) ≤ ROOM }
+    ensures read { IsLetterResultIn Usual words.now (outcome result letter.new) }
+    ensures emptied { OnErr result
+        (letter.new ≡ record { head = None; items = []; marks = [] }) }
+{
+    letter.clear();
+    match message_to_as(Extent::Usual, words, &mut letter.content.message) {
+        Ok(()) => Ok(()),
+        Err(fault) => {
             letter.clear();
             Err(LetterFault::Word(fault))
         }
-        Extent::Wide => wide_letter_to(words, letter),
     }
 }
 
@@ -265,7 +261,7 @@ fn wide_letter_to<const ROOM: usize, const MARKS: usize>(
     requires short { length words.now ≤ MOST_DATA }
     requires most { ROOM ≤ LARGEST_ROOM }
     requires room { most_spelled Wide (length words.now) ≤ ROOM }
-    requires marks { length words.now ≤ 2 * MARKS }
+    requires marks { HasMarkRoom MARKS words.now }
     ensures read { IsLetterResult words.now (outcome result letter.new) }
     ensures emptied { OnErr result
         (letter.new ≡ record { head = None; items = []; marks = [] }) }

@@ -10,11 +10,14 @@ ghost use Rattle.dm_words.specs.Letters.{AreMarks};
 ghost use Rattle.dm_words.specs.LetterForm.{ascii_with_marks};
 ghost use Rattle.dm_words.specs.Messages.{IsMessage};
 ghost use Rattle.dm_words.specs.Pads.{padded};
+ghost use Rattle.dm_words.specs.Plain.{IsPlainForm};
 ghost use Rattle.dm_words.specs.SmallestLetters.{IsSmallestLetterResult, SaysThenPads};
 ghost use Rattle.dm_words.specs.inner.Costs.{before_words, parts_cost, most_behind};
 ghost use Rattle.dm_words.specs.inner.LetterCosts.{view_of, marked_cost, AreBehind, IsLeastLetterCost, IsLetterWay};
 ghost use Rattle.dm_words.specs.inner.LetterCosts.{IsLetterMacro, HasNoLetterMacro, AreSaid, seen_by};
+ghost use Rattle.dm_words.specs.inner.LetterCosts.{first_text};
 ghost use Rattle.dm_words.specs.inner.MarkedForms.{is_plain};
+ghost use Rattle.dm_words.specs.inner.Signs.{KeepsSign};
 ghost use Rattle.dm_words.specs.inner.Ways.{text_of};
 ghost use Rattle.dm_words.specs.inner.Written.{ArePartsWritten};
 
@@ -38,12 +41,14 @@ use arrayvec::ArrayVec;
 use dm_layout::symbols::{MOST_DATA, SizeChoice, SymbolSize};
 
 /// Chooses data codewords, with pads, that say the letter in an extent, in the smallest size of the choice that has
-/// any: no list of codewords of a smaller size says it there. The letter may have any room, at most [`LARGEST_ROOM`]
-/// items and [`LARGEST_MARKS`] marks. After `Ok`, which has that size, `words` holds them, whatever it held before.
-/// They are the letter in ASCII, as under [`Profile::Ascii`](crate::Profile::Ascii), where the size has room for that;
-/// else codewords that say the letter in the usual extent, where there are any. `TooLong` exactly where the codewords
-/// of no size of the choice say the letter, as in the usual extent those of no size say a head or a mark; then `words`
-/// holds what it held before. ISO/IEC 16022, encodation schemes, ECI encodation, structured append, reader programming.
+/// any: no list of codewords of a smaller size says it there, but for lists that have a macro before FNC1. The letter
+/// may have any room, at most [`LARGEST_ROOM`] items and [`LARGEST_MARKS`] marks. After `Ok`, which has that size,
+/// `words` holds them, whatever it held before. They are plain, and their symbology identifier is that of the ASCII
+/// form. They are the letter in ASCII, as under [`Profile::Ascii`](crate::Profile::Ascii), where the size has room for
+/// that; else codewords that say the letter in the usual extent, where there are any. `TooLong` exactly where the
+/// codewords of no size of the choice say the letter, as in the usual extent those of no size say a head or a mark;
+/// then `words` holds what it held before. ISO/IEC 16022, encodation schemes, ECI encodation, structured append, reader
+/// programming.
 pub fn smallest_letter_words_to<const ROOM: usize, const MARKS: usize>(
     extent: Extent,
     letter: &LetterIn<ROOM, MARKS>,
@@ -262,6 +267,7 @@ fn write_letter<const N: usize>(
     ensures fits { length words.new.items ≤ count }
     ensures ascii { length (head_words head ++ ascii_with_marks 0 items.now marks.now) ≤ count
         → words.new.items ≡ head_words head ++ ascii_with_marks 0 items.now marks.now }
+    ensures form { IsPlainForm (padded words.new.items count) (view_of head items.now marks.now) }
 {
     let length = head_words_length(head) + marked_length(items, marks);
     let total = usize::from(count);
@@ -312,6 +318,7 @@ fn write_texts<const N: usize>(
     requires most { N ≤ MOST_DATA }
     ensures said { AreSaid total words.old.items words.new.items seen items.now marks.now }
     ensures fits { length words.new.items ≤ total }
+    ensures sign { KeepsSign words.old.items words.new.items (first_text seen items.now marks.now) }
 {
     let mut from = 0;
     for k in 0..marks.len() {
@@ -340,6 +347,7 @@ fn write_text<const N: usize>(
     requires most { N ≤ MOST_DATA }
     ensures parts { ArePartsWritten Wide total words.old.items words.new.items items.now }
     ensures fits { length words.new.items + behind ≤ total }
+    ensures sign { KeepsSign words.old.items words.new.items items.now }
 {
     let setting = Setting {
         extent: Extent::Wide,

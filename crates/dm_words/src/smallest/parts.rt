@@ -4,6 +4,7 @@ ghost use Rattle.std.specs.Prelude.{◌≡◌, ◌+◌, ◌-◌, ◌≤◌, ◌<
 ghost use Rattle.dm_words.specs.declared.extent.Extent.TheVariants.{Usual};
 ghost use Rattle.dm_words.specs.Messages.{IsMessage};
 ghost use Rattle.dm_words.specs.inner.Costs.{parts_cost, IsRightPlan, most_behind};
+ghost use Rattle.dm_words.specs.inner.Signs.{KeepsSign, PassesSign};
 ghost use Rattle.dm_words.specs.inner.Written.{IsPartWritten, ArePartsWritten};
 
 use crate::ascii::{digit_pair, unit_of, write_unit};
@@ -53,6 +54,8 @@ fn write_part<const N: usize>(
     ensures usual { IsTrue result.is_usual
         → IsPartWritten Usual total words.old.items words.new.items
         (take (result.next - at) (drop at items.now)) }
+    ensures sign { PassesSign words.old.items words.new.items (drop at items.now)
+        (drop result.next items.now) }
 {
     match plan[at].begin() {
         Begin::One => {
@@ -115,6 +118,7 @@ pub(crate) fn write_parts<const N: usize>(
     ensures usual { IsTrue result
         → ArePartsWritten Usual total words.old.items words.new.items items.now }
     ensures fits { length words.new.items + setting.behind ≤ total }
+    ensures sign { KeepsSign words.old.items words.new.items items.now }
 {
     let mut are_usual = true;
     let mut at = 0;

@@ -2,7 +2,7 @@
 
 ghost use Rattle.std.specs.Prelude.{◌≡◌, ◌+◌, ◌++◌, ◌*◌, ◌^◌, ◌≤◌, ◌<◌, if◌then◌else◌, ℕ, nat_le, get_or, length};
 ghost use Prim.Native.Nat.{min};
-ghost use Rattle.std.specs.Prelude.{map, nat_eq, not, replicate};
+ghost use Rattle.std.specs.Prelude.{map, nat_eq, not, replicate, ◌⊎◌};
 ghost use Rattle.std.specs.Simd.Lanes.{sel_l, zip2};
 ghost use Rattle.dm_words.specs.Ascii.{ascii};
 ghost use Rattle.dm_words.specs.Messages.{IsItem, IsMessage};
@@ -227,6 +227,11 @@ fn choose(item: Item, pair: bool, next: &Costs, going: &GoingCosts) -> Choice
         → result.cost ≡ least item pair r g }
     ensures begins { (r : Row) (g : Going) → HasRow r next.now → AreSmall g → HasGoing g going.now
         → cost_of item pair r g (begin_at result.begins) ≡ result.cost }
+    ensures pair { (r : Row) (g : Going) → HasRow r next.now → AreSmall g → HasGoing g going.now
+        → cost_of item pair r g (begin_at 0) ≡ result.cost → begin_at result.begins ≡ begin_at 0 }
+    ensures one { (r : Row) (g : Going) → HasRow r next.now → AreSmall g → HasGoing g going.now
+        → cost_of item pair r g (begin_at 1) ≡ result.cost
+        → (begin_at result.begins ≡ begin_at 1) ⊎ (begin_at result.begins ≡ begin_at 0) }
 {
     first_least(costs_of(item, pair, next, going))
 }

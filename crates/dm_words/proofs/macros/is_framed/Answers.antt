@@ -1,7 +1,7 @@
 use Rattle.std.proofs.Common.{◌≡◌, ◌∙◌, ◌-◌, length, take, sym, arith}
 use Rattle.std.proofs.lemmas.List.{take_rest}
 use Rattle.dm_words.specs.Macros.{macro_header}
-use Rattle.dm_words.proofs.Frames.{is_framed, frame_is}
+use Rattle.dm_words.proofs.Frames.{is_framed, frame_is, fnc1_inside}
 use Rattle.dm_words.proofs.macros.is_framed.Goals as goal
 
 pub returns-clause-yes : goal.returns-clause-yes
@@ -14,4 +14,16 @@ returns-clause-yes c =
 pub returns-clause-no : goal.returns-clause-no
 returns-clause-no c =
     let m = c.args.items.now in
-    λ text e. (let f = frame_is m c.args.digit text e in c.are_bytes-2.ensures.no (take_rest m (length m - 2) ∙ f.2))
+    λ text e none. (
+    let f = frame_is m c.args.digit text e in
+    c.are_bytes-2.ensures.no (take_rest m (length m - 2) ∙ f.2)
+    )
+
+pub returns-clause-no_fnc1 : goal.returns-clause-no_fnc1
+returns-clause-no_fnc1 c = λ t b.
+    (let yes = c.begin_with_fnc1.ensures.no b in let no = c.if-begin_with_fnc1.false in cc)
+
+pub returns-then-begin_with_fnc1-clause-no : goal.returns-then-begin_with_fnc1-clause-no
+returns-then-begin_with_fnc1-clause-no c = λ text e none.
+    absurd (none (fnc1_inside c.args.items.now c.args.digit text _ e
+    (c.begin_with_fnc1.ensures.yes c.if-begin_with_fnc1.true)))

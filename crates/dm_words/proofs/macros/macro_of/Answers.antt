@@ -9,6 +9,7 @@ returns-then-is_framed-clause-found c =
       is_macro = refl;
       framed =
           c.is_framed.ensures.yes c.if-is_framed.true;
+      no_fnc1 = c.is_framed.ensures.no_fnc1 c.if-is_framed.true;
       long = c.is_framed.ensures.long c.if-is_framed.true;
     }
 
@@ -19,5 +20,6 @@ returns-then-is_framed-2-clause-found c =
       digit = 54;
       is_macro = refl;
       framed = c.is_framed-else-is_framed.ensures.yes c.if-is_framed-2.true;
+      no_fnc1 = c.is_framed-else-is_framed.ensures.no_fnc1 c.if-is_framed-2.true;
       long = c.is_framed-else-is_framed.ensures.long c.if-is_framed-2.true;
     }

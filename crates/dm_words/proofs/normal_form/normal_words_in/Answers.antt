@@ -1,4 +1,5 @@
-use Rattle.std.proofs.Common.{arith, ap, length}
+use Rattle.std.proofs.Common.{◌∙◌, arith, ap, length, sym}
+use Rattle.dm_words.proofs.NormalPlain.{message_plain}
 use Rattle.dm_words.proofs.normal_form.normal_words_in.Goals as goal
 
 pub returns-then-not-surely_fits-clause-same : goal.returns-then-not-surely_fits-clause-same
@@ -10,3 +11,30 @@ write_segment-requires g c =
     let form = rw c.if-form_of.true at e.form in
     let fits = rw c.if-not-surely_fits.false at c.surely_fits.ensures in
     omega (arith, ap length form, e.length, e.no_longer, c.write_ascii-ascii.ensures.length, fits)
+
+pub returns-then-form_of-clause-plain : goal.returns-then-form_of-clause-plain
+returns-then-form_of-clause-plain g c =
+    let e = c.form_of.ensures in
+    let form = rw c.if-form_of.true at e.form in
+    let fits = rw c.if-not-surely_fits.false at c.surely_fits.ensures in
+    λ message. message_plain c.args.profile c.args.items.now c.write_segment.new.words.items
+    (c.write_segment.ensures ∙ sym form)
+    (omega (
+      arith,
+      ap length c.write_segment.ensures,
+      ap length form,
+      e.length,
+      e.no_longer,
+      c.write_ascii-ascii.ensures.length,
+      fits,
+      c.requires.most,
+    )) message
+
+pub returns-else-form_of-clause-plain : goal.returns-else-form_of-clause-plain
+returns-else-form_of-clause-plain g c =
+    let e = c.form_of.ensures in
+    let form = rw c.if-form_of.false at e.form in
+    let fits = rw c.if-not-surely_fits.false at c.surely_fits.ensures in
+    λ message. message_plain c.args.profile c.args.items.now c.write_ascii-ascii.new.words.items
+    (c.write_ascii-ascii.ensures.words ∙ sym form)
+    (omega (arith, ap length c.write_ascii-ascii.ensures.words, fits, c.requires.most)) message

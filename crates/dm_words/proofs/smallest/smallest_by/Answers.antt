@@ -1,5 +1,7 @@
 use Rattle.std.proofs.Common.{◌≡◌, ◌∙◌, ℕ, List, length, ap, sym, subst, arith}
+use Rattle.dm_words.specs.LetterExtents.{as_letter}
 use Rattle.dm_words.specs.Pads.{padded}
+use Rattle.dm_words.specs.Plain.{IsPlainForm}
 use Rattle.dm_words.specs.Smallest.{IsPlainest, SpellsThenPads}
 use Rattle.dm_words.proofs.SmallestSymbols.{is_smallest, none_spells, padded_spells}
 use Rattle.dm_words.proofs.smallest.smallest_by.Goals as goal
@@ -28,10 +30,11 @@ returns-in-Some-clause-smallest g c =
     record {
       smallest = is_smallest extent c.args.choice m c.least_way-found.result.way.cost c.in-Some.size
           c.pad_to.new.words.items c.least_way-found.ensures.least (size.size, size.chosen) size.smallest size.narrowest
-          long (padded_spells extent c.pad_to.new.words.items m spells);
+          long (padded_spells extent c.pad_to.new.words.items m spells)
+          (subst (λ (l : List ℕ). IsPlainForm l (as_letter m)) (sym is) c.write_plainest.ensures.form);
       plainest = subst (λ (l : List ℕ). IsPlainest l m) (sym is) c.write_plainest.ensures.plainest;
       padded = spells;
-      too_long = λ err size other taken sized says. absurd (cc);
+      too_long = λ err size other taken sized framed says. absurd (cc);
     }
 
 pub returns-in-None-clause-cheapest : goal.returns-in-None-clause-cheapest

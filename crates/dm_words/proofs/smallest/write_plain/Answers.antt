@@ -3,6 +3,9 @@ use Rattle.dm_words.specs.declared.extent.Extent.TheVariants.{Usual}
 use Rattle.dm_words.specs.declared.smallest.setting.Setting.{Setting}
 use Rattle.dm_words.specs.inner.Written.{ArePartsWritten}
 use Rattle.dm_words.proofs.SmallestSymbols.{plain_spells}
+use Rattle.std.proofs.lemmas.List.Elements.{recursion_from_All}
+use Rattle.dm_words.specs.Messages.{IsItem}
+use Rattle.dm_words.proofs.PlainForms.{message_form}
 use Rattle.dm_words.proofs.smallest.write_plain.Goals as goal
 
 pub returns-clause-spells : goal.returns-clause-spells
@@ -20,4 +23,14 @@ returns-clause-usual g c all =
     plain_spells Usual c.args.count c.clear.new.self.items new c.args.items.now c.clear.ensures
     (subst (λ (n : ℕ). ArePartsWritten Usual n c.clear.new.self.items new c.args.items.now) c.from.ensures
     (c.write_parts.ensures.usual all))
+    (omega (arith, c.write_parts.ensures.fits, c.from.ensures))
+
+pub returns-clause-form : goal.returns-clause-form
+returns-clause-form g c =
+    let new = c.write_parts.new.words.items in
+    message_form c.args.extent c.args.count c.clear.new.self.items new c.args.items.now
+    (recursion_from_All IsItem c.args.items.now c.requires.message) c.clear.ensures
+    (subst (λ (n : ℕ). ArePartsWritten c.args.extent n c.clear.new.self.items new c.args.items.now) c.from.ensures
+    (subst (λ (s : Setting). ArePartsWritten s.extent c.from.result c.clear.new.self.items new c.args.items.now)
+    c.at_end.ensures c.write_parts.ensures.parts)) c.write_parts.ensures.sign
     (omega (arith, c.write_parts.ensures.fits, c.from.ensures))

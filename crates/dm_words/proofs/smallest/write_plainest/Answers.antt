@@ -3,6 +3,11 @@ use Rattle.dm_words.specs.Pads.{padded}
 use Rattle.dm_words.specs.Smallest.{SpellsThenPads}
 use Rattle.dm_words.proofs.LawLemmas.{ascii_padded}
 use Rattle.dm_words.proofs.SmallestSymbols.{ascii_plainest, usual_plainest}
+use Rattle.std.proofs.lemmas.List.Elements.{recursion_from_All}
+use Rattle.dm_words.specs.LetterExtents.{as_letter}
+use Rattle.dm_words.specs.Messages.{IsItem}
+use Rattle.dm_words.specs.Plain.{IsPlainForm}
+use Rattle.dm_words.proofs.PlainForms.{ascii_plain, message_writable}
 use Rattle.dm_words.proofs.smallest.write_plainest.Goals as goal
 
 pub returns-then-found-count-clause-spells : goal.returns-then-found-count-clause-spells
@@ -22,3 +27,11 @@ returns-else-not-is_usual-clause-plainest g c =
     usual_plainest c.args.items.now c.write_way-is_usual.new.words.items c.args.count c.write_way-is_usual.ensures.fits
     (omega (arith, c.requires.ascii, c.if-found-count.false))
     (c.write_way-is_usual.ensures.usual (search rules))
+
+pub returns-then-found-count-clause-form : goal.returns-then-found-count-clause-form
+returns-then-found-count-clause-form g c =
+    subst (λ (l : List ℕ). IsPlainForm (padded l c.args.count) (as_letter c.args.items.now))
+    (sym c.write_ascii-form.ensures.words)
+    (ascii_plain (as_letter c.args.items.now) c.args.count
+    (message_writable c.args.items.now (recursion_from_All IsItem c.args.items.now c.requires.message))
+    (omega (arith, c.requires.ascii, c.if-found-count.true)))

@@ -1,11 +1,12 @@
 use Rattle.std.proofs.Common.{◌∙◌, ◌≤◌, ℕ, ◌-◌, List, [], ◌∷◌, ◌++◌, Option, ap, arith, subst, rules, drop, length}
 use Rattle.std.proofs.lemmas.List.{length-take, length-drop}
-use Rattle.std.proofs.lemmas.List.Elements.{All-drop, All-take}
+use Rattle.std.proofs.lemmas.List.Elements.{All-drop, All-take, recursion_from_All}
 use Rattle.dm_words.specs.declared.smallest.setting.Setting.{Setting}
 use Rattle.dm_words.specs.Messages.{IsItem}
 use Rattle.dm_words.specs.inner.Ways.{IsWay}
 use Rattle.dm_words.specs.inner.Written.{ArePartsWritten}
 use Rattle.dm_words.proofs.SmallestSymbols.{macro_spells}
+use Rattle.dm_words.proofs.PlainForms.{macro_form}
 use Rattle.dm_words.proofs.smallest.write_way.Goals as goal
 
 pub returns-in-Some-clause-spells : goal.returns-in-Some-clause-spells
@@ -65,3 +66,17 @@ write_parts-usual-requires g c =
         ),
       ),
     )
+
+pub returns-in-Some-clause-form : goal.returns-in-Some-clause-form
+returns-in-Some-clause-form g c =
+    let way =
+    subst (λ (o : Option ℕ). IsWay c.args.extent c.args.items.now o c.args.way.cost) c.in-Some.is c.requires.way in
+    let base = c.push.new.self.items in
+    let new = c.write_parts-usual.new.words.items in
+    macro_form c.args.extent c.args.count c.in-Some.word base new c.args.items.now c.inner.result.now
+    (recursion_from_All IsItem c.args.items.now c.requires.message)
+    (c.push.ensures.items ∙ ap (λ (l : List ℕ). l ++ c.in-Some.word ∷ []) c.clear.ensures) c.inner.ensures way.0
+    (subst (λ (n : ℕ). ArePartsWritten c.args.extent n base new c.inner.result.now) c.from.ensures
+    (subst (λ (s : Setting). ArePartsWritten s.extent c.from.result base new c.inner.result.now) c.at_end.ensures
+    c.write_parts-usual.ensures.parts))
+    (omega (arith, c.write_parts-usual.ensures.fits, c.from.ensures))

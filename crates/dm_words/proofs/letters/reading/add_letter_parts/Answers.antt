@@ -1,9 +1,23 @@
-use Rattle.std.proofs.Common.{◌+◌, drop, sym, arith, Some, None}
+use Rattle.std.proofs.Common.{◌∙◌, ◌+◌, drop, sym, arith, rules, Some, None}
 use Rattle.std.proofs.lemmas.Result.{err_from_is_err_and}
 use Rattle.dm_words.specs.inner.LetterScan.{letter_on}
 use Rattle.dm_words.specs.inner.LetterContents.{content_view}
-use Rattle.dm_words.proofs.LetterLoops.{goes_on, stops_on}
+use Rattle.dm_words.proofs.LetterLoops.{goes_on, stops_on, one_words_leave}
 use Rattle.dm_words.proofs.letters.reading.add_letter_parts.Goals as goal
+
+-- A turn of the loop takes a part, which keeps to the words and to what is read in all, and then parts of one codeword.
+pub loop-count-init : goal.loop-count-init
+loop-count-init g c =
+    let e = c.one_word_parts-at.ensures in
+    let marks = c.args.content.now.marks.items in
+    record {
+      in_range = e.within;
+      content = one_words_leave g.row.ROOM c.args.words.now c.args.start c.one_word_parts-at.result
+          c.args.content.now.message c.one_word_parts-at.new.message marks c.requires.so_far e.from e.no_fewer
+          e.two_for_each_codeword;
+      count = e.two_for_each_codeword;
+      so_far = e.said marks;
+    }
 
 pub overflow_add-at : goal.overflow_add-at
 overflow_add-at g c =
@@ -16,6 +30,17 @@ overflow_add-at g c =
     v.so_far in
     omega (arith, r.in_range, c.requires.short)
 
+pub one_word_parts-at-requires-in-Some : goal.one_word_parts-at-requires-in-Some
+one_word_parts-at-requires-in-Some g c =
+    let v = c.loop-count.invariant in
+    let r = goes_on g.row.ROOM c.args.words.now c.args.start c.loop-count.at c.in-Some.count
+    (content_view c.args.content.now) (content_view c.loop-count.content)
+    (content_view c.next_letter_part.new.content)
+    (letter_on (content_view c.args.content.now) (c.args.start + 1) (drop c.args.start c.args.words.now))
+    (λ i. omega (arith, c.type_inv.words i)) v.in_range v.content v.count (rw c.in-Some.is at c.in_ok-count.ensures)
+    v.so_far in
+    (search rules, (r.in_range, (c.requires.short, r.content.item_room)))
+
 pub loop-count-preserved : goal.loop-count-preserved
 loop-count-preserved g c =
     let v = c.loop-count.invariant in
@@ -25,7 +50,16 @@ loop-count-preserved g c =
     (letter_on (content_view c.args.content.now) (c.args.start + 1) (drop c.args.start c.args.words.now))
     (λ i. omega (arith, c.type_inv.words i)) v.in_range v.content v.count (rw c.in-Some.is at c.in_ok-count.ensures)
     v.so_far in
-    record { in_range = r.in_range; content = r.content; count = r.count; so_far = r.so_far }
+    let e = c.one_word_parts-at-in-Some.ensures in
+    let marks = c.next_letter_part.new.content.marks.items in
+    record {
+      in_range = e.within;
+      content = one_words_leave g.row.ROOM c.args.words.now (c.loop-count.at + c.in-Some.count)
+          c.one_word_parts-at-in-Some.result c.next_letter_part.new.content.message
+          c.one_word_parts-at-in-Some.new.message marks r.content e.from e.no_fewer e.two_for_each_codeword;
+      count = omega (arith, r.count, e.two_for_each_codeword);
+      so_far = e.said marks ∙ r.so_far;
+    }
 
 pub loop-count-smaller : goal.loop-count-smaller
 loop-count-smaller g c =
@@ -36,7 +70,8 @@ loop-count-smaller g c =
     (letter_on (content_view c.args.content.now) (c.args.start + 1) (drop c.args.start c.args.words.now))
     (λ i. omega (arith, c.type_inv.words i)) v.in_range v.content v.count (rw c.in-Some.is at c.in_ok-count.ensures)
     v.so_far in
-    omega (arith, r.in_range, r.some)
+    let e = c.one_word_parts-at-in-Some.ensures in
+    omega (arith, r.in_range, r.some, e.from, e.within)
 
 pub returns-clause-read : goal.returns-clause-read
 returns-clause-read g c =

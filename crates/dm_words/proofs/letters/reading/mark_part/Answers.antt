@@ -1,9 +1,20 @@
-use Rattle.std.proofs.Common.{◌∙◌, ◌+◌, sym, ap, refl}
+use Rattle.std.proofs.Common.{◌∙◌, ◌+◌, sym, ap, refl, rules}
 use Rattle.std.proofs.lemmas.List.{take_rest}
 use Rattle.dm_words.specs.inner.LetterScan.{first_designator}
 use Rattle.dm_words.specs.inner.LetterContents.{content_view}
+use Rattle.dm_words.proofs.EciCounts.{mark_fits}
 use Rattle.dm_words.proofs.LetterLoops.{mark_found}
 use Rattle.dm_words.proofs.letters.reading.mark_part.Goals as goal
+
+pub add_mark-requires : goal.add_mark-requires
+add_mark-requires g c = (
+  search rules,
+  (
+    c.requires.most,
+    mark_fits g.row.ROOM g.row.MARKS c.args.words.now c.args.at (content_view c.args.content.now) c.requires.marks
+        c.requires.so_far c.requires.in_range c.requires.eci,
+  ),
+)
 
 pub returns-in-Some : goal.returns-in-Some
 returns-in-Some g c =

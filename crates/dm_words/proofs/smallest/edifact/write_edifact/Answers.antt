@@ -6,6 +6,7 @@ use Rattle.dm_words.specs.inner.Costs.{parts_cost}
 use Rattle.dm_words.proofs.GroupsWritten.{edifact_begun, edifact_item, edifact_written, IsEdifactSoFar}
 use Rattle.dm_words.proofs.GroupBudget.{first_of_groups, group_at, leave_groups, after_value, value_room, waiting_room}
 use Rattle.dm_words.proofs.GroupBudget.{ended_budget}
+use Rattle.dm_words.proofs.RunWritten.{run_some}
 use Rattle.dm_words.proofs.smallest.edifact.write_edifact.Goals as goal
 
 pub loop-words-init : goal.loop-words-init
@@ -112,4 +113,6 @@ returns-clause-part g c =
     c.end_run.new.words.items (take (c.loop-words.next - c.args.at) (drop c.args.at c.args.items.now))
     c.loop-words.group
     v.wide (omega (arith, waiting_room c.loop-words.group (length c.loop-words.words.items) c.args.total _ v.budget))
-    (elim l [ inl p ↦ inl p.0 | inr p ↦ inr p.0 ]) v.so_far c.end_run.ensures
+    (elim l [ inl p ↦ inl p.0 | inr p ↦ inr p.0 ])
+    (run_some c.args.items.now c.args.at c.loop-words.next v.from v.within)
+    v.so_far c.end_run.ensures

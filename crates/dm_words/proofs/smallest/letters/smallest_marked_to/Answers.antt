@@ -22,3 +22,4 @@ returns-in-Some-clause-smallest c =
     c.data_count-count.ensures.value
     (c.pad_to.ensures.words ∙ ap (λ (n : ℕ). padded written n) c.from.ensures)
     c.write_letter.ensures.fits c.write_letter.ensures.says c.write_letter.ensures.ascii
+    c.write_letter.ensures.form

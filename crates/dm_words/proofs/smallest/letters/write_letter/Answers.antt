@@ -1,19 +1,23 @@
 use Rattle.std.proofs.Common.{◌≡◌, ◌∙◌, ◌≤◌, ℕ, ◌-◌, List, [], ◌∷◌, ◌++◌, length, drop, ap, sym, subst, refl, arith}
 use Rattle.std.proofs.Common.{rules}
-use Rattle.std.proofs.Common.{length-append, Option}
+use Rattle.std.proofs.Common.{length-append, Option, None}
 use Rattle.std.proofs.lemmas.List.{length-take, length-drop}
 use Rattle.std.proofs.lemmas.List.Elements.{All-drop, All-take, recursion_from_All}
 use Rattle.dm_words.specs.declared.extent.Extent.TheVariants.{Wide}
 use Rattle.dm_words.specs.declared.letters.head.Head.{Head}
 use Rattle.dm_words.specs.Heads.{head_words}
-use Rattle.dm_words.specs.LetterForm.{ascii_with_marks}
-use Rattle.dm_words.specs.Macros.{macro_text}
+use Rattle.dm_words.specs.LetterForm.{ascii_with_marks, letter_form}
+use Rattle.dm_words.specs.Macros.{macro_text, BeginsFnc1}
 use Rattle.dm_words.specs.Messages.{IsItem}
 use Rattle.dm_words.specs.Pads.{padded}
 use Rattle.dm_words.specs.SmallestLetters.{SaysThenPads}
 use Rattle.dm_words.specs.inner.LetterCosts.{view_of, IsLetterWay, AreBehind, AreSaid, seen_by}
 use Rattle.dm_words.specs.inner.Ways.{text_of}
-use Rattle.dm_words.proofs.LetterWritten.{form_said, says_by_head, says_framed}
+use Rattle.dm_words.specs.declared.profile.Profile.TheVariants.{Ascii}
+use Rattle.dm_words.specs.Plain.{IsPlainForm}
+use Rattle.dm_words.proofs.LetterWritten.{form_said, says_by_head, says_framed, says_so}
+use Rattle.dm_words.proofs.MarkedCosts.{start_at}
+use Rattle.dm_words.proofs.PlainForms.{ascii_plain, form_is, framed_form, headed_form}
 use Rattle.dm_words.proofs.smallest.letters.write_letter.Goals as goal
 
 pub returns-then-length-total-clause-says : goal.returns-then-length-total-clause-says
@@ -22,7 +26,8 @@ returns-then-length-total-clause-says g c =
     let marks = c.args.marks.now in
     let new = c.write_form.new.words.items in
     let first = head_words c.args.head in
-    says_by_head c.args.count first new c.args.head items marks c.requires.head refl
+    says_so (padded new c.args.count) (view_of c.args.head items marks)
+    (says_by_head c.args.count first new c.args.head items marks c.requires.head refl
     (form_said c.args.count first new items marks (recursion_from_All IsItem items c.requires.message)
     c.requires.in_order c.write_form.ensures)
     (omega (
@@ -33,7 +38,7 @@ returns-then-length-total-clause-says g c =
       c.from-total.ensures,
       c.head_words_length.ensures.value,
       c.marked_length.ensures.value,
-    ))
+    )))
 
 pub write_texts-requires-in-Some : goal.write_texts-requires-in-Some
 write_texts-requires-in-Some g c =
@@ -97,9 +102,28 @@ returns-in-None-clause-says g c =
     let base_is : base ≡ head_words c.args.head = c.add_words.ensures
     ∙ ap (λ (l : List ℕ). l ++ c.as_slice.result.now) c.clear.ensures ∙ c.as_slice.ensures.value
     ∙ c.head_words.ensures in
-    says_by_head c.args.count base new c.args.head items marks c.requires.head base_is
+    says_so (padded new c.args.count) (view_of c.args.head items marks)
+    (says_by_head c.args.count base new c.args.head items marks c.requires.head base_is
     (subst (λ (n : ℕ). AreSaid n base new 0 items marks) c.from-total.ensures c.write_texts.ensures.said)
-    (omega (arith, c.write_texts.ensures.fits, c.from-total.ensures))
+    (omega (arith, c.write_texts.ensures.fits, c.from-total.ensures)))
+
+pub returns-in-None-clause-form : goal.returns-in-None-clause-form
+returns-in-None-clause-form g c =
+    let items = c.args.items.now in
+    let marks = c.args.marks.now in
+    let base = c.add_words.new.words.items in
+    let new = c.write_texts.new.words.items in
+    let base_is : base ≡ head_words c.args.head = c.add_words.ensures
+    ∙ ap (λ (l : List ℕ). l ++ c.as_slice.result.now) c.clear.ensures ∙ c.as_slice.ensures.value
+    ∙ c.head_words.ensures in
+    headed_form c.args.count base new c.args.head items marks
+    (record {
+      head = c.requires.head;
+      items = recursion_from_All IsItem items c.requires.message;
+      marks = c.requires.in_order;
+    }) base_is
+    (subst (λ (n : ℕ). AreSaid n base new 0 items marks) c.from-total.ensures c.write_texts.ensures.said)
+    c.write_texts.ensures.sign (omega (arith, c.write_texts.ensures.fits, c.from-total.ensures))
 
 pub returns-in-Some-clause-says : goal.returns-in-Some-clause-says
 returns-in-Some-clause-says g c =
@@ -113,9 +137,54 @@ returns-in-Some-clause-says g c =
     let new = c.write_texts-in-Some.new.words.items in
     subst (λ (h : Option Head). SaysThenPads Wide (padded new c.args.count) (view_of h items marks))
     (sym way.0.no_head)
+    (says_so (padded new c.args.count) (view_of None items marks)
     (says_framed c.args.count c.in-Some.word m.digit base new items c.inner.result.now marks m.is_macro
     (m.framed ∙ ap (macro_text m.digit) (sym c.inner.ensures))
     (c.push.ensures.items ∙ ap (λ (l : List ℕ). l ++ c.in-Some.word ∷ []) c.clear.ensures)
     (subst (λ (n : ℕ). AreSaid n base new 7 c.inner.result.now marks) c.from-total.ensures
-    c.write_texts-in-Some.ensures.said)
+    c.write_texts-in-Some.ensures.said) (λ b. m.no_fnc1 (subst BeginsFnc1 c.inner.ensures b))
+    (omega (arith, c.write_texts-in-Some.ensures.fits, c.from-total.ensures))))
+
+pub returns-in-Some-clause-form : goal.returns-in-Some-clause-form
+returns-in-Some-clause-form g c =
+    let items = c.args.items.now in
+    let marks = c.args.marks.now in
+    let way =
+    subst (λ (o : Option ℕ). IsLetterWay (view_of c.args.head items marks) o c.args.way.cost) c.in-Some.is
+    c.requires.way in
+    let m = way.0.is_macro in
+    let base = c.push.new.self.items in
+    let new = c.write_texts-in-Some.new.words.items in
+    subst (λ (h : Option Head). IsPlainForm (padded new c.args.count) (view_of h items marks)) (sym way.0.no_head)
+    (framed_form c.args.count c.in-Some.word m.digit base new items c.inner.result.now marks
+    (record { head = tt; items = recursion_from_All IsItem items c.requires.message; marks = c.requires.in_order })
+    m.is_macro (m.framed ∙ ap (macro_text m.digit) (sym c.inner.ensures))
+    (c.push.ensures.items ∙ ap (λ (l : List ℕ). l ++ c.in-Some.word ∷ []) c.clear.ensures)
+    (subst (λ (n : ℕ). AreSaid n base new 7 c.inner.result.now marks) c.from-total.ensures
+    c.write_texts-in-Some.ensures.said) (start_at 7 _ marks way.0.marks)
+    (λ b. m.no_fnc1 (subst BeginsFnc1 c.inner.ensures b))
     (omega (arith, c.write_texts-in-Some.ensures.fits, c.from-total.ensures)))
+
+pub returns-then-length-total-clause-form : goal.returns-then-length-total-clause-form
+returns-then-length-total-clause-form g c =
+    let items = c.args.items.now in
+    let marks = c.args.marks.now in
+    let first = head_words c.args.head in
+    let is : c.write_form.new.words.items ≡ letter_form Ascii (view_of c.args.head items marks) =
+    c.write_form.ensures ∙ sym (form_is c.args.head items marks) in
+    subst (λ (l : List ℕ). IsPlainForm (padded l c.args.count) (view_of c.args.head items marks)) (sym is)
+    (ascii_plain (view_of c.args.head items marks) c.args.count
+    (record {
+      head = c.requires.head;
+      items = recursion_from_All IsItem items c.requires.message;
+      marks = c.requires.in_order;
+    })
+    (omega (
+      arith,
+      ap length (form_is c.args.head items marks),
+      length-append first (ascii_with_marks 0 items marks),
+      c.if-length-total.true,
+      c.from-total.ensures,
+      c.head_words_length.ensures.value,
+      c.marked_length.ensures.value,
+    )))

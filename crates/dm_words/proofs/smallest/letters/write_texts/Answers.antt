@@ -1,14 +1,17 @@
-use Rattle.std.proofs.Common.{◌≡◌, ◌∙◌, ℕ, ◌+◌, ◌-◌, ◌∷◌, length, take, drop, get_or, ap, sym, subst, arith, rules}
+use Rattle.std.proofs.Common.{◌≡◌, ◌∙◌, ℕ, ◌+◌, ◌-◌, ◌∷◌, length, take, drop, get_or, ap, sym, subst, arith, refl}
+use Rattle.std.proofs.Common.{rules}
 use Rattle.std.proofs.Common.{length-append}
 use Rattle.std.proofs.lemmas.List.{length-take, length-drop}
 use Rattle.std.proofs.lemmas.List.Elements.{All-drop, All-take}
 use Rattle.dm_words.specs.Designators.{eci_word, designator}
+use Rattle.dm_words.specs.Joined.{spelled}
 use Rattle.dm_words.specs.Letters.{AreMarks}
 use Rattle.dm_words.specs.Messages.{IsItem}
 use Rattle.dm_words.specs.inner.Costs.{before_words, parts_cost}
 use Rattle.dm_words.specs.inner.LetterCosts.{marked_cost}
 use Rattle.dm_words.proofs.LetterWritten.{nothing_said, texts_turn, texts_end}
 use Rattle.dm_words.proofs.MarkedCosts.{forth, behind_few}
+use Rattle.dm_words.proofs.PlainForms.{sign_turn, sign_end}
 use Rattle.dm_words.proofs.smallest.letters.write_texts.Goals as goal
 
 pub loop-k-init : goal.loop-k-init
@@ -25,6 +28,8 @@ loop-k-init g c =
         c.requires.budget,
         ap (λ (p : ℕ). marked_cost p c.args.items.now c.args.marks.now) here,
       );
+      first = λ e. (refl, refl);
+      sign = λ some. absurd (omega (arith, some));
     }
 
 pub slice_bounds-write_text-end : goal.slice_bounds-write_text-end
@@ -97,6 +102,12 @@ loop-k-preserved g c =
         length-append new (eci_word ∷ designator m.number),
         ap (λ (p : ℕ). marked_cost (seen + (p - seen)) (drop (p - seen) items) (drop (k + 1) marks)) c.from.ensures,
       );
+      first = λ e. absurd (omega (arith, e));
+      sign = λ some. sign_turn c.args.words.now.items c.loop-k.words.items new c.add_mark_words.new.words.items
+          (spelled c.write_text.ensures.parts.parts) (eci_word ∷ designator m.number) seen items marks k from
+          (c.from.result - seen) (record { place = 0; number = 0 }) c.loop-k-test.true
+          (ap (λ (p : ℕ). p - seen) c.from.ensures) v.first v.sign c.write_text.ensures.sign
+          c.write_text.ensures.parts.whole c.add_mark_words.ensures;
     }
 
 pub returns-clause-said : goal.returns-clause-said
@@ -105,3 +116,10 @@ returns-clause-said g c =
     texts_end c.args.total c.args.words.now.items c.loop-k.words.items c.write_text-2.new.words.items c.args.seen
     c.args.items.now c.args.marks.now c.loop-k.k c.loop-k.from c.loop-k-test.false v.said
     c.write_text-2.ensures.parts
+
+pub returns-clause-sign : goal.returns-clause-sign
+returns-clause-sign g c =
+    let v = c.loop-k.invariant in
+    sign_end c.args.words.now.items c.loop-k.words.items c.write_text-2.new.words.items
+    (spelled c.write_text-2.ensures.parts.parts) c.args.seen c.args.items.now c.args.marks.now c.loop-k.k c.loop-k.from
+    c.loop-k-test.false v.first v.sign c.write_text-2.ensures.sign c.write_text-2.ensures.parts.whole

@@ -1,4 +1,5 @@
-use Rattle.std.proofs.Common.{◌≡◌, ◌∙◌, ℕ, ◌+◌, ◌-◌, List, length, drop, get_or, ap, sym, subst, arith, false, rules}
+use Rattle.std.proofs.Common.{◌≡◌, ◌∙◌, ℕ, ◌+◌, ◌-◌, ◌++◌, List, length, drop, get_or, ap, sym, subst, arith, false}
+use Rattle.std.proofs.Common.{rules}
 use Rattle.std.proofs.lemmas.List.{length-append, take_rest, drop_all}
 use Rattle.std.proofs.lemmas.List.Elements.{All-drop, All-take}
 use Rattle.dm_words.specs.declared.extent.Extent.TheVariants.{Usual}
@@ -13,6 +14,7 @@ use Rattle.dm_words.proofs.CostsMet.{nothing_costs}
 use Rattle.dm_words.proofs.SegmentBudget.{rest_is}
 use Rattle.dm_words.proofs.PartBudget.{one_paid, pair_paid, run_paid, edifact_paid, segment_paid, rest_paid}
 use Rattle.dm_words.proofs.UnitWritten.{length-item_words, digit_byte, one_written, two_written}
+use Rattle.dm_words.proofs.SignParts.{one_passes, two_passes, other_passes}
 use Rattle.dm_words.proofs.smallest.parts.write_part.Goals as goal
 
 pub write_unit-one-requires : goal.write_unit-one-requires
@@ -203,3 +205,62 @@ returns-in-Rest-clause-budget g c =
       nothing_costs c.args.setting,
       rest.2,
     )
+
+pub returns-in-One-clause-sign : goal.returns-in-One-clause-sign
+returns-in-One-clause-sign g c =
+    one_passes c.args.setting c.args.items.now c.args.at Fnc1 _ c.args.words.now.items c.write_unit-one.new.words.items
+    c.requires.behind c.requires.few c.requires.at (c.requires.plan c.args.at _ (omega (arith, c.requires.at)))
+    (sym c.begin.ensures ∙ c.in-One.is)
+    (c.write_unit-one.ensures.words ∙ ap (λ (l : List ℕ). c.args.words.now.items ++ l) c.unit_of.ensures.words)
+
+pub returns-in-Two-clause-sign : goal.returns-in-Two-clause-sign
+returns-in-Two-clause-sign g c =
+    let q = pair_paid c.args.setting c.args.items.now c.args.at Fnc1 _ c.requires.at
+    (c.requires.plan c.args.at _ (omega (arith, c.requires.at))) (length c.args.words.now.items) c.args.total
+    c.requires.budget (omega (arith, c.requires.total)) (sym c.begin.ensures ∙ c.in-Two.is) in
+    let word : c.digit_pair.result
+    ≡ digit_pair (byte_of (get_or c.args.items.now c.args.at Fnc1))
+    (byte_of (get_or c.args.items.now (c.args.at + 1) Fnc1)) =
+    c.digit_pair.ensures ∙ ap (λ (b : ℕ). digit_pair b c.byte-in-Two.result) c.byte.ensures
+    ∙ ap (λ (b : ℕ). digit_pair (byte_of (get_or c.args.items.now c.args.at Fnc1)) b) c.byte-in-Two.ensures in
+    two_passes c.args.items.now c.args.at Fnc1 c.args.words.now.items c.push.new.self.items q.second_there
+    q.first q.second c.digit_pair.result word c.push.ensures.items
+
+pub returns-in-Run-clause-sign : goal.returns-in-Run-clause-sign
+returns-in-Run-clause-sign g c =
+    let w = c.write_run.ensures.part c.args.setting.extent in
+    other_passes c.args.setting c.args.items.now c.args.at Fnc1 _ c.args.words.now.items c.write_run.new.words.items
+    c.requires.behind c.requires.few c.requires.at (c.requires.plan c.args.at _ (omega (arith, c.requires.at)))
+    (drop c.write_run.result c.args.items.now) w.part
+    (λ e. (let f = sym c.in-Run.is ∙ c.begin.ensures ∙ e in cc))
+    (λ e. (let f = sym c.in-Run.is ∙ c.begin.ensures ∙ e in cc)) w.whole
+
+pub returns-in-Edifact-clause-sign : goal.returns-in-Edifact-clause-sign
+returns-in-Edifact-clause-sign g c =
+    let w = c.write_edifact.ensures.part in
+    other_passes c.args.setting c.args.items.now c.args.at Fnc1 _ c.args.words.now.items
+    c.write_edifact.new.words.items
+    c.requires.behind c.requires.few c.requires.at (c.requires.plan c.args.at _ (omega (arith, c.requires.at)))
+    (drop c.write_edifact.result c.args.items.now) w.part
+    (λ e. (let f = sym c.in-Edifact.is ∙ c.begin.ensures ∙ e in cc))
+    (λ e. (let f = sym c.in-Edifact.is ∙ c.begin.ensures ∙ e in cc)) w.whole
+
+pub returns-in-Segment-clause-sign : goal.returns-in-Segment-clause-sign
+returns-in-Segment-clause-sign g c =
+    let w = c.write_segment.ensures.part c.args.setting.extent in
+    other_passes c.args.setting c.args.items.now c.args.at Fnc1 _ c.args.words.now.items
+    c.write_segment.new.words.items
+    c.requires.behind c.requires.few c.requires.at (c.requires.plan c.args.at _ (omega (arith, c.requires.at)))
+    (drop c.segment_end-end.result c.args.items.now) w.part
+    (λ e. (let f = sym c.in-Segment.is ∙ c.begin.ensures ∙ e in cc))
+    (λ e. (let f = sym c.in-Segment.is ∙ c.begin.ensures ∙ e in cc)) w.whole
+
+pub returns-in-Rest-clause-sign : goal.returns-in-Rest-clause-sign
+returns-in-Rest-clause-sign g c =
+    let w = c.write_segment-in-Rest.ensures.part c.args.setting.extent in
+    other_passes c.args.setting c.args.items.now c.args.at Fnc1 _ c.args.words.now.items
+    c.write_segment-in-Rest.new.words.items
+    c.requires.behind c.requires.few c.requires.at (c.requires.plan c.args.at _ (omega (arith, c.requires.at)))
+    (drop (length c.args.items.now) c.args.items.now) w.part
+    (λ e. (let f = sym c.in-Rest.is ∙ c.begin.ensures ∙ e in cc))
+    (λ e. (let f = sym c.in-Rest.is ∙ c.begin.ensures ∙ e in cc)) w.whole

@@ -9,6 +9,7 @@ use Rattle.dm_words.specs.inner.Written.{IsPartWritten, ArePartsWritten}
 use Rattle.dm_words.specs.inner.Costs.{parts_cost}
 use Rattle.dm_words.proofs.CostsMet.{nothing_costs}
 use Rattle.dm_words.proofs.PartsWritten.{no_parts, parts_more}
+use Rattle.dm_words.proofs.SignParts.{passes_on, passes_all}
 use Rattle.dm_words.proofs.smallest.parts.write_parts.Goals as goal
 
 pub loop-at-init : goal.loop-at-init
@@ -17,6 +18,7 @@ loop-at-init g c = record {
   budget = c.requires.budget;
   parts = no_parts c.args.setting.extent c.args.total c.args.words.now.items;
   usual = λ all. no_parts Usual c.args.total c.args.words.now.items;
+  sign = λ after k. k;
 }
 
 pub loop-at-preserved : goal.loop-at-preserved
@@ -43,6 +45,8 @@ loop-at-preserved g c =
       usual = λ all.
           (let each = and_parts c.loop-at.are_usual c.write_part-part.result.is_usual all in
           joined Usual (c.loop-at.invariant.usual each.0) (w.usual each.1));
+      sign = passes_on base old new w.part.part m (drop at m) (drop next m) w.part.whole
+          c.loop-at.invariant.sign w.sign;
     }
 
 pub returns-clause-fits : goal.returns-clause-fits
@@ -53,3 +57,8 @@ returns-clause-fits g c =
       ap (parts_cost c.args.setting) (drop_all c.loop-at.at c.args.items.now c.loop-at-test.false),
       nothing_costs c.args.setting,
     )
+
+pub returns-clause-sign : goal.returns-clause-sign
+returns-clause-sign g c =
+    passes_all c.args.words.now.items c.loop-at.words.items c.args.items.now (drop c.loop-at.at c.args.items.now)
+    (drop_all c.loop-at.at c.args.items.now c.loop-at-test.false) c.loop-at.invariant.sign

@@ -2,6 +2,7 @@ use Rattle.std.proofs.Common.{◌+◌, ◌-◌, ◌≤◌, length, drop, take}
 use Rattle.std.specs.Prelude.{IsTrue}
 use Rattle.dm_words.specs.declared.extent.Extent.TheVariants.{Usual}
 use Rattle.dm_words.specs.inner.Costs.{parts_cost}
+use Rattle.dm_words.specs.inner.Signs.{PassesSign}
 use Rattle.dm_words.specs.inner.Written.{ArePartsWritten}
 use Rattle.dm_words.proofs.smallest.parts.write_parts.Given as goal
 
@@ -11,6 +12,7 @@ invariant-loop-at g l = record {
   budget : length l.words.items + parts_cost l.setting (drop l.at l.items) ≤ l.total;
   parts : ArePartsWritten l.setting.extent l.total l.fn.words.items l.words.items (take l.at l.items);
   usual : IsTrue l.are_usual → ArePartsWritten Usual l.total l.fn.words.items l.words.items (take l.at l.items);
+  sign : PassesSign l.fn.words.items l.words.items l.items (drop l.at l.items);
 }
 
 abbrev pub decreases-loop-at : goal.decreases-loop-at

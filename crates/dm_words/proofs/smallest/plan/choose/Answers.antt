@@ -1,6 +1,6 @@
-use Rattle.std.proofs.Common.{◌∙◌, ap, sym, ℕ, List, get_or}
+use Rattle.std.proofs.Common.{◌∙◌, ap, arith, sym, ℕ, List, get_or}
 use Rattle.dm_words.specs.inner.CostLanes.{least_of}
-use Rattle.dm_words.proofs.CostLanes.{cost_at}
+use Rattle.dm_words.proofs.CostLanes.{cost_at, first_begin, second_begin, lane_costs}
 use Rattle.dm_words.proofs.smallest.plan.choose.Goals as goal
 
 pub returns-clause-cost : goal.returns-clause-cost
@@ -12,3 +12,15 @@ returns-clause-begins c r g row small going =
     sym (cost_at c.args.item c.args.pair r g c.first_least.result.begins c.first_least.ensures.place)
     ∙ ap (λ (l : List ℕ). get_or l c.first_least.result.begins 0) (sym (c.costs_of.ensures.costs r g row small going))
     ∙ c.first_least.ensures.found
+
+pub returns-clause-pair : goal.returns-clause-pair
+returns-clause-pair c r g row small going is =
+    first_begin c.first_least.result.begins
+    (λ lt. c.first_least.ensures.first 0 lt (lane_costs c.args.item c.args.pair r g 0 c.costs_of.result
+    c.first_least.result.cost (omega arith) (c.costs_of.ensures.costs r g row small going) is))
+
+pub returns-clause-one : goal.returns-clause-one
+returns-clause-one c r g row small going is =
+    second_begin c.first_least.result.begins
+    (λ lt. c.first_least.ensures.first 1 lt (lane_costs c.args.item c.args.pair r g 1 c.costs_of.result
+    c.first_least.result.cost (omega arith) (c.costs_of.ensures.costs r g row small going) is))

@@ -8,7 +8,6 @@ use Rattle.dm_words.specs.Messages.{IsItem}
 use Rattle.dm_words.specs.inner.Costs.{pair_first, unit_cost}
 use Rattle.dm_words.proofs.NormalForms.{two_words}
 use Rattle.dm_words.proofs.Plans.{ascii_turn}
-use Rattle.dm_words.specs.declared.smallest.plan.Begin.TheVariants.{Two}
 use Rattle.dm_words.specs.declared.item.Item.TheVariants.{Fnc1}
 use Rattle.dm_words.specs.inner.Costs.{Row, row, going_over, is_digit_item, with_ascii, begin_at, step_in, none_going}
 use Rattle.dm_words.specs.inner.CostLanes.{HasRow}
@@ -29,7 +28,7 @@ loop-at-init c = record {
   row = last_costs c.args.setting c.args.items.now c.with_ascii-costs.result
       (c.with_ascii-costs.ensures (none_going c.args.setting.behind) (none_small c.args.setting.behind)
       c.none_going-none.ensures);
-  plan = plan_first c.args.setting c.args.items.now c.args.plan.now Two c.step_of.result c.requires.steps
+  plan = plan_first c.args.setting c.args.items.now c.args.plan.now c.step_of.result c.requires.steps
       (c.step_of.ensures (none_going c.args.setting.behind) c.none_going-none.ensures);
   message = λ i other from to. absurd (omega (arith, from, to));
 }
@@ -124,7 +123,11 @@ loop-at-preserved c =
     let t = turn setting m at x Fnc1 next new pair g (begin_at choice.begins) choice.cost
     (step_in c.step_of-in-loop-at.result) (omega (arith, c.loop-at-test.true)) v.in_range refl refl
     is_pair refl (c.choose-choice.ensures.cost next g v.row small going)
-    (c.choose-choice.ensures.begins next g v.row small going) (c.step_of-in-loop-at.ensures g going) refl in
+    (c.choose-choice.ensures.begins next g v.row small going)
+    (record {
+      two = c.choose-choice.ensures.pair next g v.row small going;
+      one = c.choose-choice.ensures.one next g v.row small going;
+    }) (c.step_of-in-loop-at.ensures g going) refl in
     record {
       in_range = omega (arith, v.in_range);
       room = search rules;

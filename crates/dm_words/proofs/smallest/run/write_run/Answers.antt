@@ -4,7 +4,7 @@ use Rattle.dm_words.specs.declared.item.Item.TheVariants.{Fnc1}
 use Rattle.dm_words.specs.inner.Written.{Waiting, part_values, IsItemPushed}
 use Rattle.dm_words.specs.inner.Costs.{parts_cost}
 use Rattle.dm_words.proofs.LowerBounds.{leave_bounds}
-use Rattle.dm_words.proofs.RunWritten.{run_begun, run_more, written_unlatch, written_bare, IsRunSoFar}
+use Rattle.dm_words.proofs.RunWritten.{run_begun, run_more, run_some, written_unlatch, written_bare, IsRunSoFar}
 use Rattle.dm_words.proofs.RunBudget.{unlatched, first_at, run_at, item_room, after_item, one_more, leave_at}
 use Rattle.dm_words.proofs.smallest.run.write_run.Goals as goal
 
@@ -146,7 +146,8 @@ returns-then-total-len-gt1-clause-part g c =
     (leave_at c.args.setting c.args.set (drop c.loop-set.next c.args.items.now) _ c.loop-set.part
     (length c.loop-set.words.items) c.args.total c.goes_on.result
     (c.requires.plan c.loop-set.next _ c.loop-set.invariant.within) c.loop-set.invariant.budget c.goes_on.ensures
-    c.loop-set-test.false).0 c.loop-set.invariant.so_far c.push-then-total-len-gt1.ensures.items
+    c.loop-set-test.false).0 (run_some c.args.items.now c.args.at c.loop-set.next c.loop-set.invariant.from
+    c.loop-set.invariant.within) c.loop-set.invariant.so_far c.push-then-total-len-gt1.ensures.items
 
 pub returns-else-total-len-gt1-clause-budget : goal.returns-else-total-len-gt1-clause-budget
 returns-else-total-len-gt1-clause-budget g c =
@@ -166,5 +167,6 @@ returns-else-total-len-gt1-clause-part g c =
     (leave_at c.args.setting c.args.set (drop c.loop-set.next c.args.items.now) _ c.loop-set.part
     (length c.loop-set.words.items) c.args.total c.goes_on.result
     (c.requires.plan c.loop-set.next _ c.loop-set.invariant.within) c.loop-set.invariant.budget c.goes_on.ensures
-    c.loop-set-test.false).0 (omega (arith, c.if-total-len-gt1.false, c.len.ensures.value))
+    c.loop-set-test.false).0 (run_some c.args.items.now c.args.at c.loop-set.next c.loop-set.invariant.from
+    c.loop-set.invariant.within) (omega (arith, c.if-total-len-gt1.false, c.len.ensures.value))
     c.loop-set.invariant.so_far

@@ -20,4 +20,4 @@ pub returns-clause-part : goal.returns-clause-part
 returns-clause-part g c =
     λ extent. segment_written extent c.args.total c.args.words.now.items c.push.new.self.items
     c.push_field.new.words.items c.write_bytes.new.words.items c.args.items.now
-    c.requires.message c.requires.bytes c.push.ensures.items c.push_field.ensures c.write_bytes.ensures
+    c.requires.some c.requires.message c.requires.bytes c.push.ensures.items c.push_field.ensures c.write_bytes.ensures

@@ -1,0 +1,94 @@
+-- How many codewords are ECI, and room for the marks that they say.
+use Rattle.std.proofs.Common.{◌≡◌, ℕ, ◌+◌, ◌<◌, ◌≤◌, List, [], ◌∷◌, ◌++◌, length, take, drop, ap, arith}
+use Rattle.std.proofs.Common.{◌∙◌, ◌-◌, inl, inr, Bool, true, false, get_or, drop-cons, sym, add-one, refl}
+use Rattle.std.specs.Prelude.{◌==◌, if◌then◌else◌}
+use Rattle.std.proofs.lemmas.Bool.{eqb-true}
+use Rattle.std.proofs.lemmas.List.{take-append-drop, drop-drop, drop_all}
+use Rattle.dm_words.specs.Designators.{eci_word}
+use Rattle.dm_words.specs.Letters.{LetterView, Said, Items, Number, IsLetterPart, part, mark, eci_count, HasMarkRoom}
+use Rattle.dm_words.specs.inner.LetterContents.{IsContentAt}
+
+-- Of words behind others each is counted once.
+counted_apart : (first more : List ℕ) → eci_count (first ++ more) ≡ eci_count first + eci_count more
+unfolding eci_count
+counted_apart [] more = omega arith
+counted_apart (w ∷ first) more = omega (arith, counted_apart first more)
+
+-- Those of a list are those of its first words and of what is behind them.
+in_parts : (n : ℕ) (words : List ℕ) → eci_count words ≡ eci_count (take n words) + eci_count (drop n words)
+in_parts n words = omega (arith, ap eci_count (take-append-drop n words), counted_apart (take n words) (drop n words))
+
+-- No more are left behind some words.
+pub no_more_behind : (n : ℕ) (words : List ℕ) → eci_count (drop n words) ≤ eci_count words
+no_more_behind n words = omega (arith, in_parts n words)
+
+-- ECI counts.
+one_counts : (more : List ℕ) → eci_count (eci_word ∷ more) ≡ 1 + eci_count more
+unfolding eci_count
+one_counts more = omega arith
+
+-- No more are left from a later index on.
+pub no_more_left : (at to : ℕ) (words : List ℕ) → at ≤ to → eci_count (drop to words) ≤ eci_count (drop at words)
+no_more_left at to words on =
+    let n = to - at in
+    let there : drop n (drop at words) ≡ drop to words =
+    drop-drop n at words ∙ ap (λ k. drop k words) (omega (arith, on)) in
+    omega (arith, in_parts n (drop at words), ap eci_count there)
+
+-- One mark or none is said.
+abbrev pub mark_count : Said → ℕ
+mark_count (Items items) = 0
+mark_count (Number number) = 1
+
+-- A part with a mark takes an ECI.
+pub taken_away : (at n : ℕ) (words : List ℕ) (said : Said)
+    → IsLetterPart (at + 1) (take n (drop at words)) (drop n (drop at words)) said
+    → mark_count said + eci_count (drop (at + n) words) ≤ eci_count (drop at words)
+taken_away at n words said (part items p is) = rw is (omega (arith, no_more_left at (at + n) words (omega arith)))
+taken_away at n words said (mark d number e whole is) =
+    let some : eci_count (take n (drop at words)) ≡ 1 + eci_count d = ap eci_count whole ∙ one_counts d in
+    rw is (omega (arith, in_parts n (drop at words), ap eci_count (drop-drop n at words), some))
+
+-- Where ECI stands, there is room for its mark.
+pub mark_fits : (room most : ℕ) (words : List ℕ) (at : ℕ) (so_far : LetterView) → HasMarkRoom most words
+    → IsContentAt room words at so_far → at < length words → drop at words ≡ eci_word ∷ drop (at + 1) words
+    → length so_far.marks < most
+mark_fits room most words at so_far (inl two) v lt here = omega (arith, two, v.mark_room, lt)
+mark_fits room most words at so_far (inr few) v lt here =
+    omega (arith, few, v.eci_left, ap eci_count here, one_counts (drop (at + 1) words))
+
+-- A word counts by whether it is ECI.
+abbrev counted : Bool → ℕ
+counted is_eci = if is_eci then 1 else 0
+
+-- Where one word is counted, those behind it are left.
+counted_here : (words : List ℕ) (at : ℕ) → at < length words → eci_count (drop at words)
+    ≡ counted (get_or words at 0 == eci_word) + eci_count (drop (at + 1) words)
+unfolding eci_count
+counted_here words at lt =
+    ap eci_count (drop-cons words at 0 lt ∙ ap (λ (j : ℕ). get_or words at 0 ∷ drop j words) (sym (add-one at)))
+
+-- An ECI is counted, and another word isn't.
+pub eci_counted : (words : List ℕ) (at count : ℕ) → at < length words → eci_count words
+    ≡ count + eci_count (drop at words) → get_or words at 0 ≡ eci_word → eci_count words
+    ≡ count + 1 + eci_count (drop (at + 1) words)
+eci_counted words at count lt so_far e =
+    let one : counted (get_or words at 0 == eci_word) ≡ 1 = ap (λ (w : ℕ). counted (w == eci_word)) e in
+    omega (arith, so_far, counted_here words at lt, one)
+
+pub other_passed : (words : List ℕ) (at count : ℕ) → at < length words → eci_count words
+    ≡ count + eci_count (drop at words) → (get_or words at 0 ≡ eci_word → ⊥) → eci_count words
+    ≡ count + eci_count (drop (at + 1) words)
+other_passed words at count lt so_far other =
+    omega (arith, so_far, counted_here words at lt, none (get_or words at 0 == eci_word) refl)
+  where
+    none : (b : Bool) → (get_or words at 0 == eci_word) ≡ b → counted (get_or words at 0 == eci_word) ≡ 0
+    none true e = absurd (other (eqb-true (get_or words at 0) eci_word e))
+    none false e = ap counted e
+
+-- At the end all are counted.
+pub all_counted : (words : List ℕ) (at count : ℕ) → length words ≤ at → eci_count words
+    ≡ count + eci_count (drop at words) → count ≡ eci_count words
+unfolding eci_count
+all_counted words at count le so_far =
+    let none : eci_count (drop at words) ≡ 0 = ap eci_count (drop_all at words le) in omega (arith, so_far, none)
