@@ -14,12 +14,13 @@ use Rattle.dm_symbol.specs.declared.symbol.dealing.Dealing.{Dealing}
 use Rattle.dm_symbol.specs.Doubt.{sure_fault_count}
 use Rattle.dm_symbol.specs.SymbolBlocks.{first_data}
 use Rattle.dm_symbol.specs.SymbolReading.{readings_by}
-use Rattle.dm_symbol.specs.LetterReading.{LetterReadingView, LetterReadResult, IsLetterRead}
+use Rattle.dm_symbol.specs.LetterReading.{LetterReadingView, LetterReadResult, IsLetterRead, ReadsLetter}
 use Rattle.dm_words.specs.Symbology.{IsIdentifier}
 use Rattle.dm_symbol.specs.LetterReading.{letter_reading_of}
 use Rattle.dm_symbol.proofs.LetterReadings.{one_letter_result, letter_by_result, reads_letter_by_result}
 use Rattle.dm_symbol.specs.declared.symbol.reading.Lost.TheVariants.{Border, Block}
-use Rattle.dm_symbol.specs.inner.Restoring.{IsRestored, IsLost}
+use Rattle.dm_symbol.specs.Restored.{IsRestored}
+use Rattle.dm_symbol.specs.inner.Restoring.{IsLost}
 use Rattle.dm_symbol.proofs.Restoring.{restored_data}
 
 -- Equal faults of the border have equal numbers of modules.
@@ -69,6 +70,18 @@ module _ (extent : Extent) (modules : SymbolView) (doubtful : Option SymbolView)
     refused_letter_result why refused =
         LetterReadResult.words dealing r.held w.list why r.few r.restored
         (subst (λ words. RefusedIn extent words why) data_words refused) refl
+
+    -- Where the data codewords say a letter, the symbol is read as it.
+    pub restored_reads : (letter : LetterView) → SaysIn extent (data_of w) letter
+        → ReadsLetter extent modules doubtful limit letter
+    restored_reads letter says = record {
+      border = r.few;
+      dealing = dealing;
+      words = r.held;
+      codewords = w.list;
+      restored = r.restored;
+      said = subst (λ words. SaysIn extent words letter) data_words says;
+    }
 
     -- Where the data codewords say a letter, the reading is a right result.
     pub said_letter_result : (letter : LetterView) (identifier : ℕ) → SaysIn extent (data_of w) letter

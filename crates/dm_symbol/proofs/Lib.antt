@@ -28,6 +28,7 @@ mod LetterDoubt
 mod WrittenWords
 mod WrittenLetters
 mod SmallestLetterSymbols
+mod PlainSymbols
 mod NormalLetters
 mod SquareSizes
 mod Grids

@@ -17,7 +17,8 @@ use Rattle.dm_symbol.specs.Doubt.{sure_fault_count, erased_in}
 use Rattle.dm_symbol.specs.Dealings.{IsDealtTwoWays, dealt, erased_by}
 use Rattle.dm_symbol.specs.SymbolBlocks.{words_with, AreOfSize, AreHeldBy, AreBlocksNear, block_in, first_data}
 use Rattle.dm_symbol.specs.SymbolReading.{AreRestoredBy, IsFirstLost, block_reading, block_readings}
-use Rattle.dm_symbol.specs.inner.Restoring.{IsRestored, IsRestarted, IsLost}
+use Rattle.dm_symbol.specs.Restored.{IsRestored}
+use Rattle.dm_symbol.specs.inner.Restoring.{IsRestarted, IsLost}
 use Rattle.dm_symbol.proofs.SymbolBelow.{held_is_one}
 
 -- Words that modules hold are codewords of a symbol of their size.

@@ -29,16 +29,16 @@ data_counted size words h = length-take-le size.data_count words (omega (arith, 
 -- Where no codewords of a size say a letter, no symbol of it is read as it.
 none_says : (extent : Extent) (choice : SizeChoice) (l : LetterView) → NoSizeSays extent choice l
     → NoneSays extent choice l
-none_says extent choice l none other doubtful limit taken reads =
+none_says extent choice l none other doubtful limit taken reads framed =
     none other.size (first_data other.size reads.codewords) taken
-    (data_counted other.size reads.codewords reads.restored.by.of_size) reads.said
+    (data_counted other.size reads.codewords reads.restored.by.of_size) framed reads.said
 
 -- No symbol of a smaller size is read as the letter.
 no_smaller : (extent : Extent) (choice : SizeChoice) (l : LetterView) (g : SymbolView)
     → IsSmallestLetterSymbol extent choice l g → NoSmallerSays extent choice l g
-no_smaller extent choice l g n other doubtful limit taken less reads =
+no_smaller extent choice l g n other doubtful limit taken less reads framed =
     n.smallest.smallest other.size (first_data other.size reads.codewords) taken less
-    (data_counted other.size reads.codewords reads.restored.by.of_size) reads.said
+    (data_counted other.size reads.codewords reads.restored.by.of_size) framed reads.said
 
 -- It is read as the letter with nothing wrong in it.
 read_clean : (extent : Extent) (choice : SizeChoice) (l : LetterView) (g : SymbolView)

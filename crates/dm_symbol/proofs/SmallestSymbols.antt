@@ -22,16 +22,16 @@ data_counted size words h = length-take-le size.data_count words (omega (arith, 
 -- Where no codewords of a size spell a message, no symbol of it is read as it.
 pub none_is_read : (extent : Extent) (choice : SizeChoice) (m : List Item) → NoneSpells extent choice m
     → NoneIsRead extent choice m
-none_is_read extent choice m none other doubtful limit taken reads =
+none_is_read extent choice m none other doubtful limit taken reads framed =
     none other.size (first_data other.size reads.codewords) taken
-    (data_counted other.size reads.codewords reads.restored.by.of_size) reads.spelled
+    (data_counted other.size reads.codewords reads.restored.by.of_size) framed reads.spelled
 
 -- No symbol of a smaller size is read as the message.
 no_smaller : (extent : Extent) (choice : SizeChoice) (m : List Item) (g : SymbolView)
     → IsSmallestSymbol extent choice m g → NoSmallerIsRead extent choice m g
-no_smaller extent choice m g n other doubtful limit taken less reads =
+no_smaller extent choice m g n other doubtful limit taken less reads framed =
     n.smallest.smallest other.size (first_data other.size reads.codewords) taken less
-    (data_counted other.size reads.codewords reads.restored.by.of_size) reads.spelled
+    (data_counted other.size reads.codewords reads.restored.by.of_size) framed reads.spelled
 
 -- The modules in which the completed codewords are laid are the smallest symbol of the message.
 pub laid_is_smallest : (extent : Extent) (choice : SizeChoice) (m : List Item) (modules : SymbolView) (w : WordsView)

@@ -25,7 +25,7 @@ use Rattle.dm_symbol.specs.SymbolReading.{symbol_reading_of, block_reading}
 use Rattle.dm_symbol.specs.SymbolReading.{block_readings}
 use Rattle.dm_symbol.specs.NormalSymbol.{IsWrittenIn, IsNormalSymbol, FitsChoice}
 use Rattle.dm_symbol.specs.NormalOutcomes.{IsNormalOrFault}
-use Rattle.dm_symbol.specs.SymbolNormal.{HasNormalSymbol, HasNoNormalSymbol, NormalSymbolResult, IsSymbolNormalised}
+use Rattle.dm_symbol.specs.SymbolNormal.{HasNormalSymbol, HasNoNormalSymbol, NormalSymbolResult}
 use Rattle.dm_symbol.specs.SymbolLaws.{nothing_wrong}
 use Rattle.dm_symbol.proofs.Below.{one_spelled, spelled_wide}
 use Rattle.dm_symbol.proofs.Distances.{distance_to_itself, near_itself}
@@ -39,7 +39,7 @@ use Rattle.dm_symbol.proofs.WrittenWords.{words_written_once, written_fit, writt
 use Rattle.dm_words.specs.NormalForm.{normal_form}
 use Rattle.dm_words.proofs.Exported.{normal_form_codewords, normal_form_count, normal_form_spells}
 use Rattle.dm_layout.proofs.symbols.Exported.{size_facts}
-use Rattle.dm_symbol.proofs.NormalOutcomes.{AreApart, one_normalised, is_normal_given}
+use Rattle.dm_symbol.proofs.NormalOutcomes.{AreApart, one_normalised}
 use Rattle.dm_symbol.proofs.SymbolBelow.{held_is_one}
 use Rattle.dm_symbol.proofs.SymbolReadings.{data_are_bytes}
 use Rattle.std.proofs.Common.{length}
@@ -219,12 +219,6 @@ module _ (extent : Extent) (p : Profile) (modules : SymbolView) (doubtful : Opti
       → NormalSymbolResult extent p modules doubtful limit a
       → NormalSymbolResult extent p modules doubtful limit b → a ≡ b
   one_normal_symbol_result a b = one_normalised has has_none refused apart a b
-
-  -- The result defined for a symbol is what normalising it gives.
-  pub is_symbol_normalised : (result : Result SymbolView NormalFault)
-      → NormalSymbolResult extent p modules doubtful limit result
-      → IsSymbolNormalised extent p modules doubtful limit result
-  is_symbol_normalised result a = is_normal_given has has_none refused apart result a
 
 -- A normal symbol has itself as its normal symbol, in each extent.
 normal_of_normal : (extent again : Extent) (p : Profile) (modules normal : SymbolView) (doubtful : Option SymbolView)

@@ -17,7 +17,8 @@ use Rattle.dm_symbol.specs.SymbolBlocks.{first_data}
 use Rattle.dm_symbol.specs.SymbolReading.{ReadingView, SymbolReadResult}
 use Rattle.dm_symbol.specs.SymbolReading.{readings_by, symbol_reading_of, IsSymbolRead}
 use Rattle.dm_symbol.specs.declared.symbol.reading.Lost.TheVariants.{Border, Block}
-use Rattle.dm_symbol.specs.inner.Restoring.{IsRestored, IsLost}
+use Rattle.dm_symbol.specs.Restored.{IsRestored}
+use Rattle.dm_symbol.specs.inner.Restoring.{IsLost}
 use Rattle.dm_symbol.proofs.Restoring.{restored_data}
 use Rattle.dm_symbol.proofs.SymbolReadings.{one_symbol_result, symbol_read_by_result, reads_symbol_by_result}
 

@@ -2,12 +2,12 @@ pub mod NormalGrid
 pub mod Reading
 pub mod NormalOutcomes
 pub mod Normal
-pub mod Inspection
 pub mod Laws
 pub mod Doubt
 pub mod Dealings
 pub mod SymbolBlocks
 pub mod SymbolReading
+pub mod Restored
 pub mod NormalSymbol
 pub mod SymbolNormal
 pub mod SymbolInspection
@@ -20,6 +20,7 @@ pub mod LetterNormal
 pub mod LetterLaws
 pub mod MessageLetters
 pub mod SmallestLetterSymbol
+pub mod PlainSymbol
 pub mod inner
 -- Modules of the layers below, which crates above this one find under its name too: `Rattle.dm_symbol.specs.Grid` is
 -- dm_layout/specs/Grid.antt.

@@ -3,6 +3,7 @@ use Rattle.std.specs.Prelude.{ℕ, List, Option, None, Result, Ok, IfOk, OnErr, 
 use Rattle.dm_words.specs.declared.extent.Extent.{Extent}
 use Rattle.dm_words.specs.declared.fault.TooLong.{TooLong}
 use Rattle.dm_words.specs.Letters.{LetterView}
+use Rattle.dm_words.specs.Plain.{FramesNoFnc1}
 use Rattle.dm_words.specs.Smallest.{IsTaken, IsSmaller}
 use Rattle.dm_words.specs.SmallestLetters.{IsSmallestLetterFor, IsPlainestLetter, SaysThenPads, NoSizeSays}
 use Rattle.dm_layout.specs.declared.symbols.size.SizeChoice.{SizeChoice}
@@ -37,16 +38,20 @@ IsLetterReadWithNothingWrong extent letter modules =
     (Ok (letter_reading_of letter identifier Standard
     (replicate modules.size.blocks (nothing_wrong (block_check modules.size))) 0)))
 
--- No symbol of a smaller size of the choice is read as the letter in the extent, whatever is wrong or doubtful in it.
+-- No symbol of a smaller size of the choice is read as the letter in the extent, whatever is wrong or doubtful in it,
+-- but for those whose codewords have a macro before FNC1.
 abbrev pub NoSmallerSays : Extent → SizeChoice → LetterView → SymbolView → Type 0
 NoSmallerSays extent choice letter modules = (other : SymbolView) (doubtful : Option SymbolView) (limit : ℕ)
-    → IsTaken choice other.size → IsSmaller other.size modules.size → ReadsLetter extent other doubtful limit letter
-    → ⊥
+    → IsTaken choice other.size → IsSmaller other.size modules.size
+    → (reads : ReadsLetter extent other doubtful limit letter)
+    → FramesNoFnc1 (first_data other.size reads.codewords) letter.items → ⊥
 
--- No symbol of any size of the choice is read as the letter in the extent, whatever is wrong or doubtful in it.
+-- No symbol of any size of the choice is read as the letter in the extent, whatever is wrong or doubtful in it, but
+-- for those whose codewords have a macro before FNC1.
 abbrev pub NoneSays : Extent → SizeChoice → LetterView → Type 0
 NoneSays extent choice letter = (other : SymbolView) (doubtful : Option SymbolView) (limit : ℕ)
-    → IsTaken choice other.size → ReadsLetter extent other doubtful limit letter → ⊥
+    → IsTaken choice other.size → (reads : ReadsLetter extent other doubtful limit letter)
+    → FramesNoFnc1 (first_data other.size reads.codewords) letter.items → ⊥
 
 -- Writing a letter in its smallest symbol gives one that is read as the letter, where no smaller one is; or that none
 -- is, of any size of the choice.

@@ -8,6 +8,7 @@ use Rattle.dm_layout.specs.symbols.Sizes.{SizeEntry, block_check, codeword_count
 use Rattle.dm_layout.specs.symbols.Symbols.{SymbolView}
 use Rattle.dm_layout.specs.symbols.Holding.{IsLaid}
 use Rattle.dm_words.specs.Ascii.{ascii}
+use Rattle.dm_words.specs.Plain.{FramesNoFnc1}
 use Rattle.dm_words.specs.Smallest.{IsTaken, IsSmaller, IsSmallestFor, IsPlainest, SpellsThenPads, NoneSpells}
 use Rattle.dm_symbol.specs.declared.symbol.dealing.Dealing.TheVariants.{Standard}
 use Rattle.dm_symbol.specs.SymbolBlocks.{words_with, AreCodewordsOf, first_data}
@@ -36,16 +37,20 @@ IsReadWithNothingWrong extent message modules = (limit : ℕ) → SymbolReadResu
     (Ok (symbol_reading_of message Standard
     (replicate modules.size.blocks (nothing_wrong (block_check modules.size))) 0))
 
--- No symbol of a smaller size of the choice is read as the message in the extent, whatever is wrong or doubtful in it.
+-- No symbol of a smaller size of the choice is read as the message in the extent, whatever is wrong or doubtful in it,
+-- but for those whose codewords have a macro before FNC1.
 abbrev pub NoSmallerIsRead : Extent → SizeChoice → List Item → SymbolView → Type 0
 NoSmallerIsRead extent choice message modules = (other : SymbolView) (doubtful : Option SymbolView) (limit : ℕ)
-    → IsTaken choice other.size → IsSmaller other.size modules.size → ReadsSymbol extent other doubtful limit message
-    → ⊥
+    → IsTaken choice other.size → IsSmaller other.size modules.size
+    → (reads : ReadsSymbol extent other doubtful limit message)
+    → FramesNoFnc1 (first_data other.size reads.codewords) message → ⊥
 
--- No symbol of any size of the choice is read as the message in the extent, whatever is wrong or doubtful in it.
+-- No symbol of any size of the choice is read as the message in the extent, whatever is wrong or doubtful in it, but
+-- for those whose codewords have a macro before FNC1.
 abbrev pub NoneIsRead : Extent → SizeChoice → List Item → Type 0
 NoneIsRead extent choice message = (other : SymbolView) (doubtful : Option SymbolView) (limit : ℕ)
-    → IsTaken choice other.size → ReadsSymbol extent other doubtful limit message → ⊥
+    → IsTaken choice other.size → (reads : ReadsSymbol extent other doubtful limit message)
+    → FramesNoFnc1 (first_data other.size reads.codewords) message → ⊥
 
 -- There are at most so many rows and so many codewords in each size of the choice for which no smaller size of the
 -- choice holds the message in ASCII: in all up to the smallest that does, or in all where none does. The smallest

@@ -1,6 +1,6 @@
 -- The normal symbol, under a profile, of the message that a symbol of any size is read as in an extent, with doubtful
 -- modules or none.
-use Rattle.std.specs.Prelude.{ℕ, List, Option, Result, Ok, Err}
+use Rattle.std.specs.Prelude.{ℕ, List, Option, Result, Err}
 use Rattle.dm_words.specs.declared.item.Item.{Item}
 use Rattle.dm_words.specs.declared.extent.Extent.{Extent}
 use Rattle.dm_words.specs.declared.profile.Profile.{Profile}
@@ -8,8 +8,8 @@ use Rattle.dm_layout.specs.declared.symbols.size.SizeChoice.TheVariants.{Square}
 use Rattle.dm_layout.specs.symbols.Symbols.{SymbolView}
 use Rattle.dm_symbol.specs.declared.normalising.NormalFault.{NormalFault}
 use Rattle.dm_symbol.specs.NormalSymbol.{IsNormalSymbol, FitsChoice}
-use Rattle.dm_symbol.specs.NormalOutcomes.{IsNormalOrFault, IsNormalGiven, IsNormalLeft}
-use Rattle.dm_symbol.specs.SymbolReading.{ReadingView, ReadsSymbol, SymbolReadResult}
+use Rattle.dm_symbol.specs.NormalOutcomes.{IsNormalOrFault}
+use Rattle.dm_symbol.specs.SymbolReading.{ReadsSymbol, SymbolReadResult}
 
 -- The symbol is read as a message, and this is the normal symbol of that message.
 pub record HasNormalSymbol (extent : Extent) (profile : Profile) (modules : SymbolView) (doubtful : Option SymbolView)
@@ -33,24 +33,3 @@ NormalSymbolResult extent profile modules doubtful limit =
     IsNormalOrFault (HasNormalSymbol extent profile modules doubtful limit)
     (HasNoNormalSymbol extent profile modules doubtful limit)
     (λ why. SymbolReadResult extent modules doubtful limit (Err why))
-
--- What normalising a symbol gives: the result defined above; and each kind of result is given exactly where its
--- condition holds.
-abbrev pub IsSymbolNormalised : Extent → Profile → SymbolView → Option SymbolView → ℕ → Result SymbolView NormalFault
-    → Type 0
-IsSymbolNormalised extent profile modules doubtful limit =
-    IsNormalGiven (HasNormalSymbol extent profile modules doubtful limit)
-    (HasNoNormalSymbol extent profile modules doubtful limit)
-    (λ why. SymbolReadResult extent modules doubtful limit (Err why))
-
--- What normalising a symbol leaves in its two targets: `reading` is held by that of the reading, and the target of the
--- normal symbol held `before` and holds `after`. The outcome is what normalising the symbol gives. `reading` is what
--- the symbol says, where there is a normal symbol and where the message fits no square. After a fault the target of the
--- normal symbol is as it was.
-abbrev pub IsSymbolNormalisedTo : {U : Type 0} → Extent → Profile → SymbolView → Option SymbolView → ℕ
-    → Result U NormalFault → ReadingView → SymbolView → SymbolView → Type 0
-IsSymbolNormalisedTo extent profile modules doubtful limit done reading =
-    IsNormalLeft (HasNormalSymbol extent profile modules doubtful limit)
-    (HasNoNormalSymbol extent profile modules doubtful limit)
-    (λ why. SymbolReadResult extent modules doubtful limit (Err why))
-    (SymbolReadResult extent modules doubtful limit (Ok reading)) done

@@ -2,6 +2,7 @@
 
 ghost use Rattle.std.specs.Prelude.{◌≡◌, []};
 ghost use Rattle.dm_words.specs.LetterExtents.{as_letter};
+ghost use Rattle.dm_symbol.specs.declared.symbol.dealing.Dealing.TheVariants.{Standard};
 ghost use Rattle.dm_symbol.specs.LetterReading.{letter_reading_in, letter_reading_of};
 
 pub mod normalising;
@@ -71,6 +72,9 @@ impl<const ITEMS: usize, const MARKS: usize> LetterReadingIn<ITEMS, MARKS> {
 }
 
 impl<const ITEMS: usize, const MARKS: usize> Default for LetterReadingIn<ITEMS, MARKS> {
+    ghost is_default = { λ reading. letter_reading_in reading
+        ≡ letter_reading_of (as_letter []) 1 Standard [] 0 };
+
     fn default() -> Self {
         LetterReadingIn::new()
     }

@@ -2,28 +2,28 @@
 //! says, or a [`ReadFault`]; the symbol of a message, or [`TooLong`]; the normal symbol of what a symbol says, or a
 //! [`NormalFault`]; and the codewords of a symbol before and after correction.
 //!
-//! Four calls serve symbols of every size, squares and rectangles, a [`SymbolIn`] of some [`SymbolSize`]:
+//! Three calls serve symbols of every size, squares and rectangles, a [`SymbolIn`] of some [`SymbolSize`]:
 //! [`read_symbol_to()`] leaves what a symbol says in a [`SymbolReadingIn`], with a [`BlockReading`] for each block;
-//! [`write_symbol_to()`] leaves the symbol of a [`MessageIn`] in another; [`normal_symbol_to()`] the one of what a
-//! symbol says in the smallest square; and [`inspect_symbol_to()`] the codewords in a [`SymbolInspectionIn`]. How a
-//! symbol is read is said by [`ReadOptions`]: the [`Extent`], the limit of wrong border modules, and which modules are
-//! doubtful. How it is written is said by [`WriteOptions`]: the [`Profile`] and the [`SizeChoice`].
+//! [`write_symbol_to()`] leaves the symbol of a [`MessageIn`] in another; and [`inspect_symbol_to()`] the codewords in
+//! a [`SymbolInspectionIn`]. How a symbol is read is said by [`ReadOptions`]: the [`Extent`], the limit of wrong border
+//! modules, and which modules are doubtful. How it is written is said by [`WriteOptions`]: the [`Profile`] and the
+//! [`SizeChoice`].
 //! [`write_smallest_to()`] writes one than which no smaller symbol says the message. A [`Dealing`] says how the check
 //! codewords of 144 x 144 were dealt into blocks, which some encoders do otherwise than the standard. Their results and
 //! the codewords stand in targets, memory that the caller hands in and that serves any number of symbols. Each has a
 //! room; those that serve every symbol are [`Symbol`], [`SymbolWords`], [`SymbolReading`] and [`SymbolInspection`].
 //!
 //! What a symbol says may be taken as a letter, a [`LetterIn`]: a [`Head`] or none, items, and [`Mark`]s at places of
-//! these. [`read_letter_to()`], [`write_letter_to()`] and [`normal_letter_to()`] do for letters what the calls of these
-//! names do for messages, which are the letters without a head and marks, and [`write_smallest_letter_to()`] does what
-//! [`write_smallest_to()`] does; a [`LetterReadingIn`] tells the symbology identifier too.
+//! these. [`read_letter_to()`], [`write_letter_to()`] and [`write_smallest_letter_to()`] do for letters what the calls
+//! of these names do for messages, which are the letters without a head and marks; a [`LetterReadingIn`] tells the
+//! symbology identifier too. [`normal_letter_to()`] leaves the symbol of what a symbol says in the smallest square, and
+//! [`restore_symbol_to()`] does the first steps of reading alone.
 //!
 //! Squares of 10 to 104 rows may be given as a [`Grid`]. [`read()`] gives what a grid says, a [`Reading`]; [`write()`]
-//! the normal grid of a [`Message`]; [`normal()`] the normal grid of what a grid says; and [`inspect()`] an
-//! [`Inspection`]. These know no profile but [`Profile::Ascii`] and no extent but [`Extent::Usual`]; [`write_as()`] and
-//! [`normal_as()`] take any profile, and [`read_to()`], [`write_to()`] and [`normal_to()`] any profile and extent, with
-//! a [`Reading::new()`] and a [`light_grid()`] as targets. [`usual_limit()`] is the number of wrong border modules
-//! that is usually accepted.
+//! the normal grid of a [`Message`]; and [`normal()`] the normal grid of what a grid says. These know no profile but
+//! [`Profile::Ascii`] and no extent but [`Extent::Usual`]; [`write_as()`] and [`normal_as()`] take any profile, and
+//! [`read_to()`], [`write_to()`] and [`normal_to()`] any profile and extent, with a [`Reading::new()`] and a
+//! [`light_grid()`] as targets. [`usual_limit()`] is the number of wrong border modules that is usually accepted.
 //!
 //! The types of the layers below are given on, among them [`GridFault`], [`Size`] with its [`table()`] of
 //! [`GRID_SIZE_COUNT`], [`Words`], [`Item`], [`WordFault`], and the limits [`LARGEST_SIDE`], [`MOST_GRID_BLOCKS`],
@@ -31,15 +31,14 @@
 //! [`LARGEST_MARKS`] for the marks of a [`LetterIn`].
 //!
 //! What the contracts say is defined in `specs/`. For symbols of every size it is in `Doubt`, `Dealings`,
-//! `SymbolBlocks`, `SymbolReading`, `WrittenWords`, `NormalSymbol`, `SmallestSymbol`, `SymbolNormal` and
+//! `SymbolBlocks`, `SymbolReading`, `Restored`, `WrittenWords`, `NormalSymbol`, `SmallestSymbol`, `SymbolNormal` and
 //! `SymbolInspection`; their laws are in `SymbolLaws`. For letters it is in `LetterReading`, `NormalLetter`,
 //! `SmallestLetterSymbol` and `LetterNormal`, with `LetterLaws` and `MessageLetters`. For grids, which are read,
-//! written, normalised and inspected as their symbols are, it is in `NormalGrid`, `Reading`, `Normal` and `Inspection`,
-//! with `Laws`. What normalising gives, of whatever it is, is in `NormalOutcomes`. The functions of [`laws`] prove
-//! these. No call allocates memory.
+//! written and normalised as their symbols are, it is in `NormalGrid`, `Reading` and `Normal`, with `Laws`. What
+//! normalising gives, of whatever it is, is in `NormalOutcomes`. The functions of [`laws`] prove these. No call
+//! allocates memory.
 #![tactic(auto)]
 
-mod inspection;
 pub mod laws;
 mod letters;
 mod limit;
@@ -58,18 +57,16 @@ pub use dm_words::{
     Appended, Extent, Head, Item, LARGEST_MARKS, LARGEST_ROOM, LetterFault, LetterIn, MESSAGE_ROOM,
     MOST_ITEMS, Mark, Message, MessageIn, Profile, TooLong, WordFault,
 };
-pub use inspection::{Inspection, inspect};
 pub use letters::normalising::normal_letter_to;
-pub use letters::reading::read_letter_to;
+pub use letters::reading::{read_letter_to, restore_symbol_to};
 pub use letters::smallest::write_smallest_letter_to;
-pub use letters::writing::write_letter_to;
+pub use letters::writing::{write_content_to, write_letter_to};
 pub use letters::{LetterNormalFault, LetterReadFault, LetterReading, LetterReadingIn};
 pub use limit::usual_limit;
 pub use normalising::{NormalFault, normal, normal_as, normal_to};
 pub use reading::{ReadFault, Reading, read, read_to};
 pub use symbol::dealing::Dealing;
 pub use symbol::inspection::{SymbolInspection, SymbolInspectionIn, has_lost, inspect_symbol_to};
-pub use symbol::normalising::normal_symbol_to;
 pub use symbol::reading::{
     BlockReading, ReadOptions, SymbolReading, SymbolReadingIn, read_symbol_to,
 };

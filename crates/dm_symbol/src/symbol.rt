@@ -3,6 +3,5 @@
 pub(crate) mod correction;
 pub mod dealing;
 pub mod inspection;
-pub mod normalising;
 pub mod reading;
 pub mod writing;

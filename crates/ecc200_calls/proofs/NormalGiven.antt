@@ -16,15 +16,12 @@ use Rattle.dm_layout.specs.symbols.Symbols.{SymbolView}
 use Rattle.dm_symbol.specs.LetterLaws.{letter_fault}
 use Rattle.dm_symbol.specs.LetterNormal.{NormalLetterResult}
 use Rattle.dm_symbol.specs.LetterReading.{ReadsLetter}
-use Rattle.dm_symbol.specs.MessageLetters.{IsNotLeftOut}
 use Rattle.dm_symbol.specs.NormalLetter.{IsLetterWritten}
 use Rattle.dm_symbol.specs.NormalOutcomes.{IsNormalOrFault}
 use Rattle.dm_symbol.specs.SymbolNormal.{NormalSymbolResult}
-use Rattle.dm_symbol.specs.SymbolReading.{SymbolReadResult}
 use Rattle.dm_symbol.proofs.Exported.{fault_tells_of_letters, message_reads_letter, one_normal_letter_result}
 use Rattle.ecc200_calls.specs.declared.form.Form.TheVariants.{Profiled}
 use Rattle.ecc200_calls.specs.declared.symbol.SymbolOut.{SymbolOut}
-use Rattle.ecc200_calls.specs.Faults.{read_fault}
 use Rattle.ecc200_calls.specs.Laws.{normal_message_shown}
 use Rattle.ecc200_calls.specs.Symbols.{IsNormalGiven, no_symbol, normal_shown}
 use Rattle.ecc200_calls.specs.Writings.{IsLetterGiven, symbol_given}
@@ -52,17 +49,6 @@ module _ (extent : Extent) (profile : Profile) (symbol : SymbolView) (doubtful :
             (record { letter = letter; read = reads; too_long = λ fits. false≢true (is.fits.1 fits) }) refl;
         shown = shown;
       }
-
-  -- A fault of reading it as a message is given, where it tells that the symbol says no letter.
-  pub normal_fault_given : (why : ReadFault) → (extent ≡ Usual) ⊎ IsNotLeftOut why
-      → SymbolReadResult extent symbol doubtful limit (Err why) → after ≡ no_symbol (read_fault why) before
-      → IsNormalGiven extent profile symbol doubtful limit before after
-  normal_fault_given why when read shown = record {
-    result = Err (of_letter.Read (letter_fault why));
-    result_is = NormalLetterResult.fault (letter_fault why)
-        (fault_tells_of_letters symbol doubtful limit extent why when read) refl;
-    shown = shown ∙ ap (λ f. no_symbol f before) (same_fault why);
-  }
 
   -- What is given for a symbol in the extent `Usual`, and where it is read as a message, is what normalising it as a
   -- message gives.

@@ -142,6 +142,16 @@ module _ (rows columns : ℕ) (modules doubt : List ℕ) (size : SizeEntry) (som
         designators = given.designators;
       }) known of
 
+-- What follows of what is so of the symbol is so of what is given.
+pub given_too : (size : SizeEntry) (modules doubt : List ℕ) (some : Bool)
+    (Result Other : SymbolView → Option SymbolView → Type 0)
+    → ((symbol : SymbolView) (doubtful : Option SymbolView) → Result symbol doubtful → Other symbol doubtful)
+    → IsOfGiven size modules doubt some Result → IsOfGiven size modules doubt some Other
+given_too size modules doubt some Result Other so (IsOfGiven.sure symbol told are result) =
+    IsOfGiven.sure symbol told are (so symbol None result)
+given_too size modules doubt some Result Other so (IsOfGiven.doubted symbol doubtful told are those result) =
+    IsOfGiven.doubted symbol doubtful told are those (so symbol (Some doubtful) result)
+
 -- What is so of a symbol of this size into which the modules are put is so of what is given, where none is doubtful.
 pub sure_given : (size : SizeEntry) (modules doubt : List ℕ) (some : Bool)
     (Result : SizeEntry → SymbolView → Option SymbolView → Type 0) (before symbol : SymbolView) → some ≡ false

@@ -1,5 +1,5 @@
 -- What reading a symbol as a message tells of what is given for it.
-use Rattle.std.proofs.Common.{◌≡◌, ◌⊎◌, ℕ, List, Option, Result, Ok, Err, IsOk, refl, sym, ◌∙◌, ap, subst}
+use Rattle.std.proofs.Common.{◌≡◌, ◌⊎◌, ℕ, List, Option, Result, Ok, Err, IsOk, refl, sym, ◌∙◌, ap}
 use Rattle.dm_symbol.specs.declared.Dealing.{Dealing}
 use Rattle.dm_symbol.specs.declared.Extent.{Extent}
 use Rattle.dm_symbol.specs.declared.Extent.TheVariants.{Usual}
@@ -9,18 +9,15 @@ use Rattle.dm_symbol.specs.declared.LetterReadFault.{LetterReadFault}
 use Rattle.dm_symbol.specs.declared.Mark.{Mark}
 use Rattle.dm_symbol.specs.declared.ReadFault.{ReadFault}
 use Rattle.dm_symbol.specs.declared.ReadFault.TheVariants.{Border, Block, Words}
-use Rattle.dm_words.specs.Letters.{LetterView, SpellsLetter}
+use Rattle.dm_words.specs.Letters.{LetterView}
 use Rattle.dm_words.specs.LetterExtents.{as_letter}
-use Rattle.dm_words.specs.Symbology.{IsIdentifier}
 use Rattle.dm_layout.specs.symbols.Sizes.{SizeEntry}
 use Rattle.dm_layout.specs.symbols.Symbols.{SymbolView}
 use Rattle.dm_symbol.specs.declared.BlockReading.{BlockReading}
-use Rattle.dm_symbol.specs.SymbolBlocks.{first_data}
-use Rattle.dm_symbol.specs.SymbolReading.{ReadingView, SymbolReadResult, AreRestored}
+use Rattle.dm_symbol.specs.SymbolReading.{ReadingView, SymbolReadResult}
 use Rattle.dm_symbol.specs.LetterReading.{LetterReadingView, letter_reading_of}
 use Rattle.dm_symbol.specs.LetterLaws.{letter_fault, SayTheSame}
-use Rattle.dm_symbol.specs.MessageLetters.{IsNotLeftOut, letter_reading_with}
-use Rattle.dm_symbol.proofs.Exported.{message_tells_letter, fault_tells_of_letters, results_say_the_same}
+use Rattle.dm_symbol.proofs.Exported.{results_say_the_same}
 use Rattle.ecc200_calls.specs.declared.reading.ReadingOut.{ReadingOut}
 use Rattle.ecc200_calls.specs.Faults.{read_fault, read_letter_fault}
 use Rattle.ecc200_calls.specs.Laws.{IsMessageShown}
@@ -55,36 +52,6 @@ shown_alike size other l k dealing blocks others identifier faults before same_s
 
 module _ (extent : Extent) (symbol : SymbolView) (doubtful : Option SymbolView) (limit rows columns : ℕ)
     (before after : ReadingOut) where
-  -- A message that the symbol is read as is given as its letter, with the identifier of its codewords.
-  pub message_given : (reading : ReadingView) (held codewords : List ℕ) (size : SizeEntry) (words : List ℕ)
-      (identifier : ℕ) → SymbolReadResult extent symbol doubtful limit (Ok reading)
-      → AreRestored extent symbol doubtful reading.dealing held codewords → size ≡ symbol.size → words ≡ first_data
-      size codewords
-      → ((m : List Item) → SpellsLetter words (as_letter m) → IsIdentifier words (as_letter m) identifier)
-      → after ≡ reading_shown rows columns (letter_reading_with identifier reading) before
-      → IsReadingGiven extent rows columns symbol doubtful limit before after
-  message_given reading held codewords size words identifier read restored same are told shown =
-      let whole : words ≡ first_data symbol.size codewords =
-      are ∙ ap (λ (s : SizeEntry). first_data s codewords) same in
-      let told_of = subst (λ (w : List ℕ). SpellsLetter w (as_letter reading.message)
-      → IsIdentifier w (as_letter reading.message) identifier) whole (told reading.message) in
-      record {
-        result = Ok (letter_reading_with identifier reading);
-        result_is =
-            message_tells_letter symbol doubtful limit extent reading held codewords identifier read restored told_of;
-        shown = shown;
-      }
-
-  -- A fault of reading it as a message is given, where it tells that the symbol says no letter.
-  pub fault_given : (why : ReadFault) → (extent ≡ Usual) ⊎ IsNotLeftOut why
-      → SymbolReadResult extent symbol doubtful limit (Err why) → after ≡ no_reading (read_fault why) before
-      → IsReadingGiven extent rows columns symbol doubtful limit before after
-  fault_given why when read shown = record {
-    result = Err (letter_fault why);
-    result_is = fault_tells_of_letters symbol doubtful limit extent why when read;
-    shown = shown ∙ ap (λ f. no_reading f before) (same_fault why);
-  }
-
   -- What says the same as the result of reading a message is shown as it.
   same_shown : (result : Result ReadingView ReadFault) (of_letter : Result LetterReadingView LetterReadFault)
       → SayTheSame result of_letter → after ≡ result_shown rows columns of_letter before

@@ -26,7 +26,11 @@ use Rattle.dm_symbol.specs.Ascii.{ascii}
 use Rattle.dm_words.specs.Smallest.{IsTaken, IsSmaller}
 use Rattle.dm_layout.specs.symbols.Words.{WordsView, IsWords, data_of}
 use Rattle.dm_layout.proofs.symbols.Exported.{at_found, found_passes, same_size, size_facts}
+use Rattle.dm_words.specs.Letters.{LetterView, HasMarkRoom}
+use Rattle.dm_words.specs.LetterForm.{letter_form}
 use Rattle.ecc200_calls.specs.inner.Rooms.{AreWordsFor, IsRoom, HasRoom, HasRoomToWrite}
+use Rattle.ecc200_calls.specs.inner.Rooms.{AreWordsForLetter, HasRoomForLetter}
+use Rattle.ecc200_calls.specs.inner.Restored.{HasRoomToSay}
 
 -- A size with at most so many data codewords has at most so many rows and codewords.
 abbrev fits : ℕ → ℕ → ℕ → SizeEntry → Bool
@@ -37,6 +41,10 @@ fits most rows words size =
 small_fits : list_all (fits 62 32 98) size_table ≡ true
 unfolding size_table
 small_fits = refl
+
+fair_fits : list_all (fits 204 52 288) size_table ≡ true
+unfolding size_table
+fair_fits = refl
 
 middle_fits : list_all (fits 816 104 1152) size_table ≡ true
 unfolding size_table
@@ -65,9 +73,10 @@ module _ (most rows words : ℕ) (each : list_all (fits most rows words) size_ta
       (leb-true _ _ parts.0, leb-true _ _ parts.1)
 
   -- There is room for such a symbol, and for what it says.
-  room : (items : ℕ) → 2 * most + 7 ≤ items → items ≤ most_spelled Wide most_data → IsRoom rows words
-      → (size : SizeEntry) → IsSize size → size.data_count ≤ most → HasRoom rows words items size
-  room items enough few_items is size entry le =
+  room : (items marks : ℕ) → 2 * most + 7 ≤ items → items ≤ most_spelled Wide most_data → most ≤ 2 * marks
+      → 2 * marks ≤ most_data → IsRoom rows words
+      → (size : SizeEntry) → IsSize size → size.data_count ≤ most → HasRoom rows words items marks size
+  room items marks enough few_items enough_marks few_marks is size entry le =
       let f = few (λ s. nat_eq s.rows size.rows && nat_eq s.columns size.columns) size entry le in
       record {
         room = is;
@@ -75,10 +84,15 @@ module _ (most rows words : ℕ) (each : list_all (fits most rows words) size_ta
         long = f.1;
         spelled = λ extent. omega (arith, few_spelled extent size.data_count, le, enough);
         most = few_items;
+        marked = omega (arith, le, enough_marks);
+        few_marks = few_marks;
       }
 
 is_small : IsRoom 32 98
 is_small = record { some_rows = omega arith; some_words = omega arith; few_rows = omega arith; few_words = omega arith }
+
+is_fair : IsRoom 52 288
+is_fair = record { some_rows = omega arith; some_words = omega arith; few_rows = omega arith; few_words = omega arith }
 
 is_middle : IsRoom 104 1152
 is_middle =
@@ -88,14 +102,31 @@ is_largest : IsRoom 144 2178
 is_largest =
     record { some_rows = omega arith; some_words = omega arith; few_rows = omega arith; few_words = omega arith }
 
+-- A room for a symbol has room for what symbols of its size say.
+pub room_to_say : (rows words items marks : ℕ) (size other : SizeEntry) → HasRoom rows words items marks size
+    → other ≡ size → HasRoomToSay items marks other.data_count
+room_to_say rows words items marks size other has same =
+    rw same
+    (record { spelled = has.spelled; most = has.most; marked = has.marked; few_marks = has.few_marks })
+
+-- It has room for the marks that its codewords say.
+pub room_for_marks : (items marks : ℕ) (words : WordsView) → HasRoomToSay items marks words.size.data_count
+    → HasMarkRoom marks (data_of words)
+room_for_marks items marks words has =
+    inl (omega (arith, has.marked, length-take words.size.data_count words.list))
+
 -- There is room in the small room, in the middle one, and in the largest.
-pub small_room : (size : SizeEntry) → IsSize size → size.data_count ≤ 62 → HasRoom 32 98 131 size
-small_room = room 62 32 98 small_fits 131 (omega arith) (omega arith) is_small
+pub small_room : (size : SizeEntry) → IsSize size → size.data_count ≤ 62 → HasRoom 32 98 131 31 size
+small_room = room 62 32 98 small_fits 131 31 (omega arith) (omega arith) (omega arith) (omega arith) is_small
 
-pub middle_room : (size : SizeEntry) → IsSize size → size.data_count ≤ 816 → HasRoom 104 1152 1639 size
-middle_room = room 816 104 1152 middle_fits 1639 (omega arith) (omega arith) is_middle
+pub fair_room : (size : SizeEntry) → IsSize size → size.data_count ≤ 204 → HasRoom 52 288 415 102 size
+fair_room = room 204 52 288 fair_fits 415 102 (omega arith) (omega arith) (omega arith) (omega arith) is_fair
 
-pub largest_room : (size : SizeEntry) → IsSize size → HasRoom 144 2178 3123 size
+pub middle_room : (size : SizeEntry) → IsSize size → size.data_count ≤ 816 → HasRoom 104 1152 1639 408 size
+middle_room =
+    room 816 104 1152 middle_fits 1639 408 (omega arith) (omega arith) (omega arith) (omega arith) is_middle
+
+pub largest_room : (size : SizeEntry) → IsSize size → HasRoom 144 2178 3123 779 size
 largest_room size entry =
     let f = size_facts size entry in
     record {
@@ -104,17 +135,9 @@ largest_room size entry =
       long = f.codewords;
       spelled = λ extent. omega (arith, few_spelled extent size.data_count, f.data_fits);
       most = omega arith;
+      marked = omega (arith, f.data_fits);
+      few_marks = omega arith;
     }
-
--- In the largest room there is room for letters too.
-pub room_for_letters : (size : SizeEntry) → IsSize size
-    → (codeword_count size ≤ 2178) × (most_spelled Wide size.data_count ≤ 3123) × (size.data_count ≤ 2 * 779)
-room_for_letters size entry =
-    let f = size_facts size entry in (
-      omega (arith, f.codewords),
-      omega (arith, few_spelled Wide size.data_count, f.data_fits),
-      omega (arith, f.data_fits),
-    )
 
 -- ---- rooms to write in
 
@@ -128,6 +151,10 @@ splits most (size ∷ rest) =
 small_splits : splits 62 size_table ≡ true
 unfolding size_table
 small_splits = refl
+
+fair_splits : splits 204 size_table ≡ true
+unfolding size_table
+fair_splits = refl
 
 middle_splits : splits 816 size_table ≡ true
 unfolding size_table
@@ -306,6 +333,56 @@ module _ (most rows words modules : ℕ) (each : list_all (fits most rows words)
             let both = and_parts (nat_eq s.rows r) (nat_eq s.columns c) t in
             (eqb-true _ _ both.0, eqb-true _ _ both.1)
 
+-- Where a choice gives a size with so few data codewords for the codewords of a letter, there is room for the symbol in
+-- which the letter is written under a profile.
+module _ (most rows words : ℕ) (each : list_all (fits most rows words) size_table ≡ true)
+    (split : splits most size_table ≡ true) (some : 3 ≤ most) (bounded : most ≤ most_data) (is : IsRoom rows words)
+  where
+    for_letter : (choice : SizeChoice) (letter : LetterView) (count : ℕ) (other : SizeEntry)
+        → AreWordsForLetter choice letter count → entry_for choice count ≡ Some other → IsSize other
+        → other.data_count ≤ most → HasRoomForLetter most rows words choice letter
+    for_letter choice letter count other (AreWordsForLetter.enough codewords) found entry small = record {
+      some_data = some;
+      few_data = bounded;
+      room = is;
+      written = λ profile. at_most profile (entry_for choice (length (letter_form profile letter))) refl;
+    }
+      where
+        at_most : (profile : Profile) (o : Option SizeEntry)
+            → entry_for choice (length (letter_form profile letter)) ≡ o
+            → IfSome o (λ size. IsRoomFor size most rows words)
+        at_most profile None f = tt
+        at_most profile (Some size) f =
+            let small_too =
+            fewer_found most choice (length (letter_form profile letter)) count (codewords profile) size_table split
+            size other f found small in
+            let sides =
+            few most rows words each
+            (λ s. takes choice s && nat_le (length (letter_form profile letter)) s.data_count) size f small_too in
+            (small_too, sides.0, sides.1)
+    for_letter choice letter count other (AreWordsForLetter.asked r c e) found entry small = record {
+      some_data = some;
+      few_data = bounded;
+      room = is;
+      written = λ profile. room_for_each choice (letter_form profile letter) most rows words (λ size taken.
+          let mine = exact_sides size (subst (λ ch. takes ch size ≡ true) e taken.1) in
+          let its =
+          exact_sides other (subst (λ ch. takes ch other ≡ true) e
+          (and_parts (takes choice other) (nat_le count other.data_count)
+          (found_passes (λ s. takes choice s && nat_le count s.data_count) size_table other found)).0) in
+          let same : size ≡ other = same_size size other taken.0 entry (mine.0 ∙ sym its.0) (mine.1 ∙ sym its.1) in
+          let small_too : size.data_count ≤ most = subst (λ (s : SizeEntry). s.data_count ≤ most) (sym same) small in
+          let sides =
+          few most rows words each (λ s. nat_eq s.rows size.rows && nat_eq s.columns size.columns) size taken.0
+          small_too in
+          (small_too, sides.0, sides.1));
+    }
+      where
+        exact_sides : (s : SizeEntry) → takes (Exact r c) s ≡ true → (s.rows ≡ r) × (s.columns ≡ c)
+        exact_sides s t =
+            let both = and_parts (nat_eq s.rows r) (nat_eq s.columns c) t in
+            (eqb-true _ _ both.0, eqb-true _ _ both.1)
+
 -- A size that spells at most so many items has few data codewords.
 few_data : (most count : ℕ) → most_spelled Wide count ≤ 2 * most + 7 → count ≤ most
 few_data most zero le = omega arith
@@ -313,7 +390,7 @@ few_data most (suc count) le = omega arith
 
 -- So it is for the small room and for the middle one.
 pub small_to_write : (choice : SizeChoice) (message : List Item) (count : ℕ) (other : SizeEntry)
-    → AreWordsFor choice message count → entry_for choice count ≡ Some other → IsSize other → HasRoom 32 98 131 other
+    → AreWordsFor choice message count → entry_for choice count ≡ Some other → IsSize other → HasRoom 32 98 131 31 other
     → HasRoomToWrite 62 32 98 choice message
 small_to_write choice message count other are found entry room =
     to_write 62 32 98 1024 small_fits small_splits small_by_area (omega arith) (omega arith) is_small choice message
@@ -322,15 +399,39 @@ small_to_write choice message count other are found entry room =
 
 pub middle_to_write : (choice : SizeChoice) (message : List Item) (count : ℕ) (other : SizeEntry)
     → AreWordsFor choice message count → entry_for choice count ≡ Some other → IsSize other
-    → HasRoom 104 1152 1639 other → HasRoomToWrite 816 104 1152 choice message
+    → HasRoom 104 1152 1639 408 other → HasRoomToWrite 816 104 1152 choice message
 middle_to_write choice message count other are found entry room =
     to_write 816 104 1152 10816 middle_fits middle_splits middle_by_area (omega arith) (omega arith) is_middle choice
     message count other are found entry
     (few_data 816 other.data_count (room.spelled Wide))
 
+pub small_for_letter : (choice : SizeChoice) (letter : LetterView) (count : ℕ) (other : SizeEntry)
+    → AreWordsForLetter choice letter count → entry_for choice count ≡ Some other → IsSize other
+    → HasRoom 32 98 131 31 other → HasRoomForLetter 62 32 98 choice letter
+small_for_letter choice letter count other are found entry room =
+    for_letter 62 32 98 small_fits small_splits (omega arith) (omega arith) is_small choice letter count other are
+    found entry (few_data 62 other.data_count (room.spelled Wide))
+
+pub fair_for_letter : (choice : SizeChoice) (letter : LetterView) (count : ℕ) (other : SizeEntry)
+    → AreWordsForLetter choice letter count → entry_for choice count ≡ Some other → IsSize other
+    → HasRoom 52 288 415 102 other → HasRoomForLetter 204 52 288 choice letter
+fair_for_letter choice letter count other are found entry room =
+    for_letter 204 52 288 fair_fits fair_splits (omega arith) (omega arith) is_fair choice letter count other are
+    found entry (few_data 204 other.data_count (room.spelled Wide))
+
+pub middle_for_letter : (choice : SizeChoice) (letter : LetterView) (count : ℕ) (other : SizeEntry)
+    → AreWordsForLetter choice letter count → entry_for choice count ≡ Some other → IsSize other
+    → HasRoom 104 1152 1639 408 other → HasRoomForLetter 816 104 1152 choice letter
+middle_for_letter choice letter count other are found entry room =
+    for_letter 816 104 1152 middle_fits middle_splits (omega arith) (omega arith) is_middle choice letter count other
+    are found entry (few_data 816 other.data_count (room.spelled Wide))
+
 -- The largest squares of the small room and of the middle one.
 abbrev small_square : SizeEntry
 small_square = entry_of 32 32 14 14 2 2 62 36 1 false
+
+abbrev fair_square : SizeEntry
+fair_square = entry_of 52 52 24 24 2 2 204 84 2 false
 
 abbrev middle_square : SizeEntry
 middle_square = entry_of 104 104 24 24 4 4 816 336 6 false
@@ -350,6 +451,38 @@ square_in_middle message few =
     middle_to_write Square message 816 middle_square (AreWordsFor.enough few) refl refl
     (middle_room middle_square refl (omega arith))
 
+-- So it is of a letter.
+pub square_for_letter_in_small : (letter : LetterView)
+    → ((profile : Profile) → length (letter_form profile letter) ≤ 62) → HasRoomForLetter 62 32 98 Square letter
+unfolding size_table
+square_for_letter_in_small letter few =
+    small_for_letter Square letter 62 small_square (AreWordsForLetter.enough few) refl refl
+    (small_room small_square refl (omega arith))
+
+pub square_for_letter_in_fair : (letter : LetterView)
+    → ((profile : Profile) → length (letter_form profile letter) ≤ 204) → HasRoomForLetter 204 52 288 Square letter
+unfolding size_table
+square_for_letter_in_fair letter few =
+    fair_for_letter Square letter 204 fair_square (AreWordsForLetter.enough few) refl refl
+    (fair_room fair_square refl (omega arith))
+
+pub square_for_letter_in_middle : (letter : LetterView)
+    → ((profile : Profile) → length (letter_form profile letter) ≤ 816) → HasRoomForLetter 816 104 1152 Square letter
+unfolding size_table
+square_for_letter_in_middle letter few =
+    middle_for_letter Square letter 816 middle_square (AreWordsForLetter.enough few) refl refl
+    (middle_room middle_square refl (omega arith))
+
+pub largest_for_letter : (choice : SizeChoice) (letter : LetterView) → HasRoomForLetter 1558 144 2178 choice letter
+largest_for_letter choice letter = record {
+  some_data = omega arith;
+  few_data = omega arith;
+  room = is_largest;
+  written =
+      λ profile. room_for_most choice (letter_form profile letter) 1558 144 2178 (omega arith) (omega arith)
+      (omega arith);
+}
+
 -- In the largest room there is always room.
 pub largest_to_write : (choice : SizeChoice) (message : List Item) → HasRoomToWrite 1558 144 2178 choice message
 largest_to_write choice message = record {
@@ -365,6 +498,10 @@ largest_to_write choice message = record {
 -- The codewords of a symbol fit an array that holds those of the largest.
 pub words_fit : (words : WordsView) → IsWords words → length words.list ≤ most_codewords
 words_fit words h = omega (arith, h.count, (size_facts words.size h.size).codewords)
+
+-- There are as many data codewords as the size says.
+pub data_count_is : (words : WordsView) → IsWords words → length (data_of words) ≡ words.size.data_count
+data_count_is words h = omega (arith, length-take words.size.data_count words.list, h.count)
 
 -- There are no more data codewords than the most that a symbol has.
 pub data_few : (words : WordsView) → IsWords words → length (data_of words) ≤ most_data

@@ -1,7 +1,7 @@
 -- Letters that are written, and symbols that are normalised.
 use Rattle.std.proofs.Common.{◌≡◌, ◌⊎◌, inl, inr, ℕ, ◌*◌, ◌+◌, ◌<◌, ◌≤◌, List, [], ◌∷◌, length, Option, None, Err}
 use Rattle.std.proofs.Common.{refl, sym, ◌∙◌, ap, subst, arith}
-use Rattle.std.specs.Prelude.{All}
+use Rattle.std.specs.Prelude.{All, IfOk, Result}
 use Rattle.std.proofs.lemmas.List.{length-map}
 use Rattle.dm_symbol.specs.declared.Extent.{Extent}
 use Rattle.dm_symbol.specs.declared.Head.{Head}
@@ -18,14 +18,16 @@ use Rattle.dm_layout.proofs.symbols.Exported.{size_facts}
 use Rattle.dm_layout.specs.symbols.Sizes.{entry_for, most_data}
 use Rattle.dm_symbol.specs.Messages.{IsMessage}
 use Rattle.dm_symbol.specs.NormalLetter.{LetterFits}
-use Rattle.dm_symbol.proofs.Exported.{no_letter_written, no_words_written}
+use Rattle.dm_layout.specs.symbols.Symbols.{SymbolView}
+use Rattle.dm_symbol.specs.PlainSymbol.{IsPlainSymbol}
+use Rattle.dm_symbol.proofs.Exported.{no_letter_written, no_words_written, smallest_is_plain, written_is_plain}
 use Rattle.ecc200_calls.specs.declared.form.Form.{Form}
 use Rattle.ecc200_calls.specs.declared.form.Form.TheVariants.{Profiled, Smallest}
 use Rattle.ecc200_calls.specs.declared.mark.MarkNumbers.{MarkNumbers}
 use Rattle.ecc200_calls.specs.declared.symbol.SymbolOut.{SymbolOut}
 use Rattle.ecc200_calls.specs.Faults.{too_long}
 use Rattle.ecc200_calls.specs.Items.{number_of, numbers_of}
-use Rattle.ecc200_calls.specs.Letters.{marks_of, marks_shown}
+use Rattle.ecc200_calls.specs.Letters.{IsLetterOf, marks_of, marks_shown}
 use Rattle.ecc200_calls.specs.Symbols.{no_symbol}
 use Rattle.ecc200_calls.specs.Writings.{IsLetterGiven, IsWritingGiven, IsWrittenAs}
 use Rattle.ecc200_calls.proofs.Messages.{message_there, room_in}
@@ -39,13 +41,28 @@ pub marks_again : (marks : List MarkNumbers) → marks_shown (marks_of marks) �
 marks_again [] = refl
 marks_again (m ∷ marks) = ap (λ ms. m ∷ ms) (marks_again marks)
 
+-- What is given for a letter is plain.
+pub given_is_plain : (form : Form) (choice : SizeChoice) (l : LetterView) (result : Result SymbolView TooLong)
+    → IsLetter l → IsWrittenAs form choice l result → IfOk result (λ symbol. IsPlainSymbol symbol l)
+given_is_plain (Profiled profile) choice l result right written =
+    written_is_plain choice profile l result right written
+given_is_plain (Smallest extent) choice l result right written = smallest_is_plain extent choice l result written
+
+-- So it is given for its numbers.
+pub letter_given : (form : Form) (choice : SizeChoice) (head : Option Head) (numbers : List ℕ)
+    (marks : List MarkNumbers) (l : LetterView) (before after : SymbolOut) → IsLetter l
+    → IsLetterOf head numbers marks l
+    → IsLetterGiven form choice l before after → IsWritingGiven form choice head numbers marks before after
+letter_given form choice head numbers marks l before after right of given =
+    IsWritingGiven.letter l right of given (given_is_plain form choice l given.result right given.written)
+
 -- What is given for a message is given for its numbers.
 pub writing_given : (form : Form) (choice : SizeChoice) (numbers : List ℕ) (message : List Item)
     (before after : SymbolOut) → IsMessage message → numbers_of message ≡ numbers
     → IsLetterGiven form choice (as_letter message) before after
     → IsWritingGiven form choice None numbers [] before after
 writing_given form choice numbers message before after is are given =
-    IsWritingGiven.letter (as_letter message) (message_is_letter message is)
+    letter_given form choice None numbers [] (as_letter message) before after (message_is_letter message is)
     (record { head_is = refl; items = are; marks_are = refl }) given
 
 -- What is given without a head and marks is given where there is none.
@@ -82,7 +99,7 @@ no_size_given form choice head numbers marks before after right items are none s
     let item_count : length there.0 ≡ length numbers =
     sym (length-map there.0 number_of) ∙ ap (λ (ns : List ℕ). length ns) there.2 in
     let mark_count : length (marks_of marks) ≡ length marks = length-map marks _ in
-    IsWritingGiven.letter l
+    letter_given form choice head numbers marks l before after
     (record {
       head = right;
       items = there.1;
@@ -118,7 +135,7 @@ pub none_smallest_given : (extent : Extent) (choice : SizeChoice) (head : Option
 none_smallest_given extent choice head numbers marks before after right items are many shown =
     no_size_given (Smallest extent) choice head numbers marks before after right items are
     (λ l item_count mark_count why. no_letter_written extent choice l why
-    (λ size words taken sized says.
+    (λ size words taken sized framed says.
     let few = said_few extent words l says in
     let most = (size_facts size taken.0).data_fits in
     elim many [

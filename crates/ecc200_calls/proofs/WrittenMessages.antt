@@ -31,7 +31,7 @@ messages_are_written profile choice numbers before after (IsWritingGiven.no_item
     IsMessageWriting.no_message place first shown
 messages_are_written profile choice numbers before after (IsWritingGiven.no_mark place items first shown) =
     absurd (omega (arith, first.inside))
-messages_are_written profile choice numbers before after (IsWritingGiven.letter l right of given) =
+messages_are_written profile choice numbers before after (IsWritingGiven.letter l right of given plain) =
     by given.result (subst (λ (x : LetterView). IsLetterWritten choice profile x given.result) same given.written)
     given.shown
   where

@@ -1,6 +1,6 @@
 -- What the library gives for a letter that is to be written. A message is a letter without a head and marks.
 use Rattle.std.specs.Prelude.{◌≡◌, ℕ, ◌≤◌, List, length, nat_eq, if◌then◌else◌, Option, Some, None}
-use Rattle.std.specs.Prelude.{All, get_or, min, Result, Ok, Err}
+use Rattle.std.specs.Prelude.{All, get_or, min, Result, Ok, Err, IfOk}
 use Rattle.dm_symbol.specs.declared.Extent.TheVariants.{Usual, Wide}
 use Rattle.dm_symbol.specs.declared.Head.{Head}
 use Rattle.dm_symbol.specs.declared.Profile.TheVariants.{Ascii, Shorter}
@@ -9,6 +9,7 @@ use Rattle.dm_symbol.specs.declared.TooLong.{TooLong}
 use Rattle.dm_words.specs.Letters.{LetterView, IsLetter}
 use Rattle.dm_layout.specs.symbols.Symbols.{SymbolView}
 use Rattle.dm_symbol.specs.NormalLetter.{IsLetterWritten}
+use Rattle.dm_symbol.specs.PlainSymbol.{IsPlainSymbol}
 use Rattle.dm_symbol.specs.SmallestLetterSymbol.{IsSmallestLetterWritten}
 use Rattle.ecc200_calls.specs.declared.form.Form.{Form}
 use Rattle.ecc200_calls.specs.declared.form.Form.TheVariants.{Profiled, Smallest}
@@ -72,7 +73,8 @@ pub record IsLetterGiven (form : Form) (choice : SizeChoice) (letter : LetterVie
 
 -- What is given for the numbers of items and of marks, and a head or none, is the first of these that there is: the
 -- first number that stands for no item, with its index, counted from 0, or with 65535 if the index is more; the index
--- of the first mark that is wrong, likewise; the result of writing the letter.
+-- of the first mark that is wrong, likewise; the result of writing the letter, whose symbol, if it is given, has plain
+-- data codewords with the identifier of the ASCII form.
 pub data IsWritingGiven (form : Form) (choice : SizeChoice) (head : Option Head) (numbers : List ℕ)
     (marks : List MarkNumbers) (before after : SymbolOut) : Type 0 where
   no_item : (place : ℕ) → IsFirstForeign numbers place
@@ -82,7 +84,8 @@ pub data IsWritingGiven (form : Form) (choice : SizeChoice) (head : Option Head)
       → after ≡ no_symbol (wrong_mark (min place 65535)) before
       → IsWritingGiven form choice head numbers marks before after
   letter : (letter : LetterView) → IsLetter letter → IsLetterOf head numbers marks letter
-      → IsLetterGiven form choice letter before after
+      → (given : IsLetterGiven form choice letter before after)
+      → IfOk given.result (λ symbol. IsPlainSymbol symbol letter)
       → IsWritingGiven form choice head numbers marks before after
 
 -- Writing these numbers of items and of marks gives why what is asked for can't be, or the result for it.

@@ -4,3 +4,4 @@ pub mod UnpackedCells
 pub mod Designators
 pub mod Given
 pub mod Rooms
+pub mod Restored

@@ -2,16 +2,10 @@
 
 ghost use Rattle.std.specs.Prelude.{◌≡◌};
 ghost use Rattle.ecc200_calls.specs.Faults.{fault, foreign, letter_fault, no_fault, no_such_choice, no_such_extent};
-ghost use Rattle.ecc200_calls.specs.Faults.{
-  no_such_head,
-  no_such_profile,
-  no_such_size,
-  normal_letter_fault,
-  read_fault,
-};
+ghost use Rattle.ecc200_calls.specs.Faults.{no_such_head, no_such_profile, no_such_size};
 ghost use Rattle.ecc200_calls.specs.Faults.{read_letter_fault, shape, too_long, word_fault, wrong_doubt, wrong_mark};
 
-use dm_symbol::{LetterFault, LetterNormalFault, LetterReadFault, ReadFault, WordFault};
+use dm_symbol::{LetterFault, LetterReadFault, WordFault};
 
 /// Why there is no result: a code of the header, and what the header says beside it. All three are 0 if there is a
 /// result.
@@ -109,17 +103,6 @@ impl Fault {
     }
 }
 
-/// Gives the fault of a symbol that is not read as a message.
-pub(crate) fn read_fault(why: ReadFault) -> Fault
-    ensures { result ≡ read_fault why }
-{
-    match why {
-        ReadFault::Border(count) => Fault::of(5, count, 0),
-        ReadFault::Block(block) => Fault::of(6, 0, u16::from(block)),
-        ReadFault::Words(why) => word_fault(why),
-    }
-}
-
 /// Gives the fault of data codewords that spell no message.
 fn word_fault(why: WordFault) -> Fault
     ensures { result ≡ word_fault why }
@@ -154,15 +137,5 @@ fn letter_fault(why: LetterFault) -> Fault
         LetterFault::Word(why) => word_fault(why),
         LetterFault::Designator(place) => Fault::of(20, 0, place),
         LetterFault::Append(place) => Fault::of(21, 0, place),
-    }
-}
-
-/// Gives the fault of a symbol that has no normal symbol.
-pub(crate) fn normal_letter_fault(why: LetterNormalFault) -> Fault
-    ensures { result ≡ normal_letter_fault why }
-{
-    match why {
-        LetterNormalFault::Read(why) => read_letter_fault(why),
-        LetterNormalFault::TooLong => Fault::too_long(),
     }
 }

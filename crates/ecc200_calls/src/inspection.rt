@@ -60,7 +60,7 @@ pub fn inspect(
     match check_given(modules, doubtful, rows, columns) {
         Ok(given) => in_room!(
             Room::of(given.size),
-            inspect_given::<ROWS, WORDS, ITEMS>(modules, doubtful, given, out)
+            inspect_given::<ROWS, WORDS, ITEMS, MARKS>(modules, doubtful, given, out)
         ),
         Err(why) => show_fault(out, why),
     }
@@ -70,13 +70,13 @@ pub fn inspect(
 /// Shows the inspection of the symbol of these modules in a room that serves for it. It stands by itself, so that no
 /// other room is left for it on the stack.
 #[inline(never)]
-fn inspect_given<const ROWS: usize, const WORDS: usize, const ITEMS: usize>(
+fn inspect_given<const ROWS: usize, const WORDS: usize, const ITEMS: usize, const MARKS: usize>(
     modules: &[u8],
     doubtful: &[u8],
     given: Given,
     out: &mut InspectionOut,
 )
-    requires room { HasRoom ROWS WORDS ITEMS given.size }
+    requires room { HasRoom ROWS WORDS ITEMS MARKS given.size }
     requires modules { length modules.now ≡ area given.size }
     requires doubtful { IsTrue given.doubt → length doubtful.now ≡ area given.size }
     ensures { IsOfGiven given.size modules.now doubtful.now given.doubt (λ symbol doubtful.

@@ -13,14 +13,13 @@ use dm_symbol::{Head, Item, LARGEST_MARKS, LARGEST_ROOM, LetterIn};
 /// A letter with room for what any symbol says.
 pub(crate) type Letter = LetterIn<LARGEST_ROOM, LARGEST_MARKS>;
 
-/// Gives the letter with this head, or none, and with the items and the marks of these numbers. It stands by itself,
-/// so that the room in which the letter is made isn't taken beside the room in which it is kept.
-#[inline(never)]
-pub(crate) fn letter_of_numbers<const ITEMS: usize, const MARKS: usize>(
+/// Turns `letter` into the one with this head, or none, and with the items and the marks of these numbers.
+pub(crate) fn put_letter<const ITEMS: usize, const MARKS: usize>(
+    letter: &mut LetterIn<ITEMS, MARKS>,
     head: Option<Head>,
     items: &[u16],
     marks: &[MarkNumbers],
-) -> LetterIn<ITEMS, MARKS>
+)
     requires head { IsHead head }
     requires items { All (λ item. item ≤ 256) items.now }
     requires room { length items.now ≤ ITEMS }
@@ -28,22 +27,21 @@ pub(crate) fn letter_of_numbers<const ITEMS: usize, const MARKS: usize>(
     requires marks { AreMarks 0 (length items.now) (marks_of marks.now) }
     requires mark_room { length marks.now ≤ MARKS }
     requires few_marks { MARKS ≤ LARGEST_MARKS }
-    ensures letter { IsLetter result }
-    ensures of_numbers { IsLetterOf head items.now marks.now result }
+    ensures letter { IsLetter letter.new }
+    ensures of_numbers { IsLetterOf head items.now marks.now letter.new }
 {
-    let mut letter = LetterIn::new();
+    letter.clear();
     letter.set_head(head);
     let mut before = 0;
     for mark in marks {
         let place = mark.place as usize;
-        push_items(&mut letter, &items[before..place]);
+        push_items(letter, &items[before..place]);
         let _room = letter.push_mark(mark.number);
         before = place;
     }
-    push_items(&mut letter, &items[before..]);
+    push_items(letter, &items[before..]);
     // That it is right is known from this call.
     let _items = letter.items();
-    letter
 }
 
 /// Adds the items of these numbers.
@@ -62,24 +60,22 @@ fn push_items<const ITEMS: usize, const MARKS: usize>(
     }
 }
 
-/// Gives the letter with this head, or none, with these bytes as its items, and without marks. It stands by itself,
-/// likewise.
-#[inline(never)]
-pub(crate) fn letter_of_bytes<const ITEMS: usize, const MARKS: usize>(
+/// Turns `letter` into the one with this head, or none, with these bytes as its items, and without marks.
+pub(crate) fn put_letter_of_bytes<const ITEMS: usize, const MARKS: usize>(
+    letter: &mut LetterIn<ITEMS, MARKS>,
     head: Option<Head>,
     bytes: &[u8],
-) -> LetterIn<ITEMS, MARKS>
+)
     requires head { IsHead head }
     requires room { length bytes.now ≤ ITEMS }
-    ensures letter { IsLetter result }
-    ensures of_numbers { IsLetterOf head bytes.now [] result }
+    ensures letter { IsLetter letter.new }
+    ensures of_numbers { IsLetterOf head bytes.now [] letter.new }
 {
-    let mut letter = LetterIn::new();
+    letter.clear();
     letter.set_head(head);
     for byte in bytes {
         let _room = letter.push(Item::Byte(*byte));
     }
     // That it is right is known from this call.
     let _items = letter.items();
-    letter
 }

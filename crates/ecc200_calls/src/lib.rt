@@ -16,9 +16,8 @@
 //! `dm_symbol` for symbols of every size: `Readings`, `Writings`, `Symbols`, `Letters`, `Inspections`, `Places`,
 //! `Sizes`; `Laws` has the laws of these definitions, which the functions of [`laws`] prove. A caller's bytes are
 //! packed into rows of bits, and a symbol is unpacked over them, in `modules` alone; and `room` alone says how much
-//! room a call takes for a message. What has a head or marks is read, written and normalised in `letter_reading`,
-//! `letter_writing` and `letter_normalising`, with room for whatever any symbol says, and whatever is written in its
-//! smallest symbol in `smallest_writing`.
+//! room a call takes for a message. Whatever is written in its smallest symbol is in
+//! `smallest_writing`.
 #![tactic(auto)]
 
 mod arrays;
@@ -33,9 +32,6 @@ mod inspection;
 mod interface;
 pub mod laws;
 mod letter;
-mod letter_normalising;
-mod letter_reading;
-mod letter_writing;
 mod mark;
 mod message;
 mod modules;
@@ -43,6 +39,7 @@ mod normalising;
 mod place_table;
 mod profile;
 mod reading;
+mod restoring;
 mod room;
 mod size_table;
 mod smallest_writing;

@@ -1,26 +1,31 @@
 //! Normalising.
 
-ghost use Rattle.std.specs.Prelude.{◌≡◌, false, IfSome, IsTrue, length, option_map};
+ghost use Rattle.std.specs.Prelude.{◌≡◌, ◌≤◌, ℕ, Option, IsTrue, length};
 ghost use Rattle.dm_layout.specs.symbols.Sizes.{area};
-ghost use Rattle.dm_symbol.specs.declared.Extent.TheVariants.{Wide};
+ghost use Rattle.dm_layout.specs.symbols.Symbols.{SymbolView};
+ghost use Rattle.dm_layout.specs.symbols.Words.{data_of};
+ghost use Rattle.dm_words.specs.Letters.{HasMarkRoom};
+ghost use Rattle.dm_words.specs.Messages.{most_spelled};
 ghost use Rattle.ecc200_calls.specs.Symbols.{IsNormalGiven, IsNormalResult, NormalisedResult, ProfileResult};
+ghost use Rattle.ecc200_calls.specs.declared.restoring.Restored.{Restored};
 ghost use Rattle.ecc200_calls.specs.inner.Given.{IsOfGiven};
+ghost use Rattle.ecc200_calls.specs.inner.Restored.{HasRoomToSay, IsRestored};
 ghost use Rattle.ecc200_calls.specs.inner.Rooms.{HasRoom};
 
 use crate::extent::extent_of;
-use crate::fault::{Fault, read_fault};
+use crate::fault::{Fault, read_letter_fault};
 use crate::given::{Given, check_given};
-use crate::letter_normalising::normal_letter;
-use crate::modules::put_modules;
 use crate::profile::profile_of;
-use crate::reading::may_be_letter;
+use crate::restoring::{Restored, has_few_marks, restore_given};
 use crate::room::*;
 use crate::symbol::{SymbolOut, show_fault};
 use crate::writing::write_normal;
-use dm_layout::symbols::{SymbolIn, SymbolWordsIn};
+use dm_layout::symbols::SymbolWordsIn;
 use dm_symbol::{
-    Extent, Profile, ReadOptions, SizeChoice, SymbolReadingIn, WriteOptions, read_symbol_to,
+    Extent, LARGEST_MARKS, LARGEST_ROOM, LetterIn, LetterReadFault, Profile, SizeChoice,
+    WriteOptions,
 };
+use dm_words::letter_to_as;
 
 /// Writes the normal symbol of what the symbol of these modules, of which these are doubtful, says in an extent.
 pub fn normal(
@@ -102,8 +107,7 @@ fn normal_under_profile(
     }
 }
 
-/// Shows the normal symbol of the message that the symbol says; or, where reading it as one doesn't tell, of the
-/// letter. So what says a message takes no room for marks.
+/// Shows the normal symbol of what the symbol says, or why there is none, in a room that serves for the symbol.
 fn normal_known(
     extent: Extent,
     profile: Profile,
@@ -118,43 +122,9 @@ fn normal_known(
     ensures { IsOfGiven given.size modules.now doubtful.now given.doubt (λ symbol doubtful.
         IsNormalGiven extent profile symbol doubtful border_limit out.old out.new) }
 {
-    let Given { size, doubt } = given;
-    let known = Given { size, doubt };
-    if normal_message(extent, profile, modules, doubtful, known, border_limit, out) {
-        return;
-    }
-    normal_letter(
-        profile,
-        modules,
-        doubtful,
-        Given { size, doubt },
-        border_limit,
-        out,
-    );
-}
-
-/// Shows the normal symbol of the message that the symbol says, if reading it as one tells what it says; and gives
-/// whether it does.
-fn normal_message(
-    extent: Extent,
-    profile: Profile,
-    modules: &[u8],
-    doubtful: &[u8],
-    given: Given,
-    border_limit: u16,
-    out: &mut SymbolOut,
-) -> bool
-    requires modules { length modules.now ≡ area given.size }
-    requires doubtful { IsTrue given.doubt → length doubtful.now ≡ area given.size }
-    ensures told { IsTrue result → IsOfGiven given.size modules.now doubtful.now given.doubt
-        (λ symbol doubtful. IsNormalGiven extent profile symbol doubtful border_limit out.old
-        out.new) }
-    ensures wide { result ≡ false → extent ≡ Wide }
-    ensures same { result ≡ false → out.new ≡ out.old }
-{
     in_room!(
         Room::of(given.size),
-        normal_given::<ROWS, WORDS, ITEMS>(
+        normal_given::<ROWS, WORDS, ITEMS, MARKS>(
             extent,
             profile,
             modules,
@@ -169,7 +139,7 @@ fn normal_message(
 /// Does so in a room that serves for the symbol. It stands by itself, so that no other room is left for it on the
 /// stack.
 #[inline(never)]
-fn normal_given<const ROWS: usize, const WORDS: usize, const ITEMS: usize>(
+fn normal_given<const ROWS: usize, const WORDS: usize, const ITEMS: usize, const MARKS: usize>(
     extent: Extent,
     profile: Profile,
     modules: &[u8],
@@ -177,65 +147,74 @@ fn normal_given<const ROWS: usize, const WORDS: usize, const ITEMS: usize>(
     given: Given,
     border_limit: u16,
     out: &mut SymbolOut,
-) -> bool
-    requires room { HasRoom ROWS WORDS ITEMS given.size }
+)
+    requires room { HasRoom ROWS WORDS ITEMS MARKS given.size }
     requires modules { length modules.now ≡ area given.size }
     requires doubtful { IsTrue given.doubt → length doubtful.now ≡ area given.size }
-    ensures told { IsTrue result → IsOfGiven given.size modules.now doubtful.now given.doubt
-        (λ symbol doubtful. IsNormalGiven extent profile symbol doubtful border_limit out.old
-        out.new) }
-    ensures wide { result ≡ false → extent ≡ Wide }
-    ensures same { result ≡ false → out.new ≡ out.old }
+    ensures { IsOfGiven given.size modules.now doubtful.now given.doubt (λ symbol doubtful.
+        IsNormalGiven extent profile symbol doubtful border_limit out.old out.new) }
 {
-    let mut symbol = SymbolIn::<ROWS>::light(given.size);
-    put_modules(&mut symbol, modules);
-    if given.doubt {
-        let mut marked = SymbolIn::<ROWS>::light(given.size);
-        put_modules(&mut marked, doubtful);
-        let doubtful = Some(&marked);
-        normal_symbol::<ROWS, WORDS, ITEMS>(extent, profile, &symbol, doubtful, border_limit, out)
-    } else {
-        normal_symbol::<ROWS, WORDS, ITEMS>(extent, profile, &symbol, None, border_limit, out)
+    let mut words = SymbolWordsIn::<WORDS>::zeros(given.size);
+    let mut restored = Restored::new();
+    match restore_given::<ROWS, WORDS>(
+        extent,
+        modules,
+        doubtful,
+        given,
+        border_limit,
+        &mut words,
+        &mut restored,
+    ) {
+        Ok(()) => {
+            normal_restored::<WORDS, ITEMS, MARKS>(extent, profile, &words, out);
+        }
+        Err(why) => show_fault(out, read_letter_fault(why)),
     }
 }
 
-/// Shows the normal symbol of the message that a symbol says, of whose modules these are doubtful, or why there is
-/// none, if reading it as a message tells what it says; and gives whether it does. It is written in a room of its own:
-/// what the message takes in a square can be less than what the symbol takes, or more.
-fn normal_symbol<const ROWS: usize, const WORDS: usize, const ITEMS: usize>(
+/// Shows the normal symbol of what restored codewords say, or why there is none, in room for the marks that they can
+/// say. It is written in a room of its own: what it takes in a square can be less than what the symbol takes, or more.
+fn normal_restored<const WORDS: usize, const ITEMS: usize, const MARKS: usize>(
     extent: Extent,
     profile: Profile,
-    symbol: &SymbolIn<ROWS>,
-    doubtful: Option<&SymbolIn<ROWS>>,
-    border_limit: u16,
+    words: &SymbolWordsIn<WORDS>,
     out: &mut SymbolOut,
-) -> bool
-    requires room { HasRoom ROWS WORDS ITEMS symbol.now.size }
-    requires doubtful { IfSome doubtful (λ doubtful. doubtful.now.size ≡ symbol.now.size) }
-    ensures told { IsTrue result → IsNormalGiven extent profile symbol.now
-        (option_map (λ d. d.now) doubtful.entry) border_limit out.old out.new }
-    ensures wide { result ≡ false → extent ≡ Wide }
-    ensures same { result ≡ false → out.new ≡ out.old }
+)
+    requires { HasRoomToSay ITEMS MARKS words.now.size.data_count }
+    ensures { (symbol : SymbolView) (doubtful : Option SymbolView) (limit : ℕ) (restored : Restored)
+        → IsRestored extent symbol doubtful limit words.now restored
+        → IsNormalGiven extent profile symbol doubtful limit out.old out.new }
 {
-    let how = ReadOptions {
-        extent,
-        border_limit,
-        doubtful,
-    };
-    let mut words = SymbolWordsIn::<WORDS>::zeros(symbol.size());
-    let mut reading = SymbolReadingIn::<ITEMS>::new();
-    match read_symbol_to(symbol, how, &mut words, &mut reading) {
+    if has_few_marks::<MARKS>(words.data_part()) {
+        normal_words::<WORDS, ITEMS, SMALL_MARKS>(extent, profile, words, out);
+    } else {
+        normal_words::<WORDS, ITEMS, MARKS>(extent, profile, words, out);
+    }
+}
+
+/// Does so with room for so many marks. It stands by itself, so that there is room for one letter on the stack.
+#[inline(never)]
+fn normal_words<const WORDS: usize, const ITEMS: usize, const MARKS: usize>(
+    extent: Extent,
+    profile: Profile,
+    words: &SymbolWordsIn<WORDS>,
+    out: &mut SymbolOut,
+)
+    requires items { most_spelled extent words.now.size.data_count ≤ ITEMS }
+    requires most { ITEMS ≤ LARGEST_ROOM }
+    requires marks { HasMarkRoom MARKS (data_of words.now) }
+    requires few_marks { MARKS ≤ LARGEST_MARKS }
+    ensures { (symbol : SymbolView) (doubtful : Option SymbolView) (limit : ℕ) (restored : Restored)
+        → IsRestored extent symbol doubtful limit words.now restored
+        → IsNormalGiven extent profile symbol doubtful limit out.old out.new }
+{
+    let mut letter = LetterIn::<ITEMS, MARKS>::new();
+    match letter_to_as(extent, words.data_part(), &mut letter) {
         Ok(()) => {
             let size = SizeChoice::Square;
-            write_normal(reading.message.items(), WriteOptions { profile, size }, out);
-            true
+            let how = WriteOptions { profile, size };
+            write_normal(letter.head(), letter.items(), letter.marks(), how, out);
         }
-        Err(why) => {
-            if may_be_letter(extent, why) {
-                return false;
-            }
-            show_fault(out, read_fault(why));
-            true
-        }
+        Err(why) => show_fault(out, read_letter_fault(LetterReadFault::Words(why))),
     }
 }

@@ -1,31 +1,32 @@
 //! Reading.
 
-ghost use Rattle.std.specs.Prelude.{◌≡◌, ◌≤◌, ◌/◌, ◌⊎◌, false, IfSome, IsTrue, length, map, option_map};
+ghost use Rattle.std.specs.Prelude.{◌≡◌, ◌≤◌, ◌/◌, ℕ, Option, IsTrue, length, map};
 ghost use Rattle.dm_layout.specs.symbols.Sizes.{area};
-ghost use Rattle.dm_symbol.specs.declared.Extent.TheVariants.{Usual, Wide};
+ghost use Rattle.dm_layout.specs.symbols.Symbols.{SymbolView};
+ghost use Rattle.dm_layout.specs.symbols.Words.{data_of};
+ghost use Rattle.dm_words.specs.Letters.{HasMarkRoom};
+ghost use Rattle.dm_words.specs.Messages.{most_spelled};
 ghost use Rattle.dm_symbol.specs.LetterReading.{letter_reading_of};
-ghost use Rattle.dm_symbol.specs.MessageLetters.{IsNotLeftOut};
 ghost use Rattle.ecc200_calls.specs.Arrays.{over};
 ghost use Rattle.ecc200_calls.specs.Readings.{ExtentResult, IsReadResult, IsReadingGiven, corrected_in, erased_in};
 ghost use Rattle.ecc200_calls.specs.Readings.{dealing_shown, left_in, no_reading, reading_shown, usual_limit};
 ghost use Rattle.ecc200_calls.specs.inner.Given.{IsOfGiven};
+ghost use Rattle.ecc200_calls.specs.inner.Restored.{HasRoomToSay, IsRestored};
 ghost use Rattle.ecc200_calls.specs.inner.Rooms.{HasRoom};
 
 use crate::extent::extent_of;
-use crate::fault::{Fault, read_fault};
+use crate::fault::{Fault, read_letter_fault};
 use crate::given::{Given, check_given};
 use crate::head::{HeadNumbers, head_shown};
-use crate::letter_reading::read_letter;
 use crate::mark::{MarkNumbers, put_marks};
 use crate::message::put_items;
-use crate::modules::put_modules;
+use crate::restoring::{Restored, has_few_marks, restore_given};
 use crate::room::*;
-use dm_layout::symbols::{MOST_BLOCKS, SymbolIn, SymbolSize, SymbolWordsIn};
+use dm_layout::symbols::{MOST_BLOCKS, SymbolSize, SymbolWordsIn};
 use dm_symbol::{
-    BlockReading, Dealing, Extent, Head, Item, LARGEST_MARKS, LARGEST_ROOM, Mark, ReadFault,
-    ReadOptions, SymbolReadingIn, WordFault, read_symbol_to,
+    BlockReading, Dealing, Extent, LARGEST_MARKS, LARGEST_ROOM, LetterIn, LetterReadFault,
 };
-use dm_words::message_symbology_number;
+use dm_words::{letter_to_as, symbology_number};
 
 /// What a symbol says, and how much of it was wrong. After a fault all but the fault and the arrays is 0.
 #[repr(C)]
@@ -98,8 +99,7 @@ fn read_in_extent(
     }
 }
 
-/// Shows what the symbol says: the message; or, where reading it as one doesn't tell, what it says as a letter. So what
-/// says a message takes no room for marks.
+/// Shows what the symbol says, or why it says nothing, in a room that serves for it.
 fn read_known(
     extent: Extent,
     modules: &[u8],
@@ -114,141 +114,96 @@ fn read_known(
         IsReadingGiven extent given.size.rows given.size.columns symbol doubtful border_limit
         out.old out.new) }
 {
-    let Given { size, doubt } = given;
-    if read_message(
-        extent,
-        modules,
-        doubtful,
-        Given { size, doubt },
-        border_limit,
-        out,
-    ) {
-        return;
-    }
-    read_letter(modules, doubtful, Given { size, doubt }, border_limit, out);
-}
-
-/// Shows what the symbol says, if reading it as a message tells that, and gives whether it does. It doesn't where the
-/// wide extent leaves out a codeword.
-fn read_message(
-    extent: Extent,
-    modules: &[u8],
-    doubtful: &[u8],
-    given: Given,
-    border_limit: u16,
-    out: &mut ReadingOut,
-) -> bool
-    requires modules { length modules.now ≡ area given.size }
-    requires doubtful { IsTrue given.doubt → length doubtful.now ≡ area given.size }
-    ensures told { IsTrue result → IsOfGiven given.size modules.now doubtful.now given.doubt
-        (λ symbol doubtful. IsReadingGiven extent given.size.rows given.size.columns symbol doubtful
-        border_limit out.old out.new) }
-    ensures wide { result ≡ false → extent ≡ Wide }
-    ensures same { result ≡ false → out.new ≡ out.old }
-{
     in_room!(
         Room::of(given.size),
-        read_given::<ROWS, WORDS, ITEMS>(extent, modules, doubtful, given, border_limit, out)
+        read_given::<ROWS, WORDS, ITEMS, MARKS>(extent, modules, doubtful, given, border_limit, out)
     )
 }
 
 /// Does so in a room that serves for the symbol. It stands by itself, so that no other room is left for it on the
 /// stack.
 #[inline(never)]
-fn read_given<const ROWS: usize, const WORDS: usize, const ITEMS: usize>(
+fn read_given<const ROWS: usize, const WORDS: usize, const ITEMS: usize, const MARKS: usize>(
     extent: Extent,
     modules: &[u8],
     doubtful: &[u8],
     given: Given,
     border_limit: u16,
     out: &mut ReadingOut,
-) -> bool
-    requires room { HasRoom ROWS WORDS ITEMS given.size }
+)
+    requires room { HasRoom ROWS WORDS ITEMS MARKS given.size }
     requires modules { length modules.now ≡ area given.size }
     requires doubtful { IsTrue given.doubt → length doubtful.now ≡ area given.size }
-    ensures told { IsTrue result → IsOfGiven given.size modules.now doubtful.now given.doubt
-        (λ symbol doubtful. IsReadingGiven extent given.size.rows given.size.columns symbol doubtful
-        border_limit out.old out.new) }
-    ensures wide { result ≡ false → extent ≡ Wide }
-    ensures same { result ≡ false → out.new ≡ out.old }
+    ensures { IsOfGiven given.size modules.now doubtful.now given.doubt (λ symbol doubtful.
+        IsReadingGiven extent given.size.rows given.size.columns symbol doubtful border_limit
+        out.old out.new) }
 {
-    let mut symbol = SymbolIn::<ROWS>::light(given.size);
-    put_modules(&mut symbol, modules);
-    if given.doubt {
-        let mut marked = SymbolIn::<ROWS>::light(given.size);
-        put_modules(&mut marked, doubtful);
-        read_symbol::<ROWS, WORDS, ITEMS>(extent, &symbol, Some(&marked), border_limit, out)
-    } else {
-        read_symbol::<ROWS, WORDS, ITEMS>(extent, &symbol, None, border_limit, out)
-    }
-}
-
-/// Shows what a symbol says in an extent, of whose modules these are doubtful, or why it says nothing, if reading it as
-/// a message tells that; and gives whether it does.
-fn read_symbol<const ROWS: usize, const WORDS: usize, const ITEMS: usize>(
-    extent: Extent,
-    symbol: &SymbolIn<ROWS>,
-    doubtful: Option<&SymbolIn<ROWS>>,
-    border_limit: u16,
-    out: &mut ReadingOut,
-) -> bool
-    requires room { HasRoom ROWS WORDS ITEMS symbol.now.size }
-    requires doubtful { IfSome doubtful (λ doubtful. doubtful.now.size ≡ symbol.now.size) }
-    ensures told { IsTrue result → IsReadingGiven extent symbol.now.size.rows
-        symbol.now.size.columns symbol.now (option_map (λ d. d.now) doubtful.entry) border_limit
-        out.old out.new }
-    ensures wide { result ≡ false → extent ≡ Wide }
-    ensures same { result ≡ false → out.new ≡ out.old }
-{
-    let size = symbol.size();
-    let how = ReadOptions {
+    let mut words = SymbolWordsIn::<WORDS>::zeros(given.size);
+    let mut restored = Restored::new();
+    match restore_given::<ROWS, WORDS>(
         extent,
-        border_limit,
+        modules,
         doubtful,
-    };
-    let mut words = SymbolWordsIn::<WORDS>::zeros(size);
-    let mut reading = SymbolReadingIn::<ITEMS>::new();
-    match read_symbol_to(symbol, how, &mut words, &mut reading) {
-        Ok(()) => {
-            let identifier = message_symbology_number(words.data_part());
-            let items = reading.message.items();
-            let blocks = reading.blocks.as_slice();
-            show_reading(
-                out,
-                size,
-                None,
-                items,
-                &[],
-                identifier,
-                reading.dealing,
-                blocks,
-                reading.border_faults,
-            );
-            true
-        }
-        Err(why) => {
-            if may_be_letter(extent, why) {
-                return false;
-            }
-            show_fault(out, read_fault(why));
-            true
-        }
+        given,
+        border_limit,
+        &mut words,
+        &mut restored,
+    ) {
+        Ok(()) => read_restored::<WORDS, ITEMS, MARKS>(extent, &words, &restored, out),
+        Err(why) => show_fault(out, read_letter_fault(why)),
     }
 }
 
-/// Whether a symbol that is refused as a message may say a letter: in the wide extent, where a codeword is left out.
-pub(crate) fn may_be_letter(extent: Extent, why: ReadFault) -> bool
-    ensures other { result ≡ false → (extent ≡ Usual) ⊎ IsNotLeftOut why }
-    ensures wide { IsTrue result → extent ≡ Wide }
+/// Shows what restored codewords say in an extent, or why they say nothing, in room for the marks that they can say.
+fn read_restored<const WORDS: usize, const ITEMS: usize, const MARKS: usize>(
+    extent: Extent,
+    words: &SymbolWordsIn<WORDS>,
+    restored: &Restored,
+    out: &mut ReadingOut,
+)
+    requires { HasRoomToSay ITEMS MARKS words.now.size.data_count }
+    ensures { (symbol : SymbolView) (doubtful : Option SymbolView) (limit : ℕ)
+        → IsRestored extent symbol doubtful limit words.now restored.now
+        → IsReadingGiven extent words.now.size.rows words.now.size.columns symbol doubtful limit out.old
+        out.new }
 {
-    match (extent, why) {
-        (Extent::Wide, ReadFault::Words(WordFault::LeftOut(_, _))) => true,
-        _ => false,
+    if has_few_marks::<MARKS>(words.data_part()) {
+        read_words::<WORDS, ITEMS, SMALL_MARKS>(extent, words, restored, out);
+    } else {
+        read_words::<WORDS, ITEMS, MARKS>(extent, words, restored, out);
+    }
+}
+
+/// Does so with room for so many marks. It stands by itself, so that there is room for one letter on the stack.
+#[inline(never)]
+fn read_words<const WORDS: usize, const ITEMS: usize, const MARKS: usize>(
+    extent: Extent,
+    words: &SymbolWordsIn<WORDS>,
+    restored: &Restored,
+    out: &mut ReadingOut,
+)
+    requires items { most_spelled extent words.now.size.data_count ≤ ITEMS }
+    requires most { ITEMS ≤ LARGEST_ROOM }
+    requires marks { HasMarkRoom MARKS (data_of words.now) }
+    requires few_marks { MARKS ≤ LARGEST_MARKS }
+    ensures { (symbol : SymbolView) (doubtful : Option SymbolView) (limit : ℕ)
+        → IsRestored extent symbol doubtful limit words.now restored.now
+        → IsReadingGiven extent words.now.size.rows words.now.size.columns symbol doubtful limit out.old
+        out.new }
+{
+    let list = words.data_part();
+    let mut letter = LetterIn::<ITEMS, MARKS>::new();
+    match letter_to_as(extent, list, &mut letter) {
+        Ok(()) => {
+            let identifier = symbology_number(list, &letter);
+            show_reading(out, words.size(), &letter, identifier, restored);
+        }
+        Err(why) => show_fault(out, read_letter_fault(LetterReadFault::Words(why))),
     }
 }
 
 /// Shows a fault in place of a reading.
-pub(crate) fn show_fault(out: &mut ReadingOut, why: Fault)
+fn show_fault(out: &mut ReadingOut, why: Fault)
     ensures { out.new ≡ no_reading why out.old }
 {
     out.fault = why;
@@ -273,37 +228,35 @@ pub(crate) fn dealing_number(dealing: Dealing) -> u16
     }
 }
 
-/// Shows what a symbol of this size says: a head or none, items and marks; the number of the identifier; by which
-/// dealing it was restored; what became of each block; and the number of border faults.
-pub(crate) fn show_reading(
+/// Shows what a symbol of this size says: a letter, with the number of its identifier, and what is known of its
+/// restored codewords.
+#[inline]
+fn show_reading<const ITEMS: usize, const MARKS: usize>(
     out: &mut ReadingOut,
     size: SymbolSize,
-    head: Option<Head>,
-    items: &[Item],
-    marks: &[Mark],
+    letter: &LetterIn<ITEMS, MARKS>,
     identifier: u8,
-    dealing: Dealing,
-    blocks: &[BlockReading],
-    border_faults: u16,
+    restored: &Restored,
 )
-    requires items { length items.now ≤ LARGEST_ROOM }
-    requires marks { length marks.now ≤ LARGEST_MARKS }
-    requires blocks { length blocks.now ≤ MOST_BLOCKS }
-    ensures { out.new ≡ reading_shown size.rows size.columns (letter_reading_of
-        (record { head = head; items = items.now; marks = marks.now }) identifier dealing blocks.now
-        border_faults) out.old }
+    requires items { ITEMS ≤ LARGEST_ROOM }
+    requires marks { MARKS ≤ LARGEST_MARKS }
+    ensures { out.new ≡ reading_shown size.rows size.columns (letter_reading_of letter.now identifier
+        restored.now.dealing restored.now.blocks.items restored.now.border_faults) out.old }
 {
+    let blocks = restored.blocks.as_slice();
+    let marks = letter.marks();
+    let items = letter.items();
     out.fault = Fault::none();
     out.rows = size.rows();
     out.columns = size.columns();
-    out.border_faults = border_faults;
+    out.border_faults = restored.border_faults;
     out.block_count = blocks.len() as u16;
     put_corrected(&mut out.corrected, blocks);
     put_erased(&mut out.erased, blocks);
     put_left(&mut out.left, blocks);
     out.identifier = u16::from(identifier);
-    out.dealing = dealing_number(dealing);
-    out.head = head_shown(head);
+    out.dealing = dealing_number(restored.dealing);
+    out.head = head_shown(letter.head());
     out.mark_count = marks.len() as u16;
     put_marks(&mut out.marks, marks);
     out.item_count = items.len() as u16;

@@ -11,14 +11,14 @@ ghost use Rattle.ecc200_calls.specs.inner.Rooms.{HasRoomToWrite};
 
 use crate::fault::Fault;
 use crate::form::Form;
-use crate::letter::{Letter, letter_of_bytes, letter_of_numbers};
+use crate::letter::{Letter, put_letter, put_letter_of_bytes};
 use crate::mark::MarkNumbers;
 use crate::room::*;
 use crate::symbol::{SymbolOut, show_fault, show_symbol};
 use crate::writing::{is_message, write_these_bytes, write_these_numbers};
 use dm_layout::symbols::{SymbolIn, SymbolWordsIn};
 use dm_symbol::{
-    Extent, Head, Item, LARGEST_MARKS, LARGEST_ROOM, SizeChoice, Symbol, SymbolWords, TooLong,
+    Extent, Head, Item, LARGEST_ROOM, SizeChoice, Symbol, SymbolWords, TooLong,
     write_smallest_letter_to, write_smallest_to,
 };
 
@@ -41,10 +41,9 @@ pub(crate) fn write_smallest(
     if !may_be_said(items.len(), marks.len()) {
         show_fault(out, Fault::too_long());
     } else if is_message(head, marks) {
-        let form = Form::Smallest(extent);
         in_room!(
             Room::of_items(items.len()),
-            write_these_numbers::<ITEMS>(items, form, size, out)
+            write_these_numbers::<ITEMS>(items, extent, size, out)
         );
     } else {
         write_letter_of_numbers(items, marks, extent, size, head, out);
@@ -69,7 +68,9 @@ fn write_letter_of_numbers(
     requires mark_room { length marks.now ≤ LARGEST_MARKS }
     ensures { IsWritingGiven (Form.Smallest extent) size head items.now marks.now out.old out.new }
 {
-    write_letter(&letter_of_numbers(head, items, marks), extent, size, out);
+    let mut letter = Letter::new();
+    put_letter(&mut letter, head, items, marks);
+    write_letter(&letter, extent, size, out);
 }
 
 /// Does so for the letter of these bytes.
@@ -87,10 +88,9 @@ pub(crate) fn write_smallest_bytes(
     if bytes.len() > LARGEST_ROOM {
         show_fault(out, Fault::too_long());
     } else if is_message(head, &[]) {
-        let form = Form::Smallest(extent);
         in_room!(
             Room::of_items(bytes.len()),
-            write_these_bytes::<ITEMS>(bytes, form, size, out)
+            write_these_bytes::<ITEMS>(bytes, extent, size, out)
         );
     } else {
         write_letter_of_bytes(bytes, extent, size, head, out);
@@ -110,7 +110,9 @@ fn write_letter_of_bytes(
     requires room { length bytes.now ≤ LARGEST_ROOM }
     ensures { IsWritingGiven (Form.Smallest extent) size head bytes.now [] out.old out.new }
 {
-    write_letter(&letter_of_bytes(head, bytes), extent, size, out);
+    let mut letter = Letter::new();
+    put_letter_of_bytes(&mut letter, head, bytes);
+    write_letter(&letter, extent, size, out);
 }
 
 /// Whether some symbol may say so many items and marks.
@@ -137,7 +139,7 @@ pub(crate) fn write_smallest_message(
         Room::Small => {
             write_symbol::<SMALL_DATA, SMALL_ROWS, SMALL_WORDS>(items, extent, size, out);
         }
-        Room::Middle | Room::Largest => {
+        Room::Fair | Room::Middle | Room::Largest => {
             write_symbol::<LARGEST_DATA, LARGEST_ROWS, LARGEST_WORDS>(items, extent, size, out);
         }
     }

@@ -3,22 +3,21 @@
 ghost use Rattle.std.specs.Prelude.{◌≡◌, ◌<◌, ◌≤◌, ◌⊎◌, All, IsTrue, [], false, length};
 ghost use Rattle.dm_words.specs.Heads.{IsHead};
 ghost use Rattle.dm_words.specs.Letters.{AreMarks};
-ghost use Rattle.dm_words.specs.LetterExtents.{as_letter};
 ghost use Rattle.ecc200_calls.specs.Letters.{marks_of};
 ghost use Rattle.ecc200_calls.specs.Writings.{IsLetterGiven, IsWriteResult, IsWritingGiven};
-ghost use Rattle.ecc200_calls.specs.inner.Rooms.{HasRoomToWrite};
+ghost use Rattle.ecc200_calls.specs.inner.Rooms.{HasRoomForLetter};
 
 use crate::fault::Fault;
 use crate::form::Form;
 use crate::how::{How, Wanted, check_how};
-use crate::letter_writing::{write_letter_of_bytes, write_letter_of_numbers};
+use crate::letter::{put_letter, put_letter_of_bytes};
 use crate::mark::{MarkNumbers, first_wrong};
 use crate::message::{first_foreign, message_of_bytes, message_of_numbers};
 use crate::room::*;
 use crate::smallest_writing::{write_smallest, write_smallest_bytes, write_smallest_message};
 use crate::symbol::{SymbolOut, show_fault, show_symbol};
 use dm_layout::symbols::{MOST_DATA, SizeChoice, SymbolIn, SymbolWordsIn};
-use dm_symbol::{Head, Item, LARGEST_MARKS, TooLong, WriteOptions, write_symbol_to};
+use dm_symbol::{Extent, Head, Item, LetterIn, Mark, TooLong, WriteOptions, write_content_to};
 
 /// The most items that any symbol holds in a normal form: two for each data codeword.
 const MOST_WRITTEN: usize = 2 * MOST_DATA;
@@ -114,14 +113,16 @@ fn write_profiled(
 {
     if !may_fit(items.len(), marks.len()) {
         show_fault(out, Fault::too_long());
-    } else if is_message(head, marks) {
-        let form = Form::Profiled(how.profile);
+    } else if marks.is_empty() {
         in_room!(
             Room::of_items(items.len()),
-            write_these_numbers::<ITEMS>(items, form, how.size, out)
+            write_letter_of_numbers::<ITEMS, 0>(items, marks, how, head, out)
         );
     } else {
-        write_letter_of_numbers(items, marks, how, head, out);
+        in_room!(
+            Room::of_counts(items.len(), marks.len()),
+            write_letter_of_numbers::<ITEMS, MARKS>(items, marks, how, head, out)
+        );
     }
 }
 
@@ -145,17 +146,17 @@ pub(crate) fn is_message(head: Option<Head>, marks: &[MarkNumbers]) -> bool
 #[inline(never)]
 pub(crate) fn write_these_numbers<const ITEMS: usize>(
     items: &[u16],
-    form: Form,
+    extent: Extent,
     size: SizeChoice,
     out: &mut SymbolOut,
 )
     requires items { All (λ item. item ≤ 256) items.now }
     requires room { length items.now ≤ ITEMS }
     requires most { ITEMS ≤ LARGEST_ITEMS }
-    ensures { IsWritingGiven form size None items.now [] out.old out.new }
+    ensures { IsWritingGiven (Form.Smallest extent) size None items.now [] out.old out.new }
 {
     let message = message_of_numbers::<ITEMS>(items);
-    write_message(message.items(), form, size, out);
+    write_smallest_message(message.items(), extent, size, out);
 }
 
 /// Shows the symbol of the letter of these bytes, or why there is none.
@@ -179,14 +180,11 @@ fn write_profiled_bytes(bytes: &[u8], how: WriteOptions, head: Option<Head>, out
 {
     if bytes.len() > MOST_WRITTEN {
         show_fault(out, Fault::too_long());
-    } else if is_message(head, &[]) {
-        let form = Form::Profiled(how.profile);
+    } else {
         in_room!(
             Room::of_items(bytes.len()),
-            write_these_bytes::<ITEMS>(bytes, form, how.size, out)
+            write_letter_of_bytes::<ITEMS>(bytes, how, head, out)
         );
-    } else {
-        write_letter_of_bytes(bytes, how, head, out);
     }
 }
 
@@ -194,40 +192,80 @@ fn write_profiled_bytes(bytes: &[u8], how: WriteOptions, head: Option<Head>, out
 #[inline(never)]
 pub(crate) fn write_these_bytes<const ITEMS: usize>(
     bytes: &[u8],
-    form: Form,
+    extent: Extent,
     size: SizeChoice,
     out: &mut SymbolOut,
 )
     requires room { length bytes.now ≤ ITEMS }
     requires most { ITEMS ≤ LARGEST_ITEMS }
-    ensures { IsWritingGiven form size None bytes.now [] out.old out.new }
+    ensures { IsWritingGiven (Form.Smallest extent) size None bytes.now [] out.old out.new }
 {
     let message = message_of_bytes::<ITEMS>(bytes);
-    write_message(message.items(), form, size, out);
+    write_smallest_message(message.items(), extent, size, out);
 }
 
-/// Shows the symbol in which a message is written, or that it fits no size of the choice.
-#[inline]
-fn write_message(items: &[Item], form: Form, size: SizeChoice, out: &mut SymbolOut)
-    requires { length items.now ≤ LARGEST_ITEMS }
-    ensures { IsLetterGiven form size (as_letter items.now) out.old out.new }
-{
-    match form {
-        Form::Profiled(profile) => write_normal(items, WriteOptions { profile, size }, out),
-        Form::Smallest(extent) => write_smallest_message(items, extent, size, out),
-    }
-}
-
-/// Shows it under a profile.
+/// Shows the symbol of the letter of these numbers, or that it fits no size of the choice, in a room that serves for
+/// the letter. It stands by itself, so that no other room is left for it on the stack.
 #[inline(never)]
-pub(crate) fn write_normal(items: &[Item], how: WriteOptions, out: &mut SymbolOut)
-    requires { length items.now ≤ LARGEST_ITEMS }
-    ensures { IsLetterGiven (Form.Profiled how.profile) how.size (as_letter items.now) out.old
+fn write_letter_of_numbers<const ITEMS: usize, const MARKS: usize>(
+    items: &[u16],
+    marks: &[MarkNumbers],
+    how: WriteOptions,
+    head: Option<Head>,
+    out: &mut SymbolOut,
+)
+    requires head { IsHead head }
+    requires items { All (λ item. item ≤ 256) items.now }
+    requires room { length items.now ≤ ITEMS }
+    requires most { ITEMS ≤ LARGEST_ITEMS }
+    requires marks { AreMarks 0 (length items.now) (marks_of marks.now) }
+    requires mark_room { length marks.now ≤ MARKS }
+    requires few_marks { MARKS ≤ LARGEST_MARKS }
+    ensures { IsWritingGiven (Form.Profiled how.profile) how.size head items.now marks.now out.old
         out.new }
 {
+    let mut letter = LetterIn::<ITEMS, MARKS>::new();
+    put_letter(&mut letter, head, items, marks);
+    write_normal(letter.head(), letter.items(), letter.marks(), how, out);
+}
+
+/// Shows the symbol of the letter of these bytes, likewise.
+#[inline(never)]
+fn write_letter_of_bytes<const ITEMS: usize>(
+    bytes: &[u8],
+    how: WriteOptions,
+    head: Option<Head>,
+    out: &mut SymbolOut,
+)
+    requires head { IsHead head }
+    requires room { length bytes.now ≤ ITEMS }
+    requires most { ITEMS ≤ LARGEST_ITEMS }
+    ensures { IsWritingGiven (Form.Profiled how.profile) how.size head bytes.now [] out.old out.new }
+{
+    let mut letter = LetterIn::<ITEMS, 0>::new();
+    put_letter_of_bytes(&mut letter, head, bytes);
+    write_normal(letter.head(), letter.items(), letter.marks(), how, out);
+}
+
+/// Shows the symbol in which a letter is written under a profile, or that it fits no size of the choice.
+#[inline(never)]
+pub(crate) fn write_normal(
+    head: Option<Head>,
+    items: &[Item],
+    marks: &[Mark],
+    how: WriteOptions,
+    out: &mut SymbolOut,
+)
+    requires head { IsHead head }
+    requires few { length items.now ≤ LARGEST_ITEMS }
+    requires few_marks { length marks.now ≤ LARGEST_MARKS }
+    requires in_order { AreMarks 0 (length items.now) marks.now }
+    ensures { IsLetterGiven (Form.Profiled how.profile) how.size
+        (record { head = head; items = items.now; marks = marks.now }) out.old out.new }
+{
     in_room!(
-        Room::of_message(how.size, items),
-        write_symbol::<DATA, ROWS, WORDS>(items, how, out)
+        Room::of_letter(how.size, head, items, marks),
+        write_symbol::<DATA, ROWS, WORDS>(head, items, marks, how, out)
     );
 }
 
@@ -235,19 +273,25 @@ pub(crate) fn write_normal(items: &[Item], how: WriteOptions, out: &mut SymbolOu
 /// stack.
 #[inline(never)]
 fn write_symbol<const DATA: usize, const ROWS: usize, const WORDS: usize>(
+    head: Option<Head>,
     items: &[Item],
+    marks: &[Mark],
     how: WriteOptions,
     out: &mut SymbolOut,
 )
+    requires head { IsHead head }
     requires few { length items.now ≤ LARGEST_ITEMS }
-    requires room { HasRoomToWrite DATA ROWS WORDS how.size items.now }
-    ensures { IsLetterGiven (Form.Profiled how.profile) how.size (as_letter items.now) out.old
-        out.new }
+    requires few_marks { length marks.now ≤ LARGEST_MARKS }
+    requires in_order { AreMarks 0 (length items.now) marks.now }
+    requires room { HasRoomForLetter DATA ROWS WORDS how.size
+        (record { head = head; items = items.now; marks = marks.now }) }
+    ensures { IsLetterGiven (Form.Profiled how.profile) how.size
+        (record { head = head; items = items.now; marks = marks.now }) out.old out.new }
 {
     let size = smallest_size();
     let mut words = SymbolWordsIn::<WORDS>::zeros(size);
     let mut symbol = SymbolIn::<ROWS>::light(size);
-    match write_symbol_to::<DATA, WORDS, ROWS>(items, how, &mut words, &mut symbol) {
+    match write_content_to::<DATA, WORDS, ROWS>(head, items, marks, how, &mut words, &mut symbol) {
         Ok(()) => show_symbol(out, &symbol),
         Err(TooLong) => show_fault(out, Fault::too_long()),
     }

@@ -1,16 +1,48 @@
 //! Reading a symbol of any size as a letter.
 
-ghost use Rattle.std.specs.Prelude.{◌≡◌, ◌≤◌, ◌*◌, ℕ, List, OnOk, IfSome, option_map};
+ghost use Rattle.std.specs.Prelude.{◌≡◌, ◌≤◌, ◌*◌, ℕ, List, OnOk, IfErr, IfSome, option_map, Err};
 ghost use Rattle.dm_layout.specs.symbols.Sizes.{codeword_count};
 ghost use Rattle.dm_words.specs.Messages.{most_spelled};
 ghost use Rattle.dm_words.specs.Outcomes.{outcome};
 ghost use Rattle.dm_symbol.specs.SymbolReading.{AreRestored};
-ghost use Rattle.dm_symbol.specs.LetterReading.{IsLetterRead, letter_reading_in};
+ghost use Rattle.dm_symbol.specs.LetterReading.{IsLetterRead, LetterReadResult, letter_reading_in};
+ghost use Rattle.dm_symbol.specs.Restored.{IsRestored};
 
 use crate::letters::{LetterReadFault, LetterReadingIn};
-use crate::symbol::reading::{Lost, ReadOptions, restore_to};
-use dm_layout::symbols::{SymbolIn, SymbolWordsIn};
+use crate::symbol::dealing::Dealing;
+use crate::symbol::reading::{BlockReading, Lost, ReadOptions, restore_to};
+use arrayvec::ArrayVec;
+use dm_layout::symbols::{MOST_BLOCKS, SymbolIn, SymbolWordsIn};
 use dm_words::{LARGEST_ROOM, letter_to_as, symbology_number};
+
+/// Restores the codewords of a symbol, the first steps of [`read_letter_to()`], whatever they say: after `Ok`, `words`
+/// are these, `dealing` is the one by which they are restored, `blocks` says what became of each block, and `faults` is
+/// the number of wrong modules of the borders. The fault is `Border` or `Block`, as there; after `Border` these three
+/// are as they were. So what the codewords say can be read in room that is chosen by them.
+pub fn restore_symbol_to<const ROWS: usize, const WORDS: usize>(
+    symbol: &SymbolIn<ROWS>,
+    how: ReadOptions<ROWS>,
+    words: &mut SymbolWordsIn<WORDS>,
+    dealing: &mut Dealing,
+    blocks: &mut ArrayVec<BlockReading, MOST_BLOCKS>,
+    faults: &mut u16,
+) -> Result<(), LetterReadFault>
+    requires doubtful { IfSome how.doubtful (λ doubtful. doubtful.now.size ≡ symbol.now.size) }
+    requires codewords { codeword_count symbol.now.size ≤ WORDS }
+    ensures restored { OnOk result (IsRestored how.entry.extent symbol.now
+        (option_map (λ d. d.now) how.entry.doubtful) how.entry.border_limit words.new dealing.new
+        blocks.new.items faults.new) }
+    ensures lost { IfErr result (λ why. LetterReadResult how.entry.extent symbol.now
+        (option_map (λ d. d.now) how.entry.doubtful) how.entry.border_limit (Err why)) }
+    ensures same { (count : ℕ) → result ≡ Err (LetterReadFault.Border count)
+        → (dealing.new ≡ dealing.old) × (blocks.new ≡ blocks.old) × (faults.new ≡ faults.old) }
+{
+    match restore_to(symbol, how, words, dealing, blocks, faults) {
+        Ok(()) => Ok(()),
+        Err(Lost::Border(count)) => Err(LetterReadFault::Border(count)),
+        Err(Lost::Block(index)) => Err(LetterReadFault::Block(index)),
+    }
+}
 
 /// Reads a symbol of any size as a letter, which is a head or none, items and marks (ISO/IEC 16022, decode algorithm,
 /// ECI encodation, structured append, reader programming). It does what [`read_symbol_to`](crate::read_symbol_to())
@@ -51,7 +83,7 @@ pub fn read_letter_to<
         (option_map (λ d. d.now) how.entry.doubtful) reading.new.dealing held words.new.list) }
     ensures size { OnOk result (words.new.size ≡ symbol.now.size) }
 {
-    match restore_to(
+    match restore_symbol_to(
         symbol,
         how,
         words,
@@ -60,8 +92,7 @@ pub fn read_letter_to<
         &mut reading.border_faults,
     ) {
         Ok(()) => {}
-        Err(Lost::Border(count)) => return Err(LetterReadFault::Border(count)),
-        Err(Lost::Block(index)) => return Err(LetterReadFault::Block(index)),
+        Err(fault) => return Err(fault),
     }
     let list = words.data_part();
     match letter_to_as(how.extent, list, &mut reading.letter) {

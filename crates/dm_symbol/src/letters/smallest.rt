@@ -13,10 +13,11 @@ use dm_words::{Extent, LARGEST_MARKS, LARGEST_ROOM, LetterIn, TooLong, smallest_
 /// [`write_smallest_to`](crate::write_smallest_to()) does for a message (ISO/IEC 16022, encodation schemes, ECI
 /// encodation, structured append, reader programming). After `Ok`, `symbol`, whatever it was before, is one that is
 /// read as the letter in the extent, with nothing wrong in it, and no symbol of a smaller size of the choice is read as
-/// the letter, whatever its codewords are. The data codewords are the letter in ASCII where that size has room for
-/// these; else those of the usual extent, where it has room for any. The fault is `TooLong` exactly where no symbol of
-/// the choice is read as the letter, as none is in the usual extent where it has a head or a mark; then `symbol` is as
-/// it was. `words` is room for the codewords, whatever they were before.
+/// the letter, whatever its codewords are, but for a macro before FNC1. The data codewords are plain, and their
+/// symbology identifier is that of the ASCII form. The data codewords are the letter in ASCII where that size has room
+/// for these; else those of the usual extent, where it has room for any. The fault is `TooLong` exactly where no symbol
+/// of the choice is read as the letter, as none is in the usual extent where it has a head or a mark; then `symbol` is
+/// as it was. `words` is room for the codewords, whatever they were before.
 pub fn write_smallest_letter_to<const ITEMS: usize, const MARKS: usize>(
     extent: Extent,
     letter: &LetterIn<ITEMS, MARKS>,

@@ -1,6 +1,6 @@
 //! Writing a message in a symbol: in the smallest size of a choice.
 
-ghost use Rattle.std.specs.Prelude.{◌≡◌, ◌≢◌, ◌<◌, ◌≤◌, ℕ, length, OnErr};
+ghost use Rattle.std.specs.Prelude.{◌≡◌, ◌≢◌, ◌<◌, ◌≤◌, ℕ, length, OnErr, OnOk};
 ghost use Rattle.dm_code.specs.Codeword.{IsCodeword};
 ghost use Rattle.dm_layout.specs.symbols.Sizes.{block_check, codeword_count};
 ghost use Rattle.dm_words.specs.LetterExtents.{as_letter};
@@ -8,6 +8,7 @@ ghost use Rattle.dm_words.specs.Messages.{IsMessage};
 ghost use Rattle.dm_words.specs.Outcomes.{outcome};
 ghost use Rattle.dm_symbol.specs.SymbolBlocks.{AreOfSize, AreCodewordsOf, block_in, first_data};
 ghost use Rattle.dm_symbol.specs.NormalSymbol.{IsSymbolWritten, HasRoomFor};
+ghost use Rattle.dm_symbol.specs.PlainSymbol.{IsPlainSymbol};
 ghost use Rattle.dm_symbol.specs.SmallestLetterSymbol.{IsSmallestLetterWritten};
 ghost use Rattle.dm_symbol.specs.SmallestSymbol.{HasRoomForSmallest, IsSmallestWritten};
 ghost use Rattle.dm_symbol.specs.WrittenWords.{HaveRoom, AreWritten};
@@ -51,6 +52,8 @@ pub fn write_symbol_to<const DATA: usize, const WORDS: usize, const ROWS: usize>
     requires room { HasRoomFor how.size how.profile items.now DATA ROWS WORDS }
     ensures written { IsSymbolWritten how.size how.profile items.now
         (outcome result symbol.new) }
+    ensures plain { OnOk result (IsMessage items.now
+        → IsPlainSymbol symbol.new (as_letter items.now)) }
     ensures same { OnErr result (symbol.new ≡ symbol.old) }
 {
     let mut list = ArrayVec::<u8, DATA>::new();
@@ -86,9 +89,10 @@ pub(crate) fn write_words_to<const DATA: usize, const WORDS: usize, const ROWS: 
 /// Writes the message of at most [`LARGEST_ROOM`] items in its smallest symbol for readers of an extent (ISO/IEC 16022,
 /// encodation schemes, which leave the choice of encodations to the writer): after `Ok`, `symbol`, whatever it was
 /// before, is one that is read as the message in the extent, with nothing wrong in it, and no symbol of a smaller size
-/// of the choice is read as the message, whatever its codewords are. The data codewords are ASCII where that size has
-/// room for these; else those of the usual extent, where it has room for any. The fault is `TooLong` exactly where no
-/// symbol of the choice is read as the message; then `symbol` is as it was. So it is of symbols that are read as the
+/// of the choice is read as the message, whatever its codewords are, but for a macro before FNC1. The data codewords
+/// are plain, and their symbology identifier is that of the ASCII form. The data codewords are ASCII where that size
+/// has room for these; else those of the usual extent, where it has room for any. The fault is `TooLong` exactly where
+/// no symbol of the choice is read as the message; then `symbol` is as it was. So it is of symbols that are read as the
 /// letter with these items, too. `words` is room for the codewords, whatever they were before. The work grows with the
 /// number of items.
 ///

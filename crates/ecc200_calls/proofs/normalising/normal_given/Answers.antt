@@ -1,22 +1,29 @@
-use Rattle.ecc200_calls.specs.Symbols.{IsNormalGiven}
-use Rattle.ecc200_calls.proofs.OfGiven.{doubted_given, sure_given}
+use Rattle.std.proofs.Common.{Err, rules, refl, ◌∙◌, ap}
+use Rattle.dm_symbol.specs.declared.LetterNormalFault.TheVariants as of_letter
+use Rattle.dm_symbol.specs.LetterNormal.{NormalLetterResult}
+use Rattle.ecc200_calls.specs.Symbols.{no_symbol}
+use Rattle.ecc200_calls.proofs.OfGiven.{given_too}
+use Rattle.ecc200_calls.proofs.Rooms.{room_to_say}
 use Rattle.ecc200_calls.proofs.normalising.normal_given.Goals as goal
 
-pub returns-then-given-clause-told : goal.returns-then-given-clause-told
-returns-then-given-clause-told g c = λ told.
-    let a = c.args in
-    doubted_given a.given.size a.modules.now a.doubtful.now a.given.doubt
-    (λ size symbol doubtful. IsNormalGiven a.extent a.profile symbol doubtful a.border_limit a.out.now
-    c.normal_symbol.new.out)
-    c.light-symbol.result c.put_modules.new.symbol c.light-marked.result c.put_modules-then-given.new.symbol
-    c.if-given.true c.light-symbol.ensures.size c.put_modules.ensures.size c.put_modules.ensures.modules
-    c.light-marked.ensures.size c.put_modules-then-given.ensures.modules (c.normal_symbol.ensures.told told)
+pub normal_restored-requires : goal.normal_restored-requires
+normal_restored-requires g c =
+    (search rules, room_to_say _ _ _ _ c.args.given.size _ c.requires.room c.in-Ok.ensures.size)
 
-pub returns-else-given-clause-told : goal.returns-else-given-clause-told
-returns-else-given-clause-told g c = λ told.
+pub returns-in-Ok : goal.returns-in-Ok
+returns-in-Ok g c =
     let a = c.args in
-    let shown = c.normal_symbol-else-given in
-    sure_given a.given.size a.modules.now a.doubtful.now a.given.doubt
-    (λ size symbol doubtful. IsNormalGiven a.extent a.profile symbol doubtful a.border_limit a.out.now shown.new.out)
-    c.light-symbol.result c.put_modules.new.symbol c.if-given.false c.light-symbol.ensures.size
-    c.put_modules.ensures.size c.put_modules.ensures.modules (shown.ensures.told told)
+    given_too a.given.size a.modules.now a.doubtful.now a.given.doubt _ _
+    (λ symbol doubtful restored.
+    c.normal_restored.ensures symbol doubtful a.border_limit c.restore_given.new.restored restored)
+    c.in-Ok.ensures.restored
+
+pub returns-in-Err : goal.returns-in-Err
+returns-in-Err g c =
+    let a = c.args in
+    given_too a.given.size a.modules.now a.doubtful.now a.given.doubt _ _
+    (λ symbol doubtful lost. record {
+      result = Err (of_letter.Read c.in-Err.why);
+      result_is = NormalLetterResult.fault c.in-Err.why lost refl;
+      shown = c.show_fault.ensures ∙ ap (λ why. no_symbol why a.out.now) c.read_letter_fault.ensures;
+    }) c.in-Err.ensures.restored

@@ -1,23 +1,29 @@
-use Rattle.ecc200_calls.specs.Readings.{IsReadingGiven}
-use Rattle.ecc200_calls.proofs.OfGiven.{doubted_given, sure_given}
+use Rattle.std.proofs.Common.{Err, rules, ◌∙◌, ap, subst}
+use Rattle.dm_layout.specs.symbols.Sizes.{SizeEntry}
+use Rattle.ecc200_calls.specs.Readings.{IsReadingGiven, no_reading}
+use Rattle.ecc200_calls.proofs.OfGiven.{given_too}
+use Rattle.ecc200_calls.proofs.Rooms.{room_to_say}
 use Rattle.ecc200_calls.proofs.reading.read_given.Goals as goal
 
-pub returns-then-given-clause-told : goal.returns-then-given-clause-told
-returns-then-given-clause-told g c = λ told.
-    let a = c.args in
-    doubted_given a.given.size a.modules.now a.doubtful.now a.given.doubt
-    (λ size symbol doubtful. IsReadingGiven a.extent size.rows size.columns symbol doubtful a.border_limit a.out.now
-    c.read_symbol.new.out)
-    c.light-symbol.result c.put_modules.new.symbol c.light-marked.result c.put_modules-then-given.new.symbol
-    c.if-given.true c.light-symbol.ensures.size c.put_modules.ensures.size c.put_modules.ensures.modules
-    c.light-marked.ensures.size c.put_modules-then-given.ensures.modules (c.read_symbol.ensures.told told)
+pub read_restored-requires : goal.read_restored-requires
+read_restored-requires g c =
+    (search rules, room_to_say _ _ _ _ c.args.given.size _ c.requires.room c.in-Ok.ensures.size)
 
-pub returns-else-given-clause-told : goal.returns-else-given-clause-told
-returns-else-given-clause-told g c = λ told.
+pub returns-in-Ok : goal.returns-in-Ok
+returns-in-Ok g c =
     let a = c.args in
-    let shown = c.read_symbol-else-given in
-    sure_given a.given.size a.modules.now a.doubtful.now a.given.doubt
-    (λ size symbol doubtful. IsReadingGiven a.extent size.rows size.columns symbol doubtful a.border_limit a.out.now
-    shown.new.out)
-    c.light-symbol.result c.put_modules.new.symbol c.if-given.false c.light-symbol.ensures.size
-    c.put_modules.ensures.size c.put_modules.ensures.modules (shown.ensures.told told)
+    given_too a.given.size a.modules.now a.doubtful.now a.given.doubt _ _
+    (λ symbol doubtful restored.
+    subst (λ (s : SizeEntry). IsReadingGiven a.extent s.rows s.columns symbol doubtful a.border_limit a.out.now
+    c.read_restored.new.out) c.in-Ok.ensures.size
+    (c.read_restored.ensures symbol doubtful a.border_limit restored)) c.in-Ok.ensures.restored
+
+pub returns-in-Err : goal.returns-in-Err
+returns-in-Err g c =
+    let a = c.args in
+    given_too a.given.size a.modules.now a.doubtful.now a.given.doubt _ _
+    (λ symbol doubtful lost. record {
+      result = Err c.in-Err.why;
+      result_is = lost;
+      shown = c.show_fault.ensures ∙ ap (λ why. no_reading why a.out.now) c.read_letter_fault.ensures;
+    }) c.in-Err.ensures.restored

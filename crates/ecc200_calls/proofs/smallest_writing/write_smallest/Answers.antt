@@ -11,6 +11,13 @@ returns-in-Small c =
     given_without (Smallest a.extent) a.size a.head a.items.now a.marks.now a.out.now wrote.new.out
     (c.is_message.ensures c.if-is_message.true) wrote.ensures
 
+pub returns-in-Fair : goal.returns-in-Fair
+returns-in-Fair c =
+    let a = c.args in
+    let wrote = c.write_these_numbers-in-Fair in
+    given_without (Smallest a.extent) a.size a.head a.items.now a.marks.now a.out.now wrote.new.out
+    (c.is_message.ensures c.if-is_message.true) wrote.ensures
+
 pub returns-in-Middle : goal.returns-in-Middle
 returns-in-Middle c =
     let a = c.args in

@@ -1,29 +1,7 @@
 use Rattle.std.proofs.Common.{inl, inr, ◌∙◌, ap, arith}
 use Rattle.ecc200_calls.specs.Symbols.{no_symbol}
-use Rattle.ecc200_calls.specs.declared.form.Form.TheVariants.{Profiled}
-use Rattle.ecc200_calls.proofs.Written.{given_without, too_long_given}
+use Rattle.ecc200_calls.proofs.Written.{too_long_given}
 use Rattle.ecc200_calls.proofs.writing.write_profiled.Goals as goal
-
-pub returns-in-Small : goal.returns-in-Small
-returns-in-Small c =
-    let a = c.args in
-    let wrote = c.write_these_numbers in
-    given_without (Profiled a.how.profile) a.how.size a.head a.items.now a.marks.now a.out.now wrote.new.out
-    (c.is_message.ensures c.if-is_message.true) wrote.ensures
-
-pub returns-in-Middle : goal.returns-in-Middle
-returns-in-Middle c =
-    let a = c.args in
-    let wrote = c.write_these_numbers-in-Middle in
-    given_without (Profiled a.how.profile) a.how.size a.head a.items.now a.marks.now a.out.now wrote.new.out
-    (c.is_message.ensures c.if-is_message.true) wrote.ensures
-
-pub returns-in-Largest : goal.returns-in-Largest
-returns-in-Largest c =
-    let a = c.args in
-    let wrote = c.write_these_numbers-in-Largest in
-    given_without (Profiled a.how.profile) a.how.size a.head a.items.now a.marks.now a.out.now wrote.new.out
-    (c.is_message.ensures c.if-is_message.true) wrote.ensures
 
 pub returns-then-not-may_fit : goal.returns-then-not-may_fit
 returns-then-not-may_fit c =

@@ -1,30 +1,8 @@
 use Rattle.std.proofs.Common.{[], ◌≤◌, ◌∙◌, ap, inl, arith}
 use Rattle.std.proofs.lemmas.List.Elements.{All-from_get_or}
 use Rattle.ecc200_calls.specs.Symbols.{no_symbol}
-use Rattle.ecc200_calls.specs.declared.form.Form.TheVariants.{Profiled}
-use Rattle.ecc200_calls.proofs.Written.{given_without, too_long_given}
+use Rattle.ecc200_calls.proofs.Written.{too_long_given}
 use Rattle.ecc200_calls.proofs.writing.write_profiled_bytes.Goals as goal
-
-pub returns-in-Small : goal.returns-in-Small
-returns-in-Small c =
-    let a = c.args in
-    let wrote = c.write_these_bytes in
-    given_without (Profiled a.how.profile) a.how.size a.head a.bytes.now [] a.out.now wrote.new.out
-    (c.is_message.ensures c.if-is_message.true) wrote.ensures
-
-pub returns-in-Middle : goal.returns-in-Middle
-returns-in-Middle c =
-    let a = c.args in
-    let wrote = c.write_these_bytes-in-Middle in
-    given_without (Profiled a.how.profile) a.how.size a.head a.bytes.now [] a.out.now wrote.new.out
-    (c.is_message.ensures c.if-is_message.true) wrote.ensures
-
-pub returns-in-Largest : goal.returns-in-Largest
-returns-in-Largest c =
-    let a = c.args in
-    let wrote = c.write_these_bytes-in-Largest in
-    given_without (Profiled a.how.profile) a.how.size a.head a.bytes.now [] a.out.now wrote.new.out
-    (c.is_message.ensures c.if-is_message.true) wrote.ensures
 
 pub returns-then-bytes-gt-MOST_WRITTEN : goal.returns-then-bytes-gt-MOST_WRITTEN
 returns-then-bytes-gt-MOST_WRITTEN c =

@@ -1,5 +1,6 @@
 use Rattle.std.proofs.Common.{subst}
 use Rattle.dm_words.specs.LetterExtents.{as_letter}
+use Rattle.ecc200_calls.specs.declared.form.Form.TheVariants.{Smallest}
 use Rattle.ecc200_calls.specs.Writings.{IsLetterGiven}
 use Rattle.ecc200_calls.proofs.Written.{writing_given}
 use Rattle.ecc200_calls.proofs.writing.write_these_bytes.Goals as goal
@@ -8,7 +9,7 @@ pub returns : goal.returns
 returns g c =
     let made = c.message_of_bytes-message in
     let a = c.args in
-    writing_given a.form a.size a.bytes.now made.result a.out.now c.write_message.new.out c.items.ensures.bytes
-    made.ensures
-    (subst (λ m. IsLetterGiven a.form a.size (as_letter m) a.out.now c.write_message.new.out) c.items.ensures.value
-    c.write_message.ensures)
+    writing_given (Smallest a.extent) a.size a.bytes.now made.result a.out.now c.write_smallest_message.new.out
+    c.items.ensures.bytes made.ensures
+    (subst (λ m. IsLetterGiven (Smallest a.extent) a.size (as_letter m) a.out.now c.write_smallest_message.new.out)
+    c.items.ensures.value c.write_smallest_message.ensures)

@@ -1,28 +1,18 @@
-use Rattle.std.proofs.Common.{◌≡◌, ◌∙◌, length, refl, ap, subst, arith, rules}
+use Rattle.std.proofs.Common.{◌≡◌, ◌∙◌, length, refl, ap, subst, arith, rules, inl}
 use Rattle.std.specs.Prelude.{option_map}
 use Rattle.dm_layout.specs.symbols.Sizes.{SizeEntry}
 use Rattle.dm_layout.specs.symbols.Words.{data_of}
 use Rattle.dm_words.specs.LetterExtents.{SaysIn, RefusedIn}
 use Rattle.dm_words.specs.Symbology.{IsIdentifier}
 use Rattle.dm_words.proofs.Exported.{said_wide}
-use Rattle.dm_symbol.specs.inner.Restoring.{IsLost}
 use Rattle.dm_symbol.proofs.SymbolBelow.{data_as_many, data_fits}
-use Rattle.dm_symbol.proofs.LetterReadSteps.{letter_lost_result, refused_letter_result, said_letter_result}
+use Rattle.dm_symbol.proofs.LetterReadSteps.{refused_letter_result, said_letter_result}
 use Rattle.dm_symbol.proofs.LetterReadSteps.{is_letter_read}
 use Rattle.dm_symbol.proofs.letters.reading.read_letter_to.Goals as goal
 
-pub returns-in-Err-Block-clause-read : goal.returns-in-Err-Block-clause-read
-returns-in-Err-Block-clause-read g c =
-    let how = c.args.how in
-    let doubt = option_map (λ d. d.now) how.doubtful in
-    is_letter_read how.extent c.args.symbol.now doubt how.border_limit _
-    (letter_lost_result how.extent c.args.symbol.now doubt how.border_limit c.in-Err-Block.index
-    (subst (IsLost how.extent c.args.symbol.now doubt how.border_limit) c.in-Err-Block.field-0-is
-    c.in-Err-Block.ensures.lost))
-
 pub letter_to_as-requires : goal.letter_to_as-requires
 letter_to_as-requires g c =
-    let v = c.restore_to.new.words in
+    let v = c.restore_symbol_to.new.words in
     let list = c.data_part-list.result.now in
     let count : length list ≡ c.args.symbol.now.size.data_count =
     data_as_many v list c.data_part-list.ensures.words c.data_part-list.ensures.value
@@ -30,7 +20,7 @@ letter_to_as-requires g c =
       search rules,
       (
         data_fits v list c.data_part-list.ensures.words c.data_part-list.ensures.value,
-        (c.requires.most, (rw count c.requires.items, omega (arith, count, c.requires.marks))),
+        (c.requires.most, (rw count c.requires.items, inl (omega (arith, count, c.requires.marks)))),
       ),
     )
 
@@ -48,25 +38,31 @@ returns-in-Ok-letter_to_as-clause-read g c =
     let doubt = option_map (λ d. d.now) how.doubtful in
     let letter = c.letter_to_as.new.letter in
     let number = c.symbology_number-reading.result in
-    let says : SaysIn how.extent (data_of c.restore_to.new.words) letter =
+    let says : SaysIn how.extent (data_of c.restore_symbol_to.new.words) letter =
     subst (λ words. SaysIn how.extent words letter) c.data_part-list.ensures.value
     ((c.in-Ok-letter_to_as.ensures.read.letter letter).0 refl) in
-    let numbered : IsIdentifier (data_of c.restore_to.new.words) letter number =
+    let numbered : IsIdentifier (data_of c.restore_symbol_to.new.words) letter number =
     subst (λ words. IsIdentifier words letter number) c.data_part-list.ensures.value
     c.symbology_number-reading.ensures.identifier in
     is_letter_read how.extent c.args.symbol.now doubt how.border_limit _
-    (said_letter_result how.extent c.args.symbol.now doubt how.border_limit c.restore_to.new.words
-    c.restore_to.new.dealing c.restore_to.new.blocks.items c.restore_to.new.faults c.in-Ok.ensures.restored letter
-    number says numbered)
+    (said_letter_result how.extent c.args.symbol.now doubt how.border_limit c.restore_symbol_to.new.words
+    c.restore_symbol_to.new.dealing c.restore_symbol_to.new.blocks.items c.restore_symbol_to.new.faults
+    c.in-Ok.ensures.restored letter number says numbered)
 
 pub returns-in-Err-clause-read : goal.returns-in-Err-clause-read
 returns-in-Err-clause-read g c =
     let how = c.args.how in
     let doubt = option_map (λ d. d.now) how.doubtful in
-    let refused : RefusedIn how.extent (data_of c.restore_to.new.words) c.in-Err.fault =
-    subst (λ words. RefusedIn how.extent words c.in-Err.fault) c.data_part-list.ensures.value
-    ((c.in-Err.ensures.read.fault c.in-Err.fault).0 refl) in
+    is_letter_read how.extent c.args.symbol.now doubt how.border_limit _ c.in-Err.ensures.lost
+
+pub returns-in-Err-letter_to_as-clause-read : goal.returns-in-Err-letter_to_as-clause-read
+returns-in-Err-letter_to_as-clause-read g c =
+    let how = c.args.how in
+    let doubt = option_map (λ d. d.now) how.doubtful in
+    let refused : RefusedIn how.extent (data_of c.restore_symbol_to.new.words) c.in-Err-letter_to_as.fault =
+    subst (λ words. RefusedIn how.extent words c.in-Err-letter_to_as.fault) c.data_part-list.ensures.value
+    ((c.in-Err-letter_to_as.ensures.read.fault c.in-Err-letter_to_as.fault).0 refl) in
     is_letter_read how.extent c.args.symbol.now doubt how.border_limit _
-    (refused_letter_result how.extent c.args.symbol.now doubt how.border_limit c.restore_to.new.words
-    c.restore_to.new.dealing c.restore_to.new.blocks.items c.restore_to.new.faults c.in-Ok.ensures.restored
-    c.in-Err.fault refused)
+    (refused_letter_result how.extent c.args.symbol.now doubt how.border_limit c.restore_symbol_to.new.words
+    c.restore_symbol_to.new.dealing c.restore_symbol_to.new.blocks.items c.restore_symbol_to.new.faults
+    c.in-Ok.ensures.restored c.in-Err-letter_to_as.fault refused)

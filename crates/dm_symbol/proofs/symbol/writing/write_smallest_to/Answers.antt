@@ -1,6 +1,5 @@
-use Rattle.std.proofs.Common.{◌≡◌, ◌≤◌, ◌∙◌, length, refl, ap, arith, rules}
-use Rattle.dm_layout.specs.symbols.Holding.{IsLaid}
-use Rattle.dm_layout.specs.symbols.Sizes.{SizeEntry, codeword_count}
+use Rattle.std.proofs.Common.{◌∙◌, length, refl, ap, arith, rules}
+use Rattle.dm_layout.specs.symbols.Sizes.{SizeEntry}
 use Rattle.dm_words.specs.LetterExtents.{as_letter}
 use Rattle.dm_symbol.proofs.Rooms.{room_for_smallest}
 use Rattle.dm_symbol.proofs.SmallestLetterSymbols.{laid_is_smallest_letter, no_letter_written}

@@ -1,0 +1,32 @@
+-- What restoring the codewords of a symbol leaves for what they say to be read.
+use Rattle.std.specs.Prelude.{ℕ, ◌*◌, ◌≤◌, Option, Result, Ok, Err}
+use Rattle.dm_symbol.specs.declared.Extent.{Extent}
+use Rattle.dm_symbol.specs.declared.Extent.TheVariants.{Wide}
+use Rattle.dm_symbol.specs.declared.LetterReadFault.{LetterReadFault}
+use Rattle.dm_layout.specs.symbols.Symbols.{SymbolView}
+use Rattle.dm_layout.specs.symbols.Words.{WordsView}
+use Rattle.dm_symbol.specs.LetterReading.{LetterReadResult}
+use Rattle.dm_symbol.specs.Messages.{most_data, most_spelled}
+use Rattle.dm_symbol.specs.Restored as whole
+use Rattle.ecc200_calls.specs.declared.restoring.Restored.{Restored}
+
+-- The codewords of a symbol are restored to these in an extent, and this is known of them.
+abbrev pub IsRestored : Extent → SymbolView → Option SymbolView → ℕ → WordsView → Restored → Type 0
+IsRestored extent symbol doubtful limit words restored =
+    whole.IsRestored extent symbol doubtful limit words restored.dealing restored.blocks.items restored.border_faults
+
+-- They are so restored, or the symbol is refused with this fault.
+abbrev pub IsRestoredOr : {A : Type 0} → Extent → SymbolView → Option SymbolView → ℕ → Result A LetterReadFault
+    → WordsView → Restored → Type 0
+IsRestoredOr extent symbol doubtful limit (Ok done) words restored =
+    IsRestored extent symbol doubtful limit words restored
+IsRestoredOr extent symbol doubtful limit (Err why) words restored =
+    LetterReadResult extent symbol doubtful limit (Err why)
+
+-- There is room for the items that so many data codewords say in any extent, and not for more than any symbol says; and
+-- for a mark for each two of them, and not for more marks than that.
+pub record HasRoomToSay (items marks count : ℕ) : Type 0 where
+  pub spelled : (extent : Extent) → most_spelled extent count ≤ items
+  pub most : items ≤ most_spelled Wide most_data
+  pub marked : count ≤ 2 * marks
+  pub few_marks : 2 * marks ≤ most_data

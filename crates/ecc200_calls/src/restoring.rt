@@ -1,0 +1,114 @@
+//! Restoring: the codewords of the symbol that is given to a call, in the room that serves for the symbol. What they
+//! say is then read in room that is chosen by them.
+
+ghost use Rattle.std.specs.Prelude.{◌≡◌, ◌≤◌, IfSome, IsTrue, OnOk, length, option_map};
+ghost use Rattle.dm_layout.specs.symbols.Sizes.{area, codeword_count};
+ghost use Rattle.dm_words.specs.Letters.{eci_count};
+ghost use Rattle.ecc200_calls.specs.inner.Given.{IsOfGiven};
+ghost use Rattle.ecc200_calls.specs.inner.Restored.{IsRestoredOr};
+ghost use Rattle.ecc200_calls.specs.inner.Rooms.{IsRoom};
+
+use crate::given::Given;
+use crate::modules::put_modules;
+use crate::room::{FAIR_MARKS, SMALL_MARKS};
+use arrayvec::ArrayVec;
+use dm_layout::symbols::{MOST_BLOCKS, MOST_DATA, SymbolIn, SymbolWordsIn};
+use dm_symbol::{BlockReading, Dealing, Extent, LetterReadFault, ReadOptions, restore_symbol_to};
+use dm_words::eci_count;
+
+/// What is known of a symbol whose codewords are restored, beside these.
+#[derive(Drop)]
+pub(crate) struct Restored {
+    pub(crate) dealing: Dealing,
+    pub(crate) blocks: ArrayVec<BlockReading, MOST_BLOCKS>,
+    pub(crate) border_faults: u16,
+}
+
+impl Restored {
+    /// Makes one, to be replaced.
+    pub(crate) fn new() -> Restored {
+        Restored {
+            dealing: Dealing::Standard,
+            blocks: ArrayVec::new(),
+            border_faults: 0,
+        }
+    }
+}
+
+/// Restores the codewords of the symbol of these modules, of which these are doubtful, or says why there are none. It
+/// stands by itself, so that the symbol takes no room on the stack when its codewords are read.
+#[inline(never)]
+pub(crate) fn restore_given<const ROWS: usize, const WORDS: usize>(
+    extent: Extent,
+    modules: &[u8],
+    doubtful: &[u8],
+    given: Given,
+    border_limit: u16,
+    words: &mut SymbolWordsIn<WORDS>,
+    restored: &mut Restored,
+) -> Result<(), LetterReadFault>
+    requires room { IsRoom ROWS WORDS }
+    requires high { given.size.rows ≤ ROWS }
+    requires long { codeword_count given.size ≤ WORDS }
+    requires modules { length modules.now ≡ area given.size }
+    requires doubtful { IsTrue given.doubt → length doubtful.now ≡ area given.size }
+    ensures restored { IsOfGiven given.size modules.now doubtful.now given.doubt (λ symbol doubtful.
+        IsRestoredOr extent symbol doubtful border_limit result words.new restored.new) }
+    ensures size { OnOk result (words.new.size ≡ given.size) }
+{
+    let mut symbol = SymbolIn::<ROWS>::light(given.size);
+    put_modules(&mut symbol, modules);
+    if given.doubt {
+        let mut marked = SymbolIn::<ROWS>::light(given.size);
+        put_modules(&mut marked, doubtful);
+        restore_symbol(
+            extent,
+            &symbol,
+            Some(&marked),
+            border_limit,
+            words,
+            restored,
+        )
+    } else {
+        restore_symbol(extent, &symbol, None, border_limit, words, restored)
+    }
+}
+
+/// Restores the codewords of a symbol, of whose modules these are doubtful, or says why there are none.
+fn restore_symbol<const ROWS: usize, const WORDS: usize>(
+    extent: Extent,
+    symbol: &SymbolIn<ROWS>,
+    doubtful: Option<&SymbolIn<ROWS>>,
+    border_limit: u16,
+    words: &mut SymbolWordsIn<WORDS>,
+    restored: &mut Restored,
+) -> Result<(), LetterReadFault>
+    requires doubtful { IfSome doubtful (λ doubtful. doubtful.now.size ≡ symbol.now.size) }
+    requires codewords { codeword_count symbol.now.size ≤ WORDS }
+    ensures restored { IsRestoredOr extent symbol.now (option_map (λ d. d.now) doubtful.entry)
+        border_limit result words.new restored.new }
+    ensures size { OnOk result (words.new.size ≡ symbol.now.size) }
+{
+    let how = ReadOptions {
+        extent,
+        border_limit,
+        doubtful,
+    };
+    restore_symbol_to(
+        symbol,
+        how,
+        words,
+        &mut restored.dealing,
+        &mut restored.blocks,
+        &mut restored.border_faults,
+    )
+}
+
+/// Whether the marks that data codewords say have room in the small room, where it is for fewer than this one. To count
+/// what may be marks is then less work than to clear room for all that there can be.
+pub(crate) fn has_few_marks<const MARKS: usize>(words: &[u8]) -> bool
+    requires { length words.now ≤ MOST_DATA }
+    ensures { IsTrue result → eci_count words.now ≤ SMALL_MARKS }
+{
+    MARKS > FAIR_MARKS && usize::from(eci_count(words)) <= SMALL_MARKS
+}
