@@ -10,8 +10,8 @@ use dm_layout::{Grid, LARGEST_SIDE, MOST_GRID_CODEWORDS, Size, Words, table};
 use dm_symbol::{
     Extent, LetterReadFault, LetterReading, Message, NormalFault, Profile, ReadFault, ReadOptions,
     Reading, SizeChoice, Symbol, SymbolInspection, SymbolReading, SymbolSize, SymbolWords, TooLong,
-    inspect_symbol_to, light_grid, normal_letter_to, normal_symbol_to, read_letter_to,
-    read_symbol_to, write_smallest_letter_to,
+    inspect_symbol_to, light_grid, normal_letter_to, read_letter_to, read_symbol_to,
+    write_smallest_letter_to,
 };
 use gf301::{Poly, generator};
 
@@ -156,11 +156,10 @@ pub(crate) fn read_as(extent: Extent, grid: &Grid, limit: u16) -> Result<Reading
     }
 }
 
-/// Gives a module of a symbol this colour, where there is such a module.
-fn put(symbol: &mut Symbol, row: u16, column: u16, dark: bool) {
-    let size = symbol.size();
-    if row < size.rows() && column < size.columns() {
-        symbol.put(row, column, dark);
+/// Puts a row of at most 128 modules, where there is such a row.
+pub(crate) fn put_row(symbol: &mut Symbol, row: u16, cells: u128) {
+    if row < symbol.size().rows() {
+        symbol.put_row(row, cells, 0);
     }
 }
 
@@ -172,9 +171,7 @@ pub(crate) fn symbol_of(grid: &Grid) -> Option<Symbol> {
     let _rows = size.rows();
     let mut symbol = Symbol::light(size);
     for row in 0..side {
-        for column in 0..side {
-            put(&mut symbol, row, column, is_dark_at(grid, row, column));
-        }
+        put_row(&mut symbol, row, grid.as_symbol().row(row));
     }
     Some(symbol)
 }
@@ -195,32 +192,6 @@ pub(crate) fn read_symbol(
     let _room = (size.data_count(), size.check_count());
     let mut words = SymbolWords::zeros(size);
     Some(read_symbol_to(symbol, how, &mut words, reading))
-}
-
-/// The normal symbol, in ASCII, of what a symbol says at `Wide` with no border fault, and none where it says nothing.
-pub(crate) fn normal_symbol(symbol: &Symbol) -> Option<Symbol> {
-    let how = ReadOptions {
-        extent: Extent::Wide,
-        border_limit: 0,
-        doubtful: None,
-    };
-    let size = symbol.size();
-    // For the proof alone: what these ensure says that there is room.
-    let _room = (size.rows(), size.data_count(), size.check_count());
-    let mut words = SymbolWords::zeros(size);
-    let mut reading = SymbolReading::new();
-    let mut normal = Symbol::light(size);
-    match normal_symbol_to(
-        symbol,
-        how,
-        Profile::Ascii,
-        &mut words,
-        &mut reading,
-        &mut normal,
-    ) {
-        Ok(()) => Some(normal),
-        Err(_) => None,
-    }
 }
 
 /// Reads a symbol as a letter into `reading`, with no border fault.

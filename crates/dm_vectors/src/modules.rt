@@ -1,11 +1,13 @@
 //! Sizes, modules, codewords and blocks of all sizes, squares and rectangles: `symbols` of `dm_layout`.
 
-use dm_layout::symbols::{Symbol, SymbolSize, SymbolWords};
+use crate::calls::put_row;
+use dm_layout::symbols::{Symbol, SymbolSize, SymbolWords, lay_to};
 
 mod blocks;
 mod faults;
 mod marks;
 mod sizes;
+mod targets;
 
 /// The codewords of a size, where there are as many as it has.
 pub(crate) fn words_of(rows: u16, columns: u16, list: &[u8]) -> Option<SymbolWords> {
@@ -17,27 +19,46 @@ pub(crate) fn words_of(rows: u16, columns: u16, list: &[u8]) -> Option<SymbolWor
     }
 }
 
-/// The symbol whose modules are drawn line by line, 1 for dark, where each line has as many as there are columns.
+/// The symbol in which these codewords are laid.
+pub(crate) fn laid(words: &SymbolWords) -> Symbol {
+    let size = words.size();
+    // For the proof alone: what `rows` ensures says that there is room.
+    let _rows = size.rows();
+    let mut symbol = Symbol::light(size);
+    lay_to(words, &mut symbol);
+    symbol
+}
+
+/// The symbol whose modules are drawn line by line, 1 for dark, where each line has as many as there are columns, at
+/// most 128.
 pub(crate) fn symbol_of(rows: u16, columns: u16, lines: &[&str]) -> Option<Symbol> {
     let size = SymbolSize::of(rows, columns)?;
     // For the proof alone: what `rows` ensures says that there is room.
     let _rows = size.rows();
     let mut symbol = Symbol::light(size);
-    for (row, line) in lines.iter().enumerate() {
-        if line.len() != usize::from(columns) {
-            return None;
-        }
-        for (column, module) in line.as_bytes().iter().enumerate() {
-            put(&mut symbol, row, column, *module == b'1');
-        }
+    if lines.len() != usize::from(rows) {
+        return None;
+    }
+    for row in 0..rows {
+        put_row(
+            &mut symbol,
+            row,
+            cells_of(lines[usize::from(row)], columns)?,
+        );
     }
     Some(symbol)
 }
 
-/// Gives a module this colour, where there is such a module.
-pub(crate) fn put(symbol: &mut Symbol, row: usize, column: usize, dark: bool) {
-    let size = symbol.size();
-    if row < usize::from(size.rows()) && column < usize::from(size.columns()) {
-        symbol.put(row as u16, column as u16, dark);
+/// The modules of a line as a number, where it has as many as there are columns, at most 128.
+fn cells_of(line: &str, columns: u16) -> Option<u128> {
+    if line.len() != usize::from(columns) || line.len() > 128 {
+        return None;
     }
+    let mut cells = 0;
+    for (column, module) in line.as_bytes().iter().enumerate() {
+        if *module == b'1' {
+            cells |= 1 << column;
+        }
+    }
+    Some(cells)
 }

@@ -1,8 +1,8 @@
 //! Tests of borders.
 
-use crate::calls::{is_dark_at, plain, side_of, size_of, words_of};
+use crate::calls::{grid_of, is_dark_at, plain, side_of};
 use crate::claims::holds;
-use dm_layout::{Grid, border_faults, lay_to};
+use dm_layout::{Grid, border_faults};
 
 /// Whether so many cells of the borders of a light and of a dark grid of this side are wrong.
 fn has_faults(side: u16, light: u16, dark: u16) -> bool {
@@ -40,16 +40,9 @@ fn has_row(grid: &Grid, row: u16, cells: &[bool; 12]) -> bool {
     true
 }
 
-/// The grid of side 12, dark before, into which codewords 0 are laid.
-fn grid_of_zeros() -> Grid {
-    let mut grid = plain(12, true);
-    lay_to(&words_of(size_of(12), &[]), &mut grid);
-    grid
-}
-
 #[test]
 fn borders_and_fixed_square_around_zeros(rt: HostRuntime) {
-    let grid = grid_of_zeros();
+    let grid = grid_of(12, &[]);
     holds(&rt, border_faults(&grid) == 0);
     holds(&rt, side_of(&grid) == 12);
     for (row, cells) in &SQUARE_ROWS {

@@ -2,7 +2,7 @@
 
 use crate::calls::{grid_of, is_dark_at, lay, lift, side_of, size_of, words_of};
 use crate::claims::holds;
-use dm_layout::{Grid, MOST_GRID_CODEWORDS, Size, Words, lay_to, lift_to, table};
+use dm_layout::{Grid, MOST_GRID_CODEWORDS, Size, Words, table};
 
 /// Whether each cell of the row is as drawn, 1 for dark.
 fn is_drawn_row(grid: &Grid, row: u16, drawn: &[u8]) -> bool {
@@ -84,34 +84,4 @@ fn codewords_that_are_laid_are_lifted_again(rt: HostRuntime) {
         let words = multiples(size, 37);
         holds(&rt, lift(&lay(&words)).list() == words.list());
     }
-}
-
-/// Lays codewords into a grid, and lifts them out of it.
-fn lay_and_lift(laid: &Words, grid: &mut Grid, words: &mut Words) {
-    lay_to(laid, grid);
-    lift_to(grid, words);
-}
-
-/// Whether a grid and codewords hold those of this size, whatever they held before.
-fn hold(size: Size, grid: &mut Grid, words: &mut Words) -> bool {
-    let expected = multiples(size, 91);
-    lay_and_lift(&expected, grid, words);
-    *grid == lay(&expected) && *words == expected
-}
-
-/// Whether one grid and one list of codewords hold those of one size after the other.
-fn hold_all() -> bool {
-    let mut grid = lay(&multiples(size_of(104), 91));
-    let mut words = lift(&grid);
-    for size in table() {
-        if !hold(size, &mut grid, &mut words) {
-            return false;
-        }
-    }
-    true
-}
-
-#[test]
-fn one_place_for_all_symbols(rt: HostRuntime) {
-    holds(&rt, hold_all());
 }

@@ -3,17 +3,16 @@
 ghost use Rattle.std.specs.Prelude.{◌≡◌};
 
 use crate::claims::holds;
-use crate::modules::words_of;
-use dm_layout::symbols::{Symbol, SymbolSize, border_colour, border_faults, lay};
+use crate::modules::{laid, words_of};
+use dm_layout::symbols::{Symbol, SymbolSize, border_colour, border_faults};
 
-/// Gives a module the other colour, where there is such a module.
+/// Gives one of the first 128 modules of a row the other colour, where there is such a row.
 fn turn(symbol: &mut Symbol, row: u16, column: u16)
     ensures { symbol.new.size ≡ symbol.old.size }
 {
     let size = symbol.size();
-    if row < size.rows() && column < size.columns() {
-        let dark = symbol.is_dark(row, column);
-        symbol.put(row, column, !dark);
+    if row < size.rows() && column < 128 {
+        symbol.put_row(row, symbol.row(row) ^ 1 << column, symbol.end(row));
     }
 }
 
@@ -23,9 +22,7 @@ fn wrong_border_modules_are_counted(rt: HostRuntime) {
         holds(&rt, false);
         return;
     };
-    // For the proof alone: what `rows` ensures says that there is room.
-    let _rows = words.size().rows();
-    let mut symbol: Symbol = lay(&words);
+    let mut symbol = laid(&words);
     holds(&rt, border_faults(&symbol, None) == 0);
     turn(&mut symbol, 0, 0);
     turn(&mut symbol, 7, 31);
@@ -43,9 +40,7 @@ fn doubtful_border_modules_are_not_counted(rt: HostRuntime) {
         holds(&rt, false);
         return;
     };
-    // For the proof alone: what `rows` ensures says that there is room.
-    let _rows = words.size().rows();
-    let mut symbol: Symbol = lay(&words);
+    let mut symbol = laid(&words);
     let mut doubtful = Symbol::light(symbol.size());
     turn(&mut symbol, 0, 0);
     turn(&mut symbol, 7, 31);

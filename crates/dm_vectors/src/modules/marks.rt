@@ -2,8 +2,8 @@
 //! one with regions side by side, one with corner 3, and one whose rows are wrapped a second time.
 
 use crate::claims::holds;
-use crate::modules::{symbol_of, words_of};
-use dm_layout::symbols::{border_faults, lay, lift};
+use crate::modules::{laid, symbol_of, words_of};
+use dm_layout::symbols::{border_faults, lift};
 
 /// Whether this symbol holds these codewords, has right borders, and is the one in which the codewords are laid.
 fn is_printed(rows: u16, columns: u16, words: &[u8], lines: &[&str]) -> bool {
@@ -13,9 +13,9 @@ fn is_printed(rows: u16, columns: u16, words: &[u8], lines: &[&str]) -> bool {
     let Some(symbol) = symbol_of(rows, columns, lines) else {
         return false;
     };
-    // For the proof alone: what these ensure says that there is room.
-    let _room = (symbol.size().check_count(), words.size().rows());
-    lift(&symbol) == words && border_faults(&symbol, None) == 0 && lay(&words) == symbol
+    // For the proof alone: what `check_count` ensures says that there is room.
+    let _checks = symbol.size().check_count();
+    lift(&symbol) == words && border_faults(&symbol, None) == 0 && laid(&words) == symbol
 }
 
 /// The codewords of a symbol of 8 x 18, data and then checks.

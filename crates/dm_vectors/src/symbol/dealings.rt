@@ -2,11 +2,11 @@
 
 ghost use Rattle.std.specs.Prelude.{◌<◌};
 
-use crate::calls::{checks_of, inspect_symbol, normal_symbol, read_symbol};
+use crate::calls::{checks_of, inspect_symbol, normal_letter, read_symbol};
 use crate::claims::holds;
-use crate::modules::words_of;
+use crate::modules::{laid, words_of};
 use arrayvec::ArrayVec;
-use dm_layout::symbols::{MOST_CODEWORDS, lay};
+use dm_layout::symbols::MOST_CODEWORDS;
 use dm_symbol::{
     BlockReading, Dealing, Extent, Item, ReadFault, ReadOptions, Symbol, SymbolReading,
 };
@@ -100,9 +100,7 @@ fn lost(dealing: Dealing) -> List {
 /// The symbol of these codewords.
 fn symbol_with(list: &List) -> Option<Symbol> {
     let words = words_of(144, 144, list)?;
-    // For the proof alone: what `rows` ensures says that there is room.
-    let _rows = words.size().rows();
-    Some(lay(&words))
+    Some(laid(&words))
 }
 
 /// Reads the symbol of these codewords into `reading`.
@@ -189,7 +187,7 @@ fn becomes_standard(list: &List) -> bool {
     let Some(symbol) = symbol_with(list) else {
         return false;
     };
-    match normal_symbol(&symbol) {
+    match normal_letter(&symbol) {
         Some(normal) => symbol_with(&dealt(Dealing::Standard)) == Some(normal),
         None => false,
     }
