@@ -330,10 +330,14 @@ typedef struct ecc200_symbol {
  * that isn't in ECC200_SMALLEST for readers of ECC200_WIDE also in ECC200_USUAL.
  *
  * Where the form is a profile, and ECC200_SQUARE the shape, it is the normal grid. In ECC200_SMALLEST no codewords that
- * the extent has say the same in a smaller size of those that may be taken. Of those that do in this size, it is those
- * of ASCII encodation where these are enough; else some that ECC200_USUAL reads, where there are any; so the symbol
- * depends on nothing but the arguments. A head or a mark can't be said to readers of ECC200_USUAL, so for them it is
- * TOO_LONG.
+ * the extent has say the same in a smaller size of those that may be taken, but for such as have a macro before FNC1,
+ * which would be the second codeword there. Of those that do in this size, it is those of ASCII encodation where these
+ * are enough; else some that ECC200_USUAL reads, where there are any; which of these isn't promised. A head or a mark
+ * can't be said to readers of ECC200_USUAL, so for them it is TOO_LONG.
+ *
+ * In each form the codewords are plain: no run or segment says nothing, no run has a filler or an Upper Shift that
+ * waits, and a macro is the first codeword. And their identifier is that of the ASCII form: FNC1 in front is the first
+ * codeword, by which readers know GS1.
  *
  * Returns the first fault that applies: PROFILE, EXTENT, CHOICE, HEAD, ITEM, MARK, TOO_LONG. Where no size has the rows
  * and columns of ECC200_ONE, the fault is TOO_LONG too. */

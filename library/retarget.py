@@ -10,11 +10,7 @@ What is of x86-64 in it, and what is done with that, stands here and nowhere els
 Attributes, calling conventions, types, code of an assembler or intrinsics that aren't known here end the build: a later
 toolchain may emit something that no one has looked at.
 """
-import os
 import re
-import subprocess
-
-from marking import NO_TABLES
 
 TRIPLE = "x86_64-unknown-linux-gnu"
 PROCESSOR = '"target-cpu"="x86-64-v2"'
@@ -122,9 +118,9 @@ def retarget(text, triple, layout):
     own, processor = head(text, "datalayout"), triple.split("-")[0]
     if facts(own) != facts(layout):
         raise Foreign(f"the data layout {own}, which doesn't agree with {layout}")
-    known = {f"@{PSHUFB}", PROCESSOR, NO_TABLES}
+    known = {f"@{PSHUFB}", PROCESSOR}
     if processor != TRIPLE.split("-")[0]:
-        known = {NO_TABLES, *([f"@{TBL}"] if processor == "aarch64" else [])}
+        known = {f"@{TBL}"} if processor == "aarch64" else set()
         text = with_functions(text.replace(f" {PROCESSOR}", ""), replaced(processor))
     if left := list(dict.fromkeys(unknown(text, known))):
         raise Foreign("; ".join(left))
@@ -138,14 +134,3 @@ def flags_of(words):
     processor and the files."""
     words = [word for word in words if not re.match(r"--target=|--sysroot=|-march=", word)]
     return words[:words.index("-c")] + words[words.index("-o") + 2:]
-
-
-def compile_for(target, clang, text, folder, run):
-    """Compiles the IR for a target, as ecc200.o in a folder, with these words of the toolchain's compiler. `run` runs a
-    command there."""
-    words = [*clang, "--no-default-config", f"--target={target.triple}", *target.flags]
-    asked = subprocess.run([*words, "-S", "-emit-llvm", "-x", "c", "-", "-o", "-"], input="", stdout=subprocess.PIPE,
-                           text=True, check=True).stdout
-    with open(os.path.join(folder, "ecc200.ll"), "w", encoding="utf-8") as file:
-        file.write(retarget(text, target.triple, head(asked, "datalayout")))
-    run([*words, "-c", "-x", "ir", "ecc200.ll", "-o", "ecc200.o"])

@@ -41,8 +41,8 @@ def numbers():
 
 
 def filled(words, values):
-    """A text with each @NAME@ replaced."""
-    return re.sub(r"@(\w+)@", lambda found: values[found[1]], words)
+    """A text with each @NAME@ replaced that has a value."""
+    return re.sub(r"@(\w+)@", lambda found: values.get(found[1], found[0]), words)
 
 
 class Part(NamedTuple):
@@ -82,6 +82,11 @@ def files_below(folder) -> List[str]:
 
 def packages() -> List[str]:
     return list(dict.fromkeys(part.package for part in parts()))
+
+
+def debian_packages() -> List[str]:
+    """Those that Debian has too: there the loader finds libraries by itself, and the page isn't packed."""
+    return [it for it in packages() if it != "page" and not it.endswith("beside")]
 
 
 # A link of Markdown, whose text may have brackets of its own, or a picture.
@@ -140,4 +145,5 @@ class Folders:
         return {**numbers(), "PREFIX": self.prefix, "LIBDIR": below(self.of["lib"]),
                 "INCLUDEDIR": below(self.of["include"]),
                 "INCLUDE_FROM_LIB": between("include", "lib"), "LIB_FROM_BIN": between("lib", "bin"),
+                "LIB_FROM_PYTHON": os.path.join("..", between("lib", "python")),
                 "PYTHON_FROM_BIN": between("python", "bin")}

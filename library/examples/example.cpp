@@ -12,7 +12,8 @@
 
 struct Refused : std::runtime_error {
     ecc200_fault fault;
-    explicit Refused(ecc200_fault why) : std::runtime_error(ecc200_words(why.code)), fault(why) {}
+    explicit Refused(ecc200_fault why) : std::runtime_error(ecc200_words(why.code)), fault(why) {
+    }
 };
 
 using Symbol = std::unique_ptr<ecc200_symbol>;
@@ -20,7 +21,8 @@ using Reading = std::unique_ptr<ecc200_reading>;
 
 static Symbol write(std::string_view text, const ecc200_how &how = {}, const std::vector<ecc200_mark> &marks = {}) {
     std::vector<uint16_t> items;
-    for (unsigned char byte : text) items.push_back(byte);
+    for (unsigned char byte : text)
+        items.push_back(byte);
     auto symbol = std::make_unique<ecc200_symbol>();
     if (ecc200_write(items.data(), items.size(), marks.data(), marks.size(), &how, symbol.get()) != ECC200_OK)
         throw Refused(symbol->fault);
@@ -59,13 +61,15 @@ int main() {
 
     // a damaged symbol: four modules in one corner
     int side = symbol->columns;
-    for (int at = 1; at < 5; at++) symbol->modules[at * side + at] ^= 1;
+    for (int at = 1; at < 5; at++)
+        symbol->modules[at * side + at] ^= 1;
     Reading reading = read(*symbol);
     std::cout << text_of(*reading) << ": " << int{reading->corrected[0]} << " codewords corrected, "
               << reading->border_faults << " border modules wrong\n";
 
     // a refusal: a symbol that is cut off below
-    for (int column = 0; column < side; column++) symbol->modules[(side - 1) * side + column] = 0;
+    for (int column = 0; column < side; column++)
+        symbol->modules[(side - 1) * side + column] = 0;
     try {
         read(*symbol);
         return 1;

@@ -71,4 +71,5 @@ with open(os.path.join(TOP, "packaging", "version"), encoding="ascii") as file:
     is_windows = platform() == "win_amd64"
     setuptools.setup(version=file.read().strip(), distclass=Binary,
                      cmdclass={"build_py": WithLibraries, "bdist_wheel": ForOneSystem},
+                     options={"build": {"build_base": "out/build"}},  # build is the name of a script here
                      entry_points=COMMAND if is_windows else {}, scripts=[] if is_windows else ["bin/ecc200"])

@@ -20,9 +20,10 @@ from .joining import Joined, Unjoined, join
 
 # (a list of words, since checkers of types take no other)
 __all__ = ["ABI", "BorderLimit", "Code", "Corners", "End", "Extent", "FNC1", "Findings", "Form", "Found", "Grid",
-           "Head", "Inspection", "Joined", "Kind", "MOST_ITEMS", "Mark", "Message", "Place", "Profile", "Reading",
-           "Refused", "Rows", "SamplerMissing", "Shape", "Size", "Symbol", "Unjoined", "Unsure", "charsets", "decode",
-           "drawing", "encode", "find", "gs1", "has_sampler", "inspect", "join", "luminance", "normal", "pictures",
-           "places", "read", "read_many", "sampler_fault", "sizes", "usual_limit", "version", "write"]
+           "Head", "Inspection", "Joined", "Kind", "MOST_ITEMS", "Mark", "Message", "Place", "Profile", "Quality",
+           "Reading", "Refused", "Rows", "SamplerMissing", "Shape", "Sides", "Size", "Symbol", "Unjoined", "Unsure",
+           "charsets", "decode", "drawing", "encode", "find", "gs1", "has_sampler", "inspect", "join", "luminance",
+           "normal", "pictures", "places", "read", "read_many", "sampler_fault", "sizes", "usual_limit", "version",
+           "write"]
 __version__ = version()
 _library = core._library

@@ -23,6 +23,8 @@ _WITHOUT_USUAL = "isn't read with --usual: leave out --usual"
 _DAMAGE = ("a codeword that no encoder writes there, so the symbol comes from a faulty encoder or was damaged into the "
            "codewords of another message")
 
+_ANEW = "scan it again, from nearer, in even light and flat, or print it anew"
+
 
 def _border(why: Refused, rows: Rows, extent: Extent, doubtful: Optional[Rows]) -> str:
     count = sum(place.kind in (core.Kind.BORDER_DARK, core.Kind.BORDER_LIGHT)
@@ -41,9 +43,9 @@ def _block(why: Refused, rows: Rows, has_doubts: bool) -> str:
     block = f"block {why.place + 1} of its {size.blocks}"
     if has_doubts:
         return (f"{block} can't be restored: a wrong codeword takes two of its {size.check_codewords // size.blocks} "
-                "check codewords, and one with a doubtful module takes one. Scan it again, or print it anew")
-    return (f"{block} has more than {size.limit} wrong codewords, the most that can be corrected: scan it again, or "
-            "print it anew. Where the modules are known that may be wrong, --doubtful restores twice as many")
+                f"check codewords, and one with a doubtful module takes one. {_ANEW.capitalize()}")
+    return (f"{block} has more than {size.limit} wrong codewords, the most that can be corrected: {_ANEW}. "
+            "Where the modules are known that may be wrong, --doubtful restores twice as many")
 
 
 def in_words(why: Refused, rows: Rows, extent: Extent = Extent.WIDE, doubtful: Optional[Rows] = None) -> str:

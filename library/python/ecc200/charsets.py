@@ -7,7 +7,7 @@ stands in ecc200.core.
     >>> charsets.letter_of("caf\\u00e9")
     (b'caf\\xe9', ())
     >>> charsets.letter_of("\\u65e5\\u672c")
-    (b'\\xe6\\x97\\xa5\\xe6\\x9c\\xac', ((0, 26),))
+    (b'\\x93\\xfa\\x96{', ((0, 20),))
     >>> charsets.assignment("shift_jis")
     20
 """

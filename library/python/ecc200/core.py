@@ -19,7 +19,8 @@ lost, of which twice as many can be restored as of wrong ones.
 
 A message is its bytes, and whether FNC1 stands in front, which marks GS1 messages; further FNC1s are the byte 0x1D, GS.
 To tell FNC1 from GS, use the items: 0 to 255, and FNC1. Text is written in ISO/IEC 8859-1 where that has it, else in
-UTF-8, unless a charset is named, and marked where readers would take its bytes for another text.
+the charset whose symbol is smallest, unless one is named, and marked where readers would take its bytes for another
+text.
 
 Beside its message a symbol may have marks, which say how the bytes behind them are meant: each is how many items stand
 before it, and the number of an ECI assignment, as (0, 26) for UTF-8 from the first byte on. And it may have a head:
@@ -52,13 +53,17 @@ import re
 import struct
 import sys
 import warnings
-from typing import (Any, Callable, Dict, Iterable, Iterator, List, Literal, NamedTuple, Optional, Protocol, Sequence,
-                    Tuple, Type, TypeVar, Union, overload)
+from typing import (TYPE_CHECKING, Any, Callable, Dict, Iterable, Iterator, List, Literal, NamedTuple, Optional,
+                    Protocol, Sequence, Tuple, Type, TypeVar, Union, overload)
+
+if TYPE_CHECKING:
+    from .gs1 import Element
 
 __all__ = ["ABI", "BorderLimit", "Code", "Corners", "End", "Extent", "FNC1", "Findings", "Form", "Found", "Grid",
-           "Head", "Inspection", "Kind", "MOST_ITEMS", "Mark", "Message", "Place", "Profile", "Reading", "Refused",
-           "Rows", "SamplerMissing", "Shape", "Size", "Unsure", "decode", "find", "has_sampler", "inspect", "luminance",
-           "normal", "places", "read", "read_many", "sampler_fault", "sizes", "usual_limit", "version", "write"]
+           "Head", "Inspection", "Kind", "MOST_ITEMS", "Mark", "Message", "Place", "Profile", "Quality", "Reading",
+           "Refused", "Rows", "SamplerMissing", "Shape", "Sides", "Size", "Unsure", "decode", "find", "has_sampler",
+           "inspect", "luminance", "normal", "places", "read", "read_many", "sampler_fault", "sizes", "usual_limit",
+           "version", "write"]
 
 # ecc200.h: constants
 ABI = 4
@@ -230,6 +235,17 @@ class Reading(NamedTuple):
         """The charset of the text, or several with commas between, by the names that Python has for them; "binary" or
         "ECI n" for the bytes behind a mark that names no charset."""
         return text_of(self.items, self.marks).charset
+
+    @property
+    def elements(self) -> Optional[List[Element]]:
+        """The identifiers of GS1 data, each with its value. None where it is none, as a part of a structured append, or
+        isn't as GS1's rules have it: `gs1.split` then says what is wrong."""
+        from .gs1 import elements_of  # (which stands on this module; this file by itself has no elements)
+        return None if self.head else elements_of(self.items)
+
+    def __repr__(self) -> str:
+        said = repr(self.data if self.text is None else self.text)
+        return f"<Reading of {'GS1 data ' * self.gs1}{said}, {self.rows} rows and {self.columns} columns>"
 
 
 class Inspection(NamedTuple):
@@ -446,14 +462,29 @@ _CHECKS_OF_A_CORRECTION = 2
 _TURNS = {2: 0, 3: 3, 4: 1, 5: 5, 6: 4, 7: 6, 8: 2}  # for each orientation of EXIF, Pillow's way of transposing
 
 
+class _Foreign(Refused):
+    """A row of text with another character than 0 and 1."""
+
+    def __init__(self, row: str) -> None:
+        super().__init__(Code.SHAPE)
+        self.row = row
+        self.args = (f"a row of text consists of the characters 0 and 1, unlike {row!r}",)
+
+    def __reduce__(self) -> Tuple[Type[Refused], Tuple[Any, ...]]:
+        return type(self), (self.row,)
+
+
 def _of_row(row: Any) -> bytes:
     if isinstance(row, str):
         if row.strip("01"):
-            raise ValueError(f"a row of text consists of the characters 0 and 1, unlike {row!r}")
+            raise _Foreign(row)
         return row.encode().translate(_DIGITS)
     if not hasattr(row, "__iter__") and not hasattr(row, "__getitem__"):
         raise TypeError(f"a row of modules is bytes, text, or a list of numbers, unlike {row!r}")
-    return row if isinstance(row, bytes) else bytes(1 if module else 0 for module in row)
+    modules = row if isinstance(row, bytes) else [*row]
+    if modules and isinstance(modules[0], str):
+        return _of_row("".join(modules))
+    return modules if isinstance(modules, bytes) else bytes(1 if module else 0 for module in modules)
 
 
 def _orientation(picture: Any) -> int:
@@ -571,9 +602,13 @@ def _doubtful(grid: Optional[Grid], rows: int, columns: int) -> Tuple[Optional[b
 
 def _dimensions(rows: int, columns: int) -> Tuple[int, int]:
     """Rows and columns that the library takes as they are, or the refusal that names them."""
-    if 0 <= rows <= 65535 and 0 <= columns <= 65535:
-        return rows, columns
-    raise Refused(Code.SIZE, rows, columns)
+    try:
+        dimensions = operator.index(rows), operator.index(columns)
+    except TypeError:
+        raise TypeError(f"rows and columns are whole numbers, unlike {rows!r} and {columns!r}") from None
+    if 0 <= min(dimensions) and max(dimensions) <= 65535:
+        return dimensions
+    raise Refused(Code.SIZE, *dimensions)
 
 
 def _number(code: Code, number: int) -> Any:
@@ -583,15 +618,29 @@ def _number(code: Code, number: int) -> Any:
         some = ", ".join(f"{kind.__name__}.{member.name}" for member in kind)
         raise TypeError(f"one of {some} is wanted, unlike {number!r}")
     if 0 <= number <= 65535:
-        return number
+        return operator.index(number)
     raise Refused(code, number)
 
 
 _KINDS: Dict[Code, Type[enum.IntEnum]] = {Code.PROFILE: Profile, Code.EXTENT: Extent, Code.CHOICE: Shape}
 
 
+def _whole(name: str, number: Any, least: int, most: Optional[int] = None) -> int:
+    """A number of this name, if it is a whole one from the least on, and up to the most if there is one."""
+    try:
+        whole = operator.index(number)
+    except TypeError:
+        raise TypeError(f"{name} is a whole number, unlike {number!r}") from None
+    if least <= whole and (most is None or whole <= most):
+        return whole
+    raise ValueError(f"{name} is a whole number from {least} {'on' if most is None else f'to {most}'}, unlike "
+                     f"{number!r}")
+
+
 def _limit(rows: int, columns: int, border_limit: Optional[int]) -> int:
-    return usual_limit(rows, columns) if border_limit is None else max(0, min(border_limit, 65535))
+    if border_limit is None:
+        return (rows + columns) // 8
+    return min(_whole("border_limit", border_limit, 0), 65535)
 
 
 def _bytes_of(items: Iterable[int]) -> bytes:
@@ -656,7 +705,7 @@ def version() -> str:
 def usual_limit(rows: int, columns: Optional[int] = None) -> int:
     """How many wrong border modules are usually accepted in a symbol of so many rows and columns, by default a square:
     an eighth of their sum, rounded down."""
-    return (rows + (rows if columns is None else columns)) // 8
+    return sum(_dimensions(rows, rows if columns is None else columns)) // 8
 
 
 def _read(modules: bytes, rows: int, columns: int, marks: Tuple[Optional[bytes], int], limit: int,
@@ -718,6 +767,8 @@ def read_many(grids: Iterable[Grid], border_limit: BorderLimit = None,
 def _items(message: Iterable[int], gs1: bool) -> Any:
     """The items of a message as an array of 16 bits each."""
     import array  # (which would take a part of each start)
+    if not hasattr(message, "__iter__") and not hasattr(message, "__getitem__"):
+        raise TypeError(f"a message is text, bytes, or a list of items, unlike {message!r}")
     items = [FNC1 if gs1 and item == _GS else item for item in message]
     try:
         return array.array("H", [FNC1, *items] if gs1 else items)
@@ -784,12 +835,45 @@ def _chosen(form: int, size: Optional[Tuple[int, int]], shape: Optional[int], ex
     return _how(wanted, _ONE, rows, columns, readers, numbers)
 
 
-def _of_text(text: str, gs1: bool, charset: Optional[str], marks: Iterable[Mark],
-             extent: Extent) -> Tuple[bytes, Tuple[Mark, ...]]:
+def _behind(marks: Iterable[Mark], gs1: bool) -> Tuple[Mark, ...]:
+    """The marks of a text that stands behind an FNC1 in front, or behind none."""
+    return tuple((place + gs1, number) for place, number in marks)
+
+
+def _of_text(text: str, gs1: bool, charset: Optional[str], marks: Tuple[Mark, ...], extent: Extent,
+             how: bytes) -> Tuple[bytes, Tuple[Mark, ...]]:
     """The bytes of a text, and the marks that are given with it, or else its own, behind an FNC1 in front; readers of
     the usual extent know none."""
-    data, own = (unmarked(text, charset), ()) if extent == Extent.USUAL else letter_of(text, charset)
-    return data, tuple(marks) or tuple((place + gs1, number) for place, number in own)
+    if extent == Extent.USUAL:
+        return unmarked(text, charset), marks
+    if marks:
+        return encoded(text, charset or _usual(text)), marks
+    data, own = letter_in(text, charset, gs1, how)
+    return data, _behind(own, gs1)
+
+
+def _symbol(message: Iterable[int], gs1: bool, marks: Iterable[Mark], how: bytes) -> Rows:
+    """The symbol of bytes or items that is written in one way."""
+    beside, mark_count = _packed(marks) if marks else (None, 0)
+    answer, address = room = _room(_symbols, _SymbolOut)
+    try:
+        if gs1 or mark_count or not isinstance(message, bytes):
+            items = _items(message, gs1)
+            _library.ecc200_write(items.buffer_info()[0], len(items), beside, mark_count, how, address)
+        else:
+            _call_write_bytes(message, len(message), how, address)
+        return _drawn(answer)
+    finally:
+        _symbols.append(room)
+
+
+def _area(data: bytes, gs1: bool, marks: Iterable[Mark], how: bytes) -> float:
+    """How many modules a symbol has that is written in one way; more than any has where none is."""
+    try:
+        rows = _symbol(data, gs1, marks, how)
+    except Refused:
+        return math.inf
+    return len(rows) * len(rows[0])
 
 
 def write(message: Message, gs1: bool = False, profile: Profile = Profile.ASCII, charset: Optional[str] = None,
@@ -804,23 +888,13 @@ def write(message: Message, gs1: bool = False, profile: Profile = Profile.ASCII,
     text that is given marks has no others, and for Extent.USUAL it has none. `form` stands for a profile: Form.SMALLEST
     takes the encodations by which what is said fits the smallest size, of those that readers of an `extent` read;
     Extent.USUAL has no marks and no heads, which are then too long."""
-    if isinstance(message, str):
-        message, marks = _of_text(message, gs1, charset, marks, extent)
     is_usual = profile is _ASCII and size is None and shape is None and head is None and form is None
     if form is None and profile == Form.SMALLEST.value:
         raise Refused(Code.PROFILE, profile)
     how = _USUAL if is_usual else _chosen(profile if form is None else form, size, shape, extent, head)
-    beside, mark_count = _packed(marks) if marks else (None, 0)
-    answer, address = room = _room(_symbols, _SymbolOut)
-    try:
-        if gs1 or mark_count or not isinstance(message, bytes):
-            items = _items(message, gs1)
-            _library.ecc200_write(items.buffer_info()[0], len(items), beside, mark_count, how, address)
-        else:
-            _call_write_bytes(message, len(message), how, address)
-        return _drawn(answer)
-    finally:
-        _symbols.append(room)
+    if isinstance(message, str):
+        message, marks = _of_text(message, gs1, charset, tuple(marks), extent, how)
+    return _symbol(message, gs1, marks, how)
 
 
 def normal(grid: Grid, border_limit: BorderLimit = None, profile: Profile = Profile.ASCII,
@@ -897,10 +971,27 @@ _CHARSETS = {
     35: "utf-32le",
 }
 _BINARY = 899
-_LATIN_1, _UTF_8 = "iso-8859-1", "utf-8"
-# What zxing-cpp takes for UTF-8 where nothing is marked, and what it may take for Shift JIS, by counts of its bytes.
+_LATIN_1, _UTF_8, _ECI_UTF_8 = "iso-8859-1", "utf-8", 26
+# What ZXing and zxing-cpp take for UTF-8 where nothing is marked, and what can be Shift JIS to them: there half-width
+# katakana take one byte and other letters two.
 _LIKE_UTF_8 = rb"(?:[\0-\x7f]|[\xc0-\xdf][\x80-\xff]|[\xe0-\xef][\x80-\xff]{2}|[\xf0-\xf7][\x80-\xff]{3})*"
-_LIKE_SHIFT_JIS = rb"(?:[\0-\x7f\xa1-\xdf]|[\x81-\x9f\xe0-\xef][@-~\x80-\xfc])*"
+_KATAKANA, _TWO_BYTES = rb"[\xa1-\xdf]", rb"[\x81-\x9f\xe0-\xef][@-~\x80-\xfc]"
+_LIKE_SHIFT_JIS = rb"(?:[\0-\x7f]|%b|%b)*" % (_KATAKANA, _TWO_BYTES)
+_RUNS_OF_SHIFT_JIS = rb"((?:%b)+)|((?:%b)+)" % (_KATAKANA, _TWO_BYTES)
+# In which charsets text that ISO/IEC 8859-1 hasn't is written, beside UTF-8: those that zxing-cpp 1.4.0 reads behind
+# their assignments, by trial of each code. Of each the codes by their least and greatest bytes, and those of them that
+# zxing-cpp, browsers or Python have for other characters or twice. (It knows no 31 to 35, and takes 29 for GB 18030.)
+_ALIKE: Dict[int, Tuple[str, str]] = {
+    **{number: ("a0-ff", "") for number in (*range(4, 14), *range(15, 19))},
+    **{number: ("80-ff", "") for number in range(21, 25)},
+    9: ("a0-ff", "a4 a5 aa"), 10: ("a0-ff", "af fd fe"), 13: ("a1-ff", ""),
+    20: ("a1-df 8140-84fc 8840-9ffc e040-eafc", "1a 1c 7f 8160 8161 817c 8191 8192 81ca"),
+    28: ("a140-c5fe c640-c67e c940-f8fe f940-f9d5",
+         "a145 a14e a1c2 a1e3 a1f2 a1f3 a1fe a240 a241 a242 a244 a246 a247 a2cc a2ce a3e1"),
+    29: ("a1a1-a1fe a2b1-a2e2 a2e5-a2ee a2f1-a2fc a3a1-a3fe a4a1-a4f3 a5a1-a5f6 a6a1-a6b8 a6c1-a6d8 a7a1-a7c1 a7d1-a7f1"
+         " a8a1-a8ba a8c5-a8e9 a9a4-a9ef b0a1-d6fe d7a1-d7f9 d8a1-f7fe", "a1a4 a1aa"),
+    30: ("a1a1-c8fe caa1-fdfe", "a2e6 a2e7 a4d4"),
+}
 
 
 class Text(NamedTuple):
@@ -969,11 +1060,24 @@ def assignment(charset: str) -> Optional[int]:
     return _assignments().get(codecs.lookup(charset).name)
 
 
+def _is_guessed_shift_jis(data: bytes) -> bool:
+    """Whether ZXing and zxing-cpp (TextDecoder::GuessEncoding) take bytes without a mark for Shift JIS: what can be
+    that, if some run has three letters that aren't ASCII, or if some bytes are controls of ISO/IEC 8859-1. Else if all
+    katakana are one run of two, or if a tenth of the bytes are signs of ISO/IEC 8859-1 rather than letters."""
+    if not re.fullmatch(_LIKE_SHIFT_JIS, data):
+        return False
+    runs = re.findall(_RUNS_OF_SHIFT_JIS, data)
+    katakana = [len(run) for run, _ in runs if run]
+    if max([0, *katakana, *(len(pairs) // 2 for _, pairs in runs)]) >= 3 or re.search(rb"[\x80-\x9f]", data):
+        return True
+    return katakana == [2] or 10 * len(re.findall(rb"[\xa0-\xbf\xd7\xf7]", data)) >= len(data)
+
+
 def _taken_for(data: bytes) -> Optional[str]:
-    """The charset for which all readers take bytes without a mark; None where they differ."""
+    """The charset for which readers take bytes without a mark; None where they differ."""
     if _decoded(data, _UTF_8) is not None:
         return _UTF_8
-    return None if re.fullmatch(_LIKE_UTF_8, data) or re.fullmatch(_LIKE_SHIFT_JIS, data) else _LATIN_1
+    return None if re.fullmatch(_LIKE_UTF_8, data) or _is_guessed_shift_jis(data) else _LATIN_1
 
 
 def unmarked(text: str, charset: Optional[str] = None) -> bytes:
@@ -985,17 +1089,58 @@ def unmarked(text: str, charset: Optional[str] = None) -> bytes:
     return data if text_of(data).text == text else text.encode(_UTF_8)
 
 
-def letter_of(text: str, charset: Optional[str] = None) -> Tuple[bytes, Tuple[Mark, ...]]:
-    """The bytes of a text, and the marks by which they are read as it. What ISO/IEC 8859-1 has is that, and other text
-    UTF-8 behind its mark, unless a `charset` is named. Else the mark of the charset stands in front where some reader
-    would take the bytes for another text without it, as those of "20 \u00b0C" for Shift JIS; a charset that has no
-    ECI assignment is never marked."""
-    name = charset or (_LATIN_1 if all(letter < "\u0100" for letter in text) else _UTF_8)
+@functools.lru_cache(maxsize=None)
+def _codes(number: int) -> Callable[[bytes], bool]:
+    """Whether bytes are the code of a character that all have alike, in the charset of an assignment."""
+    spans, unlike = _ALIKE[number]
+    bounds = [tuple(map(bytes.fromhex, span.split("-"))) for span in f"00-7f {spans}".split()]
+    others = {bytes.fromhex(code) for code in unlike.split()}
+    return lambda code: code not in others and any(
+        len(code) == len(least) and all(low <= byte <= high for low, byte, high in zip(least, code, most))
+        for least, most in bounds)
+
+
+@functools.lru_cache(maxsize=65536)
+def _has_alike(letter: str, number: int) -> bool:
+    """Whether a letter is in the charset of an assignment, and is the same to all who read it there."""
+    try:
+        return _codes(number)(encoded(letter, _CHARSETS[number]))
+    except UnicodeError:
+        return False
+
+
+def _writings(text: str) -> Iterator[Tuple[bytes, Tuple[Mark, ...]]]:
+    """The bytes and marks by which text that ISO/IEC 8859-1 hasn't can be written: those of UTF-8 first."""
+    yield text.encode(_UTF_8), ((0, _ECI_UTF_8),)
+    for number in sorted(_ALIKE):
+        if all(_has_alike(letter, number) for letter in set(text)):
+            yield text.encode(_CHARSETS[number]), ((0, number),)
+
+
+def _usual(text: str) -> str:
+    """The charset of a text where that doesn't depend on its symbol."""
+    return _LATIN_1 if all(letter < "\u0100" for letter in text) else _UTF_8
+
+
+def letter_in(text: str, charset: Optional[str], gs1: bool, how: bytes) -> Tuple[bytes, Tuple[Mark, ...]]:
+    """The same as `letter_of`, for a symbol that is written in one way, behind an FNC1 or without one."""
+    name = charset or _usual(text)
+    if charset is None and name == _UTF_8:
+        return min(_writings(text), key=lambda way: _area(way[0], gs1, _behind(way[1], gs1), how))
     data = encoded(text, name)
     taken = _taken_for(data)
-    is_clear = taken is not None and data.decode(taken) == text and (charset is not None or name == _LATIN_1)
+    is_clear = taken is not None and data.decode(taken) == text
     number = None if is_clear else assignment(name)
     return data, () if number is None else ((0, number),)
+
+
+def letter_of(text: str, charset: Optional[str] = None) -> Tuple[bytes, Tuple[Mark, ...]]:
+    """The bytes of a text, and the marks by which they are read as it. What ISO/IEC 8859-1 has is that. Other text is
+    in the charset whose smallest square is smallest among those that zxing-cpp reads as they were written, of equal
+    ones in UTF-8, behind its mark; `write` and `encode` look at the symbol that they are asked for. Or a `charset` is
+    named. Else the mark of the charset stands in front where some reader would take the bytes for another text without
+    it, as those of "20 \u00b0C" for Shift JIS; a charset that has no ECI assignment is never marked."""
+    return letter_in(text, charset, False, _how(Form.SMALLEST, Shape.SQUARE, 0, 0, Extent.WIDE))
 
 
 # ---- Symbols in pictures, which the library ecc200_sample finds: the structs are those of ecc200_sample.h.
@@ -1005,6 +1150,7 @@ _MOST_FOUND = 64  # symbols of one picture, unless a caller says otherwise
 _MOST_UNREAD = 32  # symbols of one picture that aren't read
 _ANY_TIME = 0xFFFFFFFF
 _IS_UNSURE = 2  # `unread` of a symbol that is
+_NO_MEMORY = 2
 _COLOURS = {1: "L", 2: "LA", 3: "RGB", 4: "RGBA"}  # by the numbers of a pixel, as Pillow calls them
 # How Pillow calls the numbers of an array that are no bytes, by their letter and their bytes: integers, and floats.
 _NUMBERS = {("H", 2): "I;16{}", ("h", 2): "I;16{}S", ("i", 4): "I;32{}S", ("l", 4): "I;32{}S", ("f", 4): "F;32{}F",
@@ -1029,6 +1175,32 @@ class Unsure(Refused):
         return type(self), (self.reading,)
 
 
+class Sides(NamedTuple):
+    """A share of each side of a symbol: at the top, on the right, below and on the left."""
+    top: float
+    right: float
+    bottom: float
+    left: float
+
+
+class Quality(NamedTuple):
+    """How good the print of a symbol is, as ISO/IEC 15415 counts it, but of this picture, uncalibrated: this is no
+    verifier's report, for which light, aperture and calibration are given."""
+    contrast: float                 # the largest less the smallest reflectance, 0 to 1, luminance taken for reflectance
+    modulation: float               # the least of all codewords
+    unused: Tuple[float, ...]       # of each block, the share of its check codewords that isn't used
+    axial: float                    # nonuniformity: how much the modules' mean width and height differ, as a share
+    grid: float                     # nonuniformity: how far the worst module lies beside an even grid, in modules
+    growth: Tuple[float, float]     # how much wider, and higher, dark modules are than they should be, in modules
+    border: Sides                   # the share of its modules that have a wrong colour, or are doubtful
+    quiet: Sides                    # the share of the quiet zone, one module wide, that is dark or isn't in the picture
+    readable: Tuple[int, int, int, int]  # how many codewords have a modulation of .5, .4, .3 and .2, or more
+    weakest: str                    # the weakest place, in words
+    grades: Dict[str, str]          # A to F, of contrast, modulation, unused, axial and grid
+    modulations: Tuple[float, ...]  # of each codeword, that of its weakest module: how far its reflectance is from the
+                                    # middle, as a share of half the contrast
+
+
 class Found(NamedTuple):
     """A symbol in a picture."""
     answer: Union[Reading, Refused]           # what it says, or why it isn't read
@@ -1040,6 +1212,7 @@ class Found(NamedTuple):
     doubtful: Optional[Rows] = None           # of which modules the picture tells nothing, if it was read with that
     border_limit: int = 0                     # how many wrong border modules it might have: with this and `doubtful`
                                               # `read` says the same of its rows
+    quality: Optional[Quality] = None         # how good its print is, if that was asked for
 
 
 class End(enum.IntEnum):
@@ -1082,23 +1255,42 @@ class _Search(ctypes.Structure):
                 ("ended", _u16), ("effort", _u16)]
 
 
+class _QualityOut(ctypes.Structure):
+    _fields_ = [("contrast", ctypes.c_double), ("modulation", ctypes.c_double),
+                ("unused", ctypes.c_double * _MOST_BLOCKS), ("axial", ctypes.c_double), ("grid", ctypes.c_double),
+                ("growth", ctypes.c_double * 2), ("border", ctypes.c_double * 4), ("quiet", ctypes.c_double * 4),
+                ("codewords", _u16), ("blocks", _u16), ("readable", _u16 * 4), ("grades", _u8 * 5),
+                ("weakest", ctypes.c_char * 64), ("modulations", ctypes.c_float * _MOST_CODEWORDS)]
+
+
 class _Asked(NamedTuple):
     """What is asked of the search of a page: how many symbols at most, and how many that aren't read; about how long
-    it may take, or None, if its work is limited; how many corrections each block must leave unused."""
+    it may take, or None, if its work is limited; how many corrections each block must leave unused; and whether the
+    print is measured."""
     most: int = _MOST_FOUND
     unread: int = 0
     milliseconds: Optional[int] = None
     margin: int = 0
+    quality: bool = False
+
+    def checked(self) -> "_Asked":
+        """The same, in numbers that the sampler takes as they are."""
+        time = self.milliseconds
+        return _Asked(_whole("most", self.most, 1, 65535), self.unread,
+                      None if time is None else _whole("milliseconds", time, 0, _ANY_TIME - 1),
+                      _whole("margin", self.margin, 0, 65535), self.quality)
 
 
 @functools.lru_cache(maxsize=None)
 def _sampler() -> ctypes.CDLL:
     library = _opened("ecc200_sample", _SAMPLE_ABI, SamplerMissing)
-    if not hasattr(library, "ecc200_sample_find"):
+    if not hasattr(library, "ecc200_sample_measure"):
         raise SamplerMissing("the library ecc200_sample is older than this module", path=library._name)
     size = ctypes.c_size_t
     library.ecc200_sample_find.argtypes = [ctypes.c_char_p, size, size, size, ctypes.c_void_p]
     library.ecc200_sample_find.restype = _u16
+    library.ecc200_sample_measure.argtypes = [ctypes.c_char_p, size, size, size, ctypes.c_void_p, ctypes.c_void_p]
+    library.ecc200_sample_measure.restype = _u16
     return library
 
 
@@ -1153,6 +1345,17 @@ def _raw_mode(view: memoryview) -> Optional[str]:
     return mode and mode.format("B" if view.format[0] == ">" or is_own and sys.byteorder == "big" else "")
 
 
+def _scaled(view: memoryview) -> Optional[bytes]:
+    """Numbers that Pillow doesn't know, as of 64 bits, as bytes; None if they are none."""
+    try:
+        numbers = struct.unpack(f"{view.format[:-1]}{view.nbytes // view.itemsize}{view.format[-1]}", view.tobytes())
+        high = max(numbers)
+        factor = 255 / (1 if isinstance(high, float) and high <= 1 else max(high, 255))
+        return bytes(int(min(255, max(0, number * factor))) for number in numbers)
+    except (struct.error, TypeError):
+        return None
+
+
 def _in_bytes(view: memoryview) -> Optional[bytes]:
     """The numbers of an array of two or three dimensions as bytes: booleans as 0 and 255, and other numbers by the
     largest, which is 255 if it is beyond that, or if they are floats and it isn't beyond 1. None if no picture has such
@@ -1163,7 +1366,7 @@ def _in_bytes(view: memoryview) -> Optional[bytes]:
         return view.tobytes()
     mode, width = _raw_mode(view), view.nbytes // view.itemsize // len(view)
     if mode is None:
-        return None
+        return _scaled(view)
     from PIL import Image
     return bytes(_of_pillow(Image.frombytes(mode[0], (width, len(view)), view.tobytes(), "raw", mode)).tobytes())
 
@@ -1176,8 +1379,8 @@ def luminance(picture: Any) -> Tuple[bytes, int, int]:
         has_rows = len(shape) == 2 or len(shape) == 3 and shape[2] in _COLOURS
         pixels = _in_bytes(view) if has_rows else None
         if pixels is None:
-            raise TypeError("a picture is an array of rows of numbers of 8, 16 or 32 bits, or of rows of colours, "
-                            f"unlike one of {shape} of {view.format}")
+            raise TypeError("a picture is an array of rows of numbers, or of rows of colours, unlike one of "
+                            f"{shape} of {view.format}")
         if len(shape) == 2:
             return pixels, shape[1], shape[0]
         from PIL import Image
@@ -1222,24 +1425,38 @@ def _loaded(given: Any) -> Any:
     return _held(data, str(getattr(given, "name", "what this file has")))
 
 
+def _is_last(picture: Any, number: int, why: Exception) -> bool:
+    """Whether a picture has no further page, which is why it can't be turned to."""
+    try:
+        return isinstance(why, EOFError) and number >= int(getattr(picture, "n_frames", 1))
+    except Exception:  # Pillow's plugins raise what they like
+        return False
+
+
 def _pages(picture: Any, broken: List[str]) -> Iterator[Tuple[int, Any]]:
     """The pages of a Pillow picture that stands at its first, as those of a TIFF or a GIF, one after another, each with
     its number from 1; else the picture as it is. What is wrong with pages that can't be opened goes to `broken`."""
-    count = getattr(picture, "n_frames", 1)
-    if count == 1 or picture.tell() > 0:
-        yield 1, picture
+    yield 1, picture
+    if not hasattr(picture, "seek") or picture.tell() > 0:
         return
     try:
-        for number in range(1, count + 1):
+        for number in itertools.count(2):
             try:
                 picture.seek(number - 1)
+            except Exception as why:
+                if not _is_last(picture, number - 1, why):
+                    broken.append(f"page {number} of the picture can't be opened, nor what may stand behind it "
+                                  f"({str(why) or type(why).__name__})")
+                break
+            try:
                 picture.load()
-            except Exception as why:  # Pillow's plugins raise what they like
-                broken.append(f"page {number} of the picture can't be opened ({why})")
+            except Exception as why:
+                broken.append(f"page {number} of the picture can't be opened ({str(why) or type(why).__name__})")
                 continue
             yield number, picture
     finally:
-        picture.seek(0)
+        if picture.tell() > 0:
+            picture.seek(0)
 
 
 def _tell_broken(broken: List[str], is_found: bool) -> None:
@@ -1248,6 +1465,17 @@ def _tell_broken(broken: List[str], is_found: bool) -> None:
         raise ValueError("; ".join(broken))
     for why in broken:
         warnings.warn(why, stacklevel=3)
+
+
+def _measured(sample: Any, pixels: bytes, width: int, height: int) -> Quality:
+    out = _QualityOut()
+    if _sampler().ecc200_sample_measure(pixels, width, height, width, ctypes.byref(sample), ctypes.byref(out)):
+        raise MemoryError(f"there is too little memory to measure {sample.rows} by {sample.columns} modules")
+    grades = dict(zip(("contrast", "modulation", "unused", "axial", "grid"), ("FDCBA"[grade] for grade in out.grades)))
+    return Quality(out.contrast, out.modulation, tuple(out.unused[:out.blocks]), out.axial, out.grid,
+                   (out.growth[0], out.growth[1]), Sides(*out.border), Sides(*out.quiet),
+                   (out.readable[0], out.readable[1], out.readable[2], out.readable[3]), out.weakest.decode("ascii"),
+                   grades, tuple(out.modulations[:out.codewords]))
 
 
 def _found(sample: Any, page: int) -> Found:
@@ -1267,16 +1495,24 @@ def _found(sample: Any, page: int) -> Found:
 def _searched(picture: Any, page: int, asked: _Asked) -> Findings[Found]:
     """The symbols of one page of a picture, and behind them those that aren't read, the likeliest first."""
     pixels, width, height = luminance(picture)
+    if len(pixels) != width * height:
+        raise ValueError(f"a picture of {width} by {height} pixels has {len(pixels)} luminances")
     samples, unread = (_Sample * asked.most)(), (_Sample * asked.unread)()
     time = _ANY_TIME if asked.milliseconds is None else asked.milliseconds
     search = _Search(time, 0, asked.margin, ctypes.addressof(samples), asked.most, 0, ctypes.addressof(unread),
                      asked.unread)
     code = _sampler().ecc200_sample_find(pixels, width, height, width, ctypes.byref(search))
+    if code == _NO_MEMORY:
+        raise MemoryError(f"there is too little memory to search a picture of {width} by {height} pixels")
     if code:
         raise ValueError(f"a picture of {width} by {height} pixels can't be searched ({code})")
-    found: Findings[Found] = Findings()
-    found.add((_found(sample, page) for sample in (*samples[:search.count], *unread[:search.unread_count])),
-              End(search.ended))
+    kept = (*samples[:search.count], *unread[:search.unread_count])
+    symbols = [_found(sample, page) for sample in kept]
+    if asked.quality:
+        measured = (_measured(sample, pixels, width, height) for sample in kept)
+        symbols = [symbol._replace(quality=quality) for symbol, quality in zip(symbols, measured)]
+    found: Findings[Found] = Findings(symbols)
+    found.ended = End(search.ended)
     return found
 
 
@@ -1294,18 +1530,19 @@ def _records(grid: Any) -> List[Any]:
 
 
 def find(picture: Any, most: int = _MOST_FOUND, milliseconds: Optional[int] = None, margin: int = 0,
-         unread: bool = False) -> Findings[Found]:
+         unread: bool = False, quality: bool = False) -> Findings[Found]:
     """At most `most` symbols of each page of a picture. The search takes about `milliseconds` for a page; without them
-    its work is limited, the same on every machine, which is about half a second where nothing is found. It ends at once
+    its work is limited, the same on every machine, which is up to a second where nothing is found. It ends at once
     where `most` are found: `complete` of the list is false where it ended before all was searched. `margin`: how
     many corrections each block must leave unused. With `unread`, behind those of each page also what was found on it
     and isn't read, the likeliest first, with its refusal: at most 32, whose borders have few faults. A page that can't
-    be opened is a warning where a symbol is read on another, and else ValueError is raised.
+    be opened is a warning where a symbol is read on another, and else ValueError is raised. With `quality` the print of
+    each symbol is measured.
 
     Where the library ecc200_sample isn't installed SamplerMissing is raised."""
     given = _loaded(picture)
     _sampler()
-    asked = _Asked(most, _MOST_UNREAD if unread else 0, milliseconds, margin)
+    asked = _Asked(most, _MOST_UNREAD if unread else 0, milliseconds, margin, quality).checked()
     found: Findings[Found] = Findings()
     broken: List[str] = []
     for number, page in _pages(given, broken):
@@ -1317,15 +1554,39 @@ def find(picture: Any, most: int = _MOST_FOUND, milliseconds: Optional[int] = No
 
 def _of_page(page: Any, number: int, asked: _Asked, border_limit: BorderLimit,
              extent: Extent) -> Findings[Union[Reading, Refused]]:
-    """What the symbols of a Pillow picture say: those that are found, or else the one whose modules the pixels are."""
+    """What the symbols of a picture say: those that are found, or else the one whose modules the pixels are."""
     found = _searched(page, number, asked) if has_sampler() else Findings()
     answers: Findings[Union[Reading, Refused]] = Findings()
     answers.add((symbol.answer for symbol in found), found.ended)
     if not _only_read(answers):
-        spelled = read_many([page], border_limit, extent)
+        spelled = _spelled(page, border_limit, extent)
         if _only_read(spelled) or asked.unread and not answers and _has_border(spelled):
             return Findings(spelled)
     return answers
+
+
+def _without_margin(rows: Rows) -> Rows:
+    """Rows without the light ones around them, and without light columns beside them, where a symbol may have as many
+    as are left."""
+    dark = [number for number, row in enumerate(rows) if b"\1" in row] or [0]
+    rows = rows[dark[0]:dark[-1] + 1]
+    if len(rows) ** 2 > _MOST_MODULES:
+        return rows
+    columns = [number for number, column in enumerate(zip(*rows)) if any(column)] or [0]
+    return [row[columns[0]:columns[-1] + 1] for row in rows]
+
+
+def _spelled(picture: Any, border_limit: BorderLimit, extent: Extent) -> List[Union[Reading, Refused]]:
+    """What a picture says whose pixels are modules: dark ones are dark, or, in an array, light ones, as in a grid."""
+    if hasattr(picture, "getbbox"):
+        return read_many([picture], border_limit, extent)
+    pixels, width, height = luminance(picture)
+    values = sorted(set(pixels))
+    bound = values[-1] if len(values) == 2 else 128
+    ways = [bytes((byte < bound) == is_dark for byte in range(256)) for is_dark in (True, False)]
+    rows = [pixels[row * width:(row + 1) * width] for row in range(height)]
+    answers = read_many([_without_margin([row.translate(way) for row in rows]) for way in ways], border_limit, extent)
+    return [*_only_read(answers), *answers][:1]
 
 
 def _has_border(answers: Iterable[Union[Reading, Refused]]) -> bool:
@@ -1358,19 +1619,18 @@ def decode(picture: Any, most: int = _MOST_FOUND, milliseconds: Optional[int] = 
     picture in which nothing is found is read as one symbol with one pixel a module; where that is none, and the library
     ecc200_sample isn't installed, SamplerMissing is raised. A page that can't be opened is a warning where something is
     read on another, and else ValueError is raised."""
+    asked = _Asked(most, _MOST_UNREAD if unread else 0, milliseconds).checked()
+    if border_limit != "auto":
+        _limit(0, 0, border_limit)  # what a picture has no use for is named, too
     given = _loaded(picture)
     answers: Findings[Union[Reading, Refused]] = Findings()
     if isinstance(given, list) or hasattr(given, "rows") or not hasattr(given, "__array_interface__"):
         answers.extend(read_many(_records(given), border_limit, extent))
+        if len(answers) == 1 and isinstance(answers[0], _Foreign):
+            raise answers[0]
         if not (isinstance(given, memoryview) and given.ndim > 1) or _only_read(answers):
             return _kept(answers, unread)
-    if not hasattr(given, "getbbox"):
-        found = find(given, most, milliseconds, unread=unread)
-        answers = Findings(symbol.answer for symbol in found)
-        answers.ended = found.ended
-        return _kept(answers, unread)
     broken: List[str] = []
-    asked = _Asked(most, _MOST_UNREAD if unread else 0, milliseconds)
     for number, page in _pages(given, broken):
         of_page = _of_page(page, number, asked, border_limit, extent)
         answers.add(of_page, of_page.ended)

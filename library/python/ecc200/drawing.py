@@ -8,7 +8,7 @@ import zlib
 from typing import List, NamedTuple, Sequence, Tuple
 
 from . import font
-from .core import Rows
+from .core import Rows, _whole
 
 __all__ = ["A4", "Cell", "DOT", "Line", "Page", "alone", "check", "dots", "pdf", "png", "sheets", "svg", "wrapped"]
 
@@ -18,6 +18,7 @@ _INCH = 25.4
 _DESCENT = 3  # dots below the letters, as fonts of SVG and PDF have them for a p
 _ADVANCE, _FEED = font.WIDTH + 1, font.BASELINE + _DESCENT  # from letter to letter, and from line to line, in dots
 _MOST_DOTS = 1 << 29  # of a PNG, which takes a byte for each while it is drawn: a sheet of A4 at 2,000 dots an inch
+_MOST_SIDE = 100000.0  # of a sheet, in millimetres
 _LEAST_COLUMNS = 20  # letters that a caption has room for below the smallest symbol
 
 
@@ -50,8 +51,7 @@ def check(module: float, quiet: int) -> None:
     """That a module has a side, and the quiet zone a width that isn't negative."""
     if not 0 < module < float("inf"):
         raise ValueError(f"the side of a module is more than 0 mm, unlike {module}")
-    if quiet < 0:
-        raise ValueError(f"the width of a quiet zone is 0 modules or more, unlike {quiet}")
+    _whole("the width of a quiet zone", quiet, 0, 65535)
 
 
 def dots(length: float, dpi: float) -> int:
@@ -113,6 +113,11 @@ def sheets(symbols: Sequence[Rows], module: float, quiet: int, size: Tuple[float
     """Pages of this size that hold the symbols row by row, each in the middle of a place that has room for the largest
     with its quiet zone and its caption."""
     check(module, quiet)
+    if not all(0 < side <= _MOST_SIDE for side in size) or not 0 <= margin <= _MOST_SIDE:
+        raise ValueError(f"a side of a sheet is more than 0 and at most {_MOST_SIDE:g} mm, and its margin 0 or more, "
+                         "unlike {:g} by {:g} and {:g}".format(*size, margin))
+    if not symbols:
+        return []
     blocks = [_Block(rows, module, quiet, caption, dot)
               for rows, caption in zip(symbols, captions or [()] * len(symbols))]
     wide, high = max(block.width for block in blocks), max(block.height for block in blocks)

@@ -1,10 +1,12 @@
 """Files that are replaced when they are whole."""
 from __future__ import annotations
 
+import contextlib
 import itertools
 import os
+import signal
 import stat
-from typing import BinaryIO, Union
+from typing import BinaryIO, Iterator, Union
 
 __all__ = ["replace"]
 
@@ -24,6 +26,20 @@ def _write_into(path: str, data: bytes) -> None:
         file.write(data)
 
 
+@contextlib.contextmanager
+def _undisturbed() -> Iterator[None]:
+    """Keeps signals that end a program waiting, where the system can: else they might leave half a file."""
+    if not hasattr(signal, "pthread_sigmask"):
+        yield
+        return
+    before = signal.pthread_sigmask(signal.SIG_BLOCK, (signal.SIGINT, signal.SIGTERM, signal.SIGHUP))
+    try:
+        yield
+    finally:
+        signal.pthread_sigmask(signal.SIG_SETMASK, before)
+
+
+@_undisturbed()
 def _put_whole(path: str, data: bytes) -> None:
     file = _beside(path)
     try:

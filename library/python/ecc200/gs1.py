@@ -7,21 +7,23 @@
     >>> gs1.text(gs1.split(b"010952123454321310ABC\\x1d17251231"))
     '(01)09521234543213(10)ABC(17)251231'
 
-A message is written with `write(gs1.message(elements), gs1=True)`, and what is read is split with
-`split(reading.data)`. Each value is checked: its length and characters, check digits, dates. What doesn't pass raises
-Faulty, which says what is wrong with which identifier. Identifiers that the table doesn't have are refused too; with
-`unknown=True` they pass. Which identifiers there are, and where they come from, is said in data/gs1_identifiers.txt.
+A message is written with `write(gs1.message(elements), gs1=True)`. What is read has them as `reading.elements`; where
+that is None, `split(reading.data)` says what is wrong. Each value is checked: its length and characters, check digits,
+dates, countries and currencies. What doesn't pass raises Faulty, which says what is wrong with which identifier.
+Identifiers that the table doesn't have are refused too; with `unknown=True` they pass. Which identifiers there are, and
+where they come from, is said in data/gs1_identifiers.txt.
 """
 from __future__ import annotations
 
 import functools
 import os
 import re
-from typing import Callable, Dict, Iterable, List, NamedTuple, Sequence, Tuple, Union
+from typing import Callable, Dict, FrozenSet, Iterable, Iterator, List, NamedTuple, Optional, Sequence, Tuple, Union
 
 from .core import FNC1
 
-__all__ = ["Element", "Faulty", "Identifier", "identifiers", "items", "message", "parse", "split", "text"]
+__all__ = ["Element", "Faulty", "Identifier", "elements_of", "identifiers", "items", "message", "parse", "resembles",
+           "split", "text"]
 
 _GS = 0x1D
 _X = "!\"%&'()*+,-./0123456789:;<=>?ABCDEFGHIJKLMNOPQRSTUVWXYZ_abcdefghijklmnopqrstuvwxyz"
@@ -76,7 +78,7 @@ def _part(word: str) -> Part:
 def _table(lines: Iterable[str]) -> Dict[str, Identifier]:
     table = {}
     for line in lines:
-        if not line.startswith("#") and line.strip():
+        if line[:1].isdigit():
             numbers, kind, _, parts, *title = line.split(None, 4)
             first, last = (numbers.split("-") * 2)[:2]
             for number in range(int(first), int(last) + 1):
@@ -89,6 +91,18 @@ def _table(lines: Iterable[str]) -> Dict[str, Identifier]:
 def _known() -> Dict[str, Identifier]:
     with open(_SOURCE, encoding="utf-8") as file:
         return _table(file)
+
+
+@functools.lru_cache(maxsize=None)
+def _codes() -> Dict[str, FrozenSet[str]]:
+    """The codes that a check lets pass, by its name."""
+    codes: Dict[str, FrozenSet[str]] = {}
+    with open(_SOURCE, encoding="utf-8") as file:
+        for line in file:
+            if line.startswith(":"):
+                check, *listed = line[1:].split()
+                codes[check] = codes.get(check, frozenset()).union(listed)
+    return codes
 
 
 # Lengths of the values that all scanners know by the first two digits of the identifier.
@@ -171,9 +185,15 @@ def _below(bound: int, what: str) -> Callable[[str], str]:
     return lambda value: "" if int(value) < bound else f"there is no {what} {value}"
 
 
+def _listed(check: str, what: str, *more: str) -> Callable[[str], str]:
+    return lambda value: "" if value in _codes()[check] or value in more else f"there is no {what} {value}"
+
+
 _CHECKS: Dict[str, Callable[[str], str]] = {
     "": lambda value: "", "check": _check, "pair": _check_pair, "date": _date, "month-day": _month_day,
     "full-date": _full_date, "time": _time,
+    "country": _listed("country", "country"), "processor": _listed("country", "country", "999"),
+    "letters": _listed("letters", "country"), "currency": _listed("currency", "currency"),
     "hour": _below(24, "hour"), "minute": _below(60, "minute"), "second": _below(60, "second"),
     "minus": lambda value: "" if value == "-" else f"its sign is {value}, and can only be -",
 }
@@ -234,15 +254,30 @@ def parse(text: str, unknown: bool = False) -> List[Element]:
     that is part of a value is written \\( there, and a backslash can't be part of one. Identifiers may instead all
     stand in square brackets, as zint has them, which are part of no value; round ones in a value are then written as
     they are."""
-    elements, at = [], 0
-    bracketed = re.compile(_SQUARE if text.startswith("[") else _BRACKETED)
+    return [_checked(element, unknown) for element in _bracketed(text)]
+
+
+def _bracketed(text: str) -> Iterator[Element]:
+    """The elements of a text as they stand there."""
+    at, bracketed = 0, re.compile(_SQUARE if text.startswith("[") else _BRACKETED)
     while at < len(text) or not text:
         found = bracketed.match(text, at)
         if not found:
             raise Faulty(f"an identifier in brackets, such as (01), is wanted at character {at + 1}")
-        elements.append(_checked(Element(found[1], re.sub(r"\\(.)", r"\1", found[2])), unknown))
+        yield Element(found[1], re.sub(r"\\(.)", r"\1", found[2]))
         at = found.end()
-    return elements
+
+
+def resembles(text: str) -> bool:
+    """Whether a text reads like elements: identifiers of the table in brackets, each with a value of its lengths and
+    characters, if perhaps with a wrong check digit or date."""
+    try:
+        elements = [*_bracketed(text)] if text[:1] in ("(", "[") else []
+    except Faulty:
+        return False
+    known = [(_known().get(identifier), value) for identifier, value in elements]
+    return bool(known) and all(one is not None and not _fault(value, [part._replace(check="") for part in one.parts])
+                               for one, value in known)
 
 
 def text(elements: Iterable[Element]) -> str:
@@ -282,6 +317,9 @@ def split(data: Union[bytes, Iterable[int]], unknown: bool = False) -> List[Elem
     """The elements of a message, without the FNC1 in front: as bytes with 0x1D between elements, or as items with FNC1
     or 0x1D. A separator where none is needed is passed over."""
     numbers = list(data)
+    strange = [number for number in numbers if not 0 <= number <= FNC1]
+    if strange:
+        raise Faulty(f"{strange[0]} is no item of a message")
     letters = "".join(chr(_GS if number == FNC1 else number)
                       for number in (numbers[1:] if numbers[:1] == [FNC1] else numbers))
     if not letters:
@@ -297,3 +335,11 @@ def split(data: Union[bytes, Iterable[int]], unknown: bool = False) -> List[Elem
         elements.append(_checked(Element(identifier, letters[at:end]), unknown))
         at = end + (letters[end:end + 1] == "\x1d")
     return elements
+
+
+def elements_of(items: Sequence[int]) -> Optional[List[Element]]:
+    """The elements of items with FNC1 in front, or None where that isn't there, or a rule isn't kept."""
+    try:
+        return split(items) if items[:1] == (FNC1,) else None
+    except Faulty:
+        return None

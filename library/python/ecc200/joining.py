@@ -11,6 +11,7 @@ from typing import Dict, Iterable, List, NamedTuple, Optional, Tuple
 
 from . import core
 from .core import FNC1, Mark, Reading, text_of
+from .gs1 import Element, elements_of
 
 __all__ = ["Joined", "Unjoined", "join"]
 
@@ -43,6 +44,11 @@ class Joined(NamedTuple):
     def charset(self) -> str:
         """The charset of the text, as a Reading has it."""
         return text_of(self.items, self.marks).charset
+
+    @property
+    def elements(self) -> Optional[List[Element]]:
+        """The elements of GS1 data, as a Reading has them."""
+        return elements_of(self.items)
 
 
 def _listed(words: str, numbers: Iterable[int]) -> List[str]:

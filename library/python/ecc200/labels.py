@@ -27,10 +27,15 @@ _FOR_ALL = (errno.ENOSPC, errno.EDQUOT, errno.EROFS)  # what keeps every file fr
 
 class Label(NamedTuple):
     """A symbol to be put out: its number, which counts messages or symbols from 1; what it says, in parts between which
-    a line may end; its rows."""
+    a line may end; its rows, which are none where a grid was refused; whether it reads like GS1 data and isn't; what
+    its file is named by; how many there are to be of it, and which of these it is."""
     number: int
     parts: Tuple[str, ...]
     rows: Rows
+    only_looks_gs1: bool = False
+    named_by: str = ""
+    copies: int = 1
+    copy: int = 1
 
 
 def printed(text: str) -> Tuple[str, ...]:
@@ -49,7 +54,12 @@ def safe(text: str) -> str:
 
 
 def _grid(rows: Rows) -> str:
-    return "".join("".join("01"[module] for module in row) + "\n" for row in rows) + "\n"
+    return "".join("".join("01"[module] for module in row) + "\n" for row in rows) + "\n" if rows else "\\no\n\n"
+
+
+def _of_copy(label: Label) -> str:
+    """What the name of a file has where there are several of a label."""
+    return f"-{label.copy}" if label.copies > 1 else ""
 
 
 class Output:
@@ -126,14 +136,19 @@ class Output:
         dots = drawing.dots(self.module, self.dpi)
         made = dots * _INCH / self.dpi
         if abs(made - self.module) > _MOST_OFF * self.module:
-            print(f"ecc200: a module of {asked} isn't a whole number of dots at {self.dpi:g} dots an inch: it is drawn "
-                  f"as {dots} dot{'s' * (dots > 1)}, {made:.3g} mm", file=sys.stderr)
+            terminal.say(f"a module of {asked} isn't a whole number of dots at {self.dpi:g} dots an inch: it is drawn "
+                         f"as {dots} dot{'s' * (dots > 1)}, {made:.3g} mm")
         self.module, self.dot = made, drawing.dots(drawing.DOT, self.dpi) * _INCH / self.dpi
 
     @property
     def is_named(self) -> bool:
         """Whether files are named by their messages."""
         return self.file is not None and "{}" in self.file
+
+    @property
+    def is_of_grids(self) -> bool:
+        """Whether labels are grids, one after another."""
+        return self.kind == "txt" and not self.is_named
 
     @property
     def shows(self) -> bool:
@@ -149,8 +164,7 @@ class Output:
         else:
             width = len(label.rows[0]) + 2 * self.quiet
             if terminal.is_terminal() and 0 < terminal.columns() < width:
-                print(f"ecc200: the terminal has {terminal.columns()} columns, and the symbol takes {width}",
-                      file=sys.stderr)
+                terminal.say(f"the terminal has {terminal.columns()} columns, and the symbol takes {width}")
             text = "\n".join(self._lines(label, terminal.is_terminal())) + "\n\n"
         sys.stdout.write(text)
         sys.stdout.flush()
@@ -158,6 +172,9 @@ class Output:
     def put(self, labels: Sequence[Label], count: int) -> None:
         """Writes labels into files, or onto standard output if none is named. `count`: how many messages there were,
         also those that have no label: files are numbered by message."""
+        if self.file is not None and not any(label.rows for label in labels):
+            labels = []
+        self._clear(self._lost(labels, count))
         if self.shows:
             for label in labels:
                 self.show(label)
@@ -165,6 +182,26 @@ class Output:
             self._write(self._name(labels[0], 1), self._of_text(labels))
         elif labels:
             self._draw(labels, count)
+
+    def _lost(self, labels: Sequence[Label], count: int) -> List[str]:
+        """The files that would be there if none of so many messages was refused."""
+        if self.file is None or self.is_named:
+            return []
+        if self.sheet is not None or self.kind not in _DRAWN:
+            return [] if labels or not count else [self.file]
+        written = {label.number for label in labels}
+        return [str(self._name(Label(number, (), []), count)) for number in range(1, count + 1)
+                if number not in written]
+
+    def _clear(self, names: Sequence[str]) -> None:
+        """Removes files that stand from before under these names, as nothing else is there now, and says so."""
+        for name in filter(os.path.isfile, names):
+            try:
+                os.unlink(os.path.realpath(name))
+                terminal.say(f"{name} stood there from before, and is removed")
+            except OSError as why:
+                self.status = 2
+                terminal.say(f"{name} stands there from before: {why.strerror}")
 
     def _of_text(self, labels: Sequence[Label]) -> bytes:
         if self.kind == "txt":
@@ -218,8 +255,8 @@ class Output:
         for label in labels if self.captions else ():
             lacking = font.lacking("".join(label.parts), self.kind)
             if lacking:
-                print(f"ecc200: the caption of symbol {label.number} has {lacking}, for which a .{self.kind} has no "
-                      "letter; an .svg has all", file=sys.stderr)
+                terminal.say(f"the caption of symbol {label.number} has {lacking}, for which a .{self.kind} has no "
+                             "letter; an .svg has all")
 
     def _drawn(self, page: drawing.Page) -> bytes:
         if self.kind == "png":
@@ -234,13 +271,14 @@ class Output:
         if self.file is None:
             return None
         if self.is_named:
-            return self.file.replace("{}", self._by_message(label))
+            return self.file.replace("{}", self._by_message(label) + _of_copy(label))
         base, end = os.path.splitext(self.file)
-        return self.file if count == 1 else f"{base}-{label.number:0{len(str(count))}}{end}"
+        number = "" if count == 1 else f"-{label.number:0{len(str(count))}}"
+        return f"{base}{number}{_of_copy(label)}{end}"
 
     def _by_message(self, label: Label) -> str:
         """The message as a part of a name, with the label's number behind it if another label has that name."""
-        name = safe("".join(label.parts))
+        name = safe(label.named_by or "".join(label.parts))
         while self.names.setdefault(name, label.number) != label.number:
             name += f"-{label.number}"
         return name
@@ -258,4 +296,4 @@ class Output:
             if why.errno in _FOR_ALL or why.errno == errno.EACCES and not os.path.exists(name):
                 raise
             self.status = 2
-            print(f"ecc200: {name}: {why.strerror}", file=sys.stderr, flush=True)
+            terminal.say(f"{name}: {why.strerror}")

@@ -3,7 +3,7 @@ from __future__ import annotations
 
 import argparse
 import re
-from typing import Callable, NamedTuple
+from typing import Callable, Dict, NamedTuple, Optional, Tuple
 
 from . import core
 from .core import BorderLimit, Extent, Form, Head, Profile, Shape
@@ -20,7 +20,7 @@ _NO_SAMPLER = "Only upright symbols with a whole number of pixels a module are r
 def _number(least: int, most: int) -> Callable[[str], int]:
     """What takes a whole number of these from the command line."""
     def number(text: str) -> int:
-        if not re.fullmatch("[0-9]+", text) or not least <= int(text) <= most:
+        if not re.fullmatch("[0-9]{1,9}", text) or not least <= int(text) <= most:
             raise argparse.ArgumentTypeError(f"a whole number from {least} to {most} is wanted, unlike {text!r}")
         return int(text)
     return number
@@ -52,7 +52,7 @@ def _part(text: str) -> Head:
 
 def _size(text: str) -> str:
     """A size of the command line."""
-    found = re.fullmatch("([0-9]+)x([0-9]+)", text)
+    found = re.fullmatch("([0-9]{1,9})x([0-9]{1,9})", text)
     if not found:
         raise argparse.ArgumentTypeError(f"rows and columns are wanted, as 8x32, unlike {text!r}")
     rows, columns = int(found[1]), int(found[2])
@@ -60,6 +60,27 @@ def _size(text: str) -> str:
         raise argparse.ArgumentTypeError(f"no symbol has {rows} rows and {columns} columns; 'ecc200 sizes' lists those "
                                          "that there are")
     return f"{rows}x{columns}"
+
+
+def _column(text: str) -> Tuple[str, str]:
+    """What a column is, of the command line."""
+    from . import tables  # (its modules would take a part of each start)
+    heading, _, what = text.rpartition("=")
+    known = tables.known_as(what)
+    if not heading.strip() or known is None:
+        raise argparse.ArgumentTypeError("a heading and what its column is are wanted, as 'Art. no.=01', unlike "
+                                         f"{text!r}")
+    return heading.strip(), known
+
+
+def _identifiers(text: str) -> Dict[str, str]:
+    """Identifiers of GS1 by the names that the command line has for them."""
+    from . import tables
+    names = {name.strip(): tables.known_as(name) or "" for name in text.split(",")}
+    wrong = [name for name, identifier in names.items() if not identifier.isdigit()]
+    if wrong:
+        raise argparse.ArgumentTypeError(f"identifiers of GS1 are wanted, as 01,lot,expiry, unlike {wrong[0]!r}")
+    return names
 
 
 def _takes(parser: argparse.ArgumentParser) -> argparse._ArgumentGroup:
@@ -86,8 +107,9 @@ def _takes_named(parser: argparse.ArgumentParser) -> None:
     several.add_argument("--no-filename", dest="filename", action="store_false", help="never print it")
 
 
-def _reads(parser: argparse.ArgumentParser, most: int = 1) -> None:
-    """What is read, and how; and at most how many symbols of a picture, if nothing else is asked for."""
+def _reads(parser: argparse.ArgumentParser, most: Optional[int] = None) -> None:
+    """What is read, and how; and at most how many symbols of a picture, if nothing else is asked for; None is the
+    first."""
     parser.add_argument("--usual", dest="extent", action="store_const", const=Extent.USUAL, default=Extent.WIDE,
                         help="read ASCII, C40, Text, X12 and Base 256 only, and refuse EDIFACT, macros and shifts that "
                         "wait")
@@ -106,12 +128,13 @@ def _reads(parser: argparse.ArgumentParser, most: int = 1) -> None:
     many = looks.add_mutually_exclusive_group()
     many.add_argument("--most", type=_number(1, _ALL), default=most, metavar="N",
                       help="look for at most N symbols on each page of a picture "
-                      + ("(1: the first that is found, and no other)" if most == 1 else f"({most})"))
+                      + ("(the first that is found, and a word where there are more; 1 takes less time, and asks for "
+                         "no other)" if most is None else f"({most})"))
     many.add_argument("--all", dest="most", action="store_const", const=_ALL,
                       help="look for all symbols on each page")
     looks.add_argument("--time", dest="milliseconds", type=_number(1, 3600000), metavar="MS",
                        help="look for about so many milliseconds on each page; without it the work is limited, the "
-                       "same on every machine, which is about half a second where nothing is found")
+                       "same on every machine, which is up to a second where nothing is found")
     looks.add_argument("--unread", action="store_true",
                        help="also list what is found and not read, the likeliest first, each with the reason and its "
                        "place; without it that is done for the likeliest alone, where nothing is read")
@@ -178,17 +201,22 @@ def _draws(parser: argparse.ArgumentParser) -> None:
                        help="put all symbols onto sheets of this size in millimetres (210x297, A4)")
 
 
-def _shows(parser: argparse.ArgumentParser) -> None:
+def _shows(parser: argparse.ArgumentParser) -> argparse._MutuallyExclusiveGroup:
+    """How what is said is printed. Returns the options of which one is chosen."""
     form = parser.add_mutually_exclusive_group()
     _json(form)
     form.add_argument("--hex", action="store_true",
                       help="the message's bytes in hexadecimal, FNC1 in front left out, others as 1d")
     form.add_argument("--escapes", action="store_true",
-                      help="the message as dm_tool spells it, with \\F, \\xHH and \\\\; ECI 26 is \\E{26}")
+                      help="the message as dm_tool spells it, with \\F, \\xHH and \\\\; ECI 26 is \\E{26}: what "
+                      "write --escapes takes")
+    form.add_argument("--raw", action="store_true",
+                      help="the message's bytes as they are, with nothing behind them: what write --raw takes")
     parser.add_argument("--charset", metavar="NAME",
                         help="the charset of all bytes (that of their ECI; without one utf-8, or iso-8859-1 where they "
                         "aren't that)")
     parser.add_argument("--unknown", action="store_true", help="let identifiers of GS1 pass that aren't in the table")
+    return form
 
 
 def _json(parser: argparse._ActionsContainer, what: str = "symbol") -> None:
@@ -206,11 +234,23 @@ def _writing(one: argparse.ArgumentParser) -> None:
                       "[01]09521234543213[17]251231[10]ABC, which are checked")
     form.add_argument("--hex", action="store_true", help="messages are bytes in hexadecimal")
     form.add_argument("--escapes", action="store_true",
-                      help="messages are spelled with \\F, \\xHH and \\\\, as dm_tool has it, and \\E{26} for ECI 26")
+                      help="messages are spelled with \\F, \\xHH and \\\\, as dm_tool has it, and \\E{26} for ECI "
+                      "26: what read --escapes prints")
+    form.add_argument("--raw", action="store_true",
+                      help="all of standard input, or each MESSAGE, is a message as it stands, of any bytes and with "
+                      "its line ends: what read --raw prints")
     form.add_argument("--bytes", metavar="FILE", help="the bytes of a file are the message")
+    rows = one.add_argument_group("rows of a table")
+    rows.add_argument("--csv", metavar="FILE",
+                      help="messages are the rows of a CSV file, whose headings say what the columns are: message, and "
+                      "perhaps its kind (text, gs1, escapes, hex); or what GS1 data has, by its identifier or its "
+                      "name, as 01, gtin, lot, expiry, serial; text, below the symbol; copies; size, as 8x32; file, "
+                      "its name for {} of -o")
+    rows.add_argument("--column", type=_column, action="append", default=[], metavar="HEADING=WHAT",
+                      help="what the column of a heading is, as 'Art. no.=01'; - leaves it out")
     one.add_argument("--charset", metavar="NAME",
                      help="the charset in which text becomes bytes, with its ECI in front (iso-8859-1 without one, and "
-                     "utf-8 for text that it hasn't, so that the text is read as it was written)")
+                     "for text that it hasn't the charset whose symbol is smallest)")
     one.add_argument("--eci", type=_number(0, 999999), metavar="N",
                      help="put ECI N in front, which says how the bytes are meant: text is written in its charset, as "
                      "utf-8 for 26")
@@ -231,7 +271,17 @@ def _writing(one: argparse.ArgumentParser) -> None:
 
 def _reading(one: argparse.ArgumentParser) -> None:
     _takes_named(one)
-    _shows(one)
+    _shows(one).add_argument("--csv", action="store_true",
+                             help="a table as CSV, in UTF-8: a row for each symbol, with its picture, its number there "
+                             "in reading order, its message, symbology identifier, size, corrections, wrong border "
+                             "modules and corners, and why it isn't read")
+    one.add_argument("--elements", type=_identifiers, default={}, metavar="NAMES",
+                     help="with --csv, what of GS1 data has columns of its own, as 01,lot,expiry,serial")
+    one.add_argument("--bom", action="store_true", help="with --csv, begin with a byte order mark, as Excel wants it")
+    one.add_argument("--quality", action="store_true",
+                     help="below each message how good the print is, as the picture shows it: contrast, modulation, "
+                     "unused error correction, nonuniformity, growth and damage, with the grades of ISO/IEC 15415, "
+                     "uncalibrated, and the weakest place")
     _reads(one)
 
 
@@ -308,9 +358,9 @@ SUBCOMMANDS = (
     Subcommand("write", "writing", "symbols of messages",
                "Writes a symbol of each message, or of each line of standard input, if none is given: the smallest "
                "square, or with --shape or --size another symbol. Text that ISO 8859-1 has is written in that, and "
-               "other text in UTF-8 behind ECI 26, so that it is read as it was written. A line is UTF-8, and ends "
-               "with LF or with CR and LF. Neither a line end behind a message, also one of the command line, nor a "
-               "byte order mark in front of the first is part of it.",
+               "other text in the charset whose symbol is smallest, behind its ECI, so that it is read as it was "
+               "written. A line is UTF-8, and ends with LF or with CR and LF. Neither a line end behind a message, "
+               "also one of the command line, nor a byte order mark in front of the first is part of it.",
                _writing),
     Subcommand("sizes", "reporting", "the sizes that there are",
                "Prints the table of sizes, by rising number of modules: rows and columns; regions, without their "

@@ -2,14 +2,14 @@
 from __future__ import annotations
 
 import argparse
-import sys
 from typing import Any, Dict, Iterator, List, NamedTuple, Optional, Tuple
 
 from .core import Head, Reading
 from .joining import Joined, Unjoined, join as joined
-from .reporting import Answer, answers, complain, json_line, line_of, message_told
+from .reporting import Answer, answers, complain, json_line, line_of, message_told, put_raw
 from .sources import known_charset
 from .spelling import headed
+from .terminal import say
 
 __all__ = ["join"]
 
@@ -116,9 +116,11 @@ def join(given: argparse.Namespace) -> int:
     status = max(status, _complain_of_strange(outcome, given))
     faults = list(_faults(outcome, symbols))
     for fault in faults:
-        print(f"ecc200: {fault}", file=sys.stderr, flush=True)
+        say(fault)
     if given.json:
         print(json_line(_told(outcome, faults, symbols, given)), flush=True)
+    elif given.raw:
+        put_raw(outcome.whole)
     elif outcome.whole is not None:
         print(line_of(outcome.whole, given), flush=True)
     return max(status, 1) if faults else status

@@ -3,7 +3,7 @@ from __future__ import annotations
 
 import argparse
 import sys
-from typing import Any, Dict, Iterator, List, NamedTuple, Optional, Tuple, Union
+from typing import TYPE_CHECKING, Any, Dict, Iterator, List, NamedTuple, Optional, Tuple, Union
 
 from . import core, explaining, gs1
 from .advice import bytes_in, in_words, righted, sizes_of, why_not_written
@@ -11,13 +11,20 @@ from .core import FNC1, Code, Head, Reading, Refused, Rows, Shape, Unsure, text_
 from .joining import Joined
 from .labels import Label, Output, printed
 from .progress import Progress
-from .sources import Search, Source, Trouble, doubts, known_charset, sources
-from .spelling import headed, shown, spelled
+from .quality import in_lines, rounded
+from .sources import Search, Source, Trouble, doubts, known_charset, sources, why_not
+from .spelling import headed, is_plain, plain, shown, spelled
+from .terminal import say
+
+if TYPE_CHECKING:
+    from . import tables
 
 __all__ = ["Answer", "answers", "check", "compare", "complain", "explain", "json_line", "line_of", "message_told",
-           "normal", "read", "sizes"]
+           "normal", "put_raw", "read", "sizes"]
 
+_NO = "\\no"  # stands for what a grid of a text says that isn't read, as dm_tool has it
 _EARLY = 3  # the status where a search ended early
+_NO_GS1 = "isn't: no FNC1 stands in front, which write --gs1 puts there"
 _OTHER_DEALING = "check codewords dealt into blocks from the first one, as libdmtx deals them"
 
 
@@ -80,6 +87,14 @@ def _answer(source: Source, given: argparse.Namespace, doubtful: Optional[Rows])
         return _refusal(source, rows, why, given, doubtful)
 
 
+def _told(source: Source, given: argparse.Namespace, doubtful: Optional[Rows]) -> Answer:
+    """The same, or that there is too little memory for it."""
+    try:
+        return _answer(source, given, doubtful)
+    except MemoryError as why:
+        return Answer(source._replace(number=0, rows=None), None, [], why_not(why))
+
+
 def _check_doubts(given: argparse.Namespace, names: List[str]) -> None:
     """That grids of doubtful modules can be told from those that are read, and stand as they do."""
     if given.doubtful == "-" and "-" in (names or ["-"]):
@@ -93,13 +108,13 @@ def answers(given: argparse.Namespace, names: List[str]) -> Iterator[Answer]:
     _check_doubts(given, names)
     progress, marks = Progress("symbols read"), doubts(given.doubtful)
     try:
-        search = Search(given.most, given.milliseconds, given.margin, given.unread)
+        search = Search(given.most, given.milliseconds, given.margin, given.unread, getattr(given, "quality", False))
         for source in sources(names, given.recursive, search, given.jobs):
             doubtful = next(marks, None) if source.number else None
             if given.doubtful is not None and source.number and doubtful is None:
                 raise Trouble(f"--doubtful {given.doubtful}: it has no grid for symbol {source.number} of "
                               f"{source.file}")
-            yield _answer(source, given, doubtful)
+            yield _told(source, given, doubtful)
             progress.step()
     finally:
         progress.end()
@@ -114,7 +129,7 @@ def _is_named(given: argparse.Namespace) -> bool:
 
 def _print(answer: Answer, text: str, given: argparse.Namespace) -> None:
     """Prints a line, behind the name of its file if there are several."""
-    print(f"{answer.source.file}:{text}" if _is_named(given) else text, flush=True)
+    print(f"{plain(answer.source.file)}:{text}" if _is_named(given) else text, flush=True)
 
 
 def complain(answer: Answer, given: argparse.Namespace) -> int:
@@ -123,7 +138,7 @@ def complain(answer: Answer, given: argparse.Namespace) -> int:
     file = "" if source.file == "-" and not _is_named(given) else source.file
     where = ", ".join(filter(None, (file, f"symbol {source.number}" if source.number else "", _place(source, given))))
     sys.stdout.flush()
-    print(f"ecc200: {where or 'standard input'}: {answer.fault}", file=sys.stderr, flush=True)
+    say(f"{where or 'standard input'}: {answer.fault}")
     return _status(source)
 
 
@@ -150,6 +165,11 @@ def _elements(says: Union[Reading, Joined], unknown: bool) -> Union[List[gs1.Ele
         return gs1.split(says.data, unknown)
     except gs1.Faulty as why:
         return str(why)
+
+
+def _only_looks_gs1(says: Union[Reading, Joined]) -> bool:
+    """Whether what is said reads like GS1 data, and isn't marked as such."""
+    return not says.gs1 and says.data[:1] in (b"(", b"[") and gs1.resembles(says.text or "")
 
 
 def _about(answer: Answer) -> Dict[str, Any]:
@@ -209,7 +229,19 @@ def message_told(says: Union[Reading, Joined], head: Head, given: argparse.Names
 
 def _read_json(answer: Answer, given: argparse.Namespace) -> str:
     told = {} if answer.reading is None else message_told(answer.reading, answer.reading.head, given)
+    if answer.source.found is not None and answer.source.found.quality is not None:
+        told["quality"] = rounded(answer.source.found.quality)
     return json_line({**_about(answer), **told})
+
+
+def _print_quality(answer: Answer, given: argparse.Namespace) -> None:
+    """Prints how good the print of a symbol is, below its message."""
+    found = answer.source.found
+    if found is None or found.quality is None:
+        complain(answer._replace(fault="it is a grid, and no picture whose print can be measured"), given)
+        return
+    for line in in_lines(found.quality):
+        print(f"    {line}", flush=True)
 
 
 def line_of(says: Union[Reading, Joined], given: argparse.Namespace) -> str:
@@ -219,7 +251,17 @@ def line_of(says: Union[Reading, Joined], given: argparse.Namespace) -> str:
     if given.escapes:
         return spelled(says.items, says.marks)
     elements = _elements(says, given.unknown)
-    return gs1.text(elements) if isinstance(elements, list) else shown(says.items, says.marks, given.charset)
+    if isinstance(elements, list):
+        return gs1.text(elements)
+    line = shown(says.items, says.marks, given.charset)
+    return f"\\x28{line[1:]}" if line.startswith("(") and _only_looks_gs1(says) else line
+
+
+def put_raw(says: Union[Reading, Joined, None]) -> None:
+    """Writes the bytes of what is said, and nothing else."""
+    sys.stdout.flush()
+    sys.stdout.buffer.write(b"" if says is None else says.data)
+    sys.stdout.buffer.flush()
 
 
 def _line(reading: Reading) -> str:
@@ -228,27 +270,76 @@ def _line(reading: Reading) -> str:
     return spelled((), (), reading.head) + shown(reading.items, reading.marks)
 
 
+def _tell_head(answer: Answer, given: argparse.Namespace) -> None:
+    """Says that a symbol says no whole message, where its line doesn't."""
+    if answer.reading is not None and answer.reading.head is not None:
+        complain(answer._replace(fault=f"it is {headed(answer.reading.head)}"), given)
+
+
 def _text(answer: Answer, reading: Reading, given: argparse.Namespace) -> str:
-    if given.hex and reading.head is not None:
-        complain(answer._replace(fault=f"it is {headed(reading.head)}"), given)
+    if given.hex:
+        _tell_head(answer, given)
     elements = None if given.hex or given.escapes else _elements(reading, given.unknown)
     if isinstance(elements, str):
         complain(answer._replace(fault=f"marked as GS1 data, but {elements}"), given)
+    elif not (given.hex or given.escapes) and _only_looks_gs1(reading):
+        complain(answer._replace(fault=f"it reads like GS1 data, and {_NO_GS1}"), given)
     return ("" if given.hex else spelled((), (), reading.head)) + line_of(reading, given)
+
+
+def _sheet(given: argparse.Namespace) -> Optional[tables.Sheet]:
+    """The table that is asked for, if one is."""
+    if not given.csv:
+        if given.elements or given.bom:
+            raise Trouble(f"{'--elements' if given.elements else '--bom'}: it needs --csv")
+        return None
+    from . import tables  # (its modules would take a part of each start)
+    return tables.Sheet(given.elements, given.bom)
+
+
+def _add(sheet: tables.Sheet, answer: Answer, given: argparse.Namespace) -> None:
+    """Adds an answer to a table: of text the text itself, of GS1 data its element string, and else how it is
+    spelled."""
+    reading = answer.reading
+    if reading is None:
+        sheet.add(answer.source, None, ("", ""), {}, answer.fault)
+        return
+    _text(answer, reading, given)  # (which says what is wrong with GS1 data)
+    elements, text = _elements(reading, given.unknown), text_of(reading.items, reading.marks, given.charset).text
+    kind, message = "escapes", spelled(reading.items, reading.marks, reading.head)
+    if isinstance(elements, list) and reading.head is None and not reading.marks:
+        kind, message = "gs1", gs1.text(elements)
+    elif not reading.gs1 and reading.head is None and text is not None and is_plain(text):
+        kind, message = "text", text
+    by_identifier = dict(elements) if isinstance(elements, list) else {}
+    sheet.add(answer.source, reading, (message, kind), by_identifier, "")
 
 
 def read(given: argparse.Namespace) -> int:
     """Prints what symbols say."""
-    status = 0
+    if given.quality and (given.csv or given.raw):
+        raise Trouble(f"--quality: it doesn't go with {'--csv' if given.csv else '--raw'}; --json has it too")
+    status, sheet = 0, _sheet(given)
     if given.charset:
         known_charset(given.charset)
     for answer in answers(given, given.files):
         if answer.reading is None:
             status = max(status, complain(answer, given))
-        if given.json:
+        if sheet is not None:
+            _add(sheet, answer, given)
+        elif given.json:
             print(_read_json(answer, given), flush=True)
+        elif given.raw:
+            put_raw(answer.reading)
+            _tell_head(answer, given)
         elif answer.reading is not None:
             _print(answer, _text(answer, answer.reading, given), given)
+            if given.quality:
+                _print_quality(answer, given)
+        elif answer.source.is_text:
+            _print(answer, _NO, given)
+    if sheet is not None:
+        sheet.end()
     return status
 
 
@@ -262,6 +353,8 @@ def check(given: argparse.Namespace) -> int:
             print(json_line(_about(answer)), flush=True)
         elif answer.reading is not None:
             _print(answer, _checked(answer, answer.reading), given)
+        elif answer.source.is_text:
+            _print(answer, _NO, given)
     return status
 
 
@@ -272,8 +365,9 @@ def _checked(answer: Answer, reading: Reading) -> str:
     most = core._size_of(*reading.size).limit
     more = f" (at most {most})" if answer.doubtful is None else f", erased: {erased}, check codewords left: {left}"
     dealt = f", {_OTHER_DEALING}" if reading.dealing else ""
+    kind = ", GS1 data" if reading.gs1 else f", reads like GS1 data and {_NO_GS1}" if _only_looks_gs1(reading) else ""
     return (f"{answer.size}, {reading.border_faults} border modules wrong, codewords corrected in each block: "
-            f"{corrected}{more}{dealt}")
+            f"{corrected}{more}{dealt}{kind}")
 
 
 def _parts(reading: Reading) -> Tuple[str, ...]:
@@ -297,6 +391,8 @@ def normal(given: argparse.Namespace) -> int:
             except Refused as why:
                 answer = answer._replace(fault=why_not_written(why))
         status = max(status, complain(answer, given))
+        if answer.source.is_text and output.is_of_grids:
+            labels.append(Label(count, (), []))
     output.put(labels, count)
     return max(status, output.status)
 
@@ -345,7 +441,7 @@ def compare(given: argparse.Namespace) -> int:
     same = _said(first.reading) == _said(second.reading)
     for name, answer in zip(given.files, (first, second)):
         assert answer.reading is not None
-        print(f"{name}: {_line(answer.reading)} ({answer.size}, {sum(answer.reading.corrected)} codewords "
+        print(f"{plain(name)}: {_line(answer.reading)} ({answer.size}, {sum(answer.reading.corrected)} codewords "
               "corrected)")
     identifiers = [first.reading.symbology, second.reading.symbology]
     if same and len(set(identifiers)) > 1:
@@ -379,7 +475,7 @@ def explain(given: argparse.Namespace) -> int:
             print(json_line({**_about(answer), "codewords": words}), flush=True)
             continue
         if _is_named(given):
-            print(f"{answer.source.file}, symbol {answer.source.number}:")
+            print(f"{plain(answer.source.file)}, symbol {answer.source.number}:")
         print("\n".join(_table(explanation)), flush=True)
         if answer.reading is not None:
             print("\n".join(_below(answer.reading)), end="\n\n", flush=True)

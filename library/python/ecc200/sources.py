@@ -2,6 +2,7 @@
 from __future__ import annotations
 
 import collections
+import functools
 import io
 import os
 import re
@@ -13,12 +14,14 @@ from . import core, pictures
 from .advice import reduced
 from .core import Rows
 
-__all__ = ["Search", "Source", "Trouble", "doubts", "known_charset", "of_picture", "of_text", "open_input", "sources"]
+__all__ = ["Search", "Source", "Trouble", "Unreadable", "doubts", "known_charset", "of_picture", "of_text",
+           "open_input", "sources", "whole", "why_not"]
 
 # How pictures begin: PNG, JPEG, GIF, BMP, TIFF, WebP, PNM. A sound is a RIFF too, and a text may begin with BM.
 _PICTURE = rb"(?s)\x89PNG|\xff\xd8\xff|GIF8|BM.{13}\0\0\0|II\*\0|MM\0\*|RIFF....WEBP|P[1-6]\s+[#\d]"
 _WITHOUT = "without it a picture has to show one upright symbol with a whole number of pixels for each module"
 _MOST_CHARACTERS, _MOST_LINES = 4096, 4096  # of a record; a symbol has at most 144
+_MOST_BYTES, _PIECE = 1 << 30, 1 << 20  # of a picture's file, and of what is read of it at once
 _GRID = rb"[\r\n]*[01]{10,}\r?\n"
 _NOT_DOTS = rb"(?P<PDF>%PDF-)|(?P<SVG>(?:\xef\xbb\xbf)?\s*(?:<[?!][^>]*>\s*)*<svg\b)"
 _OBJECT = r"\s*<_io\.BytesIO object at \w+>"  # how Pillow names what it was given
@@ -29,8 +32,13 @@ class Trouble(Exception):
     """What can't be done as it was asked for, in words: the command ends with status 2."""
 
 
-class _Unreadable(Exception):
+class Unreadable(Exception):
     """Why a file can't be read, in words."""
+
+
+def why_not(why: Exception) -> str:
+    """Why something can't be done."""
+    return "there is too little memory" if isinstance(why, MemoryError) else str(why) or type(why).__name__
 
 
 def known_charset(name: str) -> None:
@@ -51,22 +59,28 @@ class Source(NamedTuple):
     found: Optional[pictures.Found] = None
     is_complete: bool = True               # whether all of its picture's page was searched that was to be
     is_end: bool = False                   # whether it only says that the search ended early
+    is_text: bool = False                  # whether it is the record of a text
 
 
 class Search(NamedTuple):
-    """How pictures are searched: for how many symbols on each page, for how long, if that is said, with how many
-    corrections left, and whether all that aren't read are wanted."""
-    most: int = 64
+    """How pictures are searched: for how many symbols on each page, or for the first, if there is no other; for how
+    long, if that is said, with how many corrections left, whether all that aren't read are wanted, and whether the
+    print is measured."""
+    most: Optional[int] = 64
     milliseconds: Optional[int] = None
     margin: int = 0
     unread: bool = False
+    quality: bool = False
 
     def asked(self) -> core._Asked:
         """The same for the sampler: the likeliest symbol that isn't read is wanted anyway."""
-        return core._Asked(self.most, core._MOST_UNREAD if self.unread else 1, self.milliseconds, self.margin)
+        return core._Asked(self.most or 2, core._MOST_UNREAD if self.unread else 1, self.milliseconds, self.margin,
+                           self.quality)
 
-    def is_early(self, ended: core.End) -> bool:
-        """Whether there may be more of what was to be found: who asks for one symbol wants the first."""
+    def is_early(self, ended: core.End, count: int) -> bool:
+        """Whether there may be more of what was to be found than so many symbols: who asks for one wants the first."""
+        if self.most is None:
+            return count > 1 or count == 0 and ended != core.End.WHOLE
         return ended != core.End.WHOLE and (ended != core.End.ROOM or self.most > 1)
 
     @property
@@ -76,6 +90,8 @@ class Search(NamedTuple):
 
     def in_words(self, ended: core.End, count: int) -> str:
         """Why a search ended early."""
+        if self.most is None and count > 1:
+            return "there are more symbols than the one that is read: --all reads them, and --most 1 any one"
         some = f"{count} symbol{'s' * (count != 1)}"
         if ended == core.End.ROOM:
             return f"the search ended with {some}, and there may be more: --most is how many are looked for"
@@ -100,24 +116,24 @@ def _line_fault(line: bytes) -> str:
 def _of_record(file: str, number: int, lines: List[bytes]) -> Source:
     for line in lines:
         if line.strip(b"01"):
-            return Source(file, number, None, _line_fault(line))
+            return Source(file, number, None, _line_fault(line), is_text=True)
     if len({len(line) for line in lines}) > 1:
         shortest, longest = min(map(len, lines)), max(map(len, lines))
         return Source(file, number, None, f"its lines have from {shortest} to {longest} characters; a grid has as many "
-                      "in each")
-    return Source(file, number, [line.translate(core._DIGITS) for line in lines])
+                      "in each", is_text=True)
+    return Source(file, number, [line.translate(core._DIGITS) for line in lines], is_text=True)
 
 
 def of_text(name: str, stream: BinaryIO) -> Iterator[Source]:
     """The records of a text: lines of 0 and 1, and empty lines between."""
     lines: List[bytes] = []
     number = 0
-    for line in stream:
+    for line in iter(functools.partial(stream.readline, _MOST_CHARACTERS + 2), b""):
         line = line[:-1] if line.endswith(b"\n") else line
         if line not in (b"", b"\r"):
             lines.append(line)
             if len(line) > _MOST_CHARACTERS or len(lines) > _MOST_LINES:
-                raise _Unreadable(f"a record has more than {_MOST_CHARACTERS} characters or {_MOST_LINES} lines, and "
+                raise Unreadable(f"a record has more than {_MOST_CHARACTERS} characters or {_MOST_LINES} lines, and "
                                   "is no grid")
         elif lines:
             number += 1
@@ -126,20 +142,30 @@ def of_text(name: str, stream: BinaryIO) -> Iterator[Source]:
     if lines:
         yield _of_record(name, number + 1, lines)
     elif not number and name != "-":
-        raise _Unreadable("its lines are empty: there are no grids in it")
+        raise Unreadable("its lines are empty: there are no grids in it")
 
 
 def _picture(data: bytes) -> Any:
     try:
         from PIL import Image
-    except ImportError:
-        raise _Unreadable("to read pictures install Pillow (Debian: python3-pil)") from None
+    except ModuleNotFoundError:
+        raise Unreadable("to read pictures install Pillow (Debian: python3-pil)") from None
     try:
         picture = Image.open(io.BytesIO(data))
         picture.load()
         return picture
     except Exception as why:  # Pillow's plugins raise what they like
-        raise _Unreadable(f"the picture can't be opened ({str(why) or type(why).__name__})") from None
+        raise Unreadable(f"the picture can't be opened ({why_not(why)})") from None
+
+
+def whole(file: BinaryIO, most: int) -> bytes:
+    """The bytes of a file, of at most so many."""
+    held = io.BytesIO()
+    for piece in iter(functools.partial(file.read, _PIECE), b""):
+        if held.tell() + len(piece) > most:
+            raise Unreadable(f"it has more than {most >> 20:,} MiB, the most that is read of one")
+        held.write(piece)
+    return held.getvalue()
 
 
 def _of_modules(name: str, page: Any, note: str) -> Source:
@@ -178,9 +204,10 @@ def _of_page(name: str, page: Any, number: int, search: Search) -> List[Source]:
         spelled = _of_modules(name, page, "" if fault is None else f"{fault}; {_WITHOUT}")
         if _has_margin(spelled, search.margin) and (fault is not None or _is_symbol(spelled)):
             return [spelled]
-    is_complete = not search.is_early(found.ended)
-    sources = [Source(name, 1, symbol.rows, "", symbol, is_complete)
-               for symbol in (read if read and not search.unread else found)]
+    is_complete = not search.is_early(found.ended, len(read))
+    shown = found if search.unread or not read else read
+    kept = [symbol for symbol in shown if search.most is not None or symbol not in read[1:]]
+    sources = [Source(name, 1, symbol.rows, "", symbol, is_complete) for symbol in kept]
     if not is_complete:
         where = "" if number == 1 else f"page {number}: "
         sources.append(Source(name, 0, None, where + search.in_words(found.ended, len(read)), None, False, True))
@@ -192,14 +219,19 @@ def of_picture(name: str, data: bytes, search: Search) -> Iterator[Source]:
     picture, count, ends = _picture(data), 0, []  # type: Any, int, List[Source]
     broken: List[str] = []
     for number, page in core._pages(picture, broken):
-        for source in _of_page(name, page, number, search):
+        try:
+            found = _of_page(name, page, number, search)
+        except Exception as why:  # as there is no memory for it
+            broken.append(f"page {number} of the picture can't be searched ({why_not(why)})")
+            continue
+        for source in found:
             if source.is_end:
                 ends.append(source)
             else:
                 count += 1
                 yield source._replace(number=count)
-    for why in broken:
-        yield Source(name, 0, None, re.sub(_OBJECT, "", why))
+    for fault in broken:
+        yield Source(name, 0, None, re.sub(_OBJECT, "", fault))
     if count or broken:
         yield from ends
         return
@@ -213,16 +245,40 @@ def of_picture(name: str, data: bytes, search: Search) -> Iterator[Source]:
 
 # ---- Files and folders
 
-def _of_file(name: str, is_named: bool, search: Search) -> Iterator[Source]:
+class _Folder:
+    """A folder whose files are read: whether there was one to be read, and for each that was passed over, whether it
+    was a drawing."""
+
+    def __init__(self, path: str) -> None:
+        self.path, self.has_any = path, False
+        self.passed: List[bool] = []
+
+    def sources(self, search: Search) -> Iterator[Source]:
+        """That there was nothing to be read in it, once its files are read, if so."""
+        count, drawings = len(self.passed), sum(self.passed)
+        drawn = (f", {drawings} of them PDF or SVG, which are to be drawn first, as by  {_DRAWN_BY['PDF']}" if drawings
+                 else "")
+        passed = f"; {count} file{'s' * (count > 1)} of other kinds {'are' if count > 1 else 'is'} passed over{drawn}"
+        if not self.has_any:
+            yield Source(self.path or ".", 0, None, "there are no pictures and no grids in it" + passed * bool(count))
+
+    def is_picture(self) -> bool:
+        """Whether it can be looked at beforehand."""
+        return False
+
+
+def _of_file(name: str, folder: Optional[_Folder], search: Search) -> Iterator[Source]:
     """The grids of a file. One that isn't named, but found in a folder, is passed over if it is neither a picture nor
     has grids."""
     with open_input(name) as file:
         start = file.peek(4096)
         if re.match(_PICTURE, start):
-            yield from of_picture(name, file.read(), search)
-        elif is_named or re.match(_GRID, start):
+            yield from of_picture(name, whole(file, _MOST_BYTES), search)
+        elif folder is None or re.match(_GRID, start):
             _check_text(start, name)
             yield from of_text(name, file)
+        else:
+            folder.passed.append(bool(re.match(_NOT_DOTS, start)))
 
 
 def _check_text(start: bytes, name: str) -> None:
@@ -230,15 +286,15 @@ def _check_text(start: bytes, name: str) -> None:
     found = re.match(_NOT_DOTS, start)
     if found:
         kind = str(found.lastgroup)
-        raise _Unreadable(f"it is {'an' if kind == 'SVG' else 'a'} {kind}, and pictures made of pixels are read: draw "
+        raise Unreadable(f"it is {'an' if kind == 'SVG' else 'a'} {kind}, and pictures made of pixels are read: draw "
                           f"it first, as by  {_DRAWN_BY[kind]}")
     if re.search("\u2580|\u2584|\u2588".encode(), start):
-        raise _Unreadable("it is a symbol in half blocks, as a terminal shows it, and grids of 0 and 1 are read: leave "
+        raise Unreadable("it is a symbol in half blocks, as a terminal shows it, and grids of 0 and 1 are read: leave "
                           "out --format blocks, or write --format txt")
     if re.search(rb"[\0-\x08\x0e-\x1f]", start):
-        raise _Unreadable("it is neither a picture (PNG, JPEG, GIF, BMP, TIFF, WebP, PNM) nor text with grids")
+        raise Unreadable("it is neither a picture (PNG, JPEG, GIF, BMP, TIFF, WebP, PNM) nor text with grids")
     if not start and name != "-":
-        raise _Unreadable("it is empty: there are no grids in it, and no picture")
+        raise Unreadable("it is empty: there are no grids in it, and no picture")
 
 
 def _walked(folder: str) -> Iterator[Union[str, OSError]]:
@@ -258,23 +314,29 @@ def _walked(folder: str) -> Iterator[Union[str, OSError]]:
 
 
 class _File(NamedTuple):
-    """A file to be read, or why a folder can't be opened; and whether it was named, and not found in a folder."""
+    """A file to be read, or why a folder can't be opened; and in which folder it was found, if it wasn't named."""
     path: Union[str, OSError]
-    is_named: bool
+    folder: Optional[_Folder] = None
 
     def sources(self, search: Search) -> Iterator[Source]:
         """Its grids, or why it can't be read."""
+        for source in self._sources(search):
+            if self.folder is not None:
+                self.folder.has_any = True
+            yield source
+
+    def _sources(self, search: Search) -> Iterator[Source]:
         try:
             if isinstance(self.path, OSError):
                 raise self.path
-            yield from _of_file(self.path, self.is_named, search)
+            yield from _of_file(self.path, self.folder, search)
         except IsADirectoryError:
             yield Source(str(self.path), 0, None, "it is a folder; -r reads the files in it")
         except OSError as why:
             name = why.filename if why is self.path else self.path
             yield Source(str(name), 0, None, str(why.strerror))
-        except (_Unreadable, ValueError) as why:  # as of a page that can't be opened
-            yield Source(str(self.path), 0, None, re.sub(_OBJECT, "", str(why)))
+        except Exception as why:  # as of a file that memory has no room for: the others are read all the same
+            yield Source(str(self.path), 0, None, re.sub(_OBJECT, "", why_not(why)))
 
     def is_picture(self) -> bool:
         """Whether it is one that can be looked at beforehand, as standard input and pipes can't."""
@@ -283,19 +345,22 @@ class _File(NamedTuple):
         try:
             with open(self.path, "rb") as file:
                 return bool(re.match(_PICTURE, file.peek(4096)))
-        except OSError:
+        except (OSError, MemoryError):
             return False
 
 
-def _files(names: List[str], recursive: bool) -> Iterator[_File]:
-    """These files, and all files in these folders if `recursive`."""
+def _files(names: List[str], recursive: bool) -> Iterator[Union[_File, _Folder]]:
+    """These files, and all files in these folders, with each folder behind them, if `recursive`."""
     for name in names or ["" if recursive else "-"]:
-        is_named = not (recursive and os.path.isdir(name or "."))
-        for file in [name] if is_named else _walked(name):
-            yield _File(file, is_named)
+        if recursive and os.path.isdir(name or "."):
+            folder = _Folder(name)
+            yield from (_File(file, folder) for file in _walked(name))
+            yield folder
+        else:
+            yield _File(name)
 
 
-def _side_by_side(files: Iterator[_File], search: Search, jobs: int) -> Iterator[Source]:
+def _side_by_side(files: Iterator[Union[_File, _Folder]], search: Search, jobs: int) -> Iterator[Source]:
     """The grids of files in order, of which so many pictures are searched at a time, and some are waiting."""
     from concurrent.futures import Future, ThreadPoolExecutor  # a sixth of each start
     pending: Deque[Union[Future[List[Source]], Iterator[Source]]] = collections.deque()
@@ -304,11 +369,18 @@ def _side_by_side(files: Iterator[_File], search: Search, jobs: int) -> Iterator
         part = pending.popleft()
         return part.result() if isinstance(part, Future) else part
 
+    def begun(file: Union[_File, _Folder]) -> Union[Future[List[Source]], Iterator[Source]]:
+        if file.is_picture():
+            try:
+                return pool.submit(lambda: list(file.sources(search)))
+            except (RuntimeError, MemoryError):  # no thread can be started
+                pass
+        return file.sources(search)
+
     with ThreadPoolExecutor(jobs) as pool:
         try:
             for file in files:
-                pending.append(pool.submit(lambda file=file: list(file.sources(search))) if file.is_picture()
-                               else file.sources(search))
+                pending.append(begun(file))
                 if len(pending) > 2 * jobs:
                     yield from first()
             while pending:
@@ -344,7 +416,7 @@ def doubts(name: Optional[str]) -> Iterator[Optional[Rows]]:
             _check_text(stream.peek(4096), name)
             for source in of_text(name, stream):
                 if source.rows is None:
-                    raise _Unreadable(f"grid {source.number}: {source.fault}")
+                    raise Unreadable(f"grid {source.number}: {source.fault}")
                 yield source.rows
-        except _Unreadable as why:
+        except Unreadable as why:
             raise Trouble(f"--doubtful {name}: {why}") from None

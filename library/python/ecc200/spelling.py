@@ -1,13 +1,15 @@
 """Messages as text to be shown: characters as they are, with a backslash before what isn't one."""
 from __future__ import annotations
 
+import os
 import re
 import unicodedata
 from typing import Iterable, List, NamedTuple, Optional, Sequence, Tuple
 
 from .core import FNC1, Head, Mark, encoded, text_of
 
-__all__ = ["Misspelled", "Spelled", "headed", "of_part", "of_spelling", "part_of", "shown", "spelled"]
+__all__ = ["Misspelled", "Spelled", "headed", "is_plain", "of_part", "of_spelling", "part_of", "plain", "shown",
+           "spelled"]
 
 _CONTROLS = ("Cc", "Cs", "Zl", "Zp")
 _TURNS = ("LRE", "RLE", "LRO", "RLO", "PDF", "LRI", "RLI", "FSI", "PDI")
@@ -71,6 +73,30 @@ def _is_shown(letter: str) -> bool:
     """Whether a letter is shown as it is: all but what ends a line, controls a terminal, or turns letters around."""
     return (letter.isprintable() or unicodedata.category(letter) not in _CONTROLS
             and unicodedata.bidirectional(letter) not in _TURNS)
+
+
+def is_plain(text: str) -> bool:
+    """Whether a text has no controls but line ends and tabs."""
+    return all(letter in "\n\r\t" or _is_shown(letter) for letter in text)
+
+
+def _plain_bytes(found: "re.Match[str]") -> str:
+    """Bytes in a row that the locale has no letters for, as they are where they are letters of UTF-8 that are shown, or
+    no byte of a terminal's controls."""
+    letters = os.fsencode(found[0]).decode("utf-8", "surrogateescape")
+    each = ((letter, letter.encode("utf-8", "surrogateescape")) for letter in letters)
+    return "".join(data.decode("ascii", "surrogateescape") if _is_shown(letter) or "\udca0" <= letter <= "\udcff"
+                   else spelled(data) for letter, data in each)
+
+
+def plain(text: str) -> str:
+    """A text with the names of files in it as a line of a terminal: what would end the line, control the terminal or
+    turn letters around is spelled, as \\x1B."""
+    if text.isprintable():
+        return text
+    shown_alone = "".join(letter if _is_shown(letter) or "\udc80" <= letter <= "\udcff"
+                          else spelled(letter.encode("utf-8", "replace")) for letter in text)
+    return re.sub("[\udc80-\udcff]+", _plain_bytes, shown_alone)
 
 
 def _is_by_letters(text: str, name: str, data: bytes) -> bool:

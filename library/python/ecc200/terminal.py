@@ -6,11 +6,17 @@ import sys
 from typing import List
 
 from .core import Rows
+from .spelling import plain
 
-__all__ = ["blocks", "can_show", "columns", "is_terminal"]
+__all__ = ["blocks", "can_show", "columns", "is_terminal", "say"]
 
 _LIGHT = {(0, 0): "\u2588", (0, 1): "\u2580", (1, 0): "\u2584", (1, 1): " "}  # what is light is drawn
 _WHITE_ON_BLACK, _AS_BEFORE = "\x1b[97;40m", "\x1b[0m"
+
+
+def say(words: str) -> None:
+    """Says something on standard error, in a line."""
+    print(f"ecc200: {plain(words)}", file=sys.stderr, flush=True)
 
 
 def is_terminal() -> bool:
