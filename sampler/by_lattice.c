@@ -57,8 +57,8 @@ static void search_spot(struct search *search, const struct view *view, const st
                         const struct spot *spot, struct field *field) {
     struct homography lattices[2 * MOST_LATTICES];
     struct lattice lattice;
-    const struct plane *grey = grey_of(view);
     int of_picture = view->sight->level + view->level;
+    struct ground ground = {grey_of(view), &search->known, 1 << of_picture};
     struct point middle =
         point_at((spot->x + WINDOW_SIDE / 2) << of_picture, (spot->y + WINDOW_SIDE / 2) << of_picture);
     if (is_known_at(&search->known, middle))
@@ -67,10 +67,11 @@ static void search_spot(struct search *search, const struct view *view, const st
     limit_spend(search->judge.limit, WORK_OF_A_WINDOW);
     int count = find_lattices(steep, spot->x, spot->y, 0.5, lattices);
     if (view->tries.lattices > MOST_LATTICES)
-        count += find_lattices(grey, spot->x, spot->y, 0, lattices + count);
+        count += find_lattices(ground.grey, spot->x, spot->y, 0, lattices + count);
     size_t before = search->count;
     for (int k = 0; k < count && k < view->tries.lattices && !is_over(search) && search->count == before; k++)
-        if (grow_lattice(grey, &lattices[k], search->judge.places, search->judge.limit, &lattice) && is_large(&lattice))
+        if (grow_lattice(&ground, &lattices[k], search->judge.places, search->judge.limit, &lattice) &&
+            is_large(&lattice))
             search_field(search, view, &lattice, field);
 }
 

@@ -5,6 +5,7 @@
  *     ecc200_sample_usual          the usual options
  *     ecc200_sample_find           the same symbols, what was found and not read, and whether the search ended early
  *     ecc200_sample_usual_search   the usual search
+ *     ecc200_sample_measure        how good the print of a symbol is
  *     ecc200_sample_abi            which version of this interface the library has
  *
  * An example, for a picture of `width` by `height` bytes, 0 black and 255 white:
@@ -36,8 +37,8 @@
  * judges each: the reading is what the grid says. A wrong grid gives no reading or, rarely, a wrong message, as damage
  * to a symbol does; `margin` makes that rarer still.
  *
- * Any number of threads may call at once. A call keeps nothing; it allocates up to nine bytes a pixel, and frees them.
- * Without memory it returns NO_MEMORY. */
+ * Any number of threads may call at once. A call keeps nothing; it allocates up to ten bytes a pixel, and up to 41 of
+ * pictures up to 2 megapixels, and frees them. Without memory it returns NO_MEMORY. */
 #ifndef ECC200_SAMPLE_H
 #define ECC200_SAMPLE_H
 
@@ -67,7 +68,8 @@ enum ecc200_sample_code {
     ECC200_SAMPLE_OK = 0,
     ECC200_SAMPLE_PICTURE = 1,        /* width or height is 0 or above ECC200_SAMPLE_MOST_SIDE, or the stride is less
                                          than the width */
-    ECC200_SAMPLE_NO_MEMORY = 2
+    ECC200_SAMPLE_NO_MEMORY = 2,
+    ECC200_SAMPLE_SYMBOL = 3          /* what is to be measured is no symbol that was found */
 };
 
 /* Why a search ended. But for the first, there may be symbols that weren't found. */
@@ -136,16 +138,16 @@ typedef struct ecc200_sample_search {
                                          usual; or ECC200_SAMPLE_ANY_EFFORT */
 } ecc200_sample_search;
 
-/* The usual options: the usual work, which takes about half a second if nothing is found, every side, no margin,
- * nothing unread. */
+/* The usual options: the usual work, which takes up to a second if nothing is found, every side, no margin, nothing
+ * unread. */
 ecc200_sample_options ecc200_sample_usual(void);
 
 /* Finds at most `room` symbols in a picture, writes them into `out` and their number into *count. They are in reading
- * order: row by row from the top, each from the left; and where they all are turned by about one angle, of at most 45
- * degrees but for quarter turns, as if that were turned back. With room for one, the search ends with the first; else
- * it goes on until there are `room`, or nothing more is found, or the limit of time or work is reached. `options` may
- * be NULL: the usual ones. Returns PICTURE or NO_MEMORY with a count of 0; otherwise OK, with a count of 0 if there is
- * none. */
+ * order: row by row from the top, each from the left; and where their rows, or else they all, are turned by about one
+ * angle, of at most 45 degrees but for quarter turns, as if that were turned back. With room for one, the search ends
+ * with the first; else it goes on until there are `room`, or nothing more is found, or the limit of time or work is
+ * reached. `options` may be NULL: the usual ones. Returns PICTURE or NO_MEMORY with a count of 0; otherwise OK, with a
+ * count of 0 if there is none. */
 uint16_t ecc200_sample_picture(const uint8_t *luminance, size_t width, size_t height, size_t stride,
                                const ecc200_sample_options *options, ecc200_sample *out, size_t room, size_t *count);
 
@@ -156,6 +158,38 @@ ecc200_sample_search ecc200_sample_usual_search(void);
  * counts are 0. */
 uint16_t ecc200_sample_find(const uint8_t *luminance, size_t width, size_t height, size_t stride,
                             ecc200_sample_search *search);
+
+/* How good the print of a symbol is, as ISO/IEC 15415 counts it, but of this picture, uncalibrated: this is no
+ * verifier's report, for which light, aperture and calibration are given. Luminance is taken for reflectance, 255 for
+ * all of it. A grade is 4 for A to 0 for F. docs/PICTURES.md says how large the errors are. */
+typedef struct ecc200_sample_quality {
+    double contrast;                  /* the largest less the smallest reflectance, of modules and quiet zone: 0 to 1 */
+    double modulation;                /* the least of all codewords */
+    double unused[ECC200_MOST_BLOCKS]; /* of each block, the share of its check codewords that neither errors, of which
+                                         each takes two, nor erasures use; 0 where the symbol isn't read */
+    double axial;                     /* nonuniformity: how much the mean width and height of modules differ, as a
+                                         share */
+    double grid;                      /* nonuniformity: how far the worst module lies beside an even grid, in modules,
+                                         if that is no more than half a module */
+    double growth[2];                 /* how much wider, and higher, dark modules are than they should be, in modules */
+    double border[4];                 /* the share of modules of a side of the border with a wrong colour, or doubtful:
+                                         at the top, on the right, below and on the left */
+    double quiet[4];                  /* the share of the quiet zone, one module wide, that is dark or isn't in the
+                                         picture, beside each side */
+    uint16_t codewords, blocks;       /* how many there are */
+    uint16_t readable[4];             /* how many codewords have a modulation of .5, .4, .3 and .2, or more */
+    uint8_t contrast_grade, modulation_grade, unused_grade, axial_grade, grid_grade; /* of modulations and unused error
+                                         correction the lowest of the blocks */
+    char weakest[64];                 /* the weakest place in words: the longest run of damage on the border or in the
+                                         quiet zone, as "the left border, rows 3 to 6"; else the weakest codeword */
+    float modulations[ECC200_MOST_CODEWORDS]; /* of each codeword, that of its weakest module: how far its reflectance
+                                         is from the middle, as a share of half the contrast */
+} ecc200_sample_quality;
+
+/* Measures a symbol that was found in this picture. Returns OK; PICTURE or NO_MEMORY; or SYMBOL if it can't have been
+ * found: then all numbers are 0. */
+uint16_t ecc200_sample_measure(const uint8_t *luminance, size_t width, size_t height, size_t stride,
+                               const ecc200_sample *symbol, ecc200_sample_quality *out);
 
 #if defined(__cplusplus)
 }

@@ -27,11 +27,22 @@ static struct warp settled(const struct plane *grey, const struct homography *to
     return (struct warp){.to_picture = is_beside ? compose(to_picture, &half) : *to_picture, .unit = UNIT};
 }
 
-/* Whether a part of a lattice has edges that lie on it, of this contrast at least. */
-static bool holds(const struct plane *grey, struct layout *room, const struct lattice *lattice, struct part part,
+/* Whether a module of a part lies in a known symbol. */
+static bool is_taken(const struct ground *ground, const struct warp *warp, struct part part) {
+    for (int y = part.first_y; y < part.last_y; y++)
+        for (int x = part.first_x; x < part.last_x; x++)
+            if (is_known_at(ground->known, scale_by(warp_point(warp, x + 0.5, y + 0.5), ground->scale)))
+                return true;
+    return false;
+}
+
+/* Whether a part of a lattice has edges that lie on it, of this contrast at least, and is nobody else's. */
+static bool holds(const struct ground *ground, struct layout *room, const struct lattice *lattice, struct part part,
                   double least) {
+    if (is_taken(ground, &lattice->warp, part))
+        return false;
     lay_out_places(room, part);
-    struct support support = support_of(grey, room, &lattice->warp, least);
+    struct support support = support_of(ground->grey, room, &lattice->warp, least);
     return support.clear >= LEAST_CLEAR && support.near >= LEAST_NEAR;
 }
 
@@ -53,13 +64,13 @@ static struct part both_of(struct part one, struct part other) {
 }
 
 /* Grows the lattice to those sides that still fit; false if none does. */
-static bool grow(const struct plane *grey, struct layout *room, double least, bool fits[SIDES_OF_A_PART],
+static bool grow(const struct ground *ground, struct layout *room, double least, bool fits[SIDES_OF_A_PART],
                  struct lattice *lattice) {
     struct part before = lattice->part;
     bool grows = false;
     for (int side = 0; side < SIDES_OF_A_PART; side++) {
         struct part strip = strip_beside(before, side);
-        fits[side] = fits[side] && holds(grey, room, lattice, strip, least);
+        fits[side] = fits[side] && holds(ground, room, lattice, strip, least);
         if (fits[side])
             grows = true, lattice->part = both_of(lattice->part, strip);
     }
@@ -70,17 +81,18 @@ static bool has_room(struct part part) {
     return part.last_x - part.first_x + 2 * STEP <= MOST_EXTENT && part.last_y - part.first_y + 2 * STEP <= MOST_EXTENT;
 }
 
-bool grow_lattice(const struct plane *grey, const struct homography *to_picture, struct layout *room,
+bool grow_lattice(const struct ground *ground, const struct homography *to_picture, struct layout *room,
                   struct limit *limit, struct lattice *out) {
+    const struct plane *grey = ground->grey;
     struct lattice lattice = {settled(grey, to_picture), {-FIRST_REACH, FIRST_REACH, -FIRST_REACH, FIRST_REACH}};
     bool fits[SIDES_OF_A_PART] = {true, true, true, true};
     lay_out_places(room, lattice.part);
     refine(grey, room, lattice.part, STIFF, 3, &lattice.warp);
     double least = LEAST_SHARE * mean_contrast(grey, room, &lattice.warp);
-    if (!holds(grey, room, &lattice, lattice.part, least))
+    if (!holds(ground, room, &lattice, lattice.part, least))
         return false;
     lattice.warp.is_bent = true;
-    while (!limit_reached(limit) && has_room(lattice.part) && grow(grey, room, least, fits, &lattice)) {
+    while (!limit_reached(limit) && has_room(lattice.part) && grow(ground, room, least, fits, &lattice)) {
         lay_out_places(room, lattice.part);
         limit_spend(limit, 2 * work_of_fitting(room)); /* the strips beside, and the bend */
         bend(grey, room, 1, &lattice.warp);

@@ -2,6 +2,7 @@
 #ifndef LATTICE_H
 #define LATTICE_H
 
+#include "found.h"
 #include "layout.h"
 #include "plane.h"
 #include "warp.h"
@@ -13,9 +14,16 @@ struct lattice {
     struct part part; /* the modules that it has */
 };
 
-/* Grows a lattice around the origin of the map as far as edges lie on it, or until the limit. `room` is for its
- * places. False if even the first modules don't fit. */
-bool grow_lattice(const struct plane *grey, const struct homography *to_picture, struct layout *room,
+/* Where lattices grow: a level, and what is known of the picture, `scale` pixels of which are one of the level. */
+struct ground {
+    const struct plane *grey;
+    const struct known *known;
+    double scale;
+};
+
+/* Grows a lattice around the origin of the map as far as edges lie on it and no known symbol does, or until the limit.
+ * `room` is for its places. False if even the first modules don't fit. */
+bool grow_lattice(const struct ground *ground, const struct homography *to_picture, struct layout *room,
                   struct limit *limit, struct lattice *out);
 
 #endif

@@ -10,7 +10,7 @@
 /* Work is counted in about nanoseconds of a processor, the same for the same picture. */
 struct limit {
     int64_t end;           /* milliseconds of a clock that never goes back: when to stop; INT64_MAX: never */
-    int64_t allowed, left; /* how much work may be done until the first symbol, or from one to the next */
+    int64_t allowed, left; /* how much work may be done until the first symbol; how much is left, then or to the next */
     int64_t part;          /* how much of that in what is being tried, so that something is left for the rest */
     enum ecc200_sample_end reached; /* what left something undone: ECC200_SAMPLE_WHOLE if nothing did */
 };
@@ -34,10 +34,17 @@ static inline void limit_end_part(struct limit *limit) {
     limit->part = limit->left;
 }
 
-/* Allows as much work once more, after a symbol. */
+/* Allows more work than before, after a symbol: where one is, there may be a page of them, with words between. */
 static inline void limit_renew(struct limit *limit) {
-    limit->left = limit->allowed;
+    enum { AFTER_A_SYMBOL = 6 };
+    limit->left = limit->allowed < INT64_MAX / AFTER_A_SYMBOL ? AFTER_A_SYMBOL * limit->allowed : limit->allowed;
     limit_begin_part(limit);
+}
+
+/* Allows so many percent of the work anew, for another look at the picture. */
+static inline void limit_begin_anew(struct limit *limit, int percent) {
+    limit->left = limit->allowed / 100 * percent;
+    limit_end_part(limit);
 }
 
 /* Whether the limit is reached. Who asks then leaves undone what it was about to do. */

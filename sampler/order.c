@@ -6,6 +6,8 @@
 static const double LEAST_ALIKE = 0.9;  /* of the mean of directions, of length 1 each, for them to be one */
 static const double MOST_LOWER = 0.5;   /* how much lower than the first of a row, in its heights, another of it lies */
 
+enum { LEAST_LATTICE = 4 }; /* symbols that show how they lie beside one another */
+
 /* Where a symbol lies, and how high it is. */
 struct entry {
     struct point at;
@@ -17,15 +19,38 @@ static struct point corner_at(const ecc200_sample *symbol, int k) {
     return point_at(symbol->corners[k].x, symbol->corners[k].y);
 }
 
-/* By how much all symbols are turned, from -45 to 45 degrees, in radians; 0 if they aren't turned alike. */
-static double turn_of(const ecc200_sample *symbols, size_t count) {
-    struct point total = point_at(0, 0);
+/* The sum of directions, each as four times its angle, which is the same for all quarter turns. */
+static void add_direction(struct point *total, struct point along) {
+    *total = sum(*total, turn_by(point_at(1, 0), 4 * atan2(along.y, along.x)));
+}
+
+/* Whether so many directions are one. */
+static bool are_alike(struct point total, size_t count) {
+    return length(total) >= LEAST_ALIKE * (double)count;
+}
+
+/* The way from a symbol to the one that is nearest. */
+static struct point way_to_nearest(const ecc200_sample *symbols, size_t count, size_t at) {
+    struct point middle = middle_of(&symbols[at]), nearest = point_at(INFINITY, INFINITY);
     for (size_t k = 0; k < count; k++) {
-        struct point along = difference(corner_at(&symbols[k], 2), corner_at(&symbols[k], 3));
-        /* Four times the angle is the same for all quarter turns. */
-        total = sum(total, turn_by(point_at(1, 0), 4 * atan2(along.y, along.x)));
+        struct point way = difference(middle_of(&symbols[k]), middle);
+        if (k != at && dot(way, way) < dot(nearest, nearest))
+            nearest = way;
     }
-    return length(total) < LEAST_ALIKE * (double)count ? 0 : atan2(total.y, total.x) / 4;
+    return nearest;
+}
+
+/* By how much all symbols are turned, from -45 to 45 degrees, in radians: as their neighbours lie, or else as each of
+ * them lies; 0 if these aren't turned alike. */
+static double turn_of(const ecc200_sample *symbols, size_t count) {
+    struct point lattice = point_at(0, 0), single = point_at(0, 0);
+    for (size_t k = 0; k < count; k++) {
+        if (count >= LEAST_LATTICE)
+            add_direction(&lattice, way_to_nearest(symbols, count, k));
+        add_direction(&single, difference(corner_at(&symbols[k], 2), corner_at(&symbols[k], 3)));
+    }
+    struct point total = count >= LEAST_LATTICE && are_alike(lattice, count) ? lattice : single;
+    return are_alike(total, count) ? atan2(total.y, total.x) / 4 : 0;
 }
 
 static int by_height(const void *one, const void *other) {

@@ -3,19 +3,16 @@
 #include <stdlib.h>
 #include <string.h>
 
-
 enum { ROWS_AT_A_TIME = 32 };
 
-/* Whether the limit leaves a row of so many pixels; that is looked at now and then. */
-static bool leaves(struct limit *limit, int row, int width) {
+bool leaves(struct limit *limit, int row, int width) {
     if (row % ROWS_AT_A_TIME > 0)
         return true;
     limit_spend(limit, (int64_t)ROWS_AT_A_TIME * width);
     return !limit_reached(limit);
 }
 
-/* Makes room for a plane of 0, and gives its first pixel; NULL if there is no memory. */
-static uint8_t *plane_make(int width, int height, int frame, struct plane *out) {
+uint8_t *plane_make(int width, int height, int frame, struct plane *out) {
     size_t stride = (size_t)width + 2 * (size_t)frame;
     uint8_t *owned = calloc((size_t)height + 2 * (size_t)frame, stride);
     uint8_t *first = owned != NULL ? owned + (size_t)frame * (stride + 1) : NULL;
@@ -28,8 +25,7 @@ void plane_free(struct plane *plane) {
     *plane = (struct plane){0};
 }
 
-/* Takes back a plane if it wasn't made whole. */
-static bool is_made(bool is_whole, struct plane *plane) {
+bool is_made(bool is_whole, struct plane *plane) {
     if (!is_whole)
         plane_free(plane);
     return is_whole;
@@ -219,7 +215,9 @@ struct strip {
 static bool strip_make(int width, int rim, struct strip *out) {
     size_t wide = (size_t)width + 2 * (size_t)rim, count = wide * (STRIP + 2 * (size_t)rim);
     uint8_t *room = malloc(3 * count);
-    *out = (struct strip){(int)wide, rim, STRIP, count, room, {room + count, room + 2 * count}};
+    *out = (struct strip){(int)wide, rim, STRIP, count, room, {NULL, NULL}};
+    if (room != NULL)
+        out->lines[0] = room + count, out->lines[1] = room + 2 * count;
     return room != NULL;
 }
 

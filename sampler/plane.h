@@ -16,6 +16,15 @@ struct plane {
     uint8_t *owned;        /* what is freed, if anything */
 };
 
+/* Makes room for a plane of 0, and gives its first pixel; NULL if there is no memory. */
+uint8_t *plane_make(int width, int height, int frame, struct plane *out);
+
+/* Whether the limit leaves a row of so many pixels; that is looked at now and then. */
+bool leaves(struct limit *limit, int row, int width);
+
+/* Takes back a plane if it wasn't made whole. */
+bool is_made(bool is_whole, struct plane *plane);
+
 /* Each of these makes a new plane within the limit. False if there was no memory, or the limit was reached, and then
  * there is none. */
 bool plane_invert(const struct plane *from, struct limit *limit, struct plane *out);
@@ -69,6 +78,21 @@ static inline int dark_at(const struct plane *dark, struct point at) {
 static inline int grey_at(const struct plane *grey, struct point at) {
     return *pixel_of(grey, nearest_pixel(at.x, grey->width, grey->frame),
                      nearest_pixel(at.y, grey->height, grey->frame));
+}
+
+/* Whether a point has the centre of a pixel on each side. */
+static inline bool is_between_pixels(const struct plane *plane, struct point at) {
+    return at.x >= 0.5 && at.y >= 0.5 && at.x < plane->width - 0.5 && at.y < plane->height - 0.5;
+}
+
+/* The brightness at such a point, by the distances of these. */
+static inline double brightness_between(const struct plane *plane, struct point at) {
+    double x = at.x - 0.5, y = at.y - 0.5;
+    int column = (int)x, row = (int)y;
+    const uint8_t *here = pixel_of(plane, column, row), *below = here + plane->stride;
+    double right = x - column, down = y - row;
+    double upper = here[0] + right * (here[1] - here[0]), lower = below[0] + right * (below[1] - below[0]);
+    return upper + down * (lower - upper);
 }
 
 /* The brightness at a point, between the centres of pixels by their distances; outside, that of the nearest pixel. */

@@ -26,6 +26,7 @@ struct search {
     ecc200_sample *found;
     size_t count, room;
     struct known known;   /* where they are */
+    int around;           /* how many tiles each way are what is darker than its surroundings compared with */
 };
 
 /* Whether there are enough symbols, or no memory, or no time. */
@@ -45,6 +46,16 @@ bool judge_all(struct search *search, const struct sight *sight, struct placemen
  * are light on dark by the sight in which these are dark; or NULL if they aren't looked for, as where dots are thicker
  * than they are, which is searched at fewer places. */
 void search_lattices(struct search *search, const struct sight *sight, const struct sight *inverted, int level);
+
+/* How a picture is searched: for what it shows clearly, or for all that can be made out as well. */
+enum depth { BY_SHAPE, BY_ALL };
+
+/* Searches a picture, and frees it if it is owned. */
+void search_picture(struct search *search, const struct plane *picture, enum depth depth);
+
+/* Searches once more what the picture can be made into that shows more than it does itself. Why the search ended is
+ * told of the picture as it is. */
+void search_anew(struct search *search, const struct plane *picture);
 
 /* Looks where a symbol should stand, as the neighbours of those that were found do. */
 void search_rows(struct search *search);

@@ -80,7 +80,9 @@ static void take_side(struct smeared *smeared, int side) {
 
 void size_up(const struct plane *picture, const struct layouts *shapes, struct smeared *smeared) {
     double strength;
-    take_side(smeared, side_by_turns(picture, &smeared->warp, smeared->at.extent.wide, shapes, &strength));
+    int side = side_by_turns(picture, &smeared->warp, smeared->at.extent.wide, shapes, &strength);
+    if (side > 0)
+        take_side(smeared, side);
     /* By chance so many modules turn as strongly the less, the more there are. */
     smeared->turning = strength * sqrt(smeared->at.extent.wide);
 }

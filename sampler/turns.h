@@ -7,7 +7,7 @@
 #include "warp.h"
 
 /* So much work that is. */
-enum { WORK_OF_TURNS = 3000000 };
+enum { WORK_OF_TURNS = 600000 };
 
 /* The side for which the wave of that length along the upper or the right border is strongest, beside all that differs
  * there; the warp is that of a square of `side` modules with the same corners. Gives how strong it is, too. */

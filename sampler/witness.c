@@ -20,21 +20,45 @@ static const double STIFF = 0.002;                          /* how much a bend i
 
 static const struct part EVERYWHERE = {-MOST_PLACE, MOST_PLACE, -MOST_PLACE, MOST_PLACE};
 
-/* The brightness across an edge, at each tick the mean of three places along it. */
-static void profile_of(const struct plane *plane, const struct warp *warp, const struct witness *witness,
-                       double profile[SAMPLES]) {
-    /* So small a part of a warp is as good as even. */
+/* A line across an edge: where it begins, the way to its next tick, and to the places beside it. */
+struct line_across {
+    struct point from, step, beside;
+};
+
+/* So small a part of a warp is as good as even. */
+static struct line_across line_across(const struct warp *warp, const struct witness *witness) {
     double far = TICK * (REACH + WINDOW), x = witness->is_upright ? far : 0, y = witness->is_upright ? 0 : far,
            by = BESIDE / far;
     struct point from = warp_point(warp, witness->x - x, witness->y - y),
-                 to = warp_point(warp, witness->x + x, witness->y + y);
-    struct point middle = warp_point(warp, witness->x, witness->y);
-    struct point beside = difference(warp_point(warp, witness->x + by * y, witness->y + by * x), middle);
-    struct point step = scale_by(difference(to, from), 1.0 / (SAMPLES - 1));
-    for (int k = 0; k < SAMPLES; k++, from = sum(from, step))
-        profile[k] = (brightness(plane, from) + brightness(plane, sum(from, beside)) +
-                      brightness(plane, difference(from, beside))) /
-                     3;
+                 to = warp_point(warp, witness->x + x, witness->y + y),
+                 middle = warp_point(warp, witness->x, witness->y),
+                 beside = warp_point(warp, witness->x + by * y, witness->y + by * x);
+    return (struct line_across){from, scale_by(difference(to, from), 1.0 / (SAMPLES - 1)), difference(beside, middle)};
+}
+
+/* Whether all of a line and what is beside it lies between pixels. */
+static bool is_inside(const struct plane *plane, const struct line_across *line) {
+    struct point to = sum(line->from, scale_by(line->step, SAMPLES));
+    return is_between_pixels(plane, sum(line->from, line->beside)) && is_between_pixels(plane, sum(to, line->beside)) &&
+           is_between_pixels(plane, difference(line->from, line->beside)) &&
+           is_between_pixels(plane, difference(to, line->beside));
+}
+
+/* The brightness across an edge, at each tick the mean of three places along it. */
+static void profile_of(const struct plane *plane, const struct warp *warp, const struct witness *witness,
+                       double profile[SAMPLES]) {
+    struct line_across line = line_across(warp, witness);
+    struct point at = line.from, beside = line.beside;
+    if (is_inside(plane, &line))
+        for (int k = 0; k < SAMPLES; k++, at = sum(at, line.step))
+            profile[k] = (brightness_between(plane, at) + brightness_between(plane, sum(at, beside)) +
+                          brightness_between(plane, difference(at, beside))) /
+                         3;
+    else
+        for (int k = 0; k < SAMPLES; k++, at = sum(at, line.step))
+            profile[k] = (brightness(plane, at) + brightness(plane, sum(at, beside)) +
+                          brightness(plane, difference(at, beside))) /
+                         3;
 }
 
 /* How far the edge is from where it should be, in modules; returns its contrast, 0 or less if there is none. */

@@ -6,6 +6,7 @@
 #include "options.h"
 #include "picture.h"
 #include "report.h"
+#include "text.h"
 
 enum { MOST_SYMBOLS = 1024, MOST_UNREAD = 32 };
 
@@ -20,24 +21,33 @@ static enum outcome worse(enum outcome one, enum outcome other) {
     return badness[one] > badness[other] ? one : other;
 }
 
-static enum outcome complain(const char *file, const char *problem) {
+/* Begins a line on standard error about a file, behind all that was printed before. */
+static void begin_line(const char *file) {
     fflush(stdout);
-    fprintf(stderr, "dm_sample: %s: %s\n", file, problem);
+    fputs("dm_sample: ", stderr);
+    put_shown(file, stderr);
+    fputs(": ", stderr);
+}
+
+static enum outcome complain(const char *file, const char *problem) {
+    begin_line(file);
+    put_shown(problem, stderr);
+    fputc('\n', stderr);
     return FAILED;
 }
 
 /* Says that a symbol which was found can't be handed on, and why. */
 static enum outcome hold_back(const char *file, const ecc200_sample *symbol, const char *why) {
-    fflush(stdout);
-    fprintf(stderr, "dm_sample: %s: the symbol of %d by %d modules at %.1f,%.1f %s: --json has it\n", file,
-            symbol->rows, symbol->columns, symbol->corners[0].x, symbol->corners[0].y, why);
+    begin_line(file);
+    fprintf(stderr, "the symbol of %d by %d modules at %.1f,%.1f %s: --json has it\n", symbol->rows, symbol->columns,
+            symbol->corners[0].x, symbol->corners[0].y, why);
     return NONE_FOUND;
 }
 
 /* Says that a search ended early, and why. */
 static enum outcome say_early(const char *file, const ecc200_sample_search *search) {
-    fflush(stdout);
-    fprintf(stderr, "dm_sample: %s: the search ended early, ", file);
+    begin_line(file);
+    fputs("the search ended early, ", stderr);
     const char *what = search->count > 0 ? "more symbols" : "a symbol";
     if (search->ended == ECC200_SAMPLE_ROOM)
         fprintf(stderr, "with %zu symbols: there may be more\n", search->count);
@@ -48,12 +58,21 @@ static enum outcome say_early(const char *file, const ecc200_sample_search *sear
     return ENDED_EARLY;
 }
 
-static enum outcome report(const struct options *options, const char *file, const ecc200_sample *symbol,
-                           bool is_complete) {
-    if (options->json) {
-        report_json(file, symbol, is_complete);
-        return FINE;
-    }
+/* Reports a symbol as a line of JSON, and how good its print is, if that is asked for. */
+static enum outcome report_line(const struct options *options, const char *file, const struct picture *picture,
+                                const ecc200_sample *symbol, bool is_complete) {
+    static ecc200_sample_quality quality;
+    if (options->quality && ecc200_sample_measure(picture->luminance, picture->width, picture->height, picture->width,
+                                                  symbol, &quality) != ECC200_SAMPLE_OK)
+        return complain(file, "no memory");
+    report_json(file, symbol, options->quality ? &quality : NULL, is_complete);
+    return FINE;
+}
+
+static enum outcome report(const struct options *options, const char *file, const struct picture *picture,
+                           const ecc200_sample *symbol, bool is_complete) {
+    if (options->json)
+        return report_line(options, file, picture, symbol, is_complete);
     const char *why = report_no_record(symbol);
     if (why != NULL)
         return hold_back(file, symbol, why);
@@ -71,11 +90,11 @@ static bool is_early(const struct options *options, const ecc200_sample_search *
 }
 
 /* Reports what wasn't read: by JSON all of it; else the likeliest grid, where nothing was read. */
-static void report_unread(const struct options *options, const char *file, const ecc200_sample_search *search,
-                          bool is_complete) {
+static void report_unread(const struct options *options, const char *file, const struct picture *picture,
+                          const ecc200_sample_search *search, bool is_complete) {
     size_t most = options->json ? search->unread_count : search->count == 0 && search->unread_count > 0 ? 1 : 0;
     for (size_t k = 0; k < most; k++)
-        report(options, file, &search->unread[k], is_complete);
+        report(options, file, picture, &search->unread[k], is_complete);
 }
 
 /* Samples a picture. */
@@ -91,8 +110,8 @@ static enum outcome sample(const struct options *options, const char *file, cons
     enum outcome outcome = search.count > 0 || search.unread_count > 0 ? FINE : NONE_FOUND;
     bool is_complete = !is_early(options, &search);
     for (size_t k = 0; k < search.count; k++)
-        outcome = worse(outcome, report(options, file, &search.symbols[k], is_complete));
-    report_unread(options, file, &search, is_complete);
+        outcome = worse(outcome, report(options, file, picture, &search.symbols[k], is_complete));
+    report_unread(options, file, picture, &search, is_complete);
     return is_complete ? outcome : worse(outcome, say_early(file, &search));
 }
 

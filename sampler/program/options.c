@@ -6,7 +6,8 @@
 #include <stdlib.h>
 
 static const char USAGE[] =
-    "usage: dm_sample [--all] [--corners] [--json] [--unread] [--time MS] [--margin N] [--min-modules N] [FILE..]\n";
+    "usage: dm_sample [--all] [--corners] [--json [--quality]] [--unread] [--time MS] [--margin N] [--min-modules N] "
+    "[FILE..]\n";
 static const char HELP[] =
     "\n"
     "Finds Data Matrix symbols in pictures (PNG, JPEG, PNM), and prints their grids, upright, as `dm_tool read` takes "
@@ -26,6 +27,7 @@ static const char HELP[] =
     "  -u, --unread         where no symbol is read, print the likeliest grid that has a symbol's border; with --json "
     "every one\n"
     "                       that isn't read, with the reason\n"
+    "  -q, --quality        with --json, also how good the print is, as the picture shows it, uncalibrated\n"
     "  -t, --time MS        how long to try at most for each picture, in milliseconds; usually so much work, which is "
     "the same\n"
     "                       on any machine\n"
@@ -67,6 +69,7 @@ int options_read(int count, char **words, struct options *out) {
                                           {"corners", no_argument, NULL, 'c'},
                                           {"json", no_argument, NULL, 'j'},
                                           {"unread", no_argument, NULL, 'u'},
+                                          {"quality", no_argument, NULL, 'q'},
                                           {"time", required_argument, NULL, 't'},
                                           {"margin", required_argument, NULL, 'm'},
                                           {"min-modules", required_argument, NULL, LEAST_MODULES},
@@ -75,12 +78,13 @@ int options_read(int count, char **words, struct options *out) {
                                           {0}};
     *out = (struct options){.search = ecc200_sample_usual_search()};
     opterr = 0;
-    for (int option; (option = getopt_long(count, words, "acjut:m:hV", names, NULL)) != -1;) {
+    for (int option; (option = getopt_long(count, words, "acjuqt:m:hV", names, NULL)) != -1;) {
         switch (option) {
         case 'a': out->all = true; break;
         case 'c': out->corners = true; break;
         case 'j': out->json = true; break;
         case 'u': out->unread = true; break;
+        case 'q': out->quality = true; break;
         case 't': out->search.milliseconds = (uint32_t)number(optarg, UINT32_MAX); break;
         case 'm': out->search.margin = (uint16_t)number(optarg, UINT16_MAX); break;
         case LEAST_MODULES: out->search.least_side = (uint16_t)number(optarg, UINT16_MAX); break;
@@ -89,5 +93,7 @@ int options_read(int count, char **words, struct options *out) {
         default: refuse_usage();
         }
     }
+    if (out->quality && !out->json)
+        refuse_usage();
     return optind;
 }

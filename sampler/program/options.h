@@ -17,7 +17,7 @@ enum outcome {
 
 struct options {
     ecc200_sample_search search;
-    bool all, corners, json, unread;
+    bool all, corners, json, unread, quality;
 };
 
 /* Reads the options, and returns the index of the first file. Ends the program on --help, --version and a wrong usage.

@@ -1,7 +1,10 @@
 #include "report.h"
 
+#include <math.h>
 #include <stdio.h>
 #include <string.h>
+
+#include "text.h"
 
 static void put_row(const ecc200_sample *symbol, const uint8_t *modules, int row) {
     for (int column = 0; column < symbol->columns; column++)
@@ -41,48 +44,14 @@ void report_record(const ecc200_sample *symbol) {
 }
 
 void report_corners(const char *file, const ecc200_sample *symbol) {
-    fprintf(stderr, "%s:", file);
+    put_shown(file, stderr);
+    fputc(':', stderr);
     for (int k = 0; k < 4; k++)
         fprintf(stderr, " %.1f,%.1f", symbol->corners[k].x, symbol->corners[k].y);
     fputc('\n', stderr);
 }
 
 /* ---- JSON */
-
-/* How many bytes the UTF-8 character at the start of the text has; 0 if there is none. */
-static int utf8_length(const unsigned char *text) {
-    int more = text[0] < 0x80   ? 0
-               : text[0] < 0xC2 ? -1
-               : text[0] < 0xE0 ? 1
-               : text[0] < 0xF0 ? 2
-               : text[0] < 0xF5 ? 3
-                                : -1;
-    for (int k = 1; k <= more; k++)
-        if ((text[k] & 0xC0) != 0x80)
-            return 0;
-    bool is_surrogate = text[0] == 0xED && text[1] >= 0xA0,
-         is_long = (text[0] == 0xE0 && text[1] < 0xA0) || (text[0] == 0xF0 && text[1] < 0x90);
-    return is_surrogate || is_long || (text[0] == 0xF4 && text[1] >= 0x90) ? 0 : more + 1;
-}
-
-/* A text in quotes. What isn't UTF-8 becomes U+FFFD. */
-static void put_string(const char *text) {
-    const unsigned char *at = (const unsigned char *)text;
-    putchar('"');
-    while (*at != 0) {
-        int bytes = utf8_length(at);
-        if (bytes == 0)
-            fputs("\\ufffd", stdout);
-        else if (*at == '"' || *at == '\\')
-            printf("\\%c", *at);
-        else if (*at < 0x20)
-            printf("\\u%04x", *at);
-        else
-            fwrite(at, 1, (size_t)bytes, stdout);
-        at += bytes > 0 ? bytes : 1;
-    }
-    putchar('"');
-}
 
 /* An item as dm_tool spells it. Within quotes each of its backslashes becomes two. */
 static void put_item(uint16_t item) {
@@ -170,7 +139,51 @@ static void put_grid(const char *name, const ecc200_sample *symbol, const uint8_
     putchar(']');
 }
 
-void report_json(const char *file, const ecc200_sample *symbol, bool is_complete) {
+/* To four digits; and what is then 0 has no sign. */
+static double rounded(double number) {
+    return round(number * 1e4) / 1e4 + 0.0;
+}
+
+static void put_number(const char *name, double number) {
+    printf("\"%s\":%.4f,", name, rounded(number));
+}
+
+static void put_numbers(const char *name, const double *numbers, int count) {
+    printf("\"%s\":[", name);
+    for (int k = 0; k < count; k++)
+        printf("%s%.4f", k > 0 ? "," : "", rounded(numbers[k]));
+    fputs("],", stdout);
+}
+
+static void put_grade(const char *name, int grade, const char *behind) {
+    printf("\"%s\":\"%c\"%s", name, "FDCBA"[grade], behind);
+}
+
+/* How good the print is, by the names that the command ecc200 has. */
+static void put_quality(const ecc200_sample_quality *of) {
+    fputs(",\"quality\":{", stdout);
+    put_number("contrast", of->contrast);
+    put_number("modulation", of->modulation);
+    put_numbers("unused", of->unused, of->blocks);
+    put_number("axial", of->axial);
+    put_number("grid", of->grid);
+    put_numbers("growth", of->growth, 2);
+    put_numbers("border", of->border, 4);
+    put_numbers("quiet", of->quiet, 4);
+    printf("\"readable\":[%d,%d,%d,%d],", of->readable[0], of->readable[1], of->readable[2], of->readable[3]);
+    printf("\"weakest\":\"%s\",\"grades\":{", of->weakest);
+    put_grade("contrast", of->contrast_grade, ",");
+    put_grade("modulation", of->modulation_grade, ",");
+    put_grade("unused", of->unused_grade, ",");
+    put_grade("axial", of->axial_grade, ",");
+    put_grade("grid", of->grid_grade, "},\"modulations\":[");
+    for (int k = 0; k < of->codewords; k++)
+        printf("%s%.4f", k > 0 ? "," : "", (double)of->modulations[k]);
+    fputs("]}", stdout);
+}
+
+void report_json(const char *file, const ecc200_sample *symbol, const ecc200_sample_quality *quality,
+                 bool is_complete) {
     fputs("{\"file\":", stdout);
     put_string(file);
     printf(",\"rows\":%d,\"columns\":%d,\"corners\":[", symbol->rows, symbol->columns);
@@ -182,5 +195,7 @@ void report_json(const char *file, const ecc200_sample *symbol, bool is_complete
     put_grid("grid", symbol, symbol->modules);
     if (has_doubt(symbol))
         put_grid("doubtful", symbol, symbol->doubtful);
+    if (quality != NULL)
+        put_quality(quality);
     printf(",\"complete\":%s}\n", is_complete ? "true" : "false");
 }

@@ -13,8 +13,9 @@ const char *report_no_record(const ecc200_sample *symbol);
 /* As a record: a line of 0 and 1 for each row, from the top, and an empty line. To standard output. */
 void report_record(const ecc200_sample *symbol);
 
-/* As a line of JSON, to standard output. `is_complete`: whether the search didn't end early. */
-void report_json(const char *file, const ecc200_sample *symbol, bool is_complete);
+/* As a line of JSON, to standard output, with how good the print is, if that isn't NULL. `is_complete`: whether the
+ * search didn't end early. */
+void report_json(const char *file, const ecc200_sample *symbol, const ecc200_sample_quality *quality, bool is_complete);
 
 /* The file, and the corners in pixels: top left, top right, bottom right, bottom left. To standard error. */
 void report_corners(const char *file, const ecc200_sample *symbol);

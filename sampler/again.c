@@ -1,0 +1,96 @@
+/* A second sight: what a picture can be made into shows symbols that it doesn't show itself. */
+#include <string.h>
+
+#include "remake.h"
+#include "search.h"
+
+enum { MOST_DOUBLED = 2000000, MOST_JOINED = 160000 }; /* pixels */
+
+static void scale_symbols(ecc200_sample *symbols, size_t count, double scale) {
+    for (size_t k = 0; k < count; k++)
+        for (int corner = 0; corner < 4; corner++)
+            symbols[k].corners[corner].x *= scale, symbols[k].corners[corner].y *= scale;
+}
+
+/* Forgets what was seen of a picture that was searched, and tells what was found in it in the pixels of another one.
+ * False if there is no memory. */
+static bool turn_to(struct search *search, const struct plane *picture) {
+    struct judge *judge = &search->judge;
+    judge->tried.count = 0, judge->smeared_places.count = 0;
+    memset(search->sights, 0, sizeof search->sights);
+    known_free(&search->known);
+    bool is_made = known_make(picture->width, picture->height, &search->known);
+    judge->has_no_memory |= !is_made;
+    for (size_t k = 0; k < search->count && is_made; k++)
+        add_known(&search->known, &search->found[k]);
+    return is_made;
+}
+
+/* Searches what a picture was made into, of which `scale` pixels are one of it, for symbols that weren't found. The
+ * plane is freed. */
+static void search_remade(struct search *search, struct plane *remade, int scale) {
+    struct unread *unread = &search->judge.unread;
+    scale_symbols(search->found, search->count, scale);
+    scale_symbols(unread->items, unread->count, scale);
+    if (turn_to(search, remade))
+        search_picture(search, remade, BY_SHAPE);
+    else
+        plane_free(remade);
+    scale_symbols(search->found, search->count, 1.0 / scale);
+    scale_symbols(unread->items, unread->count, 1.0 / scale);
+}
+
+/* The picture flat, and then twice as large. */
+static bool flat_doubled(const struct plane *picture, struct limit *limit, struct plane *out) {
+    struct plane flat;
+    bool is_made = plane_flatten(picture, limit, &flat) && plane_double(&flat, limit, out);
+    plane_free(&flat);
+    return is_made;
+}
+
+/* Whether a picture is made of two levels of brightness, as drawings are whose dots are single pixels. */
+static bool is_drawn(const struct plane *picture) {
+    int least = *pixel_of(picture, 0, 0), most = least;
+    bool is_of_two = true;
+    for (int y = 0; y < picture->height && is_of_two; y++)
+        for (int x = 0; x < picture->width && is_of_two; x++) {
+            int here = *pixel_of(picture, x, y);
+            is_of_two = here == least || here == most || least == most;
+            least = here < least ? here : least, most = here > most ? here : most;
+        }
+    return is_of_two;
+}
+
+/* What pictures are made into, how many pixels of that are one of the picture, how much work that is worth, and which
+ * pictures are. */
+static const struct {
+    bool (*make)(const struct plane *picture, struct limit *limit, struct plane *out);
+    int scale, percent, most_pixels; /* percent of the usual work */
+    bool is_for_drawings, is_for_more; /* of drawings only; also where something has been found */
+} LOOKS[] = {{plane_flatten, 1, 50, INT32_MAX, false, true},
+             {flat_doubled, 2, 30, MOST_DOUBLED, false, false},
+             {plane_join_dots, JOINED, 50, MOST_JOINED, true, false}};
+
+/* Looks at a picture in one of these ways, if it is of those. */
+static void look_again(struct search *search, const struct plane *picture, size_t k) {
+    struct limit *limit = search->judge.limit;
+    struct plane remade;
+    limit_begin_anew(limit, LOOKS[k].percent);
+    if (is_over(search) || (search->count > 0 && !LOOKS[k].is_for_more) ||
+        (int64_t)picture->width * picture->height > LOOKS[k].most_pixels ||
+        (LOOKS[k].is_for_drawings && !is_drawn(picture)))
+        return;
+    bool is_made = LOOKS[k].make(picture, limit, &remade);
+    note_lack(search, is_made);
+    if (is_made)
+        search_remade(search, &remade, LOOKS[k].scale);
+}
+
+void search_anew(struct search *search, const struct plane *picture) {
+    struct limit *limit = search->judge.limit;
+    enum ecc200_sample_end reached = limit->reached;
+    for (size_t k = 0; k < sizeof LOOKS / sizeof *LOOKS; k++)
+        look_again(search, picture, k);
+    if (limit->reached != ECC200_SAMPLE_TIME)
+        limit->reached = reached;
+}
