@@ -3,10 +3,11 @@
 const PNG_START = [137, 80, 78, 71], PNG_END = [73, 69, 78, 68];
 const hasAt = (bytes, at, some) => some.every((byte, k) => bytes[at + k] === byte);
 
+const MOST_PIXELS = 2e8, LARGE = 4e7, LESSENED = 1.6e7; // of a picture; decoded smaller if it has more; then of it
+
 // Whether a file begins as a PNG or a JPEG and lacks its end.
-/** @type {(file: Blob) => Promise<boolean>} */
-async function isCutOff(file) {
-  const bytes = new Uint8Array(await file.arrayBuffer());
+/** @type {(bytes: Uint8Array) => boolean} */
+function isCutOff(bytes) {
   if (hasAt(bytes, 0, PNG_START)) {
     const first = Math.max(0, bytes.length - 4096);
     for (let at = bytes.length - 8; at >= first; at--) if (hasAt(bytes, at, PNG_END)) return false;
@@ -16,13 +17,31 @@ async function isCutOff(file) {
   for (let at = bytes.length - 2; at >= 2; at--) if (bytes[at] === 0xff && bytes[at + 1] === 0xd9) return false;
   return true;
 }
-
-// The picture in a file as an ImageBitmap, or why there is none: { bitmap } or { why }.
-/** @type {(file: Blob) => Promise<{ bitmap?: ImageBitmap, why?: string }>} */
+// The width and the height that a PNG or a JPEG says it has, or null.
+/** @type {(bytes: Uint8Array) => [number, number] | null} */
+function sizeIn(bytes) {
+  const view = new DataView(bytes.buffer, bytes.byteOffset, bytes.length);
+  if (hasAt(bytes, 0, PNG_START)) return bytes.length < 24 ? null : [view.getUint32(16), view.getUint32(20)];
+  if (bytes[0] !== 0xff || bytes[1] !== 0xd8) return null;
+  for (let at = 2; at + 9 < bytes.length && bytes[at] === 0xff; at += 2 + view.getUint16(at + 2)) {
+    const isFrame = bytes[at + 1] >= 0xc0 && bytes[at + 1] <= 0xcf && ![0xc4, 0xc8, 0xcc].includes(bytes[at + 1]);
+    if (isFrame) return [view.getUint16(at + 7), view.getUint16(at + 5)];
+  }
+  return null;
+}
+// The picture in a file as an ImageBitmap, of which `by` pixels each way are one where it is large; or why there is
+// none.
+/** @type {(file: Blob) => Promise<{ bitmap?: ImageBitmap, by?: number, why?: string }>} */
 export async function bitmapOf(file) {
-  if (await isCutOff(file)) return { why: "The file is cut off: the end of the picture is missing." };
+  const bytes = new Uint8Array(await file.arrayBuffer()), [width, height] = sizeIn(bytes) ?? [0, 0];
+  const pixels = width * height, words = `${MOST_PIXELS / 1e6} million pixels`;
+  if (isCutOff(bytes)) return { why: "The file is cut off: the end of the picture is missing." };
+  if (pixels > MOST_PIXELS) return { why: `The picture has more than ${words}: save it smaller, and open that.` };
   try {
-    return { bitmap: await createImageBitmap(file) };
+    if (pixels <= LARGE) return { bitmap: await createImageBitmap(file), by: 1 };
+    const resizeWidth = Math.round(width * Math.sqrt(LESSENED / pixels));
+    const bitmap = await createImageBitmap(file, { resizeWidth, resizeQuality: "medium" });
+    return { bitmap, by: Math.sqrt(pixels / (bitmap.width * bitmap.height)) };
   } catch { return { why: "The file can’t be opened as a picture." }; }
 }
 // Whether files can be read here. In WebKit a worker can't, if the page is opened from disk.

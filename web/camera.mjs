@@ -3,15 +3,19 @@
 import { $, hint } from "./dom.mjs";
 import { whenShown } from "./flow.mjs";
 import { addSights, choose, clearSights, drawOutlines, isKeepingSights } from "./found.mjs";
+import { whyUnread } from "./listed.mjs";
+import { askFrame } from "./looking.mjs";
 import { whenEntered } from "./order.mjs";
-import { askFrame } from "./source.mjs";
+
 import { panes } from "./state.mjs";
 
 const EACH = 100, MOST_TIME_OF_FRAME = 600, MOST_IN_FRAME = 24; // milliseconds, and symbols
 const LENGTH = 1280; // pixels of the longer side that are asked for
+const HOLD = "Hold symbols before the camera. What is read is listed, until you stop it.";
 const WANTED = { video: { facingMode: "environment", width: { ideal: LENGTH } }, audio: false };
 /** @type {{ stream: MediaStream | null } | null} the one that is on, with its stream once the browser allows one */
 let session = null;
+let told = HOLD; // what it said last; what is said of a picture meanwhile stays until that changes
 
 const video = () => /** @type {HTMLVideoElement} */ ($("video"));
 const wait = (time) => new Promise((resolve) => setTimeout(resolve, time));
@@ -32,6 +36,10 @@ function seeFrame({ symbols, unread }, size) {
   drawOutlines($("in-camera"), [...symbols, ...unread], size);
   const fresh = addSights(symbols);
   if (fresh.length) choose(fresh[fresh.length - 1]);
+  const said = symbols.length || !unread.length ? HOLD : `A symbol is seen, and isn’t read. ${whyUnread(unread[0])}`;
+  if (said === told) return;
+  hint("picture-hint", said, said !== HOLD);
+  told = said;
 }
 
 // ---- The light
@@ -84,7 +92,8 @@ async function startCamera() {
   video().srcObject = own.stream;
   $("viewfinder").hidden = false;
   showTorch(own);
-  hint("picture-hint", "Hold symbols before the camera. What is read is listed, until you stop it.");
+  hint("picture-hint", HOLD);
+  told = HOLD;
   await video().play().catch(() => {}); // it has been stopped by then
   watch(own);
 }

@@ -116,23 +116,94 @@ export function textOf(letter) {
 
 // ---- From text
 
-// What some readers take for UTF-8 and for Shift JIS, where nothing is marked.
+// What ZXing and zxing-cpp take for UTF-8 where nothing is marked, and what can be Shift JIS to them: there half-width
+// katakana take one byte and other letters two.
 const LIKE_UTF_8 =
   /^(?:[\0-\x7f]|[\xc0-\xdf][\x80-\xff]|[\xe0-\xef][\x80-\xff]{2}|[\xf0-\xf7][\x80-\xff]{3})*$/;
 const LIKE_SHIFT_JIS = /^(?:[\0-\x7f\xa1-\xdf]|[\x81-\x9f\xe0-\xef][@-~\x80-\xfc])*$/;
-// Whether all readers take a text in ISO 8859-1 for that text, where nothing is marked.
+const RUNS_OF_SHIFT_JIS = /([\xa1-\xdf]+)|((?:[\x81-\x9f\xe0-\xef][@-~\x80-\xfc])+)/g;
+const SIGNS = /[\xa0-\xbf\xd7\xf7]/g, SURE_RUN = 3;
+// Whether ZXing and zxing-cpp (TextDecoder::GuessEncoding) take a text in ISO 8859-1 for Shift JIS, where nothing is
+// marked: what can be that, if some run has three letters that aren't ASCII, or if there are controls. Else if all
+// katakana are one run of two, or if a tenth of the text are signs rather than letters.
 /** @type {(text: string) => boolean} */
-const isClear = (text) => ALL_ASCII.test(text) || !(LIKE_UTF_8.test(text) || LIKE_SHIFT_JIS.test(text));
+function isGuessedShiftJis(text) {
+  if (!LIKE_SHIFT_JIS.test(text)) return false;
+  const runs = [...text.matchAll(RUNS_OF_SHIFT_JIS)].map(([, katakana = "", pairs = ""]) => ({ katakana, pairs }));
+  const isSure = ({ katakana, pairs }) => Math.max(katakana.length, pairs.length / 2) >= SURE_RUN;
+  if (runs.some(isSure) || CONTROL.test(text)) return true;
+  const lengths = runs.map(({ katakana }) => katakana.length).filter(Boolean);
+  return String(lengths) === "2" || 10 * (text.match(SIGNS) ?? []).length >= text.length;
+}
+// Whether readers take a text in ISO 8859-1 for that text, where nothing is marked.
+/** @type {(text: string) => boolean} */
+const isClear = (text) => ALL_ASCII.test(text) || !(LIKE_UTF_8.test(text) || isGuessedShiftJis(text));
 const ALL_ASCII = /^[\0-\x7f]*$/;
-// The letter of a text: in ISO 8859-1, if that has all of its characters, with a mark where some reader would take the
-// bytes for another text; else in UTF-8 behind its mark.
-/** @type {(text: string) => Letter} */
-export function letterOfText(text) {
-  const units = Array.from({ length: text.length }, (_, k) => text.charCodeAt(k));
+// In which charsets text is written that ISO 8859-1 hasn't, beside UTF-8: those that zxing-cpp 1.4.0 reads behind their
+// assignments, by trial of each code. Of each the codes by their least and greatest bytes, and those of them that
+// zxing-cpp, browsers, Node.js or Python have for other characters or twice.
+const PART = ["a0-ff", ""], OF_ALL_BYTES = ["80-ff", ""];
+/** @type {Record<number, string[]>} */
+const ALIKE = {
+  ...Object.fromEntries([4, 5, 6, 7, 8, 11, 12, 15, 16, 17, 18].map((number) => [number, PART])),
+  ...Object.fromEntries([21, 22, 23, 24].map((number) => [number, OF_ALL_BYTES])),
+  9: ["a0-ff", "a4 a5 aa"], 10: ["a0-ff", "af fd fe"], 13: ["a1-ff", ""],
+  20: ["a1-df 8140-84fc 8840-9ffc e040-eafc", "1a 1c 7f 8160 8161 817c 8191 8192 81ca"],
+  28: ["a140-c5fe c640-c67e c940-f8fe f940-f9d5",
+    "a145 a14e a1c2 a1e3 a1f2 a1f3 a1fe a240 a241 a242 a244 a246 a247 a2cc a2ce a3e1"],
+  29: ["a1a1-a1fe a2b1-a2e2 a2e5-a2ee a2f1-a2fc a3a1-a3fe a4a1-a4f3 a5a1-a5f6 a6a1-a6b8 a6c1-a6d8 a7a1-a7c1 a7d1-a7f1"
+    + " a8a1-a8ba a8c5-a8e9 a9a4-a9ef b0a1-d6fe d7a1-d7f9 d8a1-f7fe", "a1a4 a1aa"],
+  30: ["a1a1-c8fe caa1-fdfe", "a2e6 a2e7 a4d4"],
+};
+/** @type {(code: number) => number[]} */
+const bytesOfCode = (code) => (code > 255 ? [code >> 8, code & 255] : [code]);
+// The codes of which each byte is between those of two.
+/** @type {(span: string) => number[]} */
+function codesBetween(span) {
+  const [least, most] = span.split("-").map((hex) => parseInt(hex, 16)), codes = [];
+  for (let code = least; code <= most; code++)
+    if ((code & 255) >= (least & 255) && (code & 255) <= (most & 255)) codes.push(code);
+  return codes;
+}
+// What each of some codes, all of one length, is as text; for what is no character, another text than one character.
+/** @type {(codes: number[], charset: string) => (string | null)[]} */
+function charactersOf(codes, charset) {
+  const [first] = codes, ends = new Uint8Array(3 * codes.length).fill(LINE_END);
+  if (first < 256) return codes.map((code) => textBy(Uint8Array.of(code), charset));
+  for (const [k, code] of codes.entries()) ends.set(bytesOfCode(code), 3 * k);
+  return new TextDecoder(charset).decode(ends).split("\n");
+}
+const LINE_END = 10, REPLACEMENT = "\uFFFD";
+/** @type {Map<number, Map<string, number>>} */
+const codesKnown = new Map();
+// The codes of the characters of a charset that all have alike, by these characters.
+/** @type {(number: number) => Map<string, number>} */
+function codesOf(number) {
+  const known = codesKnown.get(number), [spans, unlike] = ALIKE[number], table = known ?? new Map();
+  if (known) return known;
+  const left = new Set(unlike.split(" ").map((hex) => parseInt(hex, 16)));
+  for (const span of `00-7f ${spans}`.split(" ")) {
+    const codes = codesBetween(span), characters = charactersOf(codes, CHARSET_OF[number]);
+    const isOne = (it) => it?.length === 1 && it !== REPLACEMENT;
+    for (const [k, code] of codes.entries())
+      if (isOne(characters[k]) && !left.has(code)) table.set(characters[k], code);
+  }
+  codesKnown.set(number, table);
+  return table;
+}
+// The letters by which a text is written. Text that ISO 8859-1 has is that, with a mark where readers would take the
+// bytes for another text. Other text is in UTF-8 or, behind its mark too, in any charset that all have alike: the first
+// of those whose symbol is smallest is taken.
+/** @type {(text: string) => Letter[]} */
+export function waysOfText(text) {
+  const units = Array.from({ length: text.length }, (_, k) => text.charCodeAt(k)), characters = Array.from(text);
   const marked = (number) => [{ place: 0, number }];
-  if (units.some((unit) => unit > MOST_OF_LATIN_1))
-    return letterOf([...new TextEncoder().encode(text)], marked(ECI_UTF_8));
-  return letterOf(units, isClear(text) ? [] : marked(ECI_LATIN_1));
+  if (units.every((unit) => unit <= MOST_OF_LATIN_1))
+    return [letterOf(units, isClear(text) ? [] : marked(ECI_LATIN_1))];
+  const hasAll = (number) => characters.every((it) => codesOf(number).has(it));
+  const bytesIn = (number) => characters.flatMap((it) => bytesOfCode(codesOf(number).get(it)));
+  return [letterOf([...new TextEncoder().encode(text)], marked(ECI_UTF_8)),
+    ...Object.keys(ALIKE).map(Number).filter(hasAll).map((number) => letterOf(bytesIn(number), marked(number)))];
 }
 // The letter of a text that is to be taken apart. A part of it is clear by itself: it has a mark, unless all is ASCII.
 /** @type {(letter: Letter) => Letter} */

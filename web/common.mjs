@@ -10,7 +10,7 @@ export const BORDER_FAULT = 5, BLOCK_FAULT = 6, TOO_LONG = 14;
 export const BIT = 1, BORDER_LIGHT = 2, BORDER_DARK = 3;
 // Characters and lines of a message, or of a grid: the longest of either has fewer.
 export const MOST_TEXT = 25000, MOST_LINES = 1000;
-export const MOST_OF_SHEET = 200000; // characters of the messages of a sheet
+export const MOST_OF_SHEET = 2000000, MOST_LINES_OF_SHEET = 10000; // of the messages of a sheet
 
 export const MOST_LIMIT = 65535; // of wrong border modules
 /** @type {"auto"} */

@@ -1,6 +1,6 @@
 // Two symbols compared: each is a message, a grid or a picture.
 import { textOf } from "./charsets.mjs";
-import { ASCII, SHORTER, isSame, isSameShape, shapeWords } from "./common.mjs";
+import { ASCII, FNC1, SHORTER, isSame, isSameShape, shapeWords } from "./common.mjs";
 import { $, made, shape } from "./dom.mjs";
 import { bound, broughtBy, textOfFile } from "./dropping.mjs";
 import { C40, DAMAGED_GRID } from "./examples.mjs";
@@ -10,15 +10,18 @@ import { readable, takenAsTyped, whyNot } from "./gs1.mjs";
 import { isSameLetter, letterOf, partOf } from "./letters.mjs";
 import { tooMuch } from "./messages.mjs";
 import { brokenWords, isBroken, settled } from "./order.mjs";
-import { lookAt } from "./source.mjs";
+import { lookAt } from "./looking.mjs";
+import { waysTaken } from "./parts.mjs";
 import { VALID, mark, stamp } from "./state.mjs";
 import { drawSmall } from "./symbol.mjs";
 import { letterRead } from "./taking.mjs";
 import { borne, refusal } from "./words.mjs";
 
 /** @typedef {import("./common.mjs").Grid} Grid */
+/** @typedef {import("./letters.mjs").Letter} Letter */
 /** @typedef {{ why?: string, words?: string, note?: string, isWaiting?: boolean, how?: string,
     seen?: import("./examine.mjs").Seen, normals?: (Grid | null)[] }} Judged */
+const MOST_ASKED = 40; // symbols of a picture, of which one is chosen
 /** @type {Judged} */
 const WAITING = { why: "is being looked at", isWaiting: true };
 
@@ -60,10 +63,11 @@ class Slot {
   }
   // What is dropped or pasted here is taken here, and not as the symbol above.
   given(event) {
-    const { picture, file, text, note, why } = broughtBy(event.dataTransfer ?? event.clipboardData);
-    if (event.type === "paste" && !picture && !file) return; // text is pasted in the field
+    const { pictures, file, text, note, why } = broughtBy(event.dataTransfer ?? event.clipboardData);
+    if (event.type === "paste" && !pictures && !file) return; // text is pasted in the field
     event.preventDefault();
-    if (picture) this.enterPicture(picture, note);
+    const others = pictures?.length > 1 ? ` It is one of ${pictures.length} pictures.` : "";
+    if (pictures) this.enterPicture(pictures[0], `${others}${note}`);
     else if (file) this.enterFile(file, note);
     else if (why) this.settle({ why: "isn’t there", words: why });
     else this.enterDropped(text);
@@ -112,7 +116,7 @@ class Slot {
     if (!text.trim()) { this.settle({ why: "is empty" }); return; }
     const isRows = isGrid(text), read = isRows ? null : takenAsTyped(text.replace(/\n+$/, ""));
     if (read && !read.letter) { this.settle({ why: "can’t be taken", words: whyNot(read) }); return; }
-    const question = isRows ? { grid: text } : { letter: read.letter };
+    const question = isRows ? { grid: text } : { ways: waysTaken(read, 1) };
     const judged = await desks.quick.ask("judge", question, `judge ${this.name}`);
     if (!judged || this.asked !== own) return;
     this.settle({ ...judgedOf(judged, isRows ? "isn’t a grid" : "isn’t written"), note });
@@ -121,10 +125,29 @@ class Slot {
     const own = this.wait();
     this.area.value = "";
     this.reads.textContent = `Looking at ${file.name || "the picture"}…`;
-    const how = { kind: "judge", more: (picture) => ({ picture }) };
+    const how = { kind: "judge", more: (picture) => ({ picture: { ...picture, most: MOST_ASKED } }) };
     const judged = await lookAt(file, `picture ${this.name}`, how).catch((why) => ({ failed: why.message }));
     if (!judged || this.asked !== own) return;
-    this.settle({ ...judgedOf(judged, "isn’t found in the picture"), note });
+    if (judged.symbols) this.askWhich(judged.symbols, note);
+    else this.settle({ ...judgedOf(judged, "isn’t found in the picture"), note });
+  }
+  // Of several symbols in a picture one has to be chosen.
+  /** @type {(symbols: import("./pictures.mjs").Sighted[], note: string) => void} */
+  askWhich(symbols, note) {
+    const { length } = symbols, count = length < MOST_ASKED ? String(length) : `${length} or more`;
+    const words = `There are ${count} symbols in the picture. Which one is to be compared?`;
+    this.settle({ why: `isn’t chosen yet: there are ${count} in its picture`, words });
+    const buttons = symbols.map((symbol) => {
+      const button = made("button", { textContent: readable(symbol) || "the empty message" });
+      button.addEventListener("click", () => this.enterChosen(symbol, note));
+      return button;
+    });
+    this.reads.append(made("span", { className: "row small", role: "group", ariaLabel: words }, ...buttons));
+  }
+  /** @type {(symbol: import("./pictures.mjs").Sighted, note: string) => Promise<void>} */
+  async enterChosen(symbol, note) {
+    const own = this.wait(), judged = await desks.quick.ask("judge", { symbol }, `judge ${this.name}`);
+    if (judged && this.asked === own) this.settle({ ...judgedOf(judged, "isn’t read"), note });
   }
   draw() {
     const { words, seen = null, how, note = "" } = this.judged;
@@ -194,12 +217,24 @@ function compare(slots) {
   else sayOnBoth("", "Yes, they say the same.", `${both} have this one normal grid${unlike(judged)}:`, [a]);
 }
 // What two letters have in common that aren't the same, in words, or "".
-/** @type {(letters: import("./letters.mjs").Letter[]) => string} */
+/** @type {(letters: Letter[]) => string} */
 function likenessOf(letters) {
   const [one, other] = letters.map(textOf), isAlike = one.text !== null && one.text === other.text;
   const [head, otherHead] = letters.map((letter) => letterOf([], [], letter.head));
-  const isOfOneHead = isSameLetter(head, otherHead);
-  return isAlike && isOfOneHead ? ", though both are the same text, with other bytes or ECIs" : "";
+  if (!isSameLetter(head, otherHead)) return "";
+  return fnc1Words(letters) || (isAlike ? ", though both are the same text, with other bytes or ECIs" : "");
+}
+// That letters look alike, and that FNC1 is the difference, in words, or "".
+/** @type {(letters: Letter[]) => string} */
+function fnc1Words(letters) {
+  const [one, other] = letters.map(({ items, ...more }) => ({ ...more, items: items.filter((it) => it !== FNC1) }));
+  const isSameReading = readable(letters[0]) === readable(letters[1]);
+  if (!isSameReading && !isSameLetter(one, other)) return "";
+  const areGs1 = letters.map(({ items }) => items[0] === FNC1);
+  const what = isSameReading ? "they look alike" : "only FNC1 is the difference";
+  if (areGs1[0] === areGs1[1]) return isSameReading ? "" : `, though ${what}`;
+  const [gs1, plain] = areGs1[0] ? ["A", "B"] : ["B", "A"];
+  return `, though ${what}: symbol ${gs1} begins with FNC1, and so is GS1 data; symbol ${plain} is plain text`;
 }
 // In what symbols that say the same differ that equal normal grids don't tell, in words, or "".
 /** @type {(judged: Judged[]) => string} */

@@ -1,58 +1,74 @@
 // Lines of a file with one column a field. Its first row has headings, which say what the columns are: GS1 identifiers,
-// whose fields make an element string, or `message`; `text`, which stands below the symbol; `qty`, the number of
-// copies. What a heading leaves open is asked.
+// whose fields make an element string, or the message; the text that stands below the symbol; the number of copies. The
+// headings are those of the library's table, which is packed into the page. What a heading leaves open is asked.
 import { isIdentifier } from "./gs1.mjs";
+import { knownAs } from "./headings.mjs";
 
 /** @typedef {{ message: string, text: string | null, copies: number, why?: string }} Line */
 /** @typedef {{ heading: string, identifier: string, role: string | null, example: string }} Column its role is null if
     the heading doesn't tell it */
-/** @typedef {{ rows: string[][], columns: Column[], mayBeData: boolean }} Table with its first row, which may have data
-    instead of headings */
+/** @typedef {{ rows: string[][], columns: Column[], mayBeData: boolean, why: string }} Table with its first row, which
+    may have data instead of headings; and why its rows can't be told, if so */
 /** @typedef {{ isData: boolean, roles: string[] }} Meaning whether the first row has data, and what the columns are */
 const SEPARATORS = [";", "\t", ","];
 export const ELEMENT = "element", MESSAGE = "message", TEXT = "text", COPIES = "copies", UNUSED = "left out";
 // The headings of a list of what was found that the page saved: what was read is the message.
-export const FOUND = ["number", "message", "modules", "not read"];
-const FOUND_ROLES = [UNUSED, MESSAGE, UNUSED, UNUSED];
-/** @type {Record<string, string>} */
-const ROLES = { message: MESSAGE, text: TEXT, qty: COPIES, quantity: COPIES, copies: COPIES };
-
-// The rows of a CSV file. A field in quotation marks may hold separators, line ends and, doubled, quotation marks.
-/** @type {(text: string) => string[][]} */
+export const FOUND = ["number", "message", "modules", "not read"], PICTURE = "picture";
+/** @type {Record<string, string>} of the table's words */
+const ROLES = { message: MESSAGE, text: TEXT, copies: COPIES, "-": UNUSED };
+// What separates fields: as the first line of some files says, or what the headings have of it.
+const SAID = /^sep=(.)\r?\n/i;
+/** @type {(text: string) => string} */
+function separatorOf(text) {
+  const [first] = text.trimStart().split("\n", 1), plain = first.replace(/"[^"]*"/g, "");
+  return SAID.exec(text)?.[1] ?? SEPARATORS.find((each) => plain.includes(each)) ?? ",";
+}
+// The rows of a CSV file. A field in quotation marks may hold separators, line ends and, doubled, quotation marks. If
+// one isn't closed, the line on which it begins.
+/** @type {(text: string) => { rows: string[][], unclosed: number | null }} */
 export function rowsOf(text) {
-  const first = text.split("\n", 1)[0], separator = SEPARATORS.find((each) => first.includes(each)) ?? ",";
-  const rows = [[""]];
-  let isQuoted = false;
-  for (let at = 0; at < text.length; at++) {
+  const separator = separatorOf(text), from = SAID.exec(text)?.[0].length ?? 0, rows = [[""]];
+  let isQuoted = false, line = from ? 2 : 1, begun = 1;
+  for (let at = from; at < text.length; at++) {
     const c = text[at], row = rows[rows.length - 1], last = row.length - 1;
+    if (c === "\n") line++;
     if (isQuoted && c === '"' && text[at + 1] === '"') { row[last] += c; at++; }
-    else if (c === '"' && (isQuoted || row[last] === "")) isQuoted = !isQuoted;
+    else if (c === '"' && (isQuoted || row[last] === "")) [isQuoted, begun] = [!isQuoted, line];
     else if (isQuoted) row[last] += c;
     else if (c === separator) row.push("");
     else if (c === "\n") rows.push([""]);
     else if (c !== "\r") row[last] += c;
   }
-  return rows.filter((row) => row.some((field) => field.trim()));
+  return { rows: rows.filter((row) => row.some((field) => field.trim())), unclosed: isQuoted ? begun : null };
+}
+// Whether a text is a part of a table, as it is copied from one: its lines have tabs, each as many.
+/** @type {(text: string) => boolean} */
+export function isTable(text) {
+  const counts = text.split("\n").filter((line) => line.trim()).map((line) => line.split("\t").length);
+  return counts.length > 0 && counts[0] > 1 && counts.every((count) => count === counts[0]);
 }
 
 // ---- What the columns are
 
-const DIGITS = /^\d{2,4}$/, IN_BRACKETS = /^\(\d{2,4}\)$/;
-// The identifier that a heading is, or "".
+const DIGITS = /^\d{2,4}$/;
+// The identifier that a heading is, by its digits or its name, or "".
 /** @type {(heading: string) => string} */
 function identifierOf(heading) {
-  const digits = DIGITS.test(heading) ? heading : IN_BRACKETS.test(heading) ? heading.slice(1, -1) : "";
-  return isIdentifier(digits) ? digits : "";
+  const meaning = knownAs(heading) ?? "";
+  return isIdentifier(meaning) ? meaning : "";
 }
 /** @type {(heading: string) => string | null} */
-const roleOf = (heading) => (identifierOf(heading) ? ELEMENT : ROLES[heading.toLowerCase()] ?? null);
-const isOfFound = (headings) => headings.join() === FOUND.join();
+const roleOf = (heading) => (identifierOf(heading) ? ELEMENT : ROLES[knownAs(heading)] ?? null);
+// Whether a heading is one for sure: a word of the table, or digits in brackets.
+/** @type {(heading: string) => boolean} */
+const isSure = (heading) => knownAs(heading) !== null && !DIGITS.test(heading);
+const isOfFound = (headings) => headings.filter((heading) => heading !== PICTURE).join() === FOUND.join();
 const columnOf = (rows, k) => rows.map((row) => (row[k] ?? "").trim());
 // The columns by their headings. What comes a second time isn't known, nor a message beside identifiers.
 /** @type {(headings: string[], rows: string[][]) => Column[]} */
 function columnsOf(headings, rows) {
-  const identifiers = headings.map(identifierOf), roles = isOfFound(headings) ? FOUND_ROLES : headings.map(roleOf);
-  const isKnown = (k) => (roles[k] === ELEMENT ? identifiers.indexOf(identifiers[k]) === k
+  const identifiers = headings.map(identifierOf), roles = headings.map(roleOf);
+  const isKnown = (k) => (roles[k] === UNUSED ? true : roles[k] === ELEMENT ? identifiers.indexOf(identifiers[k]) === k
     : roles.indexOf(roles[k]) === k && !(roles[k] === MESSAGE && roles.includes(ELEMENT)));
   return headings.map((heading, k) => {
     const example = columnOf(rows, k).find(Boolean) ?? "", isUnused = roles[k] === UNUSED || (!heading && !example);
@@ -63,19 +79,20 @@ function columnsOf(headings, rows) {
 // where numbers of the same kind stand below it.
 /** @type {(columns: Column[], rows: string[][]) => boolean} */
 function mayBeData(columns, rows) {
-  const isWord = ({ role }) => [MESSAGE, TEXT, COPIES].includes(role);
-  if (columns.some((column) => isWord(column) || IN_BRACKETS.test(column.heading))) return false;
+  if (columns.some(({ heading }) => isSure(heading))) return false;
   return columns.some(({ role }, k) => role === null || columnOf(rows, k).some((field) => DIGITS.test(field)));
 }
 
 /** @type {(text: string) => Table} */
 export function tableOf(text) {
-  const all = rowsOf(text), isMeant = isOfFound(all[0] ?? []) ? (row) => Boolean(row[1]) : () => true;
+  const { rows: all, unclosed } = rowsOf(text);
+  const isMeant = isOfFound(all[0] ?? []) ? (row) => Boolean(row[all[0].indexOf(FOUND[1])]) : () => true;
   const rows = all.filter(isMeant), [first = [], ...others] = rows;
   const count = rows.reduce((most, row) => Math.max(most, row.length), 0);
   const headings = Array.from({ length: count }, (_, k) => (first[k] ?? "").trim());
   const columns = columnsOf(headings, others);
-  return { rows, columns, mayBeData: mayBeData(columns, others) };
+  const why = unclosed === null ? "" : `Line ${unclosed}: a quotation mark begins a field there and none ends it.`;
+  return { rows, columns, mayBeData: mayBeData(columns, others), why };
 }
 // Whether it has to be asked what the columns are.
 /** @type {(table: Table) => boolean} */
@@ -108,6 +125,9 @@ export function whyNoMessage({ roles }) {
 
 // ---- The lines
 
+// A field without the apostrophe that a spreadsheet has in front of a text that else would be a formula.
+/** @type {(field: string) => string} */
+const plainField = (field) => (/^'+[=+@\t\r-]/.test(field) ? field.slice(1) : field);
 const spelledValue = (field) => field.trim().replace(/[\\]/g, "\\\\").replace(/[(]/g, "\\(");
 const MOST_COPIES = 9999;
 /** @type {(field: string) => { copies: number, why?: string }} */
@@ -123,8 +143,8 @@ export function linesOf({ rows, columns }, { isData, roles }, each) {
   const element = (field, k) =>
     (roles[k] === ELEMENT && field.trim() ? `(${columns[k].identifier})${spelledValue(field)}` : "");
   return (isData ? rows : rows.slice(1)).map((row) => {
-    const own = message < 0 ? row.map(element).join("") : row[message] ?? "";
-    const below = text < 0 ? null : row[text] ?? "";
+    const own = message < 0 ? row.map(element).join("") : plainField(row[message] ?? "");
+    const below = text < 0 ? null : plainField(row[text] ?? "");
     return { message: own, text: below, ...(copies < 0 ? { copies: each } : copiesOf(row[copies] ?? "")) };
   });
 }

@@ -14,6 +14,18 @@ export const fieldOf = ({ target }) => /** @type {HTMLInputElement} */ (target);
 /** @type {(id: string) => HTMLDetailsElement} */
 export const folded = (id) => /** @type {HTMLDetailsElement} */ ($(id));
 
+// The length that is entered, in millimetres, with a point or a comma; null if it is none of these.
+/** @type {(id: string, least: number, most: number) => number | null} */
+export function lengthIn(id, least, most) {
+  const text = field(id).value.trim().replace(",", "."), length = Number(text);
+  return /^\d*\.?\d*$/.test(text) && text && length >= least && length <= most ? length : null;
+}
+// The whole number that is entered, or null if it is none of these.
+/** @type {(id: string, least: number, most: number) => number | null} */
+export function numberIn(id, least, most) {
+  const { value } = field(id), number = Number(value);
+  return value !== "" && Number.isInteger(number) && number >= least && number <= most ? number : null;
+}
 // All elements that a selector says.
 /** @type {(selector: string) => any[]} */
 export const allOf = (selector) => [...document.querySelectorAll(selector)];

@@ -5,18 +5,19 @@ import { AUTO, BEYOND, FNC1, plural, shapeWords } from "./common.mjs";
 import { $, field, hint, made, setUsable, shape } from "./dom.mjs";
 import { drawElements, elementsOf, faultsOf } from "./elements.mjs";
 import { drawGathered, missingWords } from "./gathered.mjs";
+import { drawPrint } from "./print.mjs";
 import { elementString } from "./gs1.mjs";
 import { PROGRAMMING, isSameLetter, partOf } from "./letters.mjs";
 import { drawLesson } from "./lesson.mjs";
 import { spelled, spelledLetter, visibleTextOf } from "./messages.mjs";
-import { BAD, EMPTY, VALID, WORKING, isChanged, isDamaged, mark } from "./state.mjs";
+import { BAD, EMPTY, VALID, WORKING, isChanged, isDamaged, mark, store } from "./state.mjs";
 import { drawSymbol } from "./symbol.mjs";
 import { drawPrintSize } from "./taking.mjs";
 import { borne, refusal, spentBy } from "./words.mjs";
 
 export function drawAll() {
   drawStage(); drawFacts(); drawSymbol(); drawVerdict(); drawMeters();
-  drawWords(); drawAbout(); drawElements(); drawGathered(); drawLesson();
+  drawWords(); drawAbout(); drawElements(); drawPrint(); drawGathered(); drawLesson();
 }
 
 const GIVING = ["copy", "save-svg", "save-png", "save-pdf", "print", "copy-link"];
@@ -84,6 +85,7 @@ function say(kind, state, why, letter = null) {
   if (letter && visibleTextOf(letter)) $("says").dataset.text = textOf(letter).charset;
   else delete $("says").dataset.text;
   $("why").textContent = why;
+  $("says").tabIndex = $("says").textContent ? 0 : -1; // it scrolls, where there is something
 }
 const NONE = { [EMPTY]: "Nothing is entered yet", [WORKING]: "Working…" };
 const OTHER = "The damage is beyond the limit, and what is left is within the limit of another message’s codewords. "
@@ -97,22 +99,23 @@ function drawVerdict() {
   else sayRead(it, it.seen.answer);
 }
 // Of text in which charset it is, and of which bytes.
-/** @type {(letter: Letter) => string} */
-function charsetWords(letter) {
+/** @type {(letter: Letter, hasBytes: boolean) => string} */
+function charsetWords(letter, hasBytes) {
   const { items, marks } = letter, isOdd = marks.length > 0 || items.some((item) => item > 127);
   if (!isOdd || !visibleTextOf(letter)) return "";
   const by = marks.length ? `, as ${marks.length > 1 ? "ECIs say" : `ECI ${marks[0].number} says`}` : "";
-  return ` It is text in ${textOf(letter).charset.toUpperCase()}${by}, of these bytes: ${spelled(items)}`;
+  const bytes = hasBytes ? `, of these bytes: ${spelled(items)}` : ".";
+  return ` It is text in ${textOf(letter).charset.toUpperCase()}${by}${bytes}`;
 }
 const TORN = "; more are taken here, since each block keeps a correction unused.";
 const INSTRUCTION = "It is an instruction to the reader that scans it, and no message.";
 // As what it is read.
-/** @type {(letter: Letter) => string} */
-function readAs({ items, head }) {
+/** @type {(letter: Letter, word: string) => string} */
+function readAs({ items, head }, word) {
   const part = partOf({ head });
-  if (part) return `Read, as part ${part.part} of ${part.parts}`;
-  if (head) return "Read, as reader programming";
-  return items[0] === FNC1 ? "Read, as GS1 data" : "Read";
+  if (part) return `${word}, as part ${part.part} of ${part.parts}`;
+  if (head) return `${word}, as reader programming`;
+  return items[0] === FNC1 ? `${word}, as GS1 data` : word;
 }
 // Where a symbol is one part of what several say, which parts of it aren't read yet.
 /** @type {(it: import("./state.mjs").Mark, letter: Letter) => string} */
@@ -133,13 +136,14 @@ function sayRead(it, { items, marks, head, corrected, erased, left, border }) {
     return;
   }
   const within = isSpent || !it.letter ? isSpent : " Damage within the limits never changes the message.";
-  const mended = words ? `${words}.${torn}${within}` : "Nothing had to be corrected.";
-  const why = `${mended}${missing(it, letter)}${charsetWords(letter)}`;
+  const isMade = store.task === "make" && it.letter !== null && !isDamaged(it), word = isMade ? "Made" : "Read";
+  const mended = words ? `${words}.${torn}${within}` : isMade ? "" : "Nothing had to be corrected.";
+  const why = `${mended}${missing(it, letter)}${charsetWords(letter, !isMade)}`.trimStart();
   const wrong = `${plural(faults, "element is", "elements are")} wrong, as the table says.`;
   if (isSpent && !it.letter) say("other", "Read, but nothing shows that it is right", why, letter);
-  else if (faults) say("other", "Read, but it isn’t right as GS1 data", `${wrong} ${why}`, letter);
-  else if (head === PROGRAMMING) say("other", readAs(letter), `${INSTRUCTION} ${why}`, letter);
-  else say("good", readAs(letter), why, letter);
+  else if (faults) say("other", `${word}, but it isn’t right as GS1 data`, `${wrong} ${why}`, letter);
+  else if (head === PROGRAMMING) say("other", readAs(letter, word), `${INSTRUCTION} ${why}`, letter);
+  else say("good", readAs(letter, word), why, letter);
 }
 
 // ---- Meters

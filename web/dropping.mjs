@@ -6,16 +6,17 @@ import { $, field, fieldOf, folded, hint } from "./dom.mjs";
 import { desks, showTask } from "./flow.mjs";
 import { isGrid } from "./grids.mjs";
 import { hasLabelsAlone, labelsIn, mayBeSaved, takeLabels } from "./labelfile.mjs";
-import { listChanged } from "./lines.mjs";
+import { listChanged, setListText } from "./lines.mjs";
 import { beginEntry } from "./link.mjs";
 import { listIn } from "./listed.mjs";
 import { tooMuch } from "./messages.mjs";
 import { keptIn } from "./pdf.mjs";
-import { readGrid, readPicture, takeSights, writeMessage } from "./source.mjs";
+import { readPictures, takeSights } from "./looking.mjs";
+import { readGrid, writeMessage } from "./source.mjs";
 import { panes } from "./state.mjs";
 import { toast } from "./taking.mjs";
 
-/** @typedef {{ picture?: File, file?: File, text?: string, note?: string, why?: string }} Brought */
+/** @typedef {{ pictures?: File[], file?: File, text?: string, note?: string, why?: string }} Brought */
 const BYTES = 4; // of a character, at most
 const MOST_BYTES_OF_SAVED = 5e7; // of a file that the page saved, and that is opened again
 const isPicture = ({ type }) => type.startsWith("image/");
@@ -23,18 +24,30 @@ const isText = ({ type, name }) => type.startsWith("text/") || (!type && /\.(txt
 const isCsvFile = ({ name }) => /\.csv$/i.test(name);
 const isTextOrSaved = (file) => isText(file) || mayBeSaved(file.name);
 
-// What is dropped or pasted: the first picture, or else the first file of text, or else the text; and a note on what
-// isn't looked at.
+// What is dropped or pasted: the pictures, or else the first file of text, or else the text; and a note on what isn't
+// looked at.
 /** @type {(list: DataTransfer | null, isTaken?: (file: File) => boolean) => Brought} */
 export function broughtBy(list, isTaken = isText) {
-  const files = [...(list?.files ?? [])], picture = files.find(isPicture), file = picture ?? files.find(isTaken);
+  const files = [...(list?.files ?? [])], pictures = files.filter(isPicture), file = files.find(isTaken);
   const text = list?.getData("text") ?? "", count = files.length.toLocaleString("en");
-  const note = file && files.length > 1 ? ` It is one of ${count} files, and the others aren’t looked at.` : "";
-  if (picture) return { picture, note };
-  if (file) return { file, note };
-  if (!text && files.length) return { why: `${files[0].name} is neither a picture nor a text.` };
+  const left = files.filter((each) => !isPicture(each));
+  if (pictures.length) return { pictures, note: leftWords(left) };
+  const others = files.length > 1 ? ` It is one of ${count} files, and the others aren’t looked at.` : "";
+  if (file) return { file, note: others };
+  if (!text && files.length) return { why: noneOf(files[0]) };
   return { text };
 }
+// That files which are no pictures aren't looked at, in words, or "".
+/** @type {(files: File[]) => string} */
+const leftWords = (files) => (files.length
+  ? ` ${files.slice(0, MOST_NAMED).map(leftOf).join(" ")}${files.length > MOST_NAMED ? " …" : ""}` : "");
+/** @type {(file: File) => string} */
+const leftOf = (file) => (isPdf(file) ? noneOf(file) : `${file.name} isn’t looked at.`);
+const MOST_NAMED = 3;
+/** @type {(file: File) => string} */
+const noneOf = (file) => `${file.name} is ${isPdf(file) ? PDF_WORDS : "neither a picture nor a text."}`;
+const PDF_WORDS = "a PDF, which isn’t read here: save its pages as pictures, or take pictures of the screen.";
+const isPdf = ({ name, type }) => type === "application/pdf" || /\.pdf$/i.test(name);
 // The text of a file, with a note on how it is read; or why it isn't taken.
 /** @type {(file: File, most?: number) => Promise<{ text?: string, note?: string, why?: string }>} */
 export async function textOfFile(file, most = MOST_TEXT) {
@@ -117,7 +130,8 @@ async function heldBy(file) {
 // The text of a file that has no list of labels, or why it isn't taken.
 /** @type {(file: File, most: number) => Promise<{ text?: string, note?: string, why?: string }>} */
 const textAlone = async (file, most) =>
-  (hasLabelsAlone(file.name) ? { why: `${file.name} holds no labels of this page.` } : textOfFile(file, most));
+  (!hasLabelsAlone(file.name) ? textOfFile(file, most)
+    : { why: isPdf(file) && most === MOST_TEXT ? noneOf(file) : `${file.name} holds no labels of this page.` });
 // The list that a file holds takes the place of the one on the sheet, with how its labels look.
 /** @type {(name: string, labels: import("./labelfile.mjs").Labels, note: string) => void} */
 function openLabels(name, labels, note) {
@@ -133,7 +147,7 @@ function takeLines({ name }, text, why, note) {
   showTask("make");
   folded("sheet").open = true;
   if (!why) {
-    field("messages").value = text;
+    setListText(text);
     field("lines-as").value = isCsvFile({ name }) ? "csv" : "messages";
     listChanged();
   }
@@ -141,9 +155,9 @@ function takeLines({ name }, text, why, note) {
 }
 function pasted(event) {
   if (event.defaultPrevented) return;
-  const { picture, file, text, note } = broughtBy(event.clipboardData, isTextOrSaved);
+  const { pictures, file, text, note } = broughtBy(event.clipboardData, isTextOrSaved);
   const isMessage = event.target === $("message");
-  if (picture) { event.preventDefault(); readPicture(picture, note); return; }
+  if (pictures) { event.preventDefault(); readPictures(pictures, note); return; }
   if (file) { event.preventDefault(); takeFile(file, note, event.target === $("messages")); return; }
   if (!isMessage || !text || !isGrid(text) || text.trim().length < 100) return;
   event.preventDefault(); // a grid that is pasted as a message is taken as a grid
@@ -153,22 +167,28 @@ function dropped(event) {
   document.body.classList.remove("over");
   if (event.defaultPrevented) return;
   event.preventDefault();
-  const { picture, file, text, note, why } = broughtBy(event.dataTransfer, isTextOrSaved);
+  const { pictures, file, text, note, why } = broughtBy(event.dataTransfer, isTextOrSaved);
   const { target } = event, isSheet = target === $("messages");
   const much = text && tooMuch(text, isSheet ? MOST_OF_SHEET : MOST_TEXT);
-  if (picture) readPicture(picture, note);
+  if (pictures) readPictures(pictures, note);
   else if (file) takeFile(file, note, isSheet);
   else if (why) refuseBrought(why);
   else if (much) hint(isSheet ? "sheet-hint" : "message-hint", `Nothing was taken: ${much}`, true);
   else if (isSheet || (target === $("message") && !isGrid(text))) insert(target, text);
   else if (text) takeText(text);
 }
-/** @type {(id: string, take: (file: File) => any) => void} */
+/** @type {(id: string, take: (files: File[]) => any) => void} */
 const whenOpened = (id, take) => $(id).addEventListener("change", (event) => {
-  const [file] = fieldOf(event).files;
-  if (file) take(file);
+  const files = [...fieldOf(event).files];
   fieldOf(event).value = "";
+  if (files.length) take(files);
 });
+/** @type {(files: File[]) => void} */
+function openPictures(files) {
+  const pdf = files.find(isPdf), pictures = files.filter((file) => !isPdf(file));
+  if (pictures.length) readPictures(pictures, leftWords(pdf ? [pdf] : []));
+  else takeFile(pdf, "");
+}
 export function wireDropping() {
   addEventListener("paste", pasted);
   addEventListener("dragover", (event) => { event.preventDefault(); document.body.classList.add("over"); });
@@ -176,7 +196,7 @@ export function wireDropping() {
   addEventListener("drop", dropped);
   for (const name of ["message", "grid"]) bound(field(name), (why) => hint(`${name}-hint`, why, true));
   bound(field("messages"), (why) => hint("sheet-hint", why, true), MOST_OF_SHEET);
-  whenOpened("lines", (file) => takeFile(file, "", true));
-  whenOpened("saved", (file) => takeFile(file, ""));
-  whenOpened("picture", readPicture);
+  whenOpened("lines", ([file]) => takeFile(file, "", true));
+  whenOpened("saved", ([file]) => takeFile(file, ""));
+  whenOpened("picture", openPictures);
 }

@@ -1,10 +1,12 @@
 // Data Matrix ECC 200 for programs in JavaScript: reads symbols in pictures and grids, writes messages as symbols, by
 // the proved library and the sampler in WebAssembly. docs/JAVASCRIPT.md tells how it is used. The page stands on it.
-import { bytesOf, letterOfText, textOf } from "./charsets.mjs";
+import { bytesOf, textOf, waysOfText } from "./charsets.mjs";
 import { ANY, ASCII, EXTENDED, FNC1, ONE, RECTANGLE, SHORTER, SMALLEST, SQUARE } from "./common.mjs";
+import { elementsOfLetter, letterOfElements } from "./gs1.mjs";
 import { CODE_WORDS, SAMPLER } from "./layouts.mjs";
 import { isSameLetter, letterOf, nameOfFile, partOf, together } from "./letters.mjs";
 import { Library } from "./library.mjs";
+import { demandKnown } from "./options.mjs";
 import { Sampler } from "./sampler.mjs";
 
 /** @typedef {import("./common.mjs").Grid} Grid */
@@ -14,20 +16,29 @@ import { Sampler } from "./sampler.mjs";
     blue and opacity of each pixel; or its luminance alone, 0 black and 255 white */
 /** @typedef {import("./letters.mjs").Letter} Letter */
 /** @typedef {import("./common.mjs").Limit} Limit */
-/** @typedef {Letter & { isGs1: boolean, bytes: Uint8Array, text: string | null, charset: string }} Message its items, 0
-    to 255, and 256 for FNC1, its marks and its head; whether FNC1 is the first item; its bytes without that, others as
-    the byte 29; and these as text, by the charsets of the marks, if they are that */
+/** @typedef {{ isGs1: boolean, bytes: Uint8Array, text: string | null, charset: string,
+    elements: { identifier: string, value: string }[] | null }} Sense of a letter: whether FNC1 is the first item; its
+    bytes without that, others as the byte 29; these as text, by the charsets of the marks, if they are that; and its
+    identifiers with their values, if it is GS1 data as the rules have it */
+/** @typedef {Letter & Sense} Message its items, 0 to 255, and 256 for FNC1, its marks and its head, and their sense */
 /** @typedef {Found & Message} Symbol */
 /** @typedef {string | ArrayLike<number> | Partial<Letter>} Given to be written: a text, bytes or items, or a letter */
 /** @typedef {{ symbols: Symbol[], unread: Found[], isComplete: boolean }} Finding in reading order */
-/** @typedef {{ form?: string, shape?: string, rows?: number, columns?: number }} Form in which a message is written:
-    `smallest`, in the encodations that take the smallest size; `ascii`, or `shorter` for bytes where that takes fewer
-    codewords; in the smallest `square`, `rectangle` of ISO/IEC 16022, `extended` one of ISO/IEC 21471 too, or in `any`;
-    or in the size of these rows and columns */
+/** @typedef {{ form?: string, shape?: string, rows?: number, columns?: number, gs1?: boolean }} Form in which a message
+    is written: `smallest`, in the encodations that take the smallest size; `ascii`, or `shorter` for bytes where that
+    takes fewer codewords; in the smallest `square`, `rectangle` of ISO/IEC 16022, `extended` one of ISO/IEC 21471 too,
+    or in `any`; or in the size of these rows and columns; and whether a text is an element string */
 /** @type {Record<string, number>} */
 const FORMS = { ascii: ASCII, shorter: SHORTER, smallest: SMALLEST };
 /** @type {Record<string, number>} */
 const SYMBOL_SHAPES = { square: SQUARE, rectangle: RECTANGLE, extended: EXTENDED, any: ANY };
+
+// The options of each call, by their names.
+const OPTIONS = {
+  read: ["most", "mostUnread", "milliseconds", "effort", "leastSide", "margin", "quality"],
+  write: ["form", "shape", "rows", "columns", "gs1"],
+  readGrid: ["limit", "doubtful"], normal: ["limit", "doubtful", "form"],
+};
 
 // What can't be read or written: a code of library/ecc200.h, with the value and the place that it tells.
 export class Refused extends Error {
@@ -56,14 +67,20 @@ export function luminanceOf({ data, width, height }) {
 /** @type {(letter: Letter) => Message} */
 function messageIn({ items, marks, head }) {
   const isGs1 = items[0] === FNC1, letter = { items, marks, head };
-  return { ...letter, isGs1, bytes: bytesOf(isGs1 ? items.slice(1) : items), ...textOf(letter) };
+  const bytes = bytesOf(isGs1 ? items.slice(1) : items);
+  return { ...letter, isGs1, bytes, ...textOf(letter), elements: elementsOfLetter(letter) };
 }
-/** @type {(given: Given) => Letter} */
-function letterGiven(given) {
-  if (typeof given === "string") return letterOfText(given);
-  if ("length" in given) return letterOf(Array.from(given));
+// The letters by which what is given may be written.
+/** @type {(given: Given, isElements: boolean) => Letter[]} */
+function waysGiven(given, isElements) {
+  if (isElements) {
+    if (typeof given !== "string") throw new TypeError("with gs1 a text is written, with its identifiers in brackets");
+    return [letterOfElements(given)];
+  }
+  if (typeof given === "string") return waysOfText(given);
+  if ("length" in given) return [letterOf(Array.from(given))];
   const { items, marks, head } = given;
-  return letterOf(Array.from(items), marks, head);
+  return [letterOf(Array.from(items), marks, head)];
 }
 // What readings say together that are the parts of one message, in any order, each of them there.
 /** @type {(readings: Letter[]) => Message} */
@@ -93,6 +110,7 @@ export class Ecc200 {
   // The symbols in a picture, those that were found and not read, and whether all of it was searched.
   /** @type {(picture: Picture, search?: import("./sampler.mjs").Search) => Finding} */
   read(picture, search = {}) {
+    demandKnown(search, OPTIONS.read);
     const { width, height } = picture;
     if (![width, height].every((side) => Number.isInteger(side) && side > 0 && side <= SAMPLER.MOST_SIDE))
       throw new RangeError(`a picture has 1 to ${SAMPLER.MOST_SIDE} pixels on each side`);
@@ -103,25 +121,31 @@ export class Ecc200 {
   }
   // The symbol of a message: of text, of bytes or items, or of a letter.
   /** @type {(message: Given, form?: Form) => Grid} */
-  write(message, { form = "smallest", shape = "square", rows = 0, columns = 0 } = {}) {
+  write(message, given = {}) {
+    demandKnown(given, OPTIONS.write);
+    const { form = "smallest", shape = "square", rows = 0, columns = 0, gs1 = false } = given;
     const how = { form: FORMS[form], shape: rows || columns ? ONE : SYMBOL_SHAPES[shape], rows, columns };
-    const { fault, ...symbol } = this.library.write(letterGiven(message), how);
+    const ways = waysGiven(message, gs1).map((it) => [it]);
+    const { symbols: [{ fault, ...symbol }] } = this.library.writeSmallest(ways, how);
     if (fault) throw new Refused(fault);
     return /** @type {Grid} */ (symbol);
   }
   // What an upright grid says, of which these modules are doubtful, with at most so many wrong border modules.
   /** @type {(grid: Grid, more?: { limit?: Limit, doubtful?: Uint8Array | null }) =>
       Message & import("./library.mjs").Answer} */
-  readGrid(grid, { limit = null, doubtful = null } = {}) {
-    const { library } = this, most = library.limitOf(grid, limit, doubtful);
+  readGrid(grid, more = {}) {
+    demandKnown(more, OPTIONS.readGrid);
+    const { limit = null, doubtful = null } = more, { library } = this, most = library.limitOf(grid, limit, doubtful);
     const { fault, ...answer } = library.read(grid, most, doubtful);
     if (fault) throw new Refused(fault);
     return { ...answer, ...messageIn(/** @type {Letter} */ (answer)) };
   }
   // The normal symbol of what an upright grid says.
   /** @type {(grid: Grid, more?: { limit?: Limit, doubtful?: Uint8Array | null, form?: string }) => Grid} */
-  normal(grid, { limit = null, doubtful = null, form = "ascii" } = {}) {
-    const { library } = this, most = library.limitOf(grid, limit, doubtful);
+  normal(grid, more = {}) {
+    demandKnown(more, OPTIONS.normal);
+    const { limit = null, doubtful = null, form = "ascii" } = more, { library } = this;
+    const most = library.limitOf(grid, limit, doubtful);
     const { fault, ...symbol } = library.normal(grid, most, FORMS[form], doubtful);
     if (fault) throw new Refused(fault);
     return /** @type {Grid} */ (symbol);

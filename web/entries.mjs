@@ -1,12 +1,12 @@
 // The symbols of the list of many messages, with their texts: all of them, to be given, or some, to be looked at.
-import { FNC1, plural } from "./common.mjs";
+import { plural } from "./common.mjs";
 import { field } from "./dom.mjs";
-import { elementsOf } from "./elements.mjs";
+import { wrongGs1 } from "./elements.mjs";
 import { desks } from "./flow.mjs";
 import { letterOf } from "./letters.mjs";
 import { isCsv, linesNow, whyNotYet } from "./lines.mjs";
 import { brokenWords, isBroken } from "./order.mjs";
-import { lettersTaken, partsNow } from "./parts.mjs";
+import { partsNow, waysTaken } from "./parts.mjs";
 import { howIn } from "./sizes.mjs";
 import { formNow, takenNow } from "./source.mjs";
 import { tooLong } from "./words.mjs";
@@ -18,17 +18,8 @@ import { tooLong } from "./words.mjs";
 /** @typedef {import("./csv.mjs").Line} Line */
 /** @typedef {{ taken?: import("./messages.mjs").Taken, why: string }} Read of a line: what it stands for, or why it
     isn't taken */
-const MOST_ON_SHEET = 500;
+const MOST_ON_SHEET = 10000; // labels
 
-// What is wrong with GS1 data, in words, or "".
-/** @type {(letter: Letter | null) => string} */
-export function wrongGs1(letter) {
-  const isGs1 = letter?.items[0] === FNC1 && !letter.head;
-  const wrong = isGs1 ? elementsOf(letter.items).find(({ fault }) => fault) : null;
-  if (!wrong) return "";
-  const identifier = wrong.identifier && `(${wrong.identifier}) `;
-  return `It isn’t right as GS1 data: ${identifier}${wrong.name}, ${wrong.fault}.`;
-}
 /** @type {(line: Line) => Read} */
 function readLine({ message, why }) {
   if (why) return { why: `${why}.` };
@@ -45,7 +36,7 @@ function whyNoList(lines) {
   if (!count) return "Each row has 0 copies.";
   if (count <= MOST_ON_SHEET) return "";
   const all = count > lines.length ? "labels" : "messages";
-  return `${plural(count, "message", all)}, and a sheet takes no more than ${MOST_ON_SHEET}.`;
+  return `${plural(count, "message", all)}, and a list takes no more than ${MOST_ON_SHEET.toLocaleString("en")}.`;
 }
 /** @type {(number: number, why: string) => string} */
 const ofMessage = (number, why) => `Message ${number}: ${why}`;
@@ -55,23 +46,25 @@ export function faultIn(lines) {
   const faults = lines.map((line) => readLine(line).why), bad = faults.findIndex(Boolean);
   return bad < 0 ? "" : ofMessage(bad + 1, faults[bad]);
 }
-// The entries of a line, without their symbols: one for each part.
-/** @type {(line: Line, number: number) => Entry[]} */
-function entriesOfLine(line, number) {
+// A line that is to be written: its letters, one for each part, in each way, and the entries, without their symbols.
+/** @type {(line: Line, number: number) => { ways: Letter[][], entries: Omit<Entry, "letter" | "grid">[] }} */
+function askedOf(line, number) {
   const { taken, why } = readLine(line), { message, text, copies } = line;
-  const letters = why ? [letterOf([])] : lettersTaken(taken, partsNow());
-  const below = field("label-text").checked ? text ?? message : "", { length } = letters;
+  const ways = why ? [[letterOf([])]] : waysTaken(taken, partsNow()), [{ length }] = ways;
+  const below = field("label-text").checked ? text ?? message : "";
   const textOfPart = (k) => (below && length > 1 ? `${below} (${k + 1}/${length})` : below);
-  return letters.map((letter, k) => ({ number, text: textOfPart(k), copies, letter, why }));
+  return { ways, entries: Array.from({ length }, (_, k) => ({ number, text: textOfPart(k), copies, why })) };
 }
 // What becomes of some of the lines, from this one on; or why there is no answer.
 /** @type {(lines: Line[], first: number, lane: string) => Promise<{ why?: string, entries?: Entry[] }>} */
 export async function entriesOf(lines, first, lane) {
-  const how = howIn(formNow()), entries = lines.flatMap((line, k) => entriesOfLine(line, first + k));
-  const symbols = await desks.quick.ask("sheet", { letters: entries.map(({ letter }) => letter), how }, lane);
-  if (!symbols || isBroken(symbols)) return { why: brokenWords(symbols ?? { stopped: true }) };
-  return { entries: entries.map((entry, k) =>
-    ({ ...entry, grid: symbols[k], why: entry.why || (symbols[k] ? "" : tooLong(how)) })) };
+  const how = howIn(formNow()), asked = lines.map((line, k) => askedOf(line, first + k));
+  const written = await desks.quick.ask("sheet", { lines: asked.map(({ ways }) => ways), how }, lane);
+  if (!written || isBroken(written)) return { why: brokenWords(written ?? { stopped: true }) };
+  return { entries: asked.flatMap(({ ways, entries }, k) => entries.map((entry, part) => {
+    const { way, symbols } = written[k], grid = symbols[part];
+    return { ...entry, letter: ways[way][part], grid, why: entry.why || (grid ? "" : tooLong(how)) };
+  })) };
 }
 // The symbols of all lines; or why there are none.
 /** @type {() => Promise<{ why?: string, entries?: Entry[] }>} */

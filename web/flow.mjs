@@ -2,7 +2,7 @@
 // of a change the mark isn't valid, until the worker has answered about that very state.
 import { Desk } from "./desk.mjs";
 import { $, allOf, field, folded } from "./dom.mjs";
-import { drawAll } from "./draw.mjs";
+import { redraw } from "./redraw.mjs";
 import { gather } from "./gathered.mjs";
 import { tellLink } from "./link.mjs";
 import { brokenWords, inTurn, isBroken, refuse, validate, work } from "./order.mjs";
@@ -23,15 +23,16 @@ export function openDesks(script, code) {
 
 // Another symbol was written or opened; where it was found, it has doubtful modules and a limit of its own.
 /** @type {(it: Mark, symbol: import("./common.mjs").Grid & { letter?: import("./letters.mjs").Letter | null,
-    doubtful?: Uint8Array | null, limit?: Limit, seen: any }) => void} */
-export function take(it, { letter = null, doubtful = null, limit, seen, ...grid }) {
-  it.hold(grid, letter, doubtful);
+    doubtful?: Uint8Array | null, limit?: Limit, seen: any,
+    quality?: import("./quality.mjs").Quality | null }) => void} */
+export function take(it, { letter = null, doubtful = null, limit, seen, quality = null, ...grid }) {
+  it.hold(grid, letter, doubtful, quality);
   keepMap(seen, seen.map);
   if (limit !== undefined) [it.limit, it.limitWhy] = [limit, ""];
   else if (it.limit !== null) { it.seen = seen; look(it); return; }
   validate(it, seen);
   if (it === panes.read && !seen.answer.fault) gather(seen.answer);
-  if (it === mark()) { field("which-undamaged").checked = true; drawAll(); }
+  if (it === mark()) { field("which-undamaged").checked = true; redraw(); }
   tellLink();
 }
 
@@ -52,7 +53,7 @@ async function looked(it) {
   if (isBroken(seen)) { if (it.changed === own) refuse(it, brokenWords(seen)); return; }
   if (it.changed === own) validate(it, seen); else if (it.stage !== WORKING) return;
   it.seen = seen;
-  if (it === mark()) drawAll();
+  if (it === mark()) redraw();
   if (it.stage === VALID) tellLink();
 }
 
@@ -101,7 +102,7 @@ async function damageNow(it, what) {
   if (differ(seen.modules, it.modules)) begin(it);
   validate(it, seen);
   it.modules = seen.modules.slice();
-  if (it === mark()) drawAll();
+  if (it === mark()) redraw();
   tellLink();
 }
 /** @type {(it: Mark, limit: Limit, limitWhy?: string) => void} */
@@ -135,7 +136,7 @@ export function showTask(task, pane = PANE_OF[task] ?? store.pane) {
   $("symbol").setAttribute("role", task === "learn" ? "application" : "img");
   $("symbol").tabIndex = task === "learn" ? 0 : -1;
   for (const listener of showing) listener(task);
-  drawAll();
+  redraw();
 }
 export function wireDetails() {
   $("details").addEventListener("toggle", () => { areDetailsOpen[store.task] = folded("details").open; });

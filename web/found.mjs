@@ -1,11 +1,12 @@
 // What was found in a picture, or by the camera: outlined on it, and listed with what it says, in reading order. One of
 // it is at hand.
-import { plural } from "./common.mjs";
+import { isSame, plural } from "./common.mjs";
 import { $, hint, made, setUsable, shape, whenUsed } from "./dom.mjs";
 import { desks, take } from "./flow.mjs";
 import { gatherAll } from "./gathered.mjs";
+import { keepSoon, kept } from "./kept.mjs";
 import { keyOfLetter } from "./letters.mjs";
-import { copiedLines, csvOf, jsonOf, remarksOn, saidBy, whyUnread } from "./listed.mjs";
+import { copiedLines, csvOf, jsonOf, listIn, remarksOn, saidBy, whyUnread } from "./listed.mjs";
 import { brokenWords, enter, isBroken, refuse, whenEntered } from "./order.mjs";
 import { panes } from "./state.mjs";
 import { copyText, save } from "./taking.mjs";
@@ -13,8 +14,12 @@ import { copyText, save } from "./taking.mjs";
 /** @typedef {import("./listed.mjs").Sighted} Sighted */
 /** @typedef {{ symbols: Sighted[], unread: Sighted[], isComplete: boolean, hasQrCode?: boolean, width: number,
     height: number, view?: ImageBitmap }} Sights */
-/** @type {{ list: Sighted[], isComplete: boolean, hasQrCode: boolean, chosen: Sighted | null }} */
-const scene = { list: [], isComplete: true, hasQrCode: false, chosen: null };
+/** @typedef {{ name: string, why: string, view: Blob | null, size: { width: number, height: number },
+    symbols: Sighted[] }} Picture one of several, with what is seen in it, or why nothing is read */
+/** @type {{ list: Sighted[], isComplete: boolean, hasQrCode: boolean, chosen: Sighted | null, pictures: Picture[],
+    shown: Picture | null }} with the pictures, if there are several, of which one is shown */
+const scene = { list: [], isComplete: true, hasQrCode: false, chosen: null, pictures: [], shown: null };
+const KEPT = "found";
 let isOwn = false; // whether what is entered is chosen here
 
 // ---- Drawing
@@ -53,7 +58,7 @@ function showChosen(hadFocus) {
 }
 function drawList() {
   const { list, isComplete, hasQrCode, chosen } = scene, read = list.filter(({ isRead }) => isRead).length;
-  $("found").hidden = list.length - read === 0 && read < 2 && isComplete && !hasQrCode;
+  $("found").hidden = list.length - read === 0 && read < 2 && isComplete && !hasQrCode && !scene.pictures.length;
   setUsable("found-copy", read > 0);
   $("found-title").textContent = plural(read, "symbol is read", "symbols are read");
   const unread = list.length - read, more = isComplete ? "" : "There may be more: the time for a picture was over.";
@@ -61,11 +66,16 @@ function drawList() {
   const other = hasQrCode ? "There is a QR code too, which isn’t a Data Matrix symbol." : "";
   hint("found-hint", [not, other, more].filter(Boolean).join(" "));
   const hadFocus = $("found-are").contains(document.activeElement);
-  $("found-are").replaceChildren(...list.map(entryOf));
+  const { pictures } = scene;
+  $("found-are").replaceChildren(...(pictures.length ? pictures.flatMap(entriesOf) : list.map(entryOf)));
   showChosen(hadFocus);
+  keepSoon(KEPT, () => (list.length ? jsonOf(list, isComplete) : ""));
   const size = { width: Number($("outlines").dataset.width) || 1, height: Number($("outlines").dataset.height) || 1 };
-  drawOutlines($("outlines"), list, size, chosen, choose);
+  drawOutlines($("outlines"), scene.shown?.symbols ?? list, size, chosen, choose);
 }
+/** @type {(picture: Picture) => Node[]} */
+const entriesOf = ({ name, why, symbols }) => [...symbols.map(entryOf),
+  ...(why ? [made("li", { className: "none" }, `${name}: ${why}`)] : [])];
 /** @type {(view: ImageBitmap, size: { width: number, height: number }) => void} */
 function drawView(view, { width, height }) {
   const canvas = /** @type {HTMLCanvasElement} */ ($("view"));
@@ -82,7 +92,7 @@ function drawView(view, { width, height }) {
 export function showSights({ symbols, unread, isComplete, hasQrCode = false, width, height, view }, chosen = null) {
   if (view) drawView(view, { width, height });
   gatherAll(symbols);
-  Object.assign(scene, { list: [...symbols, ...unread], isComplete, hasQrCode, chosen });
+  Object.assign(scene, { list: [...symbols, ...unread], isComplete, hasQrCode, chosen, pictures: [], shown: null });
   drawList();
 }
 // Adds to the list what the camera sees for the first time; returns that.
@@ -98,8 +108,38 @@ export function addSights(symbols) {
   $("found").hidden = false;
   return fresh;
 }
+// Begins a list of several pictures.
+export const beginPictures = () => clearSights();
+// Adds what stands in one of several pictures; the first in which something is read is shown.
+/** @type {(given: Sights & { name: string, why: string }) => Promise<void>} */
+export async function addPicture({ name, why, symbols = [], unread = [], isComplete = true, view, width, height }) {
+  const own = [...symbols, ...unread].map((symbol) => Object.assign(symbol, { picture: name }));
+  const picture = { name, why, view: view ? await blobOf(view) : null, size: { width, height }, symbols: own };
+  gatherAll(symbols);
+  scene.pictures.push(picture);
+  scene.list.push(...own);
+  scene.isComplete &&= isComplete;
+  if (symbols.length && !scene.chosen) scene.chosen = symbols[0];
+  await showPictureOf(scene.chosen);
+  drawList();
+}
+/** @type {(view: ImageBitmap) => Promise<Blob>} */
+function blobOf(view) {
+  const canvas = new OffscreenCanvas(view.width, view.height);
+  canvas.getContext("bitmaprenderer").transferFromImageBitmap(view);
+  return canvas.convertToBlob({ type: "image/jpeg" });
+}
+// Shows the picture in which a symbol is, where there are several.
+/** @type {(symbol: Sighted | null) => Promise<void>} */
+async function showPictureOf(symbol) {
+  const own = scene.pictures.find(({ symbols }) => symbols.includes(symbol));
+  if (!own?.view || scene.shown === own) return;
+  scene.shown = own;
+  const view = await createImageBitmap(own.view);
+  if (scene.shown === own) drawView(view, own.size);
+}
 export function clearSights() {
-  Object.assign(scene, { list: [], isComplete: true, hasQrCode: false, chosen: null });
+  Object.assign(scene, { list: [], isComplete: true, hasQrCode: false, chosen: null, pictures: [], shown: null });
   $("scene").hidden = true;
   drawList();
 }
@@ -114,14 +154,23 @@ export function keepingSights(act) {
 }
 /** @type {(symbol: Sighted) => void} */
 export function choose(symbol) {
-  const { rows, columns, modules, doubtful, limit } = symbol, it = panes.read;
+  const { rows, columns, modules, doubtful, limit, quality } = symbol, it = panes.read;
   scene.chosen = symbol;
   drawList();
+  showPictureOf(symbol).then(drawList);
   const question = () => desks.quick.ask("look", { grid: { rows, columns, modules }, doubtful, limit }, "found");
   keepingSights(() => enter(it, question, (seen) => {
     if (isBroken(seen)) refuse(it, brokenWords(seen));
-    else take(it, { rows, columns, modules, doubtful, limit, seen });
+    else take(it, { rows, columns, modules, doubtful, limit, seen, quality });
   }));
+}
+// Brings back the list that was kept.
+export async function bringFound() {
+  const list = listIn(new TextEncoder().encode(kept(KEPT)));
+  const sights = list && await desks.quick.ask("again", list, "found");
+  if (!sights?.symbols || scene.list.length) return;
+  const { original } = panes.read, isAtHand = ({ modules }) => original !== null && isSame(modules, original);
+  showSights(sights, [...sights.symbols, ...sights.unread].find(isAtHand) ?? null);
 }
 export function wireFound() {
   whenEntered((it) => { if (it === panes.read && !isOwn) clearSights(); });

@@ -1,7 +1,8 @@
 // The parts of messages that several symbols say together (structured append), put together as they are read.
 import { $, made, setUsable, whenUsed } from "./dom.mjs";
-import { drawAll } from "./draw.mjs";
+import { redraw } from "./redraw.mjs";
 import { readable, typed } from "./gs1.mjs";
+import { keepSoon, kept } from "./kept.mjs";
 import { isSameLetter, nameOfFile, partOf, together } from "./letters.mjs";
 import { VALID, mark, store } from "./state.mjs";
 import { copyText, letterRead } from "./taking.mjs";
@@ -9,6 +10,15 @@ import { copyText, letterRead } from "./taking.mjs";
 /** @typedef {import("./letters.mjs").Letter} Letter */
 /** @type {Map<string, Map<number, Letter>>} the parts of each file, by their numbers */
 const files = new Map();
+const KEPT = "parts";
+const keepParts = () => keepSoon(KEPT, () => (files.size
+  ? JSON.stringify([...files].map(([name, parts]) => [name, [...parts]])) : ""));
+// Brings back the parts that were kept.
+export function bringParts() {
+  try {
+    for (const [name, parts] of JSON.parse(kept(KEPT) || "[]")) files.set(name, new Map(parts));
+  } catch { files.clear(); } // of another version of the page
+}
 
 // Keeps what is read, if it is a part. One with another content than before is of another file, which begins with it.
 /** @type {(letter: Letter) => void} */
@@ -17,13 +27,15 @@ export function gather(letter) {
   if (!part) return;
   const name = nameOfFile(part), known = files.get(name), before = known?.get(part.part);
   const own = known && (!before || isSameLetter(before, letter)) ? known : new Map();
-  files.set(name, own.set(part.part, letter));
+  const { items, marks, head } = letter;
+  files.set(name, own.set(part.part, { items, marks, head }));
+  keepParts();
 }
 // Keeps what is read of several symbols, and shows what that changes.
 /** @type {(letters: Letter[]) => void} */
 export function gatherAll(letters) {
   for (const letter of letters) gather(letter);
-  if (letters.some(partOf)) drawAll();
+  if (letters.some(partOf)) redraw();
 }
 // Which parts of a message are missing, in words.
 /** @type {(part: import("./letters.mjs").Part) => string} */
@@ -72,6 +84,7 @@ export function wireGathered() {
   $("forget-parts").addEventListener("click", () => {
     const part = partAtHand(), { seen } = mark();
     files.delete(nameOfFile(part));
+    keepParts();
     gatherAll([letterRead(seen)]);
   });
 }

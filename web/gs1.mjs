@@ -63,6 +63,12 @@ function fullYear(year) {
 }
 /** @type {(most: number, what: string) => (text: string) => { words?: string, fault?: string }} */
 const below = (most, what) => (text) => (Number(text) < most ? {} : { fault: `${text} is no ${what}` });
+/** @type {Map<string, Set<string>>} the codes that a check lets pass, by its name */
+const codes = new Map();
+/** @type {(check: string, what: string, more?: string) => (text: string) => { words?: string, fault?: string }} */
+function listed(check, what, more = "") {
+  return (text) => (codes.get(check)?.has(text) || text === more ? {} : { fault: `${text} is no ${what}` });
+}
 /** @type {Record<string, (text: string) => { words?: string, fault?: string }>} */
 const CHECKS = {
   check(text) {
@@ -90,6 +96,8 @@ const CHECKS = {
   minute: below(60, "minute"),
   second: below(60, "second"),
   minus: (text) => (text === "-" ? {} : { fault: `${text} stands where only a minus sign may` }),
+  country: listed("country", "country"), processor: listed("country", "country", "999"),
+  letters: listed("letters", "country"), currency: listed("currency", "currency"),
 };
 
 // A value of decimals: where the table has several identifiers of four digits in one line, the last digit says how
@@ -136,6 +144,8 @@ const ENTRY = /^(\d{2,4})(?:-(\d{2,4}))?\s+(fixed|fnc1)\s+\S+\s+(\S+)\s+(.*)$/;
 /** @type {(text: string) => void} */
 export function readIdentifiers(text) {
   for (const line of text.split("\n")) {
+    const [, check, some] = /^:(\w+) (.*)$/.exec(line) ?? [];
+    if (check) codes.set(check, new Set([...codes.get(check) ?? [], ...some.split(" ")]));
     const [, first, last, ending, parts, name] = ENTRY.exec(line) ?? [];
     if (!first) continue;
     const hasDecimals = first.length === 4 && last !== undefined;
@@ -177,6 +187,15 @@ export function elementsIn(items) {
   return [{ identifier: "", name: "no element follows the FNC1", items: [], fault: "empty" }];
 }
 
+// The elements of a letter that is GS1 data as its rules have it, or null.
+/** @type {(letter: Letter) => { identifier: string, value: string }[] | null} */
+export function elementsOfLetter({ items, head }) {
+  if (items[0] !== FNC1 || head) return null;
+  const elements = elementsIn(items.slice(1));
+  if (elements.some(({ fault }) => fault)) return null;
+  return elements.map(({ identifier, items: value }) => ({ identifier, value: asText(value) }));
+}
+
 // ---- As people write them
 
 // A text that begins with a bracket is meant as elements. In it each bracket that is opened begins an identifier, but
@@ -198,7 +217,8 @@ export const whyNot = ({ column, why }) => (column ? `Column ${column} ${why}.` 
 function elementAt(text, at) {
   const element = ELEMENTS[text[0]];
   element.lastIndex = at;
-  const [all, identifier, closed, spelledValue] = element.exec(text), begin = at + identifier.length + 2;
+  const [all, identifier, closed, spaced] = element.exec(text), spelledValue = spaced.trim(); // GS1 has no spaces
+  const begin = at + identifier.length + 2 + spaced.indexOf(spelledValue);
   if (!closed) return noElement(text, at, "opens a bracket that holds no identifier, such as (01)");
   const entry = known.get(identifier), { letter, ...fault } = parse(spelledValue, true);
   if (!entry) return noElement(text, at, `begins (${identifier}), which is no identifier of GS1’s table`);
@@ -258,6 +278,18 @@ function elementsOfText(text) {
   }
   const items = joinedItems(elements), why = misread(elements, items);
   return why ? { why } : { letter: letterOf(items), isElements: true };
+}
+
+// The letter of an element string, of which each value is right. Throws a RangeError, which says what is wrong.
+/** @type {(text: string) => Letter} */
+export function letterOfElements(text) {
+  const none = { why: "An identifier in brackets, such as (01), is wanted." };
+  /** @type {Taken} */
+  const taken = isElements(text) ? elementsOfText(text) : none;
+  if (!taken.letter) throw new RangeError(whyNot(taken));
+  const wrong = elementsIn(taken.letter.items.slice(1)).find(({ fault }) => fault);
+  if (wrong) throw new RangeError(`(${wrong.identifier}) ${wrong.name}: ${wrong.fault}`);
+  return taken.letter;
 }
 
 // What a text stands for that is an element string, or a letter that is spelled.

@@ -1,7 +1,8 @@
 // A list of labels with all that says how they look, kept in a file: by itself, and in each file of labels that the
 // page saves, so that any of these can be opened again.
 import { field } from "./dom.mjs";
-import { columnsMeanNow, isCsv, listChanged, takeMeaning } from "./lines.mjs";
+import { keepSoon, kept } from "./kept.mjs";
+import { columnsMeanNow, isCsv, listChanged, listText, setListText, takeMeaning, whenListed } from "./lines.mjs";
 import { chooseParts } from "./parts.mjs";
 import { chooseSize, sizeChosen } from "./sizes.mjs";
 import { keptIn } from "./pdf.mjs";
@@ -9,8 +10,10 @@ import { filesIn } from "./zip.mjs";
 
 /** @typedef {{ labels: number, messages: string, columns: import("./csv.mjs").Meaning | null, size: string,
     choices: Record<string, string | boolean> }} Labels of a version of this form */
-const VERSION = 1, NAME = "labels.json";
-const CHOICES = ["lines-as", "stock", "paper-size", "millimetres", "label-width", "label-height", "copies"];
+const VERSION = 1, NAME = "labels.json", KEPT = "labels";
+const CHOICES = ["lines-as", "stock", "paper-size", "millimetres", "label-width", "label-height", "copies", "quiet",
+  "pixels"];
+const LENGTHS = ["millimetres", "label-width", "label-height"];
 const CHOSEN = ["kind-typed", "kind-text", "kind-message", "profile-0", "profile-1", "profile-2"];
 const HAS_TEXT = "label-text", PARTS = "parts";
 
@@ -18,10 +21,16 @@ const HAS_TEXT = "label-text", PARTS = "parts";
 function labelsNow() {
   const checked = [HAS_TEXT, ...CHOSEN].map((id) => [id, field(id).checked]);
   const choices = [...[...CHOICES, PARTS].map((id) => [id, field(id).value]), ...checked];
-  return { labels: VERSION, messages: field("messages").value, columns: isCsv() ? columnsMeanNow() : null,
+  return { labels: VERSION, messages: listText(), columns: isCsv() ? columnsMeanNow() : null,
     size: sizeChosen(), choices: Object.fromEntries(choices) };
 }
 export const labelsText = () => `${JSON.stringify(labelsNow(), null, 1)}\n`;
+// Keeps the list as it is, and brings back the one that was kept.
+export function wireKeptLabels() {
+  const labels = labelsIn(new TextEncoder().encode(kept(KEPT)));
+  if (labels) takeLabels(labels);
+  whenListed(() => keepSoon(KEPT, labelsText));
+}
 /** @type {() => { name: string, bytes: Uint8Array }} */
 export const labelsFile = () => ({ name: NAME, bytes: new TextEncoder().encode(labelsText()) });
 
@@ -60,7 +69,8 @@ function chooseValue(id, value) {
   const it = field(id), had = it.value;
   if (typeof value !== "string") return;
   it.value = value;
-  if (it.value !== value || !it.checkValidity()) it.value = had;
+  const isNone = LENGTHS.includes(id) && !/^\d{1,3}([.,]\d{1,4})?$/.test(value);
+  if (it.value !== value || !it.checkValidity() || isNone) it.value = had;
 }
 /** @type {(labels: Labels) => void} */
 export function takeLabels({ messages, columns, size, choices }) {
@@ -70,7 +80,7 @@ export function takeLabels({ messages, columns, size, choices }) {
   chooseSize(size);
   chooseParts(Number(choices[PARTS] ?? 1), 1);
   field("stock").dispatchEvent(new Event("change"));
-  field("messages").value = messages;
+  setListText(messages);
   listChanged();
   if (columns && isCsv()) takeMeaning(columns);
 }

@@ -27,6 +27,9 @@ export const LAYOUT = {
     reading: 41544, border_limit: 54084, unread: 54086 },
   sample_search: { size: 36, milliseconds: 0, least_side: 4, margin: 6, symbols: 8, room: 12, count: 16, unread: 20,
     unread_room: 24, unread_count: 28, ended: 32, effort: 34 },
+  sample_quality: { size: 8992, contrast: 0, modulation: 8, unused: 16, axial: 96, grid: 104, growth: 112, border: 128,
+    quiet: 160, codewords: 192, blocks: 194, readable: 196, contrast_grade: 204, modulation_grade: 205,
+    unused_grade: 206, axial_grade: 207, grid_grade: 208, weakest: 209, modulations: 276 },
 // ecc200.h: end
 };
 export const SAMPLER = {
@@ -37,6 +40,7 @@ export const SAMPLER = {
   OK: 0,
   PICTURE: 1,
   NO_MEMORY: 2,
+  SYMBOL: 3,
   WHOLE: 0,
   ROOM: 1,
   TIME: 2,

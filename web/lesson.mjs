@@ -47,11 +47,25 @@ function codewordStep({ answer, told, held, size }) {
   const rest = pads === 0 ? `They fill the ${size.data} of this size.`
     : `This size has room for ${size.data}, so that ${follow}: the first is 129, and to each further one a number is `
       + "added that depends on its place.";
+  const sets = Object.keys(ABOUT_SETS).filter((name) => told.some(({ text }) => text === `a latch to ${name}`));
   return [paragraph(`They become ${plural(count, "data codeword", "data codewords")} of eight bits. `
     + "In ASCII encodation a character is its number and 1, two digits together are their value and 130, and FNC1 is "
     + `232; latches change to another encodation.${answer.marks.length ? ABOUT_DESIGNATORS : ""} ${rest}`),
-  chips(list)];
+  ...sets.map((name) => paragraph(bold(name), ABOUT_SETS[name])), chips(list)];
 }
+// What the encodations besides ASCII are, where one of them is used.
+/** @type {Record<string, string>} */
+const ABOUT_SETS = {
+  C40: " begins with 230: two codewords hold three values a, b and c of 0 to 39, as 1600·a + 40·b + c + 1. Digits, "
+    + "capitals and the space have one value each; other characters a shift and a value. 254 leads back to ASCII.",
+  Text: " begins with 239 and is like C40, with small letters for capitals.",
+  X12: " begins with 238: two codewords hold three values, as in C40, of capitals, digits, the space, * and >, and the "
+    + "line end of ANSI X12.",
+  EDIFACT: " begins with 240: three codewords hold four characters of six bits each, as their numbers less 64 where "
+    + "these are at least 64. The value 31 leads back to ASCII.",
+  "Base 256": " begins with 231 and a length: bytes follow as they are, to each of which a number is added that "
+    + "depends on its place, so that like bytes look unlike.",
+};
 const ABOUT_DESIGNATORS = " An ECI is 241 and its designator, of one to three codewords.";
 /** @type {(seen: Seen) => Content} */
 function blockStep({ size, dealing, held }) {

@@ -50,9 +50,19 @@ function pieceOf({ items, marks }, from, to, isLast) {
   const own = marks.filter(({ place }) => place > from && (place < to || (isLast && place === to)));
   return letterOf(items.slice(from, to), [...first, ...own.map((mark) => ({ ...mark, place: mark.place - from }))]);
 }
-// Whether a character in UTF-8 goes on at a place.
+// The assignments of charsets whose characters take one byte or two, of which the first is greater than 128.
+const SHIFT_JIS = 20, OF_TWO_BYTES = [SHIFT_JIS, 28, 29, 30, 31];
+/** @type {(byte: number, number: number) => boolean} */
+const beginsTwo = (byte, number) => byte > 0x80 && !(number === SHIFT_JIS && byte >= 0xa0 && byte < 0xe0);
+// Whether a character goes on at a place, in UTF-8 or in one of these charsets.
 /** @type {(letter: Letter, at: number) => boolean} */
-const isWithin = ({ items, marks }, at) => eciAt(marks, at) === ECI_UTF_8 && (items[at] & 0xc0) === 0x80;
+function isWithin({ items, marks }, at) {
+  const { number, place } = marks.filter((mark) => mark.place <= at).pop() ?? { number: 0, place: 0 };
+  if (!OF_TWO_BYTES.includes(number)) return number === ECI_UTF_8 && (items[at] & 0xc0) === 0x80;
+  let begin = place;
+  while (begin < at) begin += beginsTwo(items[begin], number) ? 2 : 1;
+  return begin > at;
+}
 // A letter in so many parts of about equal length.
 /** @type {(letter: Letter, parts: number) => Letter[]} */
 export function takenApart(letter, parts) {

@@ -153,6 +153,20 @@ export class Library {
     const given = [this.itemsAt, some.length, this.marksAt, few.length, this.howAt, this.outAt].map(BigInt);
     return this.c.ecc200_write(...given) ? this.fault() : this.symbol();
   }
+  // Writes letters in each of several ways to say the same, and takes the one whose symbols have the fewest modules, of
+  // equals the first; where none is written, the one of the fewest items.
+  /** @type {(ways: Letter[][], how: How) => { way: number, symbols: (Partial<Grid> & { fault?: Fault })[] }} */
+  writeSmallest(ways, how) {
+    const written = ways.map((letters, way) => {
+      const symbols = letters.map((letter) => this.write(letter, how)), sum = (one, other) => one + other;
+      const area = symbols.map(({ fault, rows, columns }) => (fault ? Infinity : rows * columns)).reduce(sum);
+      return { way, symbols, area, length: letters.map(({ items }) => items.length).reduce(sum) };
+    });
+    const isLess = (one, other) => (one.area === Infinity && other.area === Infinity
+      ? one.length < other.length : one.area < other.area);
+    const { way, symbols } = written.reduce((best, other) => (isLess(other, best) ? other : best));
+    return { way, symbols };
+  }
   /** @type {(at: number, head: Head | null) => void} */
   setHead(at, head) {
     const { part, parts, file } = partOf({ head }) ?? NO_PART;

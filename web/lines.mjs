@@ -1,6 +1,7 @@
 // The list of many messages: what is entered, line by line or in columns, and what has to be asked about the columns.
 import {
-  COPIES, ELEMENT, MESSAGE, TEXT, UNUSED, canMean, isLikelyData, isOpen, likely, linesOf, tableOf, whyNoMessage,
+  COPIES, ELEMENT, MESSAGE, TEXT, UNUSED, canMean, isLikelyData, isOpen, isTable, likely, linesOf, tableOf,
+  whyNoMessage,
 } from "./csv.mjs";
 import { $, field, hint, made, withCode } from "./dom.mjs";
 import { nameOfIdentifier } from "./gs1.mjs";
@@ -17,12 +18,23 @@ export const whenListed = (listener) => { whoListens.push(listener); };
 let version = 0; // of the list, and of how it is to look
 export const versionNow = () => version;
 
+let opened = ""; // the text of a file, with its line ends, which a field doesn't keep
+/** @type {() => string} */
+export function listText() {
+  const { value } = field("messages");
+  return opened.replace(/\r\n?/g, "\n") === value ? opened : value;
+}
+/** @type {(text: string) => void} */
+export function setListText(text) {
+  opened = text;
+  field("messages").value = text;
+}
 export const isCsv = () => field("lines-as").value === "csv";
 const keyOf = ({ rows, columns }) => JSON.stringify([rows[0], columns.length]);
 // What is known or answered of the columns that are entered.
 /** @type {() => Asked} */
 function askedNow() {
-  const table = tableOf(field("messages").value), key = keyOf(table);
+  const table = tableOf(listText()), key = keyOf(table);
   if (askedLast?.key !== key)
     askedLast = { key, table, meaning: likely(table, isLikelyData(table)), isAnswered: !isOpen(table) };
   askedLast.table = table;
@@ -42,8 +54,9 @@ export function linesNow() {
 // Why nothing is given yet: what has to be said first, or "".
 export function whyNotYet() {
   if (!isCsv()) return "";
-  const { meaning, isAnswered } = askedNow();
-  return isAnswered ? whyNoMessage(meaning) : "Say first what the columns are, and then “Take them so”.";
+  const { table, meaning, isAnswered } = askedNow();
+  if (table.why) return table.why;
+  return isAnswered ? whyNoMessage(meaning) : "Say first what the columns are, and then “Use these columns”.";
 }
 
 // What the columns are, if that is known or answered.
@@ -109,9 +122,17 @@ function answerQuestion() {
   hint("sheet-hint", why, Boolean(why));
 }
 const LOOKS = ["kind-typed", "kind-message", "kind-text", "profile-0", "profile-1", "profile-2", "shape", "size",
-  "parts", "millimetres", "paper-size", "stock", "label-width", "label-height", "label-text", "lines-as", "copies"];
+  "parts", "millimetres", "paper-size", "stock", "label-width", "label-height", "label-text", "lines-as", "copies",
+  "quiet", "pixels"];
+// A table that is pasted is one: its fields aren't messages with tabs.
+function takeTable() {
+  if (isCsv() || !isTable(field("messages").value)) { listChanged(); return; }
+  field("lines-as").value = "csv";
+  listChanged();
+  hint("sheet-hint", "A table was pasted, and so the lines are taken as one.");
+}
 export function wireLines() {
-  $("messages").addEventListener("input", listChanged);
+  $("messages").addEventListener("input", takeTable);
   for (const id of LOOKS) $(id).addEventListener("change", listChanged);
   for (const id of ["first-headings", "first-data"])
     $(id).addEventListener("change", () => {

@@ -1,9 +1,11 @@
-// The link: the fragment of the address holds the task and what is entered, so that reload, Back and a bookmark keep
-// it. The browser sends fragments to no server. It begins with the task: read, make or learn. Its fields: message, as,
-// profile, size, parts, part, damage, doubtful; grid, grid-damage, grid-doubtful; border and grid-border; and pane,
-// which says whose symbol is learnt about.
+// The link: a fragment that holds the task and what is entered. It begins with the task: read, make or learn. Its
+// fields: message, as, profile, size, parts, part, damage, doubtful; grid, grid-damage, grid-doubtful; border and
+// grid-border; and pane, which says whose symbol is learnt about. The browser keeps it with each entry of its history,
+// and in its storage, so that reload and Back bring it back. In the address stands the task alone, but for a link that
+// was copied: so no message goes where the browser lists or syncs addresses.
 import { ASCII, MOST_TEXT, SHORTER, SMALLEST, limitIn } from "./common.mjs";
 import { field } from "./dom.mjs";
+import { ageNow, keep, kept } from "./kept.mjs";
 import { partNow, partsNow } from "./parts.mjs";
 import { isSize, sizeChosen } from "./sizes.mjs";
 import { PANE_OF, TASKS, VALID, WORKING, damageOf, doubtsOf, isDamaged, panes, store } from "./state.mjs";
@@ -82,9 +84,9 @@ function fragment() {
   if (store.task === "learn" && store.pane === "read") fields.set("pane", "read");
   return `#${[store.task, String(fields)].filter(Boolean).join("&")}`;
 }
-// The address that was written or followed last, and how many links are being followed; the page's start counts as one.
+// What was kept or followed last, and how many links are being followed; the page's start counts as one.
 let timer = null, isNewEntry = false, own = "", followed = 1;
-// Something has changed: the address follows soon. While the page restores a link it doesn't.
+// Something has changed: what is kept follows soon. While the page restores a link it doesn't.
 export function tellLink() {
   if (followed || timer) return;
   timer = setTimeout(writeLink, LINK_AFTER);
@@ -95,16 +97,29 @@ export function beginEntry() {
   writeLink();
   isNewEntry = true;
 }
+/** @typedef {{ link: string, age: string }} Entry of the browser's history */
+/** @type {() => string} */
+function linkOfEntry() {
+  const { link = "", age = "" } = /** @type {Entry | null} */ (history.state) ?? {};
+  return age === ageNow() ? link : "";
+}
+/** @type {(link: string, address: string) => void} */
+function setEntry(link, address) {
+  const entry = { link, age: ageNow() };
+  try {
+    if (isNewEntry) history.pushState(entry, "", address); else history.replaceState(entry, "", address);
+  } catch { /* too many changes for the browser */ }
+}
 function writeLink() {
   clearTimeout(timer);
   timer = null;
+  if ("start" in document.body.dataset) { own = ""; return; } // nothing is entered yet
   const text = fragment();
-  if (text !== own || text !== location.hash) {
+  if (text !== own || linkOfEntry() !== text) {
     own = text;
-    try {
-      if (isNewEntry) history.pushState(null, "", text); else history.replaceState(null, "", text);
-    } catch { /* as below */ }
-    if (location.hash !== text) { // too many changes for the browser: later, and once the page is seen
+    keep("page", text);
+    setEntry(text, `#${store.task}`);
+    if (linkOfEntry() !== text) { // later, and once the page is seen
       if (document.hidden) document.addEventListener("visibilitychange", writeLink, { once: true });
       else timer = setTimeout(writeLink, LINK_AGAIN);
       return;
@@ -112,9 +127,15 @@ function writeLink() {
   }
   isNewEntry = false;
 }
-// Whether the address says what is entered, or what is entered is what it says: for the tests.
-export const isLinked = () => !timer && !followed && own === location.hash;
-export function linkNow() { writeLink(); return location.href.split("#")[0] + fragment(); }
+// Whether what is entered is kept: for the tests; and what is.
+export const isLinked = () => !timer && !followed && own === linkOfEntry();
+export const linkKept = () => own;
+// A link to what is entered now, which stands in the address from here on, until something changes.
+export function linkNow() {
+  writeLink();
+  setEntry(own, own);
+  return location.href.split("#")[0] + own;
+}
 
 // Which task a fragment is about. One that names none is of an earlier page, which showed damage with all else.
 /** @type {(fields: URLSearchParams) => string} */
@@ -152,15 +173,25 @@ export function fromFragment(text) {
     pane: PANE_OF[task] ?? (fields.get("pane") === "read" ? "read" : "write"),
   };
 }
-// Restores from the address now and whenever it changes by Back, Forward, or another link. `restore` is given what the
-// fragment holds, or null for what the page begins with, and whether this is the page's start.
-/** @type {(restore: (held: any, isFirst: boolean) => Promise<any>, say: (text: string) => void) => Promise<void>} */
-export async function wireLink(restore, say) {
+// What is to be restored: what the address holds; or, if that is a task alone or nothing, what is kept with this entry
+// of the history, or at the page's start, of the last visit.
+/** @type {(isFirst: boolean) => string} */
+function linkAsked(isFirst) {
+  const { hash } = location, isBare = hash.length < 2 || TASKS.includes(hash.slice(1));
+  const link = (isBare && (linkOfEntry() || (isFirst && kept("page")))) || hash;
+  return isBare && hash.length > 1 && link !== hash ? link.replace(/^#\w*/, hash) : link;
+}
+// Restores now and whenever the entry changes by Back, Forward, or another link. `restore` is given what the link
+// holds, or null for what the page begins with, and whether this is the page's start; `begin` shows what comes first.
+/** @type {(restore: (held: any, isFirst: boolean) => Promise<any>, say: (text: string) => void, begin: () => void) =>
+    Promise<void>} */
+export async function wireLink(restore, say, begin) {
   let isFirst = true;
   const follow = async () => {
-    if (location.hash === own && own) return;
-    own = location.hash;
-    clearTimeout(timer); // what was to be written there is of the state before
+    const asked = linkAsked(isFirst);
+    if (asked === own && own) return;
+    own = asked;
+    clearTimeout(timer); // what was to be kept there is of the state before
     timer = null;
     isNewEntry = false;
     const held = fromFragment(own);
@@ -171,11 +202,13 @@ export async function wireLink(restore, say) {
     isFirst = false;
     followed++;
     await restore(held, wasFirst);
+    if (!own) begin();
     followed--;
-    if (held?.isBare && !wasFirst) writeLink(); // what is entered stays, and so it is linked
+    if (!followed) writeLink(); // the address has the task alone
   };
   addEventListener("popstate", follow);
   addEventListener("hashchange", follow);
   await follow();
   followed--;
+  writeLink();
 }

@@ -1,15 +1,16 @@
 // How letters are spelled: \\ is the backslash, \F FNC1, \xHH a byte, \E{N} the ECI assignment N, and any other
 // character of 32 to 126 itself; in front of them \A{2/5:001002} a part of what several symbols say, with the numbers
 // of its file, and \P reader programming. The values of element strings have no ECI and no head, but \( a bracket.
-import { letterOfText, textOf } from "./charsets.mjs";
-import { FNC1, MOST_LINES, MOST_TEXT } from "./common.mjs";
+import { textOf, waysOfText } from "./charsets.mjs";
+import { FNC1, MOST_LINES, MOST_LINES_OF_SHEET, MOST_TEXT } from "./common.mjs";
 import { PROGRAMMING, letterOf } from "./letters.mjs";
 
 /** @typedef {import("./letters.mjs").Letter} Letter */
 /** @typedef {{ column?: number, why?: string, ways?: { name: string, text: string }[], isTooMuch?: boolean,
     isElements?: boolean, isText?: boolean }} Fault of a text: why it isn't taken, and where; and how else it may be
     spelled */
-/** @typedef {Fault & { letter?: Letter }} Taken what a text stands for, or why it isn't taken */
+/** @typedef {Fault & { letter?: Letter, letters?: Letter[] }} Taken what a text stands for, and all letters by which it
+    may be written, if there are several; or why it isn't taken */
 /** @type {(text: string, isValue?: boolean) => Taken} */
 export function parse(text, isValue = false) {
   const { head, length } = isValue ? NO_HEAD : headIn(text), letter = letterOf([], [], head), { items, marks } = letter;
@@ -42,8 +43,8 @@ const TWICE = "with the backslash doubled";
 // A text that is taken as it stands.
 /** @type {(text: string) => Taken} */
 export function takenAsText(text) {
-  const much = tooMuch(text);
-  return much ? { why: much, isTooMuch: true } : { letter: letterOfText(text), isText: true };
+  const much = tooMuch(text), letters = much ? [] : waysOfText(text);
+  return much ? { why: much, isTooMuch: true } : { letter: letters[0], letters, isText: true };
 }
 // What a letter is as text, if it is that and otherwise spelled than it stands; else "".
 /** @type {(letter: Letter) => string} */
@@ -63,8 +64,8 @@ export function tooMuch(text, most = MOST_TEXT) {
   const words = (count, what, bound) =>
     `${count.toLocaleString("en")} ${what}, and no more than ${bound.toLocaleString("en")} are taken.`;
   if (text.length > most) return words(text.length, "characters", most);
-  const lines = text.split("\n").length;
-  return lines > MOST_LINES ? words(lines, "lines", MOST_LINES) : "";
+  const lines = text.split("\n").length, mostLines = most > MOST_TEXT ? MOST_LINES_OF_SHEET : MOST_LINES;
+  return lines > mostLines ? words(lines, "lines", mostLines) : "";
 }
 
 // The text with each backslash that begins no spelling doubled.
@@ -84,7 +85,7 @@ export function named(code) {
   const character = String.fromCodePoint(code);
   return INVISIBLE.test(character) ? `the invisible character ${codePoint(code)}` : character;
 }
-const hexed = (byte) => "\\x" + byte.toString(16).toUpperCase().padStart(2, "0");
+export const hexed = (byte) => "\\x" + byte.toString(16).toUpperCase().padStart(2, "0");
 
 // The text with each character that has no spelling as bytes: those of Latin-1, if it has them, and those of UTF-8.
 function respelled(text) {

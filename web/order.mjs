@@ -1,7 +1,7 @@
 // The order of what happens to a mark. What is entered takes the place of all that was before it, done, asked or still
 // waiting. What is done to a symbol waits until that symbol is there, and until what was done before it is done. So an
 // act never costs what was entered before it, and no answer comes to anything else than what it is about.
-import { drawAll, drawStage } from "./draw.mjs";
+import { redraw, redrawStage } from "./redraw.mjs";
 import { tellLink } from "./link.mjs";
 import { BAD, EMPTY, VALID, WORKING, mark, stamp } from "./state.mjs";
 
@@ -33,8 +33,8 @@ export function work(it) {
   const own = stamp();
   it.stage = WORKING;
   it.changed = own;
-  setTimeout(() => { if (it.changed === own && it.stage === WORKING && it === mark()) drawAll(); }, SOON);
-  if (it === mark()) drawStage();
+  setTimeout(() => { if (it.changed === own && it.stage === WORKING && it === mark()) redraw(); }, SOON);
+  if (it === mark()) redrawStage();
   return own;
 }
 // From here on the mark's verdict is about what is entered and done.
@@ -50,7 +50,7 @@ export function refuse(it, why) {
   it.changed = stamp();
   it.stage = BAD;
   it.why = why;
-  if (it === mark()) drawAll();
+  if (it === mark()) redraw();
   tellLink();
 }
 /** @type {(it: Mark) => void} */
@@ -58,7 +58,7 @@ export function clear(it) {
   supersede(it);
   it.changed = stamp();
   it.empty();
-  if (it === mark()) drawAll();
+  if (it === mark()) redraw();
   tellLink();
 }
 const failedAt = (it) => (why) => refuse(it, brokenWords({ failed: why.message }));

@@ -4,26 +4,34 @@
 import { wireCamera } from "./camera.mjs";
 import { wireCompare } from "./compare.mjs";
 import { wireDamage } from "./damage.mjs";
-import { letterOfText } from "./charsets.mjs";
+import { waysOfText } from "./charsets.mjs";
 import { ASCII, SQUARE, messageOf } from "./common.mjs";
 import { isWorking, stopAll, whenChanged, workingSince } from "./desk.mjs";
 import { $ } from "./dom.mjs";
 import { wireDropping } from "./dropping.mjs";
+import { drawAll, drawStage } from "./draw.mjs";
 import { desks, openDesks, wireDetails } from "./flow.mjs";
-import { wireFound } from "./found.mjs";
-import { wireGathered } from "./gathered.mjs";
+import { readFont } from "./font.mjs";
+import { bringFound, wireFound } from "./found.mjs";
+import { bringParts, wireGathered } from "./gathered.mjs";
 import { readIdentifiers } from "./gs1.mjs";
+import { readHeadings } from "./headings.mjs";
 import { gridText } from "./grids.mjs";
 import { makeInstallable } from "./install.mjs";
 import { wireLesson } from "./lesson.mjs";
 import { wireLines } from "./lines.mjs";
-import { isLinked, wireLink } from "./link.mjs";
+import { wireForget } from "./kept.mjs";
+import { wireKeptLabels } from "./labelfile.mjs";
+import { isLinked, linkKept, wireLink } from "./link.mjs";
 import { spelled } from "./messages.mjs";
 import { wirePreview } from "./preview.mjs";
 import { wirePrinting } from "./printing.mjs";
-import { pending, restore, wireSource } from "./source.mjs";
+import { pending, wireLooking } from "./looking.mjs";
+import { drawBy } from "./redraw.mjs";
+import { restore, wireSource } from "./source.mjs";
 import { wireSerial } from "./serial.mjs";
 import { listSizes } from "./sizes.mjs";
+import { showStart, wireStart } from "./start.mjs";
 import { mark, panes, store } from "./state.mjs";
 import { drawSmall } from "./symbol.mjs";
 import { toast, wireTaking } from "./taking.mjs";
@@ -52,7 +60,9 @@ async function idle() {
 }
 async function startPage() {
   readIdentifiers($("identifiers").textContent);
+  readHeadings($("headings").textContent);
   const bytesOf = (id) => Uint8Array.from(atob($(id).textContent.trim()), (c) => c.charCodeAt(0));
+  await readFont(bytesOf("font"));
   const compiled = (id) => WebAssembly.compile(bytesOf(id));
   const [library, sampler] = await Promise.all(["library", "sampler"].map(compiled)); // once, for each worker
   const script = new Blob([$("worker").textContent], { type: "text/javascript" });
@@ -60,16 +70,21 @@ async function startPage() {
   if (loaded.failed !== undefined) throw new Error(loaded.failed);
   desks.readsFiles = loaded.readsFiles;
   listSizes(loaded.sizes);
+  drawBy(drawAll, drawStage);
   wireBusy(); wireDetails(); wireDamage(); wireSource(); wireDropping();
   wireTaking(); wireLines(); wireSerial(); wirePreview(); wirePrinting(); wireLesson(); wireCamera(); wireFound();
-  wireGathered();
-  const letters = [letterOfText("Mitsubadoor")], how = { form: ASCII, shape: SQUARE, rows: 0, columns: 0 };
-  drawSmall($("logo"), await desks.quick.ask("write", { letters, how, hasLook: false }, "logo"));
-  await wireLink(restore, toast);
+  wireGathered(); wireLooking(); wireStart();
+  const ways = [waysOfText("Mitsubadoor")], how = { form: ASCII, shape: SQUARE, rows: 0, columns: 0 };
+  drawSmall($("logo"), await desks.quick.ask("write", { ways, how, hasLook: false }, "logo"));
+  wireForget();
+  wireKeptLabels();
+  bringParts();
+  await wireLink(restore, toast, showStart);
+  await bringFound();
   wireCompare();
   makeInstallable();
   desks.pictures.start(); // so that it is ready for the first picture
-  const forTests = { get mark() { return mark(); }, panes, store, desks, idle, isLinked, spelled, gridText };
+  const forTests = { get mark() { return mark(); }, panes, store, desks, idle, isLinked, linkKept, spelled, gridText };
   Object.defineProperty(globalThis, "mitsubadoor", { value: forTests });
 }
 /** @type {() => void} of fallback.js */

@@ -6,10 +6,13 @@ const MARGIN = 15; // millimetres on each side of a sheet
 const PAPERS = { a4: { name: "A4", width: 210, height: 297 }, letter: { name: "Letter", width: 215.9, height: 279.4 } };
 const rule = made("style");
 
-// The paper that is chosen: its name and the millimetres within its margins, or null for labels.
+/** @typedef {{ name: string, width: number, height: number, margin: number, across: number, down: number }} Paper in
+    millimetres: of a sheet, of each margin, and within these */
+// The paper that is chosen, or null for labels.
+/** @type {() => Paper | null} */
 export function paperNow() {
   const paper = PAPERS[field("paper-size").value];
-  return paper ? { ...paper, across: paper.width - 2 * MARGIN, down: paper.height - 2 * MARGIN } : null;
+  return paper ? { ...paper, margin: MARGIN, across: paper.width - 2 * MARGIN, down: paper.height - 2 * MARGIN } : null;
 }
 // Why a symbol of so many millimetres can't be printed at its size, or "".
 /** @type {(millimetres: number) => string} */

@@ -9,10 +9,10 @@ let part = 1; // that is shown
 /** @type {() => number} */
 export const partsNow = () => Number(field("parts").value);
 export const partNow = () => Math.min(part, partsNow());
-// The letters of what is taken, in so many parts; of what has a head of its own, that alone.
-/** @type {(taken: import("./messages.mjs").Taken, parts: number) => import("./letters.mjs").Letter[]} */
-export const lettersTaken = ({ letter, isText }, parts) =>
-  (letter.head ? [letter] : takenApart(isText && parts > 1 ? markedThroughout(letter) : letter, parts));
+// The letters of what is taken, in so many parts, in each way to write it; of what has a head of its own, that alone.
+/** @type {(taken: import("./messages.mjs").Taken, parts: number) => import("./letters.mjs").Letter[][]} */
+export const waysTaken = ({ letter, letters = [letter], isText }, parts) => letters.map((way) =>
+  (way.head ? [way] : takenApart(isText && parts > 1 ? markedThroughout(way) : way, parts)));
 // Chooses what a link has; one symbol, if that is no number of parts.
 /** @type {(parts: number, shown: number) => void} */
 export function chooseParts(parts, shown) {

@@ -1,15 +1,15 @@
-// A PDF of pages in millimetres, on which symbols are drawn as rectangles of exact size, with texts below them.
+// A PDF of pages in millimetres, on which symbols are drawn as rectangles of exact size, with texts below them that can
+// be searched and copied: their font has the outlines of their letters.
+import { placesOf } from "./captions.mjs";
+import { WIDTH, outlineOf } from "./font.mjs";
 import { QUIET, runsOf, withQuiet } from "./symbol.mjs";
 
 /** @typedef {import("./common.mjs").Grid} Grid */
-/** @typedef {{ grid: Grid, x: number, y: number, module: number, text: string, width: number }} Placed
-    a symbol, with the upper left corner of its quiet zone, in millimetres from that of the page; a module's width; a
-    text below and how wide that may be */
+/** @typedef {{ grid: Grid, x: number, y: number, module: number, caption: import("./captions.mjs").Caption,
+    width: number, below: number }} Placed a symbol, with the upper left corner of its quiet zone, in millimetres from
+    that of the page; a module's width; the text below, how wide its lines may be, and how far below that zone it is */
 /** @typedef {{ width: number, height: number, placed: Placed[] }} Page */
 const MILLIMETRES = 25.4 / 72; // of a point
-export const TEXT_HEIGHT = 3; // millimetres of the text below a symbol, with the gap above it
-export const SIZE = 2.4; // millimetres: the height of a letter of Courier
-const LEAST_SIZE = 0.6 * SIZE, WIDTH_OF_LETTER = 0.6; // as a share of its height
 
 const number = (value) => String(+value.toFixed(4));
 // The rectangles of a symbol, runs of dark modules along its rows; y grows upwards.
@@ -21,59 +21,115 @@ function symbolDrawn({ grid, x, y, module }, height) {
   });
   return `${lines.join("\n")}\nf\n`;
 }
-// The character of each byte in the font's encoding.
-const CHARACTERS = new TextDecoder("windows-1252").decode(Uint8Array.from({ length: 256 }, (_, byte) => byte));
-const hasLetter = (character) => !/\p{C}/u.test(character) && CHARACTERS.includes(character);
-// Whether the font has each character of a text; those that it lacks are drawn as question marks.
-/** @type {(text: string) => boolean} */
-export const isDrawable = (text) => Array.from(text).every(hasLetter);
-const byteOf = (character) => String.fromCharCode(CHARACTERS.indexOf(hasLetter(character) ? character : "?"));
-const escaped = (text) => Array.from(text, byteOf).join("").replace(/[\\()]/g, "\\$&");
-// A text that is to be so many millimetres wide at most: smaller, and then cut, where it is too wide; the height and
-// the width that it then has.
-/** @type {(text: string, width: number) => { cut: string, size: number, length: number }} */
-export function fittedText(text, width) {
-  const fitting = width / (WIDTH_OF_LETTER * text.length), size = Math.max(LEAST_SIZE, Math.min(SIZE, fitting));
-  const most = Math.floor(width / (WIDTH_OF_LETTER * LEAST_SIZE));
-  const cut = fitting < LEAST_SIZE ? `${text.slice(0, most - 3)}...` : text;
-  return { cut, size, length: cut.length * WIDTH_OF_LETTER * size };
+
+// ---- Letters
+
+const MOST_LETTERS = 255, EM = 1000; // letters of a font; units of its height
+const hexOf = (value, digits) => value.toString(16).toUpperCase().padStart(digits, "0");
+// The letters that stand on pages, in fonts of so many, each with a code of two hexadecimal digits.
+class Letters {
+  /** @type {string[]} */
+  all;
+  /** @param {Page[]} pages */
+  constructor(pages) {
+    const lines = pages.flatMap(({ placed }) => placed.flatMap(({ caption }) => caption.lines));
+    this.all = [...new Set(lines.flatMap((line) => Array.from(line)))];
+    /** @type {Map<string, number>} */
+    this.places = new Map(this.all.map((letter, k) => [letter, k]));
+  }
+  // A line as it is shown, in pieces of one font each.
+  /** @type {(line: string, size: number) => string} */
+  shown(line, size) {
+    let font = -1, codes = "", words = "";
+    const end = () => { if (codes) words += `<${codes}> Tj\n`; codes = ""; };
+    for (const letter of line) {
+      const place = this.places.get(letter), own = Math.floor(place / MOST_LETTERS);
+      if (own !== font) { end(); font = own; words += `/F${font} ${number(size)} Tf\n`; }
+      codes += hexOf((place % MOST_LETTERS) + 1, 2);
+    }
+    end();
+    return words;
+  }
+  // Adds the fonts, and says how pages name them.
+  /** @type {(add: (body: string) => number) => string} */
+  addTo(add) {
+    const fonts = [];
+    for (let k = 0; k < this.all.length; k += MOST_LETTERS)
+      fonts.push(`/F${fonts.length} ${addFont(this.all.slice(k, k + MOST_LETTERS), add)} 0 R`);
+    return `<< /Font << ${fonts.join(" ")} >> >>`;
+  }
+}
+/** @type {(body: string, about?: string) => string} */
+const streamOf = (body, about = "") => `<<${about} /Length ${body.length} >>\nstream\n${body}endstream`;
+// A letter's outline, in which curves have two corners that they bend to.
+/** @type {(letter: string) => string} */
+function outlineDrawn(letter) {
+  const units = (...values) => values.map((value) => String(+(value * EM).toFixed(1))).join(" ");
+  let [x, y] = [0, 0], drawn = `${units(WIDTH)} 0 -300 -400 1000 1200 d1\n`;
+  for (const { word, at } of letter === " " ? [] : outlineOf(letter)) {
+    const [toX, toY] = at.slice(-2);
+    if (word === "M" || word === "L") drawn += `${units(...at)} ${word.toLowerCase()}\n`;
+    else if (word === "Z") drawn += "h\n";
+    else {
+      const [bendX, bendY] = at, towards = (from, bend) => from + ((bend - from) * 2) / 3;
+      const bends = [towards(x, bendX), towards(y, bendY), towards(toX, bendX), towards(toY, bendY)];
+      drawn += `${units(...bends, toX, toY)} c\n`;
+    }
+    if (at.length) [x, y] = [toX, toY];
+  }
+  return `${drawn}f\n`;
+}
+const TO_UNICODE = "/CIDInit /ProcSet findresource begin\n12 dict begin\nbegincmap\n/CMapName /Letters def\n"
+  + "/CMapType 2 def\n1 begincodespacerange\n<00> <FF>\nendcodespacerange\n";
+/** @type {(letter: string) => string} */
+const utf16Of = (letter) => Array.from({ length: letter.length }, (_, k) => hexOf(letter.charCodeAt(k), 4)).join("");
+// A font of letters, by their codes from 1 on.
+/** @type {(letters: string[], add: (body: string) => number) => number} */
+function addFont(letters, add) {
+  const names = letters.map((_, k) => `/l${k + 1}`);
+  const outlines = letters.map((letter, k) => `${names[k]} ${add(streamOf(outlineDrawn(letter)))} 0 R`);
+  const lines = letters.map((letter, k) => `1 beginbfchar\n<${hexOf(k + 1, 2)}> <${utf16Of(letter)}>\nendbfchar\n`);
+  const told = add(streamOf(`${TO_UNICODE}${lines.join("")}endcmap\nend\nend\n`));
+  return add(`<< /Type /Font /Subtype /Type3 /FontBBox [0 0 0 0] /FontMatrix [${1 / EM} 0 0 ${1 / EM} 0 0] `
+    + `/CharProcs << ${outlines.join(" ")} >> /Encoding << /Type /Encoding /Differences [1 ${names.join(" ")}] >> `
+    + `/FirstChar 1 /LastChar ${letters.length} /Widths [${letters.map(() => number(WIDTH * EM)).join(" ")}] `
+    + `/Resources << >> /ToUnicode ${told} 0 R >>`);
 }
 // A text below a symbol, in the middle.
-/** @type {(placed: Placed, height: number) => string} */
-function textDrawn({ grid, x, y, module, text, width }, height) {
-  if (!text) return "";
-  const { rows, columns } = withQuiet(grid), { cut, size, length } = fittedText(text, width);
-  const left = x + (columns * module) / 2 - length / 2, base = height - y - rows * module - SIZE;
-  return `BT /F ${number(size)} Tf ${number(left)} ${number(base)} Td (${escaped(cut)}) Tj ET\n`;
+/** @type {(placed: Placed, height: number, letters: Letters) => string} */
+function textDrawn({ grid, x, y, module, caption, width, below: gap }, height, letters) {
+  const { rows, columns } = withQuiet(grid), left = x + (columns * module - width) / 2, top = y + rows * module + gap;
+  return placesOf(caption, width).map(({ line, x: over, y: below }) =>
+    `BT ${number(left + over)} ${number(height - top - below)} Td\n${letters.shown(line, caption.size)}ET\n`).join("");
 }
+
+// ---- The file
+
 /** @type {(text: string) => string} */
-const hexOf = (text) =>
-  Array.from(new TextEncoder().encode(text), (byte) => byte.toString(16).padStart(2, "0")).join("");
+const hexOfText = (text) => Array.from(new TextEncoder().encode(text), (byte) => hexOf(byte, 2).toLowerCase()).join("");
 // The text that a PDF of the page keeps by a name, or "".
 /** @type {(pdf: Uint8Array, name: string) => string} */
 export function keptIn(pdf, name) {
   const found = new RegExp(`/${name} <([0-9a-f]*)>`).exec(new TextDecoder("latin1").decode(pdf));
   return new TextDecoder().decode(Uint8Array.from(found?.[1].match(/../g) ?? [], (pair) => parseInt(pair, 16)));
 }
-/** @type {(page: Page) => string} */
-function contentOf({ height, placed }) {
-  const drawn = placed.map((each) => symbolDrawn(each, height) + textDrawn(each, height));
+/** @type {(page: Page, letters: Letters) => string} */
+function contentOf({ height, placed }, letters) {
+  const drawn = placed.map((each) => symbolDrawn(each, height) + textDrawn(each, height, letters));
   return `${number(1 / MILLIMETRES)} 0 0 ${number(1 / MILLIMETRES)} 0 0 cm\n0 0 0 rg\n${drawn.join("")}`;
 }
 // Of pages, with texts that are kept in its catalog by their names, which no reader shows.
 /** @type {(pages: Page[], kept: Record<string, string>) => Blob} */
 export function pdfOf(pages, kept) {
-  const first = 4, kids = pages.map((_, k) => `${first + 2 * k} 0 R`).join(" ");
-  const known = Object.entries(kept).map(([name, text]) => ` /${name} <${hexOf(text)}>`).join("");
-  const objects = [`<< /Type /Catalog /Pages 2 0 R${known} >>`,
-    `<< /Type /Pages /Kids [${kids}] /Count ${pages.length} >>`,
-    "<< /Type /Font /Subtype /Type1 /BaseFont /Courier /Encoding /WinAnsiEncoding >>"];
-  for (const [k, page] of pages.entries()) {
-    const width = number(page.width / MILLIMETRES), height = number(page.height / MILLIMETRES);
-    const content = contentOf(page), box = `0 0 ${width} ${height}`;
-    objects.push(`<< /Type /Page /Parent 2 0 R /MediaBox [${box}] /Resources << /Font << /F 3 0 R >> >> `
-      + `/Contents ${first + 2 * k + 1} 0 R >>`, `<< /Length ${content.length} >>\nstream\n${content}endstream`);
-  }
+  const known = Object.entries(kept).map(([name, text]) => ` /${name} <${hexOfText(text)}>`).join("");
+  const objects = [`<< /Type /Catalog /Pages 2 0 R${known} >>`, ""], letters = new Letters(pages);
+  const add = (body) => objects.push(body), fonts = letters.addTo(add);
+  const kids = pages.map((page) => {
+    const box = `0 0 ${number(page.width / MILLIMETRES)} ${number(page.height / MILLIMETRES)}`;
+    const content = add(streamOf(contentOf(page, letters)));
+    return add(`<< /Type /Page /Parent 2 0 R /MediaBox [${box}] /Resources ${fonts} /Contents ${content} 0 R >>`);
+  });
+  objects[1] = `<< /Type /Pages /Kids [${kids.map((kid) => `${kid} 0 R`).join(" ")}] /Count ${pages.length} >>`;
   let text = "%PDF-1.4\n";
   const places = [];
   for (const [k, body] of objects.entries()) {
@@ -83,5 +139,5 @@ export function pdfOf(pages, kept) {
   const table = places.map((at) => `${String(at).padStart(10, "0")} 00000 n \n`).join("");
   const end = `trailer\n<< /Size ${places.length + 1} /Root 1 0 R >>\nstartxref\n${text.length}\n%%EOF\n`;
   const all = `${text}xref\n0 ${places.length + 1}\n0000000000 65535 f \n${table}${end}`;
-  return new Blob([Uint8Array.from(Array.from(all, (c) => c.charCodeAt(0)))], { type: "application/pdf" });
+  return new Blob([new TextEncoder().encode(all)], { type: "application/pdf" }); // of ASCII alone
 }

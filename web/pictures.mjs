@@ -5,6 +5,7 @@ import { found, hasBorder, hasShape } from "./grids.mjs";
 import { SAMPLER } from "./layouts.mjs";
 import { extent, gridsOfPixels } from "./pixels.mjs";
 import { qrCodeIn } from "./qr.mjs";
+import { unspread } from "./quality.mjs";
 
 /** @typedef {import("./ecc200.mjs").Ecc200} Ecc200 */
 /** @typedef {import("./common.mjs").Grid} Grid */
@@ -12,17 +13,18 @@ import { qrCodeIn } from "./qr.mjs";
 /** @typedef {import("./common.mjs").Limit} Limit */
 /** @typedef {Grid & Letter & { corners: import("./sampler.mjs").Point[], isRead: boolean, how: string,
     symbology: string, border: number, corrected: number[], erased: number[], doubtful: Uint8Array | null, limit: Limit,
-    fault: any, isExact?: boolean }} Sighted a symbol in a picture, with what it says; its limit is null where that is
-    the usual one; it is exact if the picture is its grid */
+    fault: any, isExact?: boolean, quality?: import("./quality.mjs").Quality | null }} Sighted a symbol in a picture,
+    with what it says; its limit is null where that is the usual one; it is exact if the picture is its grid; and how
+    good its print is, where it isn't */
 /** @typedef {Grid & { corners: import("./sampler.mjs").Point[], isRead: boolean, how: string,
-    doubtful: Uint8Array | null, limit: Limit }} Kept of a symbol in a list that was saved */
+    doubtful: Uint8Array | null, limit: Limit, picture?: string }} Kept of a symbol in a list that was saved */
 /** @typedef {{ grey: Uint8Array, width: number, height: number, scale: number, contrast: number,
     between: [number, number], isOneColour: boolean, view: ImageBitmap }} Look at a picture: `scale` of its pixels each
     way make one; by how much its greys differed, and between which they are now */
 /** @typedef {{ why?: string, symbols: Sighted[], unread: Sighted[], hasQrCode?: boolean, isComplete: boolean,
     notes: string, left: number, width: number, height: number, view?: ImageBitmap }} Sights in a picture; how much of
     its time is left */
-const MOST_PIXELS = 4e7, MOST_SAMPLED = 1.6e7; // of a picture, and of what is looked at
+const MOST_SAMPLED = 1.6e7; // pixels of what is looked at
 const BAND = 256; // rows of a picture that are drawn at once
 const SHOWN_LENGTH = 1024, LENGTH_OF_CODES = 1400; // pixels of the longer side: shown, and searched for other codes
 const MOST_TIME = 3000, TIME_OF_CODES = 200; // milliseconds for a picture, of which for other codes at least
@@ -84,15 +86,17 @@ function spread(grey) {
   for (let k = 0; k < grey.length; k++) grey[k] = ((grey[k] - least) * 255) / contrast;
   return { contrast, between: [0, 255] };
 }
-/** @type {(bitmap: ImageBitmap) => Look} */
-function lookOf(bitmap) {
+// The bitmap is of a picture of which `by` pixels each way make one.
+/** @type {(bitmap: ImageBitmap, by: number) => Look} */
+function lookOf(bitmap, by) {
   const size = sizeAt(bitmap, Math.min(1, Math.sqrt(MOST_SAMPLED / (bitmap.width * bitmap.height))));
   const grey = greyOf(bitmap, size), { contrast, between } = spread(grey);
   const small = sizeAt(bitmap, Math.min(1, SHOWN_LENGTH / Math.max(bitmap.width, bitmap.height)));
   const pen = penOf(small.width, small.height);
   draw(pen, bitmap, small);
   const view = pen.canvas.transferToImageBitmap();
-  return { ...size, grey, contrast, between, isOneColour: contrast === 0 && isOneColour(bitmap, size), view };
+  const isOne = contrast === 0 && isOneColour(bitmap, size);
+  return { ...size, scale: size.scale * by, grey, contrast, between, isOneColour: isOne, view };
 }
 function alike({ contrast, isOneColour: isOne }) {
   if (isOne) return "The picture has only one colour.";
@@ -111,22 +115,23 @@ function standing({ corners, isInverted, isMirrored }) {
   const ways = [isInverted && "inverted, light for dark", isMirrored && "mirrored left to right", turned];
   return ways.filter(Boolean).join(", and ");
 }
-/** @type {(lib: import("./library.mjs").Library, scale: number) => (symbol: import("./sampler.mjs").Found) =>
+/** @type {(lib: import("./library.mjs").Library, look: Look) => (symbol: import("./sampler.mjs").Found) =>
     Sighted} */
-const sightedBy = (lib, scale) => (symbol) => {
+const sightedBy = (lib, { scale, contrast, between: [least, most] }) => (symbol) => {
   const { rows, columns, modules, doubtful, border, corrected, erased, fault, hasMargin, limit } = symbol;
   const { items, marks, head, symbology } = symbol;
   const corners = symbol.corners.map(({ x, y }) => ({ x: x * scale, y: y * scale }));
   return { rows, columns, modules, doubtful, items, marks, head, symbology, border, corrected, erased, fault, corners,
-    isRead: !fault && hasMargin, how: standing(symbol), limit: limit === lib.usualLimit(symbol) ? null : limit };
+    isRead: !fault && hasMargin, quality: unspread(symbol.quality, contrast / (most - least)),
+    how: standing(symbol), limit: limit === lib.usualLimit(symbol) ? null : limit };
 };
 // The symbols of a look, as many as are wanted, in reading order; found by the time `end` at the latest.
 /** @type {(ecc200: Ecc200, look: Look, most: number, end: number) => Sights} */
 function sampled({ library, sampler }, look, most, end) {
-  const { grey, width, height, scale } = look, sighted = sightedBy(library, scale);
+  const { grey, width, height, scale } = look, sighted = sightedBy(library, look);
   const milliseconds = Math.max(1, end - performance.now());
   const { symbols, unread, ended, hasNoMemory } =
-    sampler.find(grey, width, height, { most, mostUnread: MOST_UNREAD, milliseconds });
+    sampler.find(grey, width, height, { most, mostUnread: MOST_UNREAD, milliseconds, quality: true });
   return { symbols: symbols.map(sighted), unread: unread.map(sighted),
     isComplete: ended === SAMPLER.WHOLE,
     notes: "", left: end - performance.now(), width: width * scale, height: height * scale,
@@ -198,19 +203,18 @@ const nothing = (why) => ({ why, symbols: [], unread: [], isComplete: true, note
 const NONE_FOUND = "No symbol that can be read was found in the picture.";
 
 // The first symbol in a picture, or why there is none; with a small picture to be shown, unless it is of the camera.
-/** @type {(ecc200: Ecc200, given: { file?: Blob, bitmap?: ImageBitmap, most?: number, time?: number }, tell: any) =>
-    Promise<Sights>} */
-export async function firstInPicture(ecc200, { file, bitmap: given, most = 1, time = MOST_TIME }, tell) {
+/** @type {(ecc200: Ecc200, given: { file?: Blob, bitmap?: ImageBitmap, by?: number, most?: number, time?: number },
+    tell: any) => Promise<Sights>} */
+export async function firstInPicture(ecc200, { file, bitmap: given, by: own = 1, most = 1, time = MOST_TIME }, tell) {
   kept = null;
-  const { bitmap, why = "" } = given ? { bitmap: given } : await bitmapOf(file);
+  const { bitmap, by = 1, why = "" } = given ? { bitmap: given, by: own } : await bitmapOf(file);
   if (!bitmap) return nothing(why);
-  if (bitmap.width * bitmap.height > MOST_PIXELS) return nothing("The picture has more than 40 million pixels.");
-  const look = lookOf(bitmap);
+  const look = lookOf(bitmap, by);
   if (look.contrast < NO_CONTRAST) return { ...nothing(alike(look)), view: look.view };
   tell("looking for symbols");
   const end = performance.now() + time;
   const grid = gridSymbol(ecc200, look), isGrid = grid?.isRead;
-  const sights = isGrid ? { ...nothing(""), symbols: [grid], width: bitmap.width, height: bitmap.height }
+  const sights = isGrid ? { ...nothing(""), symbols: [grid], width: bitmap.width * by, height: bitmap.height * by }
     : sampled(ecc200, look, most, end - TIME_OF_CODES);
   if (!isGrid && grid && !sights.symbols.length) sights.unread = [{ ...grid, isExact: true }];
   kept = { look, sights, end };

@@ -1,39 +1,26 @@
 // Labels of the list of many messages, as they will be: three at a time, the first ones first.
 import { plural } from "./common.mjs";
-import { $, folded, hint, made, setUsable, shape, whenUsed } from "./dom.mjs";
+import { $, folded, hint, made, setUsable, whenUsed } from "./dom.mjs";
 import { entriesOf, faultIn } from "./entries.mjs";
 import { whenShown } from "./flow.mjs";
 import { readable } from "./gs1.mjs";
-import { onLabel } from "./labels.mjs";
+import { labelOf } from "./labels.mjs";
 import { linesNow, versionNow, whenListed } from "./lines.mjs";
-import { SIZE, fittedText } from "./pdf.mjs";
+import { pageDrawn } from "./sheets.mjs";
 import { store } from "./state.mjs";
-import { drawingOf, millimetres, sizeNow } from "./taking.mjs";
+import { millimetres } from "./taking.mjs";
 
 const AT_ONCE = 3, AFTER_A_KEY = 150; // labels; milliseconds after the last key
 let from = 0; // the first line that is shown
 let timerOfLabels = null;
 
-// A label with its symbol and its text.
-/** @type {(placed: import("./pdf.mjs").Placed, label: { width: number, height: number }) => SVGElement} */
-function labelDrawn({ grid, x, y, text, width: room }, { width, height }) {
-  const symbol = drawingOf(grid), size = sizeNow(grid), fitted = fittedText(text, room);
-  for (const [name, value] of Object.entries({ x, y, ...size })) symbol.setAttribute(name, String(value));
-  const below = { x: width / 2, y: y + size.height + SIZE, "text-anchor": "middle", "font-size": fitted.size,
-    "font-family": "Courier, monospace", textLength: fitted.length, lengthAdjust: "spacingAndGlyphs" };
-  return shape("svg", { viewBox: `0 0 ${width} ${height}` },
-    shape("path", { fill: "#fff", d: `M0 0h${width}v${height}H0z` }), symbol,
-    ...(text ? [shape("text", below, fitted.cut)] : []));
-}
 /** @type {(entry: import("./entries.mjs").Entry) => Node} */
 function labelShown(entry) {
-  const { number, grid, text, letter, copies } = entry, stand = entry.why ? {} : onLabel(entry, millimetres());
+  const { number, letter, copies } = entry;
   const told = `${number}${copies === 1 ? "" : `, ${plural(copies, "copy", "copies")}`}: `;
-  const why = entry.why ? `${told}${entry.why}` : stand.why;
+  const { why, page } = entry.why ? { why: `${told}${entry.why}`, page: null } : labelOf(entry, millimetres());
   if (why) return made("figure", {}, made("p", { className: "hint bad", textContent: why }));
-  const { label, placed } = stand;
-  const drawn = label ? [labelDrawn(placed, label)] : [drawingOf(grid), made("figcaption", { textContent: text })];
-  return made("figure", {}, ...drawn, made("p", {}, told, made("code", { textContent: readable(letter) })));
+  return made("figure", {}, pageDrawn(page), made("p", {}, told, made("code", { textContent: readable(letter) })));
 }
 /** @type {(lines: import("./csv.mjs").Line[]) => void} */
 function drawSteps(lines) {

@@ -2,20 +2,19 @@
 // as itself.
 import { SHORTER, plural, shapeName, shapeWords } from "./common.mjs";
 import { $, field, hint, made } from "./dom.mjs";
-import { copied, entriesNow, wrongGs1 } from "./entries.mjs";
+import { wrongGs1 } from "./elements.mjs";
+import { copied, entriesNow } from "./entries.mjs";
 import { readable } from "./gs1.mjs";
 import { partOf } from "./letters.mjs";
 import { labelsFile, labelsText } from "./labelfile.mjs";
-import { laidOut, stockNow } from "./labels.mjs";
+import { labelOf, pageOf, pagesOf, quietNow } from "./labels.mjs";
 import { versionNow } from "./lines.mjs";
 import { paperNow, setPage, setPageSize, tooWide } from "./paper.mjs";
-import { fittedText, isDrawable, pdfOf } from "./pdf.mjs";
+import { pdfOf } from "./pdf.mjs";
+import { pageDrawn, pngOf, svgOf } from "./sheets.mjs";
 import { formNow } from "./source.mjs";
 import { VALID, WORKING, mark } from "./state.mjs";
-import { QUIET } from "./symbol.mjs";
-import {
-  drawingOf, given, giving, millimetres, pageOf, partInName, pngOf, save, sizeNow, svgOf, toast,
-} from "./taking.mjs";
+import { given, giving, millimetres, partInName, save, sizeNow, toast } from "./taking.mjs";
 import { zipOf } from "./zip.mjs";
 
 const LINE = 5.5, CHARACTER = 2.5; // millimetres of the text below a symbol, a little more than they are
@@ -25,7 +24,8 @@ let isSheet = false;
 // A symbol with what stands below it; on a label nothing does.
 /** @type {(grid: Grid, texts: Node[]) => HTMLElement} */
 function figure(grid, texts) {
-  return made("figure", {}, drawingOf(grid), ...(paperNow() ? texts : []));
+  const { page } = pageOf({ grid, text: "", number: 1 }, millimetres());
+  return made("figure", {}, pageDrawn(page), ...(paperNow() ? texts : []));
 }
 /** @type {(className: string, figures: Node[], width: number, height: number) => void} */
 function layOut(className, figures, width, height) {
@@ -60,7 +60,7 @@ function fillPaper() {
   const { grid, isDamagedOne, letter } = given(), { width, height } = sizeNow(grid);
   const damage = isDamagedOne ? "; damaged" : "", wrong = wrongGs1(letter);
   const part = letter && partOf(letter), which = part ? `Part ${part.part} of ${part.parts}. ` : "";
-  const size = `${which}${shapeWords(grid)} modules of ${millimetres()} mm, ${QUIET} of quiet zone${damage}`;
+  const size = `${which}${shapeWords(grid)} modules of ${millimetres()} mm, ${quietNow()} of quiet zone${damage}`;
   const text = letter ? fitted(readable(letter), height) || "the empty message" : "not read";
   const texts = [captionOf(text), noteOf(size), ...(wrong ? [noteOf(wrong)] : [])];
   layOut("one", [figure(grid, texts)], width, height);
@@ -73,41 +73,14 @@ function printOne() {
 // ---- Many symbols
 
 /** @typedef {import("./entries.mjs").Entry} Entry */
-// The pages of labels that are chosen; none if symbols follow one another; or why there are none.
-/** @type {(entries: Entry[]) => { why?: string, pages?: import("./pdf.mjs").Page[] | null }} */
-function pagesNow(entries) {
-  const stock = stockNow();
-  if (!stock) return { pages: null };
-  return "why" in stock ? stock : laidOut(entries, stock, millimetres());
-}
-// A label on a page, at its place.
-/** @type {(placed: import("./pdf.mjs").Placed) => Node} */
-function labelled({ grid, x, y, text, width }) {
-  const own = sizeNow(grid), { cut, size } = fittedText(text, width), left = `${(own.width - width) / 2}mm`;
-  const below = made("figcaption", { textContent: cut }), node = made("figure", {}, drawingOf(grid), below);
-  Object.assign(node.style, { left: `${x}mm`, top: `${y}mm` });
-  Object.assign(below.style, { width: `${width}mm`, left, top: `${own.height}mm`, fontSize: `${size}mm` });
-  return node;
-}
-/** @type {(pages: import("./pdf.mjs").Page[]) => void} */
-function layOutLabels(pages) {
-  const [{ width, height }] = pages;
-  const nodes = pages.map(({ placed }) => made("div", { className: "page" }, ...placed.map(labelled)));
-  for (const node of nodes) Object.assign(node.style, { width: `${width}mm`, height: `${height}mm` });
-  $("paper").className = "stock";
-  setPageSize(width, height);
-  $("paper").replaceChildren(...nodes);
-}
-// One symbol after another on the paper; why not, or "".
-/** @type {(entries: Entry[]) => string} */
-function layOutSheet(entries) {
-  const sizes = entries.map(({ grid }) => sizeNow(grid)), widths = sizes.map(({ width }) => width);
-  const wide = widths.findIndex(tooWide);
-  if (wide >= 0) return `Message ${entries[wide].number} makes a symbol that is ${widths[wide]} mm wide: `
-    + tooWide(widths[wide]);
-  const figures = entries.map(({ grid, text }) => figure(grid, text ? [captionOf(text)] : []));
-  layOut("sheet", figures, Math.max(...widths), Math.max(...sizes.map(({ height }) => height)));
-  return "";
+/** @typedef {import("./pdf.mjs").Page} Page */
+// Each page on one of its own; a browser's pages are all as large as the largest of them.
+/** @type {(entries: Entry[], pages: Page[]) => void} */
+function layOutPages(_, pages) {
+  const most = (side) => Math.max(...pages.map((page) => page[side]));
+  $("paper").className = "sheets";
+  setPageSize(most("width"), most("height"));
+  $("paper").replaceChildren(...pages.map(pageDrawn));
 }
 // What is given, in words: how many symbols, and how many rows want no copy.
 /** @type {(count: number, none: number, where: string, form: number) => string} */
@@ -116,45 +89,40 @@ function givenWords(count, none, where, form) {
   const left = none ? ` ${plural(none, "row wants", "rows want")} 0 copies.` : "";
   return `${plural(count, "symbol is", "symbols are")} ${where}${how}.${left}`;
 }
-// That texts aren't in the PDF as they stand, in words, or "".
-/** @type {(entries: Entry[]) => string} */
-function lacking(entries) {
-  const count = entries.filter(({ text }) => !isDrawable(text)).length;
-  return count ? ` Below ${plural(count, "symbol", "symbols")} ? stands for letters that the PDF’s font lacks.` : "";
-}
 // Does something with all symbols and their pages, and says how many there are, or why not; unless the list is another
 // one by then.
-/** @type {(act: (entries: Entry[], pages: import("./pdf.mjs").Page[] | null) => any, where: string,
-    how?: { hasCopies?: boolean, noteOn?: (entries: Entry[]) => string }) => any} */
-const withAll = (act, where, { hasCopies = true, noteOn = () => "" } = {}) => async () => {
+/** @type {(act: (entries: Entry[], pages: Page[]) => any, where: string) => any} */
+const withAll = (act, where) => async () => {
   const own = versionNow(), form = formNow(), { why, entries: all = [] } = await entriesNow();
-  const wanted = all.filter(({ copies }) => copies), entries = hasCopies ? copied(wanted) : wanted;
-  const laid = why ? { why } : pagesNow(entries), fault = laid.why || await act(entries, laid.pages);
+  const entries = copied(all), laid = why ? { why } : pagesOf(entries, millimetres());
+  const fault = laid.why || await act(entries, laid.pages);
   const none = new Set(all.filter(({ copies }) => !copies).map(({ number }) => number)).size;
-  const said = fault || givenWords(entries.length, none, where, form) + noteOn(entries);
+  const said = fault || givenWords(entries.length, none, where, form);
   if (own === versionNow()) hint("sheet-hint", said, Boolean(fault), "messages");
   return !fault;
 };
-const layAll = withAll((entries, pages) => (pages ? layOutLabels(pages) : layOutSheet(entries)), "on the sheet");
+const layAll = withAll(layOutPages, "on the sheet");
 async function printSheet() {
   if (!await layAll()) return;
   isSheet = true;
   window.print();
 }
-/** @type {(entry: Entry, ending: string) => string} */
-const fileName = ({ number, letter, grid }, ending) =>
-  `${String(number).padStart(3, "0")}${partInName(letter)}-symbol-${shapeName(grid)}.${ending}`;
-// Saves a file for each symbol with its text, in one archive.
-/** @type {(ending: string, bytesOf: (grid: Grid, text: string) => Uint8Array | Promise<Uint8Array>) => any} */
+/** @type {(entry: Entry, ending: string, copy: number) => string} */
+const fileName = ({ number, letter, grid, copies }, ending, copy) => `${String(number).padStart(3, "0")}`
+  + `${partInName(letter)}-symbol-${shapeName(grid)}${copies > 1 ? `-copy-${copy}` : ""}.${ending}`;
+// Saves a file for each label, in one archive.
+/** @type {(ending: string, bytesOf: (page: Page) => Uint8Array | Promise<Uint8Array>) => any} */
 const zipping = (ending, bytesOf) => withAll(async (entries) => {
   const files = [];
-  for (const entry of entries)
-    files.push({ name: fileName(entry, ending), bytes: await bytesOf(entry.grid, entry.text) });
+  for (const entry of new Set(entries)) {
+    const { why, page } = labelOf(entry, millimetres()), bytes = why ? null : await bytesOf(page);
+    if (why) return why;
+    for (let copy = 1; copy <= entry.copies; copy++) files.push({ name: fileName(entry, ending, copy), bytes });
+  }
   save(zipOf([...files, labelsFile()]), `symbols-${ending}.zip`);
-}, "in the archive", { hasCopies: false });
-const savePdf = withAll((entries, pages) => {
-  save(pdfOf(pages ?? entries.map(({ grid, text }) => pageOf(grid, text)), { Labels: labelsText() }), "symbols.pdf");
-}, "in the PDF", { noteOn: lacking });
+  return "";
+}, "in the archive");
+const savePdf = withAll((_, pages) => { save(pdfOf(pages, { Labels: labelsText() }), "symbols.pdf"); }, "in the PDF");
 export function wirePrinting() {
   addEventListener("beforeprint", fillPaper);
   addEventListener("afterprint", () => { isSheet = false; });
@@ -168,5 +136,5 @@ export function wirePrinting() {
   });
   $("many-png").addEventListener("click", zipping("png", pngOf));
   $("many-svg").addEventListener("click",
-    zipping("svg", (grid, text) => new TextEncoder().encode(svgOf(grid, text))));
+    zipping("svg", (page) => new TextEncoder().encode(svgOf(page))));
 }

@@ -2,6 +2,7 @@
 // which its stack comes first, so that a stack that runs over traps; and it asks the proved library as natively.
 import { LAYOUT, SAMPLER } from "./layouts.mjs";
 import { headOf, letterOf } from "./letters.mjs";
+import { qualityAt } from "./quality.mjs";
 
 /** @typedef {import("./library.mjs").Library} Library */
 /** @typedef {import("./library.mjs").Fault} Fault */
@@ -9,19 +10,20 @@ import { headOf, letterOf } from "./letters.mjs";
 /** @typedef {{ x: number, y: number }} Point in pixels from the left and from the top of the picture */
 /** @typedef {Grid & import("./letters.mjs").Letter & { doubtful: Uint8Array | null, corners: Point[],
     isInverted: boolean, isMirrored: boolean, limit: number, symbology: string, border: number, corrected: number[],
-    erased: number[], left: number[], fault: Fault | null, hasMargin: boolean }} Found a symbol, upright: which of its
+    erased: number[], left: number[], fault: Fault | null, hasMargin: boolean,
+    quality?: import("./quality.mjs").Quality }} Found a symbol, upright: which of its
     modules are doubtful, if some are; its corners from the top left one to the right; whether it is light on dark, and
     shown in a mirror; how many wrong border modules it was read with, at most; what it says, with its symbology
     identifier; how many are wrong, and of each block what was corrected, is erased, and is left; or why it isn't read:
-    by its fault, or since too few corrections are left unused */
+    by its fault, or since too few corrections are left unused; and how good its print is, if that was asked */
 /** @typedef {{ symbols: Found[], unread: Found[], ended: number, hasNoMemory: boolean }} Finding why the search ended:
     a number of SAMPLER, WHOLE if nothing was left out */
 /** @typedef {{ most?: number, mostUnread?: number, milliseconds?: number, effort?: number, leastSide?: number,
-    margin?: number }} Search how many symbols to find at most, and to tell of that aren't read; how long to try by the
-    clock, or if that isn't said, how much work to do, in percent of the usual; the fewest modules of a side; how many
-    corrections each block must leave unused */
+    margin?: number, quality?: boolean }} Search how many symbols to find at most, and to tell of that aren't read; how
+    long to try by the clock, or if that isn't said, how much work to do, in percent of the usual; the fewest modules of
+    a side; how many corrections each block must leave unused; and whether the print is measured */
 const { sample: SAMPLE, sample_search: SEARCH, reading: READING, fault: FAULT, head: HEAD_AT, mark: MARK_AT,
-  place_table: TABLE, place: PLACE, size_table: SIZES, sample_point: POINT } = LAYOUT;
+  sample_quality: QUALITY, place_table: TABLE, place: PLACE, size_table: SIZES, sample_point: POINT } = LAYOUT;
 const { READ, REFUSED, WHOLE } = SAMPLER;
 const NANOSECONDS = 1e6; // of a millisecond
 const MOST_BYTES = 2 ** 31; // of one piece of memory; more than that isn't there, and a length has 32 bits
@@ -89,10 +91,11 @@ export class Sampler {
   // The symbols of a picture, of its luminance row by row: 0 is black, 255 white.
   /** @type {(luminance: ArrayLike<number>, width: number, height: number, search?: Search) => Finding} */
   find(luminance, width, height, { most = 1, mostUnread = 0, milliseconds = ANY_TIME, effort = 0, leastSide = 0,
-    margin = 0 } = {}) {
-    const wanted = [luminance.length, SEARCH.size, most * SAMPLE.size, mostUnread * SAMPLE.size];
+    margin = 0, quality = false } = {}) {
+    const wanted = [luminance.length, SEARCH.size, most * SAMPLE.size, mostUnread * SAMPLE.size, QUALITY.size];
     if (wanted.some((size) => size > MOST_BYTES)) return NOTHING;
-    const rooms = wanted.map((size) => this.c.malloc(Math.max(1, size)) >>> 0), [picture, search, read, unread] = rooms;
+    const rooms = wanted.map((size) => this.c.malloc(Math.max(1, size)) >>> 0);
+    const [picture, search, read, unread, measured] = rooms;
     try {
       if (rooms.includes(0)) return NOTHING;
       this.bytes(picture, luminance.length).set(luminance);
@@ -107,10 +110,22 @@ export class Sampler {
       long(SEARCH.unread, unread);
       long(SEARCH.unread_room, mostUnread);
       const code = this.c.ecc200_sample_find(picture, width, height, width, search);
-      return this.findingAt(search, read, unread, code);
+      const finding = this.findingAt(search, read, unread, code);
+      if (!quality) return finding;
+      const withQuality = (from) => (symbol, k) =>
+        ({ ...symbol, ...this.measured(picture, width, height, from + k * SAMPLE.size, measured) });
+      return { ...finding, symbols: finding.symbols.map(withQuality(read)),
+        unread: finding.unread.map(withQuality(unread)) };
     } finally {
       for (const room of rooms) this.c.free(room);
     }
+  }
+  // How good the print of a symbol is; nothing, if there is no memory to measure it.
+  /** @type {(picture: number, width: number, height: number, symbol: number, out: number) =>
+      { quality?: import("./quality.mjs").Quality }} */
+  measured(picture, width, height, symbol, out) {
+    const code = this.c.ecc200_sample_measure(picture, width, height, width, symbol, out);
+    return code ? {} : { quality: qualityAt(new DataView(this.buffer), out) };
   }
   /** @type {(search: number, read: number, unread: number, code: number) => Finding} */
   findingAt(search, read, unread, code) {

@@ -1,5 +1,5 @@
 // Serial numbers, which are added to the list of many messages: a line each, with the same text before and behind.
-import { MOST_LINES, MOST_OF_SHEET, plural } from "./common.mjs";
+import { MOST_LINES_OF_SHEET, MOST_OF_SHEET, plural } from "./common.mjs";
 import { $, field, hint } from "./dom.mjs";
 import { isCsv, listChanged } from "./lines.mjs";
 import { tooMuch } from "./messages.mjs";
@@ -13,7 +13,8 @@ export const serialNumbers = (first, count) =>
 function whyNoNumbers(first, count) {
   if (isCsv()) return "Serial numbers are added to lines that are messages, and not to CSV.";
   if (!/^\d{1,30}$/.test(first)) return "The first number has 1 to 30 digits.";
-  return Number.isInteger(count) && count >= 1 && count <= MOST_LINES ? "" : `From 1 to ${MOST_LINES} can be added.`;
+  const most = MOST_LINES_OF_SHEET.toLocaleString("en");
+  return Number.isInteger(count) && count >= 1 && count <= MOST_LINES_OF_SHEET ? "" : `From 1 to ${most} can be added.`;
 }
 function addNumbers() {
   const first = field("serial-first").value.trim(), count = Number(field("serial-count").value);

@@ -1,19 +1,16 @@
-// Where the symbol comes from: a message, a grid, or a picture.
-import { bitmapOf } from "./bitmap.mjs";
+// Where the symbol comes from: a message, a grid, or a link.
 import { ASCII, MOST_TEXT, SHORTER, SMALLEST, TOO_LONG, isSameShape, plural, shapeWords } from "./common.mjs";
 import { $, allOf, field, hint, made, withCode } from "./dom.mjs";
 import { C40, EDIFACT, TURNED } from "./examples.mjs";
 import { begin, desks, setLimit, showTask, take, whenShown } from "./flow.mjs";
-import { choose, clearSights, isShown, keepingSights, showSights } from "./found.mjs";
 import { gridText } from "./grids.mjs";
 import { takenAsSpelled, takenAsTyped, whyNot } from "./gs1.mjs";
 import { beginEntry, tellLink } from "./link.mjs";
 import { takenAsText, tooMuch } from "./messages.mjs";
 import { brokenWords, clear, enter, inTurn, isBroken, refuse, settled } from "./order.mjs";
-import { MOST_PARTS, chooseParts, lettersTaken, partNow, partsNow, showPart, wireParts } from "./parts.mjs";
+import { MOST_PARTS, chooseParts, partNow, partsNow, showPart, waysTaken, wireParts } from "./parts.mjs";
 import { chooseSize, howIn, showChoice } from "./sizes.mjs";
 import { TASKS, VALID, panes } from "./state.mjs";
-import { drawnSvg } from "./svg.mjs";
 import { refusal, stood, tooLong } from "./words.mjs";
 
 /** @typedef {import("./state.mjs").Mark} Mark */
@@ -29,7 +26,6 @@ export const takenNow = (text) => KINDS[kindNow()](text);
 /** @type {Record<string, (text: string) => import("./messages.mjs").Taken>} */
 const KINDS = { typed: takenAsTyped, text: takenAsText, message: takenAsSpelled };
 export const kindNow = () => Object.keys(KINDS).find((kind) => field(`kind-${kind}`).checked);
-const LIKEST = " What looks most like one is outlined, and listed with the reason.";
 const STILL = "The symbol that is shown is the one before, and isn’t read.";
 
 // ---- The message
@@ -106,11 +102,12 @@ export function writeMessage() {
     refuseMessage(`${whyNot(read)}${read.isTooMuch ? " The link doesn’t keep them." : ""}`, read.ways, mayBeText);
     return;
   }
-  const letters = lettersTaken(read, partsNow()), how = howIn(formNow());
-  const at = Math.min(partNow(), letters.length) - 1;
-  showPart(letters.length);
-  enter(it, () => desks.quick.ask("write", { letters, at, how }, "write"), (written) => {
+  const ways = waysTaken(read, partsNow()), how = howIn(formNow()), parts = ways[0].length;
+  const at = Math.min(partNow(), parts) - 1;
+  showPart(parts);
+  enter(it, () => desks.quick.ask("write", { ways, at, how }, "write"), (written) => {
     if (isBroken(written)) { refuseMessage(brokenWords(written)); return; }
+    const letters = ways[written.way];
     if (written.fault) refuseWritten(written, letters, how);
     else {
       const { modules, rows, columns, seen } = written;
@@ -142,8 +139,8 @@ function takeGrid(symbol) {
   takeSymbol(symbol);
 }
 /** @type {(symbol: any) => void} */
-const takeSymbol = ({ modules, rows, columns, doubtful, limit, seen }) =>
-  take(panes.read, { modules, rows, columns, doubtful, limit, seen });
+const takeSymbol = ({ modules, rows, columns, doubtful, limit, seen, quality }) =>
+  take(panes.read, { modules, rows, columns, doubtful, limit, seen, quality });
 export function readGrid(text = field("grid").value) {
   const it = panes.read;
   if (!text.trim()) {
@@ -172,87 +169,6 @@ export function readWritten() {
     field("grid").value = symbol.text ?? "";
     takeGrid(symbol);
   });
-}
-
-// ---- A picture. While it is looked at the pane goes on as it is; what is entered meanwhile wins.
-
-/** @type {(file: Blob) => boolean} */
-const isSvg = (file) => file.type === "image/svg+xml";
-/** @type {(file: Blob) => any} */
-function questionOf(file) {
-  if (isSvg(file)) return drawnSvg(file);
-  return desks.readsFiles ? { file } : bitmapOf(file);
-}
-/** @type {(file: Blob, lane: string, how?: { kind?: string, more?: any, tell?: any }) => Promise<any>} */
-export async function lookAt(file, lane, { kind = "picture", more = (question) => question, tell = null } = {}) {
-  const question = await questionOf(file), { why, bitmap } = question;
-  return why ? { why } : desks.pictures.ask(kind, more(question), lane, { transfer: bitmap ? [bitmap] : [], tell });
-}
-// Asks what stands in a frame of the camera.
-/** @type {(given: { bitmap: ImageBitmap, most: number, time: number }, lane: string) => Promise<any>} */
-export const askFrame = (given, lane) => desks.pictures.ask("picture", given, lane, { transfer: [given.bitmap] });
-export const pending = { pictures: 0, last: null };
-/** @type {(file: File, note?: string) => Promise<void>} */
-export async function readPicture(file, note = "") {
-  const it = panes.read, name = file.name || "The picture";
-  beginEntry();
-  showTask("read");
-  pending.last = file;
-  pending.pictures++;
-  const tell = (progress) => { if (pending.last === file) hint("picture-hint", `Looking at ${name}: ${progress}…`); };
-  const question = () => lookAt(file, "picture", { tell }).finally(() => { pending.pictures--; });
-  const looking = enter(it, question, (sights) => takePicture(sights, name, note));
-  hint("picture-hint", `Looking at ${name}…`);
-  const isTaken = await looking;
-  if (isTaken || pending.last !== file) return;
-  hint("picture-hint", `${name} was given up, since something else was entered meanwhile.`);
-}
-/** @type {(sights: any, name: string, note: string) => void} */
-function takePicture(sights, name, note) {
-  const it = panes.read, { symbols = [], unread = [], view } = sights;
-  const symbol = symbols[0] ?? unread.find(({ isExact }) => isExact);
-  if (view) showSights(sights, symbol);
-  if (!symbol) {
-    const why = isBroken(sights) ? brokenWords(sights) : `${sights.why}${unread.length ? LIKEST : ""}`;
-    hint("picture-hint", `${name}: ${why}${note}`, true);
-    keepingSights(() => refuse(it, `${name}: ${why}`));
-  } else {
-    hint("picture-hint", `${name}: ${pictureWords(symbol)}${sights.notes}${note}`);
-    field("grid").value = gridText(symbol);
-    hint("grid-hint", "The grid of the picture.", false, "grid");
-    takeSymbol(symbol);
-  }
-  if (sights.left > 0 && !sights.isComplete) takeRest(name, symbol, note); else retire(sights);
-}
-/** @type {(symbol: any) => string} */
-function pictureWords(symbol) {
-  const stands = symbol.how ? `The symbol is ${symbol.how}, and shown upright.` : "Read as it stands.";
-  return `${shapeWords(symbol)}. ${symbol.isRead ? stands : stood(symbol, "")}`;
-}
-// All that stands in the picture that was looked at last.
-/** @type {(name: string, first: any, note: string) => Promise<void>} */
-async function takeRest(name, first, note) {
-  const { last } = pending, sights = await desks.pictures.ask("rest", null, "rest");
-  if (!sights || isBroken(sights) || pending.last !== last || !isShown(first)) return;
-  const [{ x, y }] = first.corners, isFirst = ({ corners: [at] }) => Math.hypot(at.x - x, at.y - y) < NEAR;
-  showSights(sights, sights.symbols.find(isFirst) ?? null);
-  if (sights.symbols.length > 1) hint("picture-hint", `${name}: ${sights.symbols.length} symbols.${note}`);
-  retire(sights);
-}
-const NEAR = 3; // pixels
-// The worker's memory never shrinks: after a large picture another worker begins.
-const retire = ({ isLarge }) => { if (isLarge) desks.pictures.retire(); };
-
-// What was found before, by a list that was saved.
-/** @type {(name: string, sights: import("./found.mjs").Sights, note: string) => void} */
-export function takeSights(name, sights, note) {
-  const [first] = [...sights.symbols, ...sights.unread];
-  beginEntry();
-  showTask("read");
-  clearSights();
-  showSights(sights);
-  if (first) choose(first); else clear(panes.read);
-  hint("picture-hint", `The list of ${name}.${note}`);
 }
 
 // ---- From a link
@@ -297,20 +213,23 @@ export async function restore(linked, isFirst) {
 // ---- Wiring
 
 /** @type {(task: string, pane?: "write" | "read") => void} */
-function chooseTask(task, pane = undefined) {
+export function chooseTask(task, pane = undefined) {
   beginEntry();
   showTask(task, pane);
   tellLink();
 }
 const FORM_FIELDS = FORMS.map((form) => `profile-${form}`);
-const KEY_STEPS = { ArrowLeft: -1, ArrowRight: 1 };
+/** @type {Record<string, (k: number) => number>} to which tab a key leads from one */
+const KEY_STEPS = { ArrowLeft: (k) => k + TASKS.length - 1, ArrowRight: (k) => k + 1, Home: () => 0,
+  End: () => TASKS.length - 1 };
 function wireTabs() {
   for (const [k, task] of TASKS.entries()) {
     $(`tab-${task}`).addEventListener("click", () => chooseTask(task));
     $(`tab-${task}`).addEventListener("keydown", (event) => {
       const step = KEY_STEPS[event.key];
       if (!step) return;
-      const other = TASKS[(k + step + TASKS.length) % TASKS.length];
+      event.preventDefault();
+      const other = TASKS[step(k) % TASKS.length];
       chooseTask(other);
       $(`tab-${other}`).focus();
     });
@@ -323,7 +242,9 @@ function wireMessage() {
   addEventListener("resize", () => fitHeight(field("message")));
   $("message").addEventListener("input", () => writeMessage());
   $("message").addEventListener("keydown", (event) => {
-    if (event.key === "Enter" && kindNow() !== "text") event.preventDefault();
+    if (event.key !== "Enter" || event.shiftKey || event.isComposing || kindNow() === "text") return;
+    event.preventDefault(); // what is typed has its symbol already; a line break is Shift Enter
+    $("save-png").focus();
   });
   for (const id of [...FORM_FIELDS, "kind-typed", "kind-text", "kind-message", "shape", "size"])
     $(id).addEventListener("change", () => writeMessage());

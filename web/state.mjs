@@ -34,6 +34,8 @@ export class Mark {
   letter = null;
   /** @type {import("./common.mjs").Limit} how many border modules may be wrong */
   limit = null;
+  /** @type {import("./quality.mjs").Quality | null} how good the print was, where it was found in a picture */
+  quality = null;
   limitWhy = ""; // why another limit, which was entered or linked, isn't taken
   /** @type {Step[]} what was before each act, to be undone */
   past = [];
@@ -53,14 +55,17 @@ export class Mark {
   // The symbol goes, with all that was done to it.
   empty() {
     [this.modules, this.original, this.doubtful, this.doubted, this.letter, this.seen] = Array(6).fill(null);
+    this.quality = null;
     [this.rows, this.columns] = [0, 0];
     [this.limit, this.limitWhy, this.past, this.future] = [null, "", [], []];
     [this.cursor, this.byKeys, this.module, this.word] = [0, false, null, null];
     [this.stage, this.why] = [EMPTY, ""];
   }
   // Another symbol takes its place.
-  /** @type {(grid: Grid, letter: import("./letters.mjs").Letter | null, doubtful: Uint8Array | null) => void} */
-  hold({ modules, rows, columns }, letter, doubtful) {
+  /** @type {(grid: Grid, letter: import("./letters.mjs").Letter | null, doubtful: Uint8Array | null,
+      quality?: import("./quality.mjs").Quality | null) => void} */
+  hold({ modules, rows, columns }, letter, doubtful, quality = null) {
+    this.quality = quality;
     if (!isSameShape(this, { rows, columns })) [this.limit, this.limitWhy, this.cursor] = [null, "", 0];
     [this.rows, this.columns, this.modules, this.original] = [rows, columns, modules.slice(), modules.slice()];
     [this.letter, this.doubtful, this.doubted] = [letter, doubtful, doubtful];

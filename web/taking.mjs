@@ -1,16 +1,17 @@
 // Taking a symbol away: copied, or saved as SVG or PNG. By default it is the undamaged one. And what it says.
-import { shapeName } from "./common.mjs";
-import { $, field, hint, made, shape } from "./dom.mjs";
+import { plural, shapeName } from "./common.mjs";
+import { $, field, hint, lengthIn, made } from "./dom.mjs";
 import { gridText } from "./grids.mjs";
-import { typed } from "./gs1.mjs";
+import { wrongGs1 } from "./elements.mjs";
+import { readable, typed } from "./gs1.mjs";
+import { pageOf, quietNow } from "./labels.mjs";
 import { partOf } from "./letters.mjs";
 import { linkNow } from "./link.mjs";
 import { settled } from "./order.mjs";
 import { tooWide, wirePaper } from "./paper.mjs";
-import { SIZE, TEXT_HEIGHT, fittedText, pdfOf } from "./pdf.mjs";
+import { pdfOf } from "./pdf.mjs";
+import { pixelsOf, pngOf, svgOf } from "./sheets.mjs";
 import { VALID, isDamaged, mark } from "./state.mjs";
-import { QUIET, runs, withQuiet } from "./symbol.mjs";
-import { crcOf } from "./zip.mjs";
 
 /** @typedef {import("./common.mjs").Grid} Grid */
 /** @typedef {import("./common.mjs").Shape} Shape */
@@ -96,100 +97,48 @@ export function save(blob, name) {
 // ---- Sizes
 
 const LEAST = 0.05, MOST = 20, USUAL_WIDTH = 0.5; // millimetres of a module
-const isMillimetres = () => {
-  const { value } = field("millimetres");
-  return value !== "" && +value >= LEAST && +value <= MOST;
-};
-export const millimetres = () => (isMillimetres() ? +field("millimetres").value : USUAL_WIDTH);
+const millimetresEntered = () => lengthIn("millimetres", LEAST, MOST);
+export const millimetres = () => millimetresEntered() ?? USUAL_WIDTH;
 const rounded = (value) => String(+value.toFixed(2));
 // The millimetres of a symbol of this shape, with its quiet zone.
 /** @type {(shape: Shape) => { width: number, height: number }} */
 export function sizeNow(of) {
-  const { rows, columns } = withQuiet(of), length = (modules) => +rounded(modules * millimetres());
-  return { width: length(columns), height: length(rows) };
+  const length = (modules) => +rounded((modules + 2 * quietNow()) * millimetres());
+  return { width: length(of.columns), height: length(of.rows) };
 }
 export function drawPrintSize() {
   const { seen } = mark();
-  if (!isMillimetres()) {
+  if (millimetresEntered() === null) {
     hint("print-size", `Enter ${LEAST} to ${MOST} mm. ${USUAL_WIDTH} mm is taken.`, true, "millimetres");
     return;
   }
   const { width, height } = seen ? sizeNow(seen) : { width: 0, height: 0 }, why = tooWide(width);
-  const words = `${width} × ${height} mm with ${QUIET} modules of quiet zone`;
+  const quiet = quietNow(), each = pixelsOf(millimetres());
+  const pixels = seen ? [seen.columns, seen.rows].map((it) => (it + 2 * quiet) * each).join(" × ") : "";
+  $("png-size").textContent = pixels && `PNG: ${pixels} pixels`;
+  const words = `${width} × ${height} mm with ${plural(quiet, "module", "modules")} of quiet zone`;
   hint("print-size", seen ? `${words}${why && `. It can’t be printed: ${why}`}` : "", false, "millimetres");
   $("print-size").classList.toggle("bad", Boolean(why));
 }
-// The symbol at its size, as a drawing, with a text below it if there is one.
-/** @type {(grid: Grid, text?: string) => SVGElement} */
-export function drawingOf(grid, text = "") {
-  const { rows, columns } = withQuiet(grid), { width, height } = sizeNow(grid), below = text ? TEXT_HEIGHT : 0;
-  const high = +(rows + below / millimetres()).toFixed(4), box = `${-QUIET} ${-QUIET} ${columns} ${high}`;
-  const all = { width: `${width}mm`, height: `${+rounded(height + below)}mm`, viewBox: box };
-  return shape("svg", { ...all, "shape-rendering": "crispEdges" },
-    shape("path", { fill: "#fff", d: `M${-QUIET} ${-QUIET}h${columns}v${high}h${-columns}z` }),
-    shape("path", { d: runs(grid, (k) => grid.modules[k]) }), ...(text ? [textBelow(grid, text)] : []));
-}
-/** @type {(grid: Grid, text: string) => SVGElement} */
-function textBelow(grid, text) {
-  const { rows, columns } = withQuiet(grid), each = millimetres(), inModules = (length) => +(length / each).toFixed(4);
-  const { cut, size, length } = fittedText(text, columns * each);
-  const place = { x: columns / 2 - QUIET, y: +(rows - QUIET + inModules(SIZE)).toFixed(4), "text-anchor": "middle" };
-  const font = { "font-family": "Courier, monospace", "font-size": inModules(size) };
-  return shape("text", { ...place, ...font, textLength: inModules(length), lengthAdjust: "spacingAndGlyphs" }, cut);
-}
-
 // ---- Files
 
-// A PNG with its pixels per metre, in a chunk after the first.
-/** @type {(png: Uint8Array, perMetre: number) => Uint8Array} */
-function withResolution(png, perMetre) {
-  const chunk = new Uint8Array(21), view = new DataView(chunk.buffer), all = new Uint8Array(png.length + chunk.length);
-  view.setUint32(0, 9);
-  chunk.set([112, 72, 89, 115], 4); // pHYs
-  view.setUint32(8, perMetre); view.setUint32(12, perMetre); chunk[16] = 1;
-  view.setUint32(17, crcOf(chunk.subarray(4, 17)));
-  all.set(png.subarray(0, 33));
-  all.set(chunk, 33);
-  all.set(png.subarray(33), 33 + chunk.length);
-  return all;
-}
-/** @type {(grid: Grid, text?: string) => Promise<Uint8Array>} */
-export async function pngOf(grid, text = "") {
-  const { rows, columns } = withQuiet(grid), millimetre = millimetres();
-  const each = Math.min(32, Math.max(8, Math.round(24 * millimetre))); // about 600 an inch
-  const perMillimetre = each / millimetre, below = text ? Math.round(TEXT_HEIGHT * perMillimetre) : 0;
-  const width = columns * each, height = rows * each + below;
-  /** @type {HTMLCanvasElement} */
-  const canvas = made("canvas", { width, height });
-  const pen = canvas.getContext("2d");
-  pen.fillStyle = "#fff"; pen.fillRect(0, 0, width, height); pen.fillStyle = "#000";
-  const at = (line) => (line + QUIET) * each, { modules } = grid;
-  const fill = (k) => pen.fillRect(at(k % grid.columns), at(Math.floor(k / grid.columns)), each, each);
-  modules.forEach((dark, k) => { if (dark) fill(k); });
-  if (text) {
-    const { cut, size, length } = fittedText(text, columns * millimetre);
-    [pen.font, pen.textAlign] = [`${size * perMillimetre}px Courier, monospace`, "center"];
-    pen.fillText(cut, width / 2, rows * each + SIZE * perMillimetre, length * perMillimetre);
-  }
-  const blob = await new Promise((then) => canvas.toBlob(then, "image/png"));
-  return withResolution(new Uint8Array(await blob.arrayBuffer()), Math.round(1000 * perMillimetre));
-}
-/** @type {(grid: Grid, text?: string) => string} */
-export const svgOf = (grid, text = "") => `${new XMLSerializer().serializeToString(drawingOf(grid, text))}\n`;
-// A page that is as large as a symbol, with a text below it if there is one.
-/** @type {(grid: Grid, text: string) => import("./pdf.mjs").Page} */
-export function pageOf(grid, text) {
-  const { rows, columns } = withQuiet(grid), module = millimetres(), width = columns * module;
-  const height = rows * module + (text ? TEXT_HEIGHT : 0);
-  return { width, height, placed: [{ grid, x: 0, y: 0, module, text, width }] };
-}
-const saving = (ending, type, bodyOf) => async (what) =>
-  save(new Blob([await bodyOf(what.grid)], { type }), nameOf(what, ending));
+// The text that stands below a symbol, if it is wanted.
+/** @type {(letter: Letter | null) => string} */
+const textNow = (letter) => (field("text-below").checked && letter ? readable(letter) : "");
+// A symbol is saved alone, as large as it is; and where it is wrong GS1 data, that is said.
+const saving = (ending, type, bodyOf) => async (what) => {
+  const { page, why } = pageOf({ grid: what.grid, text: textNow(what.letter), number: 1 }, millimetres());
+  const name = nameOf(what, ending);
+  if (why) { toast(why); return; }
+  save(new Blob([await bodyOf(page, what)], { type }), name);
+  const wrong = wrongGs1(what.letter);
+  if (wrong) toast(`${name} is saved. ${wrong}`);
+};
 export function wireTaking() {
   const actions = { copy: copySymbol, "copy-link": copyLink, "copy-message": copyMessage,
     "save-svg": saving("svg", "image/svg+xml", svgOf), "save-png": saving("png", "image/png", pngOf),
-    "save-pdf": saving("pdf", "application/pdf", (grid) => pdfOf([pageOf(grid, "")], { Grid: gridText(grid) })) };
+    "save-pdf": saving("pdf", "application/pdf", (page, { grid }) => pdfOf([page], { Grid: gridText(grid) })) };
   for (const [id, action] of Object.entries(actions)) $(id).addEventListener("click", giving(action));
-  $("millimetres").addEventListener("input", drawPrintSize);
+  for (const id of ["millimetres", "quiet", "pixels"]) $(id).addEventListener("input", drawPrintSize);
   wirePaper(drawPrintSize);
 }

@@ -58,16 +58,16 @@ const ANSWERS = {
     lib = ecc200.library;
     return { readsFiles: await readsFiles(), sizes: [...lib.sizes.values()] };
   },
-  // The symbol of one of some letters, and the shapes that it has in each form; or of the first of them that no size
-  // holds why, and how many items would fit.
-  write({ letters, at = 0, how, hasLook = true }) {
-    const symbols = letters.map((letter) => lib.write(letter, how)), bad = symbols.findIndex(({ fault }) => fault);
-    const shown = bad < 0 ? at : bad, shapes = ALL_FORMS.map((form) => lib.write(letters[shown], { ...how, form }))
-      .map(({ fault, rows, columns }) => (fault ? null : { rows, columns }));
+  // The symbol of one of some letters, in the way to write them that takes the fewest modules, and the shapes that it
+  // has in each form; or of the first of them that no size holds why, and how many items would fit.
+  write({ ways, at = 0, how, hasLook = true }) {
+    const { way, symbols } = lib.writeSmallest(ways, how), bad = symbols.findIndex(({ fault }) => fault);
+    const shown = bad < 0 ? at : bad, inForm = (form) => lib.writeSmallest(ways, { ...how, form }).symbols[shown];
+    const shapes = ALL_FORMS.map(inForm).map(({ fault, rows, columns }) => (fault ? null : { rows, columns }));
     if (bad < 0)
-      return { ...symbols[at], shapes, seen: hasLook ? seen(/** @type {Grid} */ (symbols[at])) : null };
+      return { ...symbols[at], way, shapes, seen: hasLook ? seen(/** @type {Grid} */ (symbols[at])) : null };
     const { fault } = symbols[bad], isTooLong = fault.code === TOO_LONG;
-    return { fault, at: bad, shapes, fits: isTooLong ? mostThatFit(lib, letters[bad], how) : null };
+    return { fault, way, at: bad, shapes, fits: isTooLong ? mostThatFit(lib, ways[way][bad], how) : null };
   },
   look: ({ grid, doubtful, limit }) => seen(grid, doubtful, limit),
   damage: ({ act, original, grid, doubtful, limit }) =>
@@ -76,17 +76,24 @@ const ANSWERS = {
   picture,
   rest: () => sightsShown(restOfPicture(ecc200), 0),
   again: (list) => sightsShown(foundBefore(lib, list), 1),
-  // What stands in one side of the comparison: a letter, the text of a grid, or a picture.
-  async judge({ letter, grid, picture: image }) {
-    if (image) return judged(oneOf(await picture(image)));
+  // What stands in one side of the comparison: the ways to write a letter, the text of a grid, a symbol, or a picture;
+  // or what it may be, where several symbols are in that.
+  async judge({ ways, grid, symbol: chosen, picture: image }) {
+    if (chosen) return judged(chosen);
+    if (image) {
+      const sights = await picture(image);
+      return sights.symbols.length > 1 ? { symbols: sights.symbols } : judged(oneOf(sights));
+    }
     if (grid !== undefined) return judged(gridGiven(grid));
-    const symbol = PROFILES.map((form) => lib.write(letter, squarely(form))).find(({ fault }) => !fault);
-    if (!symbol) return { fault: lib.write(letter, squarely(ASCII)).fault };
+    const written = PROFILES.map((form) => lib.writeSmallest(ways, squarely(form)).symbols[0]);
+    const symbol = written.find(({ fault }) => !fault);
+    if (!symbol) return { fault: written[0].fault };
     return judged({ ...symbol, isRead: true, how: "" });
   },
-  // The symbols of many letters, or null for one that fits no size.
-  sheet: ({ letters, how }) => letters.map((letter) => lib.write(letter, how))
-    .map((symbol) => (symbol.fault ? null : symbol)),
+  // Of many lines, each with the ways to write it, the way that is taken, and its symbols, or null for one that fits no
+  // size.
+  sheet: ({ lines, how }) => lines.map((ways) => lib.writeSmallest(ways, how))
+    .map(({ way, symbols }) => ({ way, symbols: symbols.map((symbol) => (symbol.fault ? null : symbol)) })),
 };
 
 addEventListener("message", async ({ data: { number, kind, given } }) => {

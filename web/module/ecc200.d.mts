@@ -29,7 +29,11 @@ export interface Message extends Letter {
   text: string | null;
   /** The charset of the text: of several the names, with commas between; `binary` or `ECI n` for no charset. */
   charset: string;
+  /** The identifiers of GS1 data with their values; null where it is none, as a part, or isn't by GS1's rules. */
+  elements: Element[] | null;
 }
+/** An application identifier of GS1, as `01`, with its value. */
+export interface Element { identifier: string; value: string }
 export interface Reading {
   /** The symbology identifier of ISO/IEC 15424, `]d1` to `]d6`. */
   symbology: string;
@@ -56,12 +60,41 @@ export interface Found extends Grid, Letter, Omit<Reading, "dealing"> {
   isInverted: boolean;
   /** Whether the picture shows it as in a mirror. */
   isMirrored: boolean;
-  /** With this border limit and with `doubtful`, `readGrid` says the same again, and `normal` gives its normal symbol. */
+  /** With this border limit and `doubtful`, `readGrid` says the same again, and `normal` gives its normal symbol. */
   limit: number;
   /** Why it isn't read; null if it is. */
   fault: Fault | null;
   /** Whether each block leaves as many corrections unused as it should. */
   hasMargin: boolean;
+  /** How good its print is, if that was asked. */
+  quality?: Quality;
+}
+/** How good the print of a symbol is, as ISO/IEC 15415 counts it, but of this picture, uncalibrated: no verifier's
+ * report. */
+export interface Quality {
+  /** The largest less the smallest reflectance, 0 to 1. */
+  contrast: number;
+  /** The least of all codewords. */
+  modulation: number;
+  /** Of each block, the share of its check codewords that isn't used. */
+  unused: number[];
+  /** Nonuniformity: how much the mean width and height of modules differ, as a share. */
+  axial: number;
+  /** Nonuniformity: how far the worst module lies beside an even grid, in modules. */
+  grid: number;
+  /** How much wider, and higher, dark modules are than they should be, in modules. */
+  growth: number[];
+  /** The damaged share of each side of the border, and of the quiet zone: at the top, on the right, below, on the
+   * left. */
+  border: number[];
+  quiet: number[];
+  /** How many codewords have a modulation of .5, .4, .3 and .2, or more. */
+  readable: number[];
+  /** The weakest place, in words. */
+  weakest: string;
+  grades: Record<"contrast" | "modulation" | "unused" | "axial" | "grid", "A" | "B" | "C" | "D" | "F">;
+  /** Of each codeword, that of its weakest module. */
+  modulations: number[];
 }
 export interface Search {
   /** How many symbols to find at most: 1 if it isn't given. */
@@ -76,6 +109,8 @@ export interface Search {
   leastSide?: number;
   /** How many corrections each block must leave unused: 0. */
   margin?: number;
+  /** Whether the print of each symbol is measured. */
+  quality?: boolean;
 }
 export interface Form {
   /** `smallest`, if it isn't given: the encodations that take the smallest size. `ascii`; or `shorter`, which writes
@@ -86,6 +121,8 @@ export interface Form {
   /** Or this size. */
   rows?: number;
   columns?: number;
+  /** Whether a text is an element string, with its identifiers in brackets: `(01)09521234543213(10)ABC`. */
+  gs1?: boolean;
 }
 export interface SizeOfSymbol {
   rows: number; columns: number; regionRows: number; regionColumns: number; down: number; across: number;
@@ -98,9 +135,10 @@ export class Refused extends Error { code: number; value: number; place: number 
 /** The symbols in a picture. Throws a RangeError where there is no memory, or a side isn't 1 to 32767 pixels. */
 export function read(picture: Picture, search?: Search):
   { symbols: (Found & Message)[]; unread: Found[]; isComplete: boolean };
-/** What is written: text, which is ISO 8859-1, or else UTF-8 behind its mark; bytes or items; or a letter. */
+/** What is written: text, which is ISO 8859-1, or else behind its mark the charset whose symbol is smallest; bytes or
+ * items; or a letter. */
 export type Given = string | ArrayLike<number> | (Partial<Letter> & Pick<Letter, "items">);
-/** The symbol of what is given. Throws Refused if no size holds it. */
+/** The symbol of what is given. Throws Refused if no size holds it, and a RangeError for a wrong element string. */
 export function write(given: Given, form?: Form): Grid;
 /** What an upright grid says. Throws Refused. */
 export function readGrid(grid: Grid, more?: { limit?: Limit; doubtful?: Uint8Array | null }): Message & Reading;
