@@ -4,8 +4,7 @@
 
 #include "timing.h"
 
-static void print_grid(const DmtxEncode *encode, FILE *grids)
-{
+static void print_grid(const DmtxEncode *encode, FILE *grids) {
     int size = encode->region.sizeIdx;
     int side = dmtxGetSymbolAttribute(DmtxSymAttribSymbolRows, size);
     for (int row = side - 1; row >= 0; row--) {
@@ -16,23 +15,16 @@ static void print_grid(const DmtxEncode *encode, FILE *grids)
     putc('\n', grids);
 }
 
-static void write_with_libdmtx(char *line, int length, FILE *grids)
-{
+static void write_with_libdmtx(char *line, int length, FILE *grids) {
     DmtxEncode *encode = dmtxEncodeCreate();
-    if (!encode)
-        refused("libdmtx found no memory");
+    if (!encode) refused("libdmtx found no memory");
     dmtxEncodeSetProp(encode, DmtxPropScheme, DmtxSchemeAscii);
     dmtxEncodeSetProp(encode, DmtxPropSizeRequest, DmtxSymbolSquareAuto);
     dmtxEncodeSetProp(encode, DmtxPropModuleSize, 1);
     dmtxEncodeSetProp(encode, DmtxPropMarginSize, 0);
-    if (dmtxEncodeDataMatrix(encode, length, (unsigned char *)line) != DmtxPass)
-        refused("libdmtx refused a line");
-    if (grids)
-        print_grid(encode, grids);
+    if (dmtxEncodeDataMatrix(encode, length, (unsigned char *)line) != DmtxPass) refused("libdmtx refused a line");
+    if (grids) print_grid(encode, grids);
     dmtxEncodeDestroy(&encode);
 }
 
-int main(int count, char **words)
-{
-    return timed(count, words, write_with_libdmtx);
-}
+int main(int count, char **words) { return timed(count, words, write_with_libdmtx); }

@@ -88,8 +88,10 @@ static Mark made(const ecc200_size &size, size_t length) {
         int corrected = 0;
         if (!read(mark.damaged, mark, 0))
             for (int b = 0; b < size.blocks; b++) corrected += reading.corrected[b];
-        if (corrected == done + 1) done++;
-        else mark.damaged[at] ^= 1;
+        if (corrected == done + 1)
+            done++;
+        else
+            mark.damaged[at] ^= 1;
     }
     return mark;
 }
@@ -111,8 +113,8 @@ template <class Work> static void timed(const char *work, const char *who, const
 }
 
 static void read_right(const std::vector<uint8_t> &modules, const Mark &mark) {
-    if (read(modules, mark, ecc200_usual_limit(mark.rows, mark.columns)) ||
-        reading.item_count != mark.items.size() || !std::equal(mark.items.begin(), mark.items.end(), reading.items))
+    if (read(modules, mark, ecc200_usual_limit(mark.rows, mark.columns)) || reading.item_count != mark.items.size() ||
+        !std::equal(mark.items.begin(), mark.items.end(), reading.items))
         die("ecc200 reads something else");
 }
 
@@ -349,15 +351,16 @@ int main(int argc, char **argv) {
     if (argc > 2) time_messages(argv[2]);
     static ecc200_size_table table;
     ecc200_sizes(&table);
-    const struct { uint16_t rows, columns; size_t length, count; } sets[] = {
-        {52, 52, 180, 200}, {14, 14, 8, 1000}, {8, 32, 9, 1000},   {16, 48, 45, 500},
-        {8, 144, 60, 500},  {26, 64, 110, 300}, {104, 104, 800, 50}, {120, 120, 1000, 50}, {132, 132, 1250, 50},
-        {144, 144, 1500, 50}};
+    const struct {
+        uint16_t rows, columns;
+        size_t length, count;
+    } sets[] = {{52, 52, 180, 200},   {14, 14, 8, 1000},   {8, 32, 9, 1000},    {16, 48, 45, 500},
+                {8, 144, 60, 500},    {26, 64, 110, 300},  {104, 104, 800, 50}, {120, 120, 1000, 50},
+                {132, 132, 1250, 50}, {144, 144, 1500, 50}};
     for (const auto &set : sets) {
-        const ecc200_size *size = std::find_if(table.sizes, table.sizes + ECC200_SIZE_COUNT,
-                                               [&](const ecc200_size &s) {
-                                                   return s.rows == set.rows && s.columns == set.columns;
-                                               });
+        const ecc200_size *size = std::find_if(table.sizes, table.sizes + ECC200_SIZE_COUNT, [&](const ecc200_size &s) {
+            return s.rows == set.rows && s.columns == set.columns;
+        });
         std::vector<Mark> marks;
         while (marks.size() < set.count) marks.push_back(made(*size, set.length));
         time_ours(marks);

@@ -18,28 +18,23 @@
 using Lines = std::vector<std::string>;
 using Grids = std::vector<ZXing::BitMatrix>;
 
-static Lines lines_of(const char *path)
-{
+static Lines lines_of(const char *path) {
     std::ifstream file(path);
     Lines lines;
-    for (std::string line; std::getline(file, line);)
-        lines.push_back(line);
+    for (std::string line; std::getline(file, line);) lines.push_back(line);
     return lines;
 }
 
-static ZXing::BitMatrix matrix_of(const Lines &rows)
-{
+static ZXing::BitMatrix matrix_of(const Lines &rows) {
     int side = (int)rows.size();
     ZXing::BitMatrix matrix(side, side);
     for (int row = 0; row < side; row++)
         for (int column = 0; column < side; column++)
-            if (rows[row][column] == '1')
-                matrix.set(column, row);
+            if (rows[row][column] == '1') matrix.set(column, row);
     return matrix;
 }
 
-static Grids grids_of(const char *path)
-{
+static Grids grids_of(const char *path) {
     Grids grids;
     Lines rows;
     for (const std::string &line : lines_of(path)) {
@@ -53,8 +48,7 @@ static Grids grids_of(const char *path)
     return grids;
 }
 
-static int wrong_of(const Grids &grids, const Lines &lines)
-{
+static int wrong_of(const Grids &grids, const Lines &lines) {
     int wrong = grids.size() != lines.size();
     for (size_t i = 0; i < std::min(grids.size(), lines.size()); i++) {
         auto answer = ZXing::DataMatrix::Decode(grids[i]);
@@ -64,8 +58,7 @@ static int wrong_of(const Grids &grids, const Lines &lines)
     return wrong;
 }
 
-static Grids written(const Lines &lines)
-{
+static Grids written(const Lines &lines) {
     Grids grids;
     grids.reserve(lines.size());
     for (const std::string &line : lines) {
@@ -76,28 +69,24 @@ static Grids written(const Lines &lines)
     return grids;
 }
 
-static void print(const Grids &grids, const char *path)
-{
+static void print(const Grids &grids, const char *path) {
     std::ofstream file(path);
     for (const ZXing::BitMatrix &grid : grids) {
         for (int row = 0; row < grid.height(); row++) {
-            for (int column = 0; column < grid.width(); column++)
-                file.put(grid.get(column, row) ? '1' : '0');
+            for (int column = 0; column < grid.width(); column++) file.put(grid.get(column, row) ? '1' : '0');
             file.put('\n');
         }
         file.put('\n');
     }
 }
 
-static double now()
-{
+static double now() {
     timespec time;
     clock_gettime(CLOCK_PROCESS_CPUTIME_ID, &time);
     return (double)time.tv_sec + 1e-9 * (double)time.tv_nsec;
 }
 
-template <class Work> static double best(int rounds, Work work)
-{
+template <class Work> static double best(int rounds, Work work) {
     double least = 1e9;
     for (int round = 0; round < rounds; round++) {
         double from = now();
@@ -107,10 +96,8 @@ template <class Work> static double best(int rounds, Work work)
     return least;
 }
 
-int main(int count, char **words)
-{
-    if (count < 5)
-        return 1;
+int main(int count, char **words) {
+    if (count < 5) return 1;
     bool reads = words[1] == std::string("read");
     Lines lines = lines_of(words[reads ? 3 : 2]);
     int rounds = std::max(std::atoi(words[4]), 1);

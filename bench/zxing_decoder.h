@@ -17,10 +17,9 @@ struct DecoderResult {
 namespace DataMatrix {
 DecoderResult Decode(const BitMatrix &);
 }
-}  // namespace ZXing
+} // namespace ZXing
 
-static inline const std::vector<uint8_t> &bytes_of(const ZXing::DecoderResult &result)
-{
+static inline const std::vector<uint8_t> &bytes_of(const ZXing::DecoderResult &result) {
     return reinterpret_cast<const std::vector<uint8_t> *>(&result)[1];
 }
 
