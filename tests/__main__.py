@@ -2,7 +2,9 @@
 tests/ (`program`, `program.test_answers.Answers`, `tests/program/test_answers.py`). Each part that needs something that
 isn't installed or built is left out, and named at the end.
 
-    python3 -m tests [--proofs] [-k WORD ..] [SUBJECT ..]
+    python3 -m tests [--proofs | --users] [-k WORD ..] [SUBJECT ..]
+
+Where proofs are asked for and the toolchain is missing, the status is 3 in place of 0.
 """
 import argparse
 import os
@@ -13,10 +15,12 @@ import subprocess
 import sys
 import unittest
 
-from tests.support import places
+from tests.support import places, users
 from tests.support.tally import Tally, times
 
 PROOFS = places.path("tests", "proofs")
+# The status of a run that was to prove, and passed without the toolchain.
+UNPROVED = 3
 
 
 def found(names, words):
@@ -71,23 +75,32 @@ def main():
     how = {"description": __doc__, "formatter_class": argparse.RawDescriptionHelpFormatter}
     words = argparse.ArgumentParser(prog="python3 -m tests", **how)
     words.add_argument("--proofs", action="store_true", help="begin with tests/proofs, and count what it does")
+    words.add_argument("--users", action="store_true", help="run what tests/support/users.py names")
     words.add_argument("-k", metavar="WORD", action="append", default=[], help="run cases whose names have this word")
     words.add_argument("names", metavar="SUBJECT", nargs="*", help="a folder, module, class or case of tests/")
     given = words.parse_args()
     end_in_order(os.getpid())
     tally = Tally(lambda line: print(line, flush=True))
-    cases = found(given.names, given.k)
-    if not cases.countTestCases():
-        print(f"no case has {' or '.join(given.k) or 'this'} in its name", file=sys.stderr)
+    is_unproved = given.proofs and not shutil.which("rt")
+    if is_unproved:
+        print("Nothing will be proved: the Rattle toolchain (rt) isn't on the path.", flush=True)
+    if given.users:
+        tally.closing = users.UNPROVED
+        users.prepare()
     try:
-        if not given.proofs or prove(tally):
+        # (some modules build the library when they are loaded, which takes what is proved then)
+        is_proved = not given.proofs or prove(tally)
+        cases = found(given.names or (users.CASES if given.users else []), given.k)
+        if not cases.countTestCases():
+            print(f"no case has {' or '.join(given.k) or 'this'} in its name", file=sys.stderr)
+        if is_proved:
             cases.run(tally)
         else:
             tally.leave_out(cases, "the proofs failed")
     except KeyboardInterrupt:
         tally.say("broken off by a signal")
         tally.failed += 1
-    return tally.end()
+    return tally.end() or (UNPROVED if is_unproved else 0)
 
 
 if __name__ == "__main__":

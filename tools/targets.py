@@ -6,6 +6,7 @@ for, and how a program for it is run here. All that differs from target to targe
 
 prints the C compiler of a target, or says in the name of a script which Debian package has it."""
 import os
+import platform
 import shutil
 import sys
 from typing import Dict, List, NamedTuple
@@ -57,6 +58,16 @@ TARGETS: Dict[str, Target] = {it.triple: it for it in [
     Target("x86_64-w64-windows-gnu", "x86_64-w64-mingw32", "gcc-mingw-w64-x86-64", [], "wine", "", "",
            "x86_64-pc-windows-gnu"),
 ]}
+
+
+def files_of(target):
+    """The files of the library for a target, or for this system if it is None."""
+    return target.files if target else ["libecc200.a", "libecc200.so"]
+
+
+def here():
+    """The triple of this system, whether or not there is a library for it."""
+    return f"{platform.machine()}-unknown-{sys.platform}-gnu"
 
 
 def named(triple, script):

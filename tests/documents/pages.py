@@ -52,7 +52,7 @@ def printed():
     status, output = commands.said([CLAUSES])
     if status:
         raise AssertionError(output)
-    found = collections.defaultdict(list)
+    found, last = collections.defaultdict(list), None
     for line in output.splitlines():
         if line.startswith("    "):
             found[last].append(line.strip())
@@ -101,5 +101,3 @@ def is_part(name):
     own = re.compile(rf"^pub record {record}\b.*?(?=^\S(?!-)|\Z)", re.M | re.S)
     found = [own.search(source) for crate in crates() for source in modules(crate).values()]
     return any(is_declared(part, lines[0]) for lines in found if lines)
-
-

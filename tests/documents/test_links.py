@@ -16,8 +16,8 @@ from tests.support.case import Case
 PATH = re.compile(r"(?:crates|tests|tools|docs|library|packaging|bench|sampler|web|scripts|demo)/[\w./-]+"
                   r"|[\w/]+\.(?:rt|antt|mjs)")
 # How the files end that people write, besides documents and scripts: code, proofs, pages, manual pages, settings.
-WRITTEN = (".py", ".c", ".h", ".cpp", ".rs", ".java", ".rt", ".antt", ".mjs", ".js", ".css", ".html", ".toml", ".in",
-           ".1", ".3", "CMakeLists.txt", ".editorconfig", "command_line")
+WRITTEN = (".py", ".c", ".h", ".cpp", ".rs", ".java", ".rt", ".antt", ".mjs", ".mts", ".cjs", ".js", ".css", ".html",
+           ".toml", ".in", ".1", ".3", "CMakeLists.txt", ".editorconfig", "command_line")
 
 
 def documents():
@@ -75,14 +75,14 @@ def written():
 
 
 def checks_of_width():
-    """Lines have at most 120 columns, those of documents but in tables and blocks of code; README has at most 140
+    """Lines have at most 120 columns, those of documents but in tables and blocks of code; README has at most 110
     lines."""
     for path in [*documents(), *written()]:
         plain = re.sub(r"^```.*?^```$", "", text(path), flags=re.M | re.S) if path.endswith(".md") else text(path)
         wide = [line for line in plain.splitlines()
                 if len(line) > 120 and not (path.endswith(".md") and line.startswith("|"))]
         yield f"{os.path.relpath(path, places.TOP)}, lines of more than 120 columns: {wide[:1]}", not wide
-    yield "README.md, at most 140 lines", len(text(places.path("README.md")).splitlines()) <= 140
+    yield "README.md, at most 110 lines", len(text(places.path("README.md")).splitlines()) <= 110
 
 
 def checks_of_files():

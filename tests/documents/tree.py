@@ -129,5 +129,3 @@ def clauses_of(file, function):
     parts = function.split("::")
     is_type = len(parts) > 1 and parts[-2][0].isupper()
     return contracts(file).get("::".join(parts[-2:]) if is_type else parts[-1])
-
-

@@ -181,4 +181,5 @@ class Runner(Case):
     def test_the_proofs_are_left_out_without_the_toolchain(self):
         status, said = self.ran("--proofs", "-k", "without", PATH=self.folder())
         told = "left out, since the Rattle toolchain (rt) isn't on the path, so nothing is proved: proofs"
-        self.assertEqual((status, told in said, said[-1]), (0, True, "1 passed, 0 failed, 1 skipped"))
+        first = "Nothing will be proved: the Rattle toolchain (rt) isn't on the path."
+        self.assertEqual((status, said[0], told in said, said[-1]), (3, first, True, "1 passed, 0 failed, 1 skipped"))

@@ -1,10 +1,11 @@
 """What is said where the toolchain isn't installed and nothing is built: one line, and not how a script came to
-fail."""
+fail; and the program for a first look."""
 import os
 import shutil
+import subprocess
 import unittest
 
-from tests.support import commands, places
+from tests.support import commands, needs, places
 from tests.support.case import Case
 
 PATH = "/usr/bin:/bin"
@@ -20,9 +21,8 @@ class ToolchainAbsent(Case):
                         ignore=shutil.ignore_patterns(".git", "out", "__pycache__"))
 
     def test_each_target_says_what_is_not_built(self):
-        for target, what in (("build", "the program"), ("install", "the program"), ("deb", "the program"),
-                             ("dist", "the program"), ("library", "the library"), ("page", "the library"),
-                             ("sampler", "the library"), ("wheel", "the library")):
+        for target, what in (("build", "the program"), ("dist", "the program"), ("library", "the library"),
+                             ("compiled", "the library"), ("page", "the library")):
             done = commands.run(["make", "-C", self.sources, target], env=commands.environment(PATH=PATH))
             said = [line for line in done.errors.decode().splitlines() if not line.startswith("make")]
             self.assertNotEqual(done.status, 0)
@@ -31,3 +31,25 @@ class ToolchainAbsent(Case):
     def test_a_first_look_says_it_too(self):
         done = commands.run(["make", "-C", self.sources, "try"], env=commands.environment(PATH=PATH))
         self.assertIn(LINE.replace("prove", "compile"), done.errors.decode())
+
+
+@needs.toolchain
+class FirstLook(Case):
+    """The program of demo/, where it isn't built."""
+
+    @classmethod
+    def setUpClass(cls):
+        cls.sources = os.path.join(cls.folder_of_class(), "sources")
+        shutil.copytree(places.TOP, cls.sources, symlinks=True,
+                        ignore=shutil.ignore_patterns(".git", "out", "__pycache__", "must-fail"))
+        cls.words = os.path.join(cls.sources, "demo", "dm_tool")
+
+    def test_input_that_comes_late_is_answered(self):
+        with subprocess.Popen(["sh", "-c", "sleep 3; echo 123456"], stdout=subprocess.PIPE) as late:
+            done = commands.run([self.words, "write"], stdin=late.stdout)
+        self.assertEqual((done.status, done.output.split(b"\n")[:2]), (0, [b"1010101010", b"1100101101"]))
+
+    def test_help_says_how_it_is_called(self):
+        done = commands.run([self.words, "--help"])
+        self.assertEqual((done.status, done.errors), (0, b""))
+        self.assertRegex(done.output, rb"\Ausage: dm_tool read\|check .*\n\Z")

@@ -4,6 +4,7 @@ callers as tools/callers does."""
 import itertools
 import re
 
+from tests.bugs import Bug
 from tests.support import header, places
 
 HEADER = "ecc200.h"
@@ -42,12 +43,12 @@ def wrong_headers(text, interface):
 
 
 def wrong_callers():
-    """What is wrong, the file of library/ that has it, and its text."""
+    """A bug for each wrong header and each caller of which it changes the text."""
     tool, text = header.callers(), places.text_of("library", HEADER)
     for name, wrong in wrong_headers(text, header.interface()):
-        yield name, HEADER, wrong
+        yield Bug(name, HEADER, [(text, wrong)])
         for path, regions in zip(tool.FILES, (tool.python, tool.rust)):
             own = places.text_of(path)
             spoilt = tool.written(own, regions(tool.interface_of(wrong)), path)
             if spoilt != own:
-                yield name, path.removeprefix("library/"), spoilt
+                yield Bug(name, path.removeprefix("library/"), [(own, spoilt)])

@@ -15,9 +15,9 @@ typedef struct {
 } dimensions;
 
 /* rows and columns of no size */
-static const dimensions others[] = {{0, 0},   {1, 1},    {11, 11},   {28, 28},   {18, 8},       {10, 18},
-                                    {8, 0},   {0, 8},    {145, 145}, {160, 160}, {65535, 65535}, {65535, 0},
-                                    {144, 8}, {26, 640}, {16, 50}};
+static const dimensions others[] = {{0, 0},         {1, 1},     {11, 11}, {28, 28},   {18, 8},
+                                    {10, 18},       {8, 0},     {0, 8},   {145, 145}, {160, 160},
+                                    {65535, 65535}, {65535, 0}, {144, 8}, {26, 640},  {16, 50}};
 static uint16_t extent;
 static long reads, both, doubts, letters;
 static uint8_t *area, *doubt_area, *marks_area;
@@ -96,8 +96,12 @@ static int is_read_back(const uint16_t *items, size_t count, const ecc200_mark *
  * wrong */
 static uint8_t *written(dimensions *size, size_t *count) {
     size_t items_count = (size_t)(chance() % 2 ? chance() % 3200 : chance() % 40), mark_count;
-    ecc200_how how = {(uint16_t)(chance() % 4), (uint16_t)(chance() % 6), size->rows, size->columns,
-                      (uint16_t)(chance() % 10 ? ECC200_WIDE : chance() % 3), any_head()};
+    ecc200_how how = {(uint16_t)(chance() % 4),
+                      (uint16_t)(chance() % 6),
+                      size->rows,
+                      size->columns,
+                      (uint16_t)(chance() % 10 ? ECC200_WIDE : chance() % 3),
+                      any_head()};
     uint16_t *items = (uint16_t *)(void *)(area + AREA) - items_count;
     const ecc200_mark *marks = any_marks(items_count, &mark_count);
     int often = chance() % 3 ? 257 : 128;
@@ -152,8 +156,8 @@ static void add_checks(uint8_t *words, const ecc200_size *size) {
 /* a symbol whose data codewords are random, but often begin or end something: an encodation, a shift, a macro, the
  * message */
 static uint8_t *spelled(dimensions *named, size_t *count) {
-    static const uint8_t turns[] = {129, 230, 231, 232, 233, 234, 235, 236, 237, 238, 239, 240, 241, 241, 254, 0, 124,
-                                    31};
+    static const uint8_t turns[] = {129, 230, 231, 232, 233, 234, 235, 236, 237,
+                                    238, 239, 240, 241, 241, 254, 0,   124, 31};
     const ecc200_size *size = &sizes.sizes[(size_t)chance() % (chance() % 2 ? 8 : ECC200_SIZE_COUNT)];
     uint8_t words[ECC200_MOST_CODEWORDS];
     int often = 2 + chance() % 40;
@@ -203,8 +207,7 @@ static int check_normal(uint16_t profile) {
     if (ecc200_normal(symbol->modules, count, NULL, 0, symbol->rows, symbol->columns, 0, extent, profile, again) ||
         memcmp(symbol, again, sizeof *symbol))
         return fail("normalising twice isn't once");
-    uint16_t code =
-        ecc200_read(symbol->modules, count, NULL, 0, symbol->rows, symbol->columns, 0, extent, reading);
+    uint16_t code = ecc200_read(symbol->modules, count, NULL, 0, symbol->rows, symbol->columns, 0, extent, reading);
     if (code || !say_the_same(reading, &first) || reading->dealing)
         return fail("the normal symbol says something else");
     return 0;

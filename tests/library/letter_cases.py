@@ -2,8 +2,8 @@
 and a head, of structured append or reader programming; and about the other dealing of 144 x 144. Each has the answer
 that is wanted: it stands here as it was worked out by hand, or letters.py knows it."""
 import itertools
-import re
 
+from tests import corpus
 from tests.library.cases import (LARGEST, MOST_DATA, SMALLEST, TEN, TWELVE, USUAL, WIDE, Symbol, doubt_of, grid_of,
                                  held_by, hurt, inspect, inspection, no, normal, read, reading, symbol,
                                  with_bad_border, words_of, write, write_bytes)
@@ -11,7 +11,6 @@ from tests.library.letters import (Letter, Refusal, dealt_anew, designators_of, 
                                    symbol_of)
 from tests.library.model import (ANY, EXTENDED, FNC1, ONE, RECTANGLE, SIZE_OF, SIZES, SQUARE, base_256_words, codewords,
                                  modules_of, padded, randomised, triple)
-from tests.support import places
 
 PROGRAMMING = "programming"
 MACRO_5, MACRO_6 = b"[)>\x1e05\x1d", b"[)>\x1e06\x1d"
@@ -315,39 +314,20 @@ def dealt():
         yield read(hurt(Symbol(modules_of(size, words), named), 4, size.limit + 9), 0, WIDE), no(6, 0, 4)
 
 
-
 # ---- Marks of an encoder
-
-EVERY_SIZE = places.path("tests", "marks", "every-size.txt")
 
 
 def printed():
-    """The symbols of every-size.txt: of each its number, rows and columns, what it says, and its modules."""
-    with open(EVERY_SIZE, encoding="ascii") as file:
-        records = [record.strip("\n").split("\n") for record in file.read().split("\n\n")]
-    for first, _, said, *rows in (record for record in records if record[0] and record[0][0] != "#"):
-        number, *named = map(int, first.split()[:3])
-        yield number, tuple(named), spoken(said), [int(module) for row in rows for module in row]
-
-
-def spoken(line):
-    """A letter as a line of that file has it."""
-    items, marks, head = [], [], None
-    for word in re.findall(r"\\[EA]\{[^}]*\}|\\[PF\\]|\\x[0-9A-F]{2}|.", line):
-        kind, inner = word[:2], word[3:-1]
-        if kind == "\\E":
-            marks.append((int(inner), len(items)))
-        elif kind == "\\A":
-            head = tuple(map(int, re.split("[/ ]", inner)))
-        elif kind == "\\P":
-            head = PROGRAMMING
-        else:
-            items.append(int(word[2:], 16) if kind == "\\x" else FNC1 if kind == "\\F" else ord(word[-1]))
-    return Letter(tuple(items), tuple(marks), head)
+    """The marks of zint in sizes beyond the squares to 104: of each its name, rows and columns, what it says, and its
+    modules."""
+    for mark in corpus.marks("sizes"):
+        items, marks, head = mark.letter
+        letter = Letter(items, tuple((number, place) for place, number in marks), head)
+        yield mark.name, (mark.rows, mark.columns), letter, list(mark.modules)
 
 
 def of_an_encoder():
-    """Each is read as the file says, in the usual extent too where that has it, and has the normal grid of that."""
+    """Each is read as the corpus says, in the usual extent too where that has it, and has the normal grid of that."""
     for _, named, letter, modules in printed():
         grid = Symbol(modules, named)
         data = held_by(grid)[:grid.size.data]
@@ -358,4 +338,18 @@ def of_an_encoder():
         yield read(grid, 0, USUAL), wanted
 
 
-ALL = (worked, designators, ends, beside, edges, heads, marks, orders, dealt, of_an_encoder)
+def damaged():
+    """Symbols of each size with as much damage as is corrected and with more, where it is known and where it isn't."""
+    for mark in corpus.marks("damaged"):
+        named, doubt = (mark.rows, mark.columns), mark.doubtful or ()
+        grid, limit, refused = Symbol(mark.modules, named), sum(named) // 8, mark.refusal and no(*mark.refusal)
+        wanted = symbol(mark.letter[0])
+        if not refused:
+            border, corrected, erased = mark.damage
+            yield read(grid, limit, WIDE, doubt=doubt), reading(named, mark.letter[0], corrected, border, erased)
+        else:
+            yield read(grid, limit, WIDE, doubt=doubt), refused
+        yield normal(grid, 0, limit, WIDE, doubt=doubt), refused or wanted
+
+
+ALL = (worked, designators, ends, beside, edges, heads, marks, orders, dealt, of_an_encoder, damaged)

@@ -412,12 +412,14 @@ def can_say(letter, count, extent):
 
 
 def inside_macro(letter):
-    """What a macro has to say so that a letter is said, or None."""
+    """What a macro has to say so that a letter is said, or None. None is written before FNC1, which readers would take
+    for a sign there."""
     items = list(letter.items)
     for header in MACROS.values():
         inner = items[len(header):-len(TRAILER)]
         places = [place - len(header) for _, place in letter.marks]
-        if items == [*header, *inner, *TRAILER] and all(0 <= place <= len(inner) for place in places):
+        if (items == [*header, *inner, *TRAILER] and inner[:1] != [FNC1]
+                and all(0 <= place <= len(inner) for place in places)):
             return Letter(tuple(inner), tuple((number, place) for (number, _), place in zip(letter.marks, places)))
     return None
 

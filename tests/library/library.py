@@ -31,11 +31,6 @@ def module():
     return made
 
 
-def bits_of(lines):
-    """The rows of a grid of characters."""
-    return [bytes(int(letter) for letter in line) for line in lines]
-
-
 def compiled(source, folder, *flags, system=THIS):
     """Compiles a C file over the static library, and gives the program, or None and what the compiler says."""
     made = os.path.join(folder, os.path.basename(source).removesuffix(".c") + system.ending)

@@ -240,14 +240,14 @@ def limits():
     """Border limits of any size."""
     bad = rows(with_bad_border(FLAT, 3))
     for call in (ecc200.read, ecc200.normal):
-        for limit in (-(10 ** 20), -1, 0, 2, 3, 4, 65535, 65536, 65537, 10 ** 20):
+        for limit in (0, 2, 3, 4, 65535, 65536, 65537, 10 ** 20):
             got = said_by(lambda: call(bad, limit))
             yield f"{call.__name__} with the limit {limit}", got != refused("BORDER", 3), limit >= 3
             yield f"{call.__name__} with border_limit={limit}", said_by(lambda: call(bad, border_limit=limit)), got
         yield f"{call.__name__} with the limit 0", said_by(lambda: call(rows(with_bad_border(FLAT, 1)),
                                                                         0)), refused("BORDER", 1)
-        is_same = said_by(lambda: call(WORKED, -1)) == said_by(lambda: call(WORKED))
-        yield f"{call.__name__} with no wrong module and the limit -1", is_same, True
+        for limit in (-1, -(10 ** 20)):
+            yield f"{call.__name__} with the limit {limit}", said_by(lambda: call(WORKED, limit)), "ValueError"
     yield "border faults", ecc200.read(bad, 3).border_faults, 3
     yield "border faults that are inspected", ecc200.inspect(bad).border_faults, 3
     yield "usual limits of squares", [ecc200.usual_limit(side) for side in range(200)], [side // 4 for side
@@ -318,50 +318,33 @@ def doubts():
 # What is written or asked for with numbers that the library can't be given, or with what isn't a number; of a refusal
 # its code, value and place, or its code and place where the number may be told as it is or as the largest.
 NUMBERS = [
-    ("-1", lambda: ecc200.write([-1]),
-    ("ITEM", 0)),
-    ("65536", lambda: ecc200.write([65, 65536]),
-    ("ITEM", 1)),
+    ("-1", lambda: ecc200.write([-1]), ("ITEM", 0)),
+    ("65536", lambda: ecc200.write([65, 65536]), ("ITEM", 1)),
     ("256 is FNC1", lambda: ecc200.write([256]) == ecc200.write([FNC1]), True),
-    ("257", lambda: ecc200.write([65, 257, -1]),
-    ("ITEM", 257, 1)),
-    ("65535", lambda: ecc200.write([65535]),
-    ("ITEM", 65535, 0)),
-    ("large", lambda: ecc200.write([65, 66, 10 ** 20]),
-    ("ITEM", 2)),
-    ("late", lambda: ecc200.write([55] * 70_000 + [300]),
-    ("ITEM", 300, 65535)),
-    ("late and negative", lambda: ecc200.write([55] * 70_000 + [-1]),
-    ("ITEM", 65535)),
-    ("behind FNC1", lambda: ecc200.write([65, 300], gs1=True),
-    ("ITEM", 300, 2)),
-    ("negative behind FNC1", lambda: ecc200.write([65, -300], gs1=True),
-    ("ITEM", 2)),
+    ("257", lambda: ecc200.write([65, 257, -1]), ("ITEM", 257, 1)),
+    ("65535", lambda: ecc200.write([65535]), ("ITEM", 65535, 0)),
+    ("large", lambda: ecc200.write([65, 66, 10 ** 20]), ("ITEM", 2)),
+    ("late", lambda: ecc200.write([55] * 70_000 + [300]), ("ITEM", 300, 65535)),
+    ("late and negative", lambda: ecc200.write([55] * 70_000 + [-1]), ("ITEM", 65535)),
+    ("behind FNC1", lambda: ecc200.write([65, 300], gs1=True), ("ITEM", 300, 2)),
+    ("negative behind FNC1", lambda: ecc200.write([65, -300], gs1=True), ("ITEM", 2)),
     ("a text", lambda: ecc200.write("A") == ecc200.write(b"A"), True),
     ("letters", lambda: ecc200.write(["A"]), "TypeError"),
     ("a fraction", lambda: ecc200.write([65.5]), "TypeError"),
     ("None", lambda: ecc200.write(None), "TypeError"),
     ("None in it", lambda: ecc200.write([None]), "TypeError"),
     ("a number", lambda: ecc200.write(65), "TypeError"),
-    ("profile 2", lambda: ecc200.write(b"A", profile=2),
-    ("PROFILE", 2, 0)),
-    ("profile -1", lambda: ecc200.write(b"A", profile=-1),
-    ("PROFILE", 0)),
-    ("profile 65535", lambda: ecc200.write(b"A", profile=65535),
-    ("PROFILE", 65535, 0)),
-    ("profile 65536", lambda: ecc200.write(b"A", profile=65536),
-    ("PROFILE", 0)),
-    ("profile 65537", lambda: ecc200.write(b"A", profile=65537),
-    ("PROFILE", 0)),
-    ("normal profile -1", lambda: ecc200.normal(WORKED, profile=-1),
-    ("PROFILE", 0)),
+    ("profile 2", lambda: ecc200.write(b"A", profile=2), ("PROFILE", 2, 0)),
+    ("profile -1", lambda: ecc200.write(b"A", profile=-1), ("PROFILE", 0)),
+    ("profile 65535", lambda: ecc200.write(b"A", profile=65535), ("PROFILE", 65535, 0)),
+    ("profile 65536", lambda: ecc200.write(b"A", profile=65536), ("PROFILE", 0)),
+    ("profile 65537", lambda: ecc200.write(b"A", profile=65537), ("PROFILE", 0)),
+    ("normal profile -1", lambda: ecc200.normal(WORKED, profile=-1), ("PROFILE", 0)),
     ("profile -65535", lambda: ecc200.write(b"A", profile=-65535), ("PROFILE", 0)),
     ("normal profile -65536", lambda: ecc200.normal(WORKED, profile=-65536), ("PROFILE", 0)),
     ("places -65526", lambda: ecc200.places(-65526), ("SIZE", -65526, -65526)),
-    ("normal profile 2", lambda: ecc200.normal(WORKED, profile=2),
-    ("PROFILE", 2, 0)),
-    ("normal profile 65536", lambda: ecc200.normal(WORKED, profile=65536),
-    ("PROFILE", 0)),
+    ("normal profile 2", lambda: ecc200.normal(WORKED, profile=2), ("PROFILE", 2, 0)),
+    ("normal profile 65536", lambda: ecc200.normal(WORKED, profile=65536), ("PROFILE", 0)),
     ("places -1", lambda: ecc200.places(-1), ("SIZE", -1, -1)),
     ("places 0", lambda: ecc200.places(0), ("SIZE", 0, 0)),
     ("places 65546", lambda: ecc200.places(65546), ("SIZE", 65546, 65546)),
@@ -378,10 +361,8 @@ NUMBERS = [
     ("limit of a text", lambda: ecc200.usual_limit("ten"), "TypeError"),
     ("a limit that is a text", lambda: ecc200.read(WORKED, "2"), "TypeError"),
     ("profile of a text", lambda: ecc200.write(b"A", profile="ascii"), "TypeError"),
-    ("too long", lambda: ecc200.write(b"A" * (MOST_DATA + 1)),
-    ("TOO_LONG", 0, 0)),
-    ("too long, shorter", lambda: ecc200.write(b"\xff" * (MOST_DATA - 2), profile=1),
-    ("TOO_LONG", 0, 0)),
+    ("too long", lambda: ecc200.write(b"A" * (MOST_DATA + 1)), ("TOO_LONG", 0, 0)),
+    ("too long, shorter", lambda: ecc200.write(b"\xff" * (MOST_DATA - 2), profile=1), ("TOO_LONG", 0, 0)),
     ("longest", lambda: len(ecc200.write(b"7" * 2 * MOST_DATA)), LARGEST.rows),
     *((f"size {named}", lambda named=named: ecc200.write(b"A", size=named), ("SIZE", *named)) for named in NO_SIZES),
 ]
@@ -444,10 +425,11 @@ def pictures():
         ("steps", memoryview(shades).cast("B", (2, 3))[::2], (shades[:3], 3, 1)),
         ("an array interface", Array(shades, (2, 3)), (shades, 3, 2)),
         ("an array interface of booleans", Array(b"\0\1", (1, 2), "|b1"), (b"\0\xff", 2, 1)),
-        ("longs", memoryview(shades * 4).cast("B").cast("I", (2, 3)), "TypeError"),
+        ("longs", memoryview((ctypes.c_uint * 6)(*shades)).cast("B").cast("I", (2, 3)), (shades, 3, 2)),
+        ("characters", memoryview(shades).cast("c", (2, 3)), "TypeError"),
         ("one dimension", memoryview(shades), "TypeError"),
         ("five colours", memoryview(bytes(30)).cast("B", (2, 3, 5)), "TypeError"),
-        ("colours of longs", memoryview(bytes(72)).cast("B").cast("I", (2, 3, 3)), "TypeError"),
+        ("colours of characters", memoryview(bytes(18)).cast("c", (2, 3, 3)), "TypeError"),
         ("four dimensions", memoryview(shades).cast("B", (1, 1, 2, 3)), "TypeError"),
         ("rows", [shades], "TypeError"),
         ("a text", "0101", "TypeError"),

@@ -8,7 +8,7 @@ from tests.support import places
 from tools import crates
 
 sys.path.insert(0, places.path("library"))
-import retarget
+import texts
 sys.path.remove(places.path("library"))
 
 LAYOUT = "e-m:e-p270:32:32-p271:32:32-p272:64:64-i64:64-i128:128-f80:128-n8:16:32:64-S128"
@@ -30,7 +30,7 @@ define void @look_up(ptr %table, ptr %places, ptr %out) #0 {{
 declare <16 x i8> @llvm.x86.ssse3.pshuf.b.128(<16 x i8>, <16 x i8>) #1
 declare i64 @llvm.ctpop.i64(i64) #1
 
-attributes #0 = {{ nounwind uwtable "probe-stack"="inline-asm" "stack-probe-size"="3072" "target-cpu"="x86-64-v2" }}
+attributes #0 = {{ nounwind "probe-stack"="inline-asm" "stack-probe-size"="3072" "target-cpu"="x86-64-v2" }}
 attributes #1 = {{ nounwind memory(none) }}
 
 !llvm.module.flags = !{{!0}}
@@ -59,10 +59,11 @@ int main(void) {
 def wrong(system, folder):
     """Compiles the function for a system, calls it, and says what is wrong, if anything is."""
     run = lambda words: subprocess.run(words, cwd=folder, check=True)
-    retarget.compile_for(system.target, [f"{crates.kit()}/toolchain/bin/clang", "-O3"], CODE, folder, run)
+    texts.make(CODE, system.target.triple, [f"{crates.kit()}/toolchain/bin/clang", "-O3"], system.target.flags, "",
+               os.path.join(folder, "look_up.s"), run)
     with open(os.path.join(folder, "caller.c"), "w", encoding="ascii") as file:
         file.write(CALLER)
     made = os.path.join(folder, f"caller{system.ending}")
-    run([system.cc, *system.flags, "caller.c", "ecc200.o", "-o", made])
+    run([system.cc, *system.flags, "caller.c", "look_up.s", "-o", made])
     got = system.said([made])
     return None if got == (0, "0 wrong") else f"{got}"

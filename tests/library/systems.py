@@ -7,7 +7,7 @@ import sys
 from tests.support import commands, needs, places
 
 sys.path.insert(0, places.path("tools"))
-import targets
+import targets  # noqa: F401, which others import from here
 sys.path.remove(places.path("tools"))
 
 

@@ -2,7 +2,7 @@
 and answers of cases.py."""
 import sys
 
-from tests.library import letter_cases, letters, planted, small_cases
+from tests.library import letter_cases, letters, small_cases
 from tests.library.callers import Callers, has_sanitisers
 from tests.library.cases import check_codewords_are_known
 from tests.library.library import interface, lacking_rust
@@ -16,9 +16,6 @@ class Alike(Case):
     def test_the_callers_are_those_that_tools_callers_writes(self):
         status, said = commands.said([sys.executable, places.path("tools", "callers"), "--check"])
         self.assertEqual(status, 0, said)
-
-    def test_each_wrong_caller_can_be_planted(self):
-        self.all_sound((f"{name}, in {file}", problem) for name, file, _, problem in planted.bugs(""))
 
     def test_the_check_codewords_of_the_model_are_those_of_the_standards_example(self):
         self.assertTrue(check_codewords_are_known())

@@ -1,5 +1,6 @@
 """The Python module answers the marks of other encoders as the program does."""
-from tests.library.library import bits_of, module
+from tests import corpus
+from tests.library.library import module
 from tests.support import commands, needs, places, spelling
 from tests.support.case import Case
 
@@ -43,8 +44,9 @@ def answers(ecc200, grid):
 class Marks(Case):
     @classmethod
     def setUpClass(cls):
-        cls.text = places.text_of("tests", "marks", "grids.txt")
-        cls.got = [answers(module(), bits_of(record.split())) for record in cls.text.strip().split("\n\n")]
+        marks = corpus.marks("squares")
+        cls.text = corpus.grids(marks)
+        cls.got = [answers(module(), mark.grid) for mark in marks]
 
     def answered(self, word):
         """What the program says to all marks."""

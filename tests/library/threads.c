@@ -59,7 +59,11 @@ static void *work(void *at) {
 /* a symbol of random items, with some modules turned over, and some of them known to be */
 static void make(example *e, size_t count, int turns) {
     static ecc200_symbol symbol;
-    ecc200_how how = {(uint16_t)(rand() % 2 ? ECC200_SMALLEST : ECC200_ASCII), ECC200_ANY, 0, 0, ECC200_WIDE,
+    ecc200_how how = {(uint16_t)(rand() % 2 ? ECC200_SMALLEST : ECC200_ASCII),
+                      ECC200_ANY,
+                      0,
+                      0,
+                      ECC200_WIDE,
                       {(uint16_t)(rand() % 4 ? ECC200_NO_HEAD : ECC200_PROGRAMMING), 0, 0, {0, 0}}};
     const ecc200_mark marks[] = {{26, 0}, {999999, (uint32_t)count / 2}};
     for (size_t i = 0; i < count; i++)
@@ -135,9 +139,7 @@ static void *do_write_marks(void *at) {
 static void *do_write_smallest_marks(void *at) {
     return ecc200_write(items, 9, marks, ECC200_MOST_MARKS - 9, &smallest, &largest.normal), at;
 }
-static void *do_write_bytes(void *at) {
-    return ecc200_write_bytes(many, most_data - 3, &shorter, &largest.normal), at;
-}
+static void *do_write_bytes(void *at) { return ecc200_write_bytes(many, most_data - 3, &shorter, &largest.normal), at; }
 static void *do_read_marks(void *at) {
     return ecc200_read(marked.modules, ECC200_MOST_MODULES, marked.doubtful, ECC200_MOST_MODULES, ECC200_MOST_ROWS,
                        ECC200_MOST_COLUMNS, ECC200_ANY_LIMIT, ECC200_WIDE, &marked.reading),
@@ -157,7 +159,10 @@ static void *do_places(void *at) {
     static ecc200_place_table table;
     return ecc200_places(ECC200_MOST_ROWS, ECC200_MOST_COLUMNS, &table), at;
 }
-static void *do_sizes(void *at) { static ecc200_size_table table; return ecc200_sizes(&table), at; }
+static void *do_sizes(void *at) {
+    static ecc200_size_table table;
+    return ecc200_sizes(&table), at;
+}
 
 /* Fills the stack below its caller's frame with a pattern, or tells how many bytes of that are something else. */
 static NOT_INLINE size_t below(int fills) {
@@ -226,9 +231,8 @@ int main(int argc, char **argv) {
     size_t alone = touched(do_nothing);
     for (size_t i = 0; i < sizeof calls / sizeof *calls; i++) {
         for (size_t k = 0; k < ECC200_MOST_ITEMS; k++)
-            items[k] = calls[i].call == do_write || calls[i].call == do_write_smallest_digits
-                           ? (uint16_t)('0' + k % 10)
-                           : 255;
+            items[k] =
+                calls[i].call == do_write || calls[i].call == do_write_smallest_digits ? (uint16_t)('0' + k % 10) : 255;
         printf("%s %zu\n", calls[i].name, touched(calls[i].call) - alone);
     }
     return 0;

@@ -12,8 +12,9 @@ typedef struct {
 } refusal;
 
 static const refusal refusals[] = {
-    {0, 20000, 100, 200, ECC200_SHAPE},    {99, 100, 10, 10, ECC200_SHAPE},     {20000, 20000, 100, 200, ECC200_SIZE},
-    {10000, 10000, 100, 100, ECC200_SIZE}, {144, 100, 8, 18, ECC200_DOUBT},     {100, 1, 10, 10, ECC200_DOUBT},
+    {0, 20000, 100, 200, ECC200_SHAPE},     {99, 100, 10, 10, ECC200_SHAPE},
+    {20000, 20000, 100, 200, ECC200_SIZE},  {10000, 10000, 100, 100, ECC200_SIZE},
+    {144, 100, 8, 18, ECC200_DOUBT},        {100, 1, 10, 10, ECC200_DOUBT},
     {10816, 20736, 104, 104, ECC200_DOUBT}, {20736, 20735, 144, 144, ECC200_DOUBT},
 };
 
@@ -36,10 +37,11 @@ int main(void) {
         return 2;
     for (size_t i = 0; i < sizeof refusals / sizeof *refusals; i++) {
         const refusal *it = &refusals[i];
-        wrong |= told("read", it, ecc200_read(at, it->count, at, it->marked, it->rows, it->columns, 0, ECC200_WIDE,
-                                              &reading));
-        wrong |= told("normal", it, ecc200_normal(at, it->count, at, it->marked, it->rows, it->columns, 0, ECC200_WIDE,
-                                                  ECC200_ASCII, &symbol));
+        wrong |= told("read", it,
+                      ecc200_read(at, it->count, at, it->marked, it->rows, it->columns, 0, ECC200_WIDE, &reading));
+        wrong |= told(
+            "normal", it,
+            ecc200_normal(at, it->count, at, it->marked, it->rows, it->columns, 0, ECC200_WIDE, ECC200_ASCII, &symbol));
         wrong |= told("inspect", it, ecc200_inspect(at, it->count, at, it->marked, it->rows, it->columns, &inspection));
     }
     return wrong;

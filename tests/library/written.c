@@ -73,9 +73,7 @@ static uint16_t write_no_extent(void *out) { return ecc200_write(usual_items, 1,
 static uint16_t write_no_head(void *out) { return ecc200_write(usual_items, 1, marks, 2, &no_head, out); }
 static uint16_t write_bytes_no_head(void *out) { return ecc200_write_bytes((const uint8_t *)"AB", 2, &no_head, out); }
 static uint16_t do_write_bytes(void *out) { return ecc200_write_bytes((const uint8_t *)"AB", 2, &small, out); }
-static uint16_t write_bytes_no_profile(void *out) {
-    return ecc200_write_bytes((const uint8_t *)"AB", 2, &none, out);
-}
+static uint16_t write_bytes_no_profile(void *out) { return ecc200_write_bytes((const uint8_t *)"AB", 2, &none, out); }
 static uint16_t do_normal(void *out) { return ecc200_normal(grid, ALL, NULL, 0, SIDE, SIDE, 2, 0, 1, out); }
 static uint16_t normal_no_extent(void *out) { return ecc200_normal(grid, ALL, NULL, 0, SIDE, SIDE, 2, 7, 1, out); }
 static uint16_t do_places(void *out) { return ecc200_places(8, 32, out); }

@@ -1,9 +1,8 @@
-"""Puts the marks of other encoders to the program. Record N of grids.txt is mark N of made.txt; line N of read.txt and
-of check.txt is what the program has to answer to it. The marks that libdmtx made in ASCII are normal grids, so `write`
-has to give exactly these. Then wide.py tries the library, on marks and on codewords at random. Nothing is proved
-here."""
-import re
-
+"""Puts the marks of other encoders to the program, which reads or refuses each by name. Those that libdmtx made in
+ASCII are normal grids, so `write` has to give exactly these. Then wide.py tries the library, on marks and on codewords
+at random. Nothing is proved here."""
+from tests import corpus
+from tests.library.model import SIZE_OF
 from tests.marks import wide
 from tests.support import commands, needs, places
 from tests.support.case import Case
@@ -11,28 +10,10 @@ from tests.support.case import Case
 LISTS = 20_000
 
 
-def text(name):
-    return places.text_of("tests", "marks", name)
-
-
-def lines_of(name):
-    """The lines of a file that aren't comments."""
-    return [line for line in text(name).splitlines() if not line.startswith("#")]
-
-
-def made():
-    """Encoder, side and message of each mark."""
-    return [line.split(" ", 2) for line in lines_of("made.txt")]
-
-
-def message_of(line):
-    """The bytes that a line of made.txt spells."""
-    return re.sub(rb"\\(\\|x[0-9A-F]{2})", lambda it: b"\\" if it[1] == b"\\" else bytes.fromhex(it[1][1:].decode()),
-                  line.encode())
-
-
-def name_of(encoder, side):
-    return f"{encoder}, side {side}"
+def checked(mark):
+    """What `check` has to answer to a mark, none of which is damaged."""
+    size = SIZE_OF[mark.rows, mark.columns]
+    return mark.more.get("usual", f"ok {mark.rows} border 0 corrected" + " 0" * size.blocks)
 
 
 @needs.program
@@ -45,28 +26,30 @@ class Marks(Case):
         self.row("the status", done.status, status)
         return done.output.decode()
 
-    def compared(self, names, got, wanted):
+    def compared(self, marks, got, wanted):
         """Compares answer by answer."""
-        self.assertEqual((len(got), len(wanted)), (len(names), len(names)), "answers and expected ones")
-        self.rows(zip(names, got, wanted))
+        self.assertEqual((len(got), len(wanted)), (len(marks), len(marks)), "answers and expected ones")
+        self.rows(zip([mark.name for mark in marks], got, wanted))
 
-    def as_told(self, word):
-        """Compares the answers to all marks with those of a file. Some marks are refused, so the status is 1."""
-        names = [name_of(encoder, side) for encoder, side, _ in made()]
-        self.compared(names, self.answered(word, text("grids.txt"), 1).splitlines(), text(f"{word}.txt").splitlines())
+    def as_told(self, word, wanted_of):
+        """Compares the answers to all marks. Some marks are refused, so the status is 1."""
+        marks = corpus.marks("squares")
+        self.compared(marks, self.answered(word, corpus.grids(marks), 1).splitlines(), list(map(wanted_of, marks)))
 
     def test_each_is_read_or_refused_by_name(self):
-        self.as_told("read")
+        self.as_told("read", lambda mark: mark.usual)
 
     def test_each_is_checked(self):
-        self.as_told("check")
+        self.as_told("check", checked)
+
+    def test_those_that_are_damaged_are_read_or_refused(self):
+        marks = [mark for mark in corpus.marks("damaged") if mark.rows == mark.columns <= 104 and not mark.doubtful]
+        self.compared(marks, self.answered("read", corpus.grids(marks), 1).splitlines(), [mark.said for mark in marks])
 
     def test_those_of_libdmtx_in_ascii_are_written_as_they_are(self):
-        records = text("grids.txt").split("\n\n")
-        chosen = [(*mark, record) for mark, record in zip(made(), records) if mark[0] == "libdmtx-ascii"]
-        grids = self.answered("write", "".join(f"{message}\n" for _, _, message, _ in chosen), 0)
-        names = [name_of(encoder, side) for encoder, side, _, _ in chosen]
-        self.compared(names, grids.rstrip("\n").split("\n\n"), [record.rstrip("\n") for *_, record in chosen])
+        chosen = [mark for mark in corpus.marks("squares") if mark.encoder.startswith("dmtxwrite -e a ")]
+        grids = self.answered("write", "".join(f"{mark.said}\n" for mark in chosen), 0)
+        self.compared(chosen, grids.rstrip("\n").split("\n\n"), [mark.text.rstrip("\n") for mark in chosen])
 
 
 @needs.library
@@ -74,7 +57,7 @@ class Wide(Case):
     """The library, also in the wide extent."""
 
     def test_marks_in_edifact_and_with_macros(self):
-        self.all_sound(wide.marks(lines_of("wide_made.txt"), text("wide_grids.txt").split("\n\n"), message_of))
+        self.all_sound(wide.marks())
 
     def test_codewords_at_random(self):
         self.all_sound(wide.lists(LISTS))

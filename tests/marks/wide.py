@@ -1,12 +1,13 @@
 """The library on marks of other encoders in EDIFACT and with macros, and on data codewords at random, in both extents
 of reading.
 
-Mark N of wide_made.txt is record N of wide_grids.txt. In the wide extent the library has to say what was printed; where
-a line names another text behind it, the encoder has written that one, and ZXing reads it too. In the usual extent it
-has to answer what tests/library/letters.py, a plain reader of codewords, says. The lists of codewords are laid in
-symbols with check codewords that are computed by tests/library/model.py."""
+In the wide extent the library has to say what was printed; where an encoder was given something else, it has written
+that, and ZXing reads it too. In the usual extent it has to answer what tests/library/letters.py, a plain reader of
+codewords, says. The lists of codewords are laid in symbols with check codewords that are computed by
+tests/library/model.py."""
 import random
 
+from tests import corpus
 from tests.library.letters import USUAL, WIDE, Letter, Refusal, said_by
 from tests.library.library import module
 from tests.library.model import SIZE_OF, SIZES, codewords, modules_of
@@ -114,15 +115,12 @@ def lists(count):
     yield "some of them are read, and some refused", None if is_mixed else f"{letters} letters, {messages} messages"
 
 
-def marks(made, records, message_of):
-    """Each mark of another encoder in both extents. `made` has lines, `records` grids, and `message_of` takes a line's
-    text to bytes."""
-    for line, record in zip(made, records):
-        encoder, side, *texts = line.split("\t")
-        modules, named = bytes(cell == "1" for cell in record.replace("\n", "")), (int(side), int(side))
-        name = f"{encoder}, side {side}"
-        said, wanted = read(modules, named, WIDE)[0], Letter(tuple(message_of(texts[-1])))
-        yield f"{name}, wide", None if said == wanted else f"{said}, and not {wanted}"
+def marks():
+    """Each mark of another encoder in both extents."""
+    for mark in corpus.marks("wide"):
+        modules, named = mark.modules, (mark.rows, mark.columns)
+        said, wanted = read(modules, named, WIDE)[0], Letter(mark.letter[0])
+        yield f"{mark.name}, wide", None if said == wanted else f"{said}, and not {wanted}"
         said, wanted = read(modules, named, USUAL), wanted_of(data_codewords(modules, named), USUAL)
         is_left_out = wanted[:2] in ((8, 236), (8, 237), (8, 240))
-        yield f"{name}, usual", None if said == wanted and is_left_out else f"{said}, and not {wanted}"
+        yield f"{mark.name}, usual", None if said == wanted and is_left_out else f"{said}, and not {wanted}"

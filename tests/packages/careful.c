@@ -15,9 +15,7 @@ uint16_t in_profile(const uint16_t *items, size_t count, enum ecc200_profile pro
     return ecc200_write(items, count, NULL, 0, &how, out);
 }
 
-const char *said(enum ecc200_code code) {
-    return ecc200_words(code);
-}
+const char *said(enum ecc200_code code) { return ecc200_words(code); }
 
 size_t text_of(const ecc200_reading *reading, uint8_t *bytes, size_t room) {
     int gs1;
@@ -28,9 +26,7 @@ size_t items_of(const uint8_t *bytes, size_t count, uint16_t *items, size_t room
     return ecc200_items(bytes, count, 1, items, room);
 }
 
-int is_bit(const ecc200_place *place) {
-    return place->kind == ECC200_BIT;
-}
+int is_bit(const ecc200_place *place) { return place->kind == ECC200_BIT; }
 
 uint16_t in_extent(const uint8_t *modules, uint16_t rows, uint16_t columns, enum ecc200_extent extent,
                    ecc200_reading *out) {

@@ -1,6 +1,7 @@
 """Debian packages, and what they do in a clean root."""
 import glob
 import os
+import re
 
 from tests.packages import clean_root
 from tests.packages.common import (GRID, QUICKLY, VERSION, broken_links, by_cmake, ends_well, has, has_sampler,
@@ -18,7 +19,7 @@ def packed(folder, path):
     yield ends_well("make deb", ["make", "-C", TOP, "deb"], env={**os.environ, **QUICKLY})
     made = sorted(glob.glob(os.path.join(TOP, "out", "deb", "*.deb")))
     names = [os.path.basename(it).split("_")[0] for it in made]
-    yield same("the packages", set(names), {it for it in package.packages() if it != "page"})
+    yield same("the packages", set(names), set(package.debian_packages()))
     for name, file in zip(names, made):
         yield same(f"the version of {name}", run(["dpkg-deb", "--field", file, "Version"]), (0, f"{VERSION}\n"))
         unpacked = os.path.join(folder, f"unpacked {name}")
@@ -37,6 +38,12 @@ def packed(folder, path):
     yield from in_clean_root(os.path.join(folder, "root"), made)
 
 
+def drawn_in(name, depends):
+    """A package and those that it depends on, of these with their fields Depends."""
+    named = {one for group in clean_root.alternatives(depends[name]) for one in group}
+    return {name}.union(*(drawn_in(it, depends) for it in named if it in depends))
+
+
 def in_clean_root(root, made):
     """The packages, installed and used where there is nothing else."""
     if os.geteuid() != 0 or run(["chroot", "/", "true"])[0] != 0:
@@ -46,6 +53,8 @@ def in_clean_root(root, made):
     told = [run(["dpkg-deb", "--showformat", "${" + "}\\t${".join(fields) + "}\\n", "--show",
                  file])[1].rstrip("\n").split("\t") for file in made]
     own = [it[0] for it in told]
+    yield same("what ecc200 draws in", drawn_in("ecc200", {it[0]: it[1] for it in told}),
+               {"ecc200", "python3-ecc200", "dm-sample", *(it for it in own if re.fullmatch(r"libecc200.*\d", it))})
     try:
         clean_root.make(root, [group for it in told for field in it[1:] for group in clean_root.alternatives(field)],
                         own)
@@ -71,6 +80,8 @@ def in_clean_root(root, made):
                                        f"--data={spelled}"])
         yield same("a GS1 mark read there in one command", clean_root.run(root, ["ecc200", "read", "/tmp/mark.png"]),
                    (0, f"{elements}\n"))
-    for name in ("man1/dm_tool.1.gz", "man1/dm_parts.1.gz", "man1/dm_same.1.gz", "man1/ecc200.1.gz", "man3/ecc200.3.gz",
-                 "man3/ecc200_read.3.gz"):
-        yield f"{name} there", None if os.path.exists(f"{root}/usr/share/man/{name}") else "is missing"
+    for name in ("man/man1/dm_tool.1.gz", "man/man1/dm_parts.1.gz", "man/man1/dm_same.1.gz", "man/man1/ecc200.1.gz",
+                 "man/man1/dm_sample.1.gz", "man/man3/ecc200.3.gz", "man/man3/ecc200_read.3.gz",
+                 "bash-completion/completions/ecc200", "zsh/vendor-completions/_ecc200",
+                 "fish/vendor_completions.d/ecc200.fish"):
+        yield f"{name} there", None if os.path.exists(f"{root}/usr/share/{name}") else "is missing"

@@ -19,7 +19,7 @@ def installed(folder, path):
                run([*clean, os.path.join(prefix, "bin", "dm_tool"), "write"], given=b"123456\n"), (0, GRID))
     env = {"PATH": os.environ["PATH"], "PKG_CONFIG_LIBDIR": os.path.join(prefix, libraries, "pkgconfig")}
     if has("pkg-config", "the installed library, as pkg-config finds it"):
-        asked = ["sh", "-c", f'eval exec cc -std=c11 "$1" -o "$2" $(pkg-config --cflags --libs ecc200)', "",
+        asked = ["sh", "-c", 'eval exec cc -std=c11 "$1" -o "$2" $(pkg-config --cflags --libs ecc200)', "",
                  os.path.join(PROJECT, "main.c")]
         made = os.path.join(folder, "by_pkg_config")
         status, output = run([*asked, made], env=env)

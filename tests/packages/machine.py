@@ -9,12 +9,12 @@ from tests.support.places import TOP
 
 
 def first_minutes(path):
-    """`make` lists each target and starts nothing; `make try` shows four answers."""
-    clean = ["env", "-i", f"PATH={path}", "make", "-C", TOP]
-    status, listed = run(clean)
-    phony = set(re.search(r"^\.PHONY: (.*)", package.text("Makefile"), re.M)[1].split()) - {"help"}
-    yield same("targets that make doesn't list", sorted(it for it in phony if f"make {it}" not in listed), [])
-    yield "make alone", None if status == 0 and "Proving" not in listed else listed
+    """`make help` lists each target and starts nothing; `make try` shows four answers."""
+    status, listed = run(["env", "-i", f"PATH={path}", "make", "-C", TOP, "help"])
+    phony = set(re.search(r"^\.PHONY: (.*(?:\\\n.*)*)", package.text("Makefile"), re.M)[1].replace("\\", "").split())
+    unlisted = sorted(it for it in phony - {"all", "users", "assembled"} if f"make {it}" not in listed)
+    yield same("targets that make doesn't list", unlisted, [])
+    yield "make help", None if status == 0 and "Proving" not in listed else listed
     status, shown = run(["make", "-C", TOP, "try"])
     wanted = ["    123456\n", "    ok 10 border 0 corrected 2\n", "    \\no 6 block 0\n", "    ##  ##  ##  ##  ##  \n"]
     yield "make try", None if status == 0 and all(it in shown for it in wanted) else shown

@@ -3,11 +3,13 @@ import os
 import re
 
 from tests.packages.common import bare_path, package, run
+from tests.support import needs
 from tests.support.case import Case
 from tests.support.places import TOP
 
 SAMPLER = ["cc gcc", "png.h libpng-dev", "jpeglib.h libjpeg-dev"]
-PAGE = ["wasm-opt binaryen", "clang clang", "wasm-ld lld", "wasm32-wasi/libc.a wasi-libc"]
+FONT = "DejaVuSansMono.ttf fonts-dejavu-core"  # which is found without a path
+PAGE = ["wasm-opt binaryen", "clang clang", "wasm-ld lld", "wasm32-wasi/libc.a wasi-libc", "esbuild esbuild", FONT]
 WANTED = {"sampler": SAMPLER, "page": PAGE,
           "wheel": ["setuptools python3-setuptools", "wheel python3-wheel"],
           "deb": [*SAMPLER, "dpkg-buildpackage dpkg-dev", "dh debhelper", "dh_python3 dh-python"],
@@ -30,7 +32,8 @@ class Needs(Case):
     def test_each_is_named_before_anything_is_begun(self):
         for target, wanted in WANTED.items():
             status, named, output = self.made(target)
-            self.row(f"make {target}", (status != 0, named), (True, [(target, it) for it in wanted]))
+            missing = [(target, it) for it in wanted if it != FONT or not os.path.exists(needs.FONT)]
+            self.row(f"make {target}", (status != 0, named), (True, missing))
             begun = [it for it in ("proving", "Proving", "build:", "rt)") if it in output]
             self.row(f"make {target} begins nothing", begun, [])
 
@@ -51,8 +54,19 @@ class Needs(Case):
             os.symlink("/bin/true", os.path.join(self.path, name))
             self.row(f"{name} is there", [it for _, it in self.made("deb")[1] if it.startswith(f"{name} ")], [])
 
-    def test_the_readme_names_them(self):
-        """README's set-up has the Debian package of each."""
-        told = package.text("README.md")
+    def test_python_itself(self):
+        os.remove(os.path.join(self.path, "python3"))
+        self.row("make", "make: python3 isn't installed: apt install python3\n" in self.made("all")[2], True)
+
+    def test_all_are_named_with_what_installs_them(self):
+        status, named, output = self.made("all")
+        wanted = ["cc gcc", "ar binutils", "stdio.h libc6-dev", *SAMPLER[1:], "PIL python3-pil"]
+        self.row("make", (status != 0, named), (True, [("all", it) for it in wanted]))
+        install = f"    apt install {' '.join(it.split()[1] for it in wanted)}\n"
+        self.row("what installs them", install in output, True)
+
+    def test_the_documents_name_them(self):
+        """README and CONTRIBUTING have the Debian package of each."""
+        told = package.text("README.md") + package.text("CONTRIBUTING.md")
         packages = {it.split()[1] for wanted in WANTED.values() for it in wanted}
-        self.row("packages that README doesn't name", sorted(it for it in packages if it not in told), [])
+        self.row("packages that neither names", sorted(it for it in packages if it not in told), [])

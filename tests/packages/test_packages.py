@@ -3,7 +3,8 @@ install, pkg-config, CMake, Debian packages in a clean root, archives. What is i
 repository's folders, by another user, and with neither a compiler nor the toolchain on the path."""
 import os
 
-from tests.packages import archives, built, debian, installing, machine, targets
+from tests.library.systems import targets
+from tests.packages import archives, built, debian, installing, machine, other_systems
 from tests.packages.common import bare_path, left_out
 from tests.support import needs
 from tests.support.case import Case
@@ -69,10 +70,10 @@ class Packages(Case):
         self.told(archives.archived, self.room(), self.path)
 
     def test_what_is_packed_for_other_systems(self):
-        for triple, target in targets.targets.TARGETS.items():
+        for triple, target in targets.TARGETS.items():
             with self.subTest(triple):
-                self.told(targets.wheel, self.room(), target)
+                self.told(other_systems.wheel, self.room(), target)
                 if target.debian:
-                    self.told(targets.debian, self.room(), target)
+                    self.told(other_systems.debian, self.room(), target)
                 if target.is_windows:
-                    self.told(targets.windows, self.room(), target)
+                    self.told(other_systems.windows, self.room(), target)

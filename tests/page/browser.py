@@ -1,21 +1,18 @@
 """The browser of the page's test: started, lost and started again, and ended with every process that it has left."""
+import contextlib
 import os
 import pathlib
 import shutil
 import signal
+import sys
+import tempfile
 
 from tests.page.stage import RemoteConnection, Service, UselessFileDetector, WebKitService, on, webdriver
-from tests.support import commands
+from tests.support import commands, needs, places
 
 PATIENCE = 900  # seconds in which each command to the browser has to be answered
-WORDS = (
-    "--headless=new",
-    "--no-sandbox",
-    "--disable-gpu",
-    "--disable-dev-shm-usage",
-    "--hide-scrollbars",
-    "--window-size=1240,1500",
-)
+WORDS = ("--headless=new", "--no-sandbox", "--disable-gpu", "--disable-dev-shm-usage", "--hide-scrollbars",
+         "--window-size=1240,1500")
 started = []  # the drivers, of which each leads a session of processes
 
 
@@ -23,14 +20,10 @@ def options_of(folder):
     options = webdriver.ChromeOptions()
     for word in (*WORDS, f"--user-data-dir={folder}"):
         options.add_argument(word)
-    options.add_experimental_option(
-        "prefs",
-        {
-            "download.default_directory": str(on.folder),
-            "profile.default_content_setting_values.automatic_downloads": 1,
-            "profile.content_settings.exceptions.clipboard": {"*": {"setting": 1}},
-        },
-    )
+    options.add_experimental_option("prefs",
+                                    {"download.default_directory": str(on.folder),
+                                     "profile.default_content_setting_values.automatic_downloads": 1,
+                                     "profile.content_settings.exceptions.clipboard": {"*": {"setting": 1}}})
     options.set_capability("goog:loggingPrefs", {"browser": "ALL"})
     return options
 
@@ -53,6 +46,22 @@ def start():
         print(f"the browser didn't start, and is started once more: {first_line(fault)}", flush=True)
         end()
         on.page = opened()
+
+
+@contextlib.contextmanager
+def ready():
+    """Brings the page up to date, and starts the browser for as long as it is needed."""
+    lacking = needs.lacking("chromium", "chromedriver", "node", *needs.PAGE)
+    if problem := lacking or ("" if webdriver else "selenium isn't installed") or needs.made("page"):
+        sys.exit(problem)
+    on.program = places.PROGRAM
+    with tempfile.TemporaryDirectory(ignore_cleanup_errors=True) as folder:
+        on.folder = pathlib.Path(folder)
+        try:
+            start()
+            yield
+        finally:
+            end()
 
 
 def start_webkit(display):

@@ -3,45 +3,10 @@ import collections
 import random
 import re
 
-from tests.page.stage import (
-    By,
-    Keys,
-    QUIET,
-    SHOWN,
-    acting,
-    agree,
-    as_program,
-    cells,
-    changed,
-    click,
-    coloured,
-    count,
-    drawn,
-    find,
-    grid,
-    learn,
-    metrics,
-    offset,
-    on,
-    pointed,
-    push,
-    put,
-    ran,
-    run,
-    settle,
-    shown,
-    task,
-    text_of,
-    to_top,
-    told,
-    unseen,
-    usable,
-    usual_metrics,
-    value_at,
-    wait_for,
-    write,
-    written,
-)
+from tests.page.stage import (By, Keys, QUIET, SHOWN, acting, agree, as_program, cells, changed, click, coloured, count,
+                              drawn, find, grid, learn, metrics, offset, on, pointed, push, put, ran, run, settle,
+                              shown, task, text_of, to_top, told, unseen, usable, usual_metrics, value_at, wait_for,
+                              write, written)
 
 
 def small_symbol():
@@ -50,32 +15,23 @@ def small_symbol():
     clean = written("123456")
     count.expect("123456 by its pixels", drawn(10), clean)
     count.expect("123456 in the page", grid(), clean)
-    count.expect(
-        "facts",
-        run("return [...document.querySelectorAll('#facts dd, #facts dt')].map((it) => it.textContent)"),
-        ["modules", "10 × 10", "data codewords", "3", "check codewords", "5", "wrong codewords can be corrected", "2",
-         "symbology identifier", "]d1"],
-    )
-    count.expect(
-        "clean", [shown()[it] for it in ("state", "says", "why")], ["Read", "123456", "Nothing had to be corrected."]
-    )
+    count.expect("facts",
+                 run("return [...document.querySelectorAll('#facts dd, #facts dt')].map((it) => it.textContent)"),
+                 ["modules", "10 × 10", "data codewords", "3", "check codewords", "5",
+                  "wrong codewords can be corrected", "2", "symbology identifier", "]d1"])
+    count.expect("clean", [shown()[it] for it in ("state", "says", "why")],
+                 ["Read", "123456", ""])
     click(11)  # bit 1 of codeword 2
     agree("one module")
-    count.expect(
-        "one module said",
-        shown()["why"],
-        "1 wrong codeword was corrected. Damage within the limits never changes the message.",
-    )
+    count.expect("one module said", shown()["why"],
+                 "1 wrong codeword was corrected. Damage within the limits never changes the message.")
     count.expect("one module by its pixels", drawn(10), grid())
     count.expect("the module that was clicked", changed(clean, grid()), [11])
     count.expect("its cross", run("return document.querySelectorAll('#symbol .turned').length"), 1)
     click(16)  # codeword 4
     agree("two codewords")
-    count.expect(
-        "two codewords said",
-        (shown()["why"].split(".")[0], shown()["meters"]),
-        ("2 wrong codewords were corrected", ["2 wrong, 2", "0 wrong, 2"]),
-    )
+    count.expect("two codewords said", (shown()["why"].split(".")[0], shown()["meters"]),
+                 ("2 wrong codewords were corrected", ["2 wrong, 2", "0 wrong, 2"]))
     click(24)  # codeword 5
     agree("three codewords")
     count.expect(
@@ -112,15 +68,9 @@ def border():
         "under “Details”.",
     )
     put("border-limit", "3")
-    count.expect(
-        "border borne",
-        [shown()[it] for it in ("state", "says", "why")],
-        [
-            "Read",
-            "123456",
-            "3 modules of the border have the wrong colour. Damage within the limits never changes the message.",
-        ],
-    )
+    count.expect("border borne", [shown()[it] for it in ("state", "says", "why")],
+                 ["Read", "123456",
+                  "3 modules of the border have the wrong colour. Damage within the limits never changes the message."])
     count.expect("the meter of what is borne", shown()["meters"], ["0 wrong, 2", "3 wrong, 3"])
     push("usual")
     agree("border as usual")
@@ -145,11 +95,8 @@ def fixed_square():
     for cell in (12 * 10 + 10, 12 * 9 + 9, 12 * 9 + 10, 12 * 10 + 9):
         click(cell, side=12)
     agree("fixed square")
-    count.expect(
-        "fixed square isn't looked at",
-        (len(changed(clean, grid())), shown()["why"]),
-        (4, "Nothing had to be corrected."),
-    )
+    count.expect("fixed square isn't looked at", (len(changed(clean, grid())), shown()["why"]),
+                 (4, "Nothing had to be corrected."))
     count.expect("fixed square isn't coloured", coloured(), ["turned"])
     acting().move_to_element_with_offset(find("symbol"), *offset(12 * 9 + 10, 12)).perform()
     count.expect("fixed square told", "fixed square in the corner" in text_of("about"), True)
@@ -165,11 +112,8 @@ def another_message():
     places = [(x, y) for w, (_, bits) in enumerate(pointed()) if w in differing for _, x, y in bits]
     click(*[10 * y + x for x, y in places if grid().split("\n")[y][x] != other.split("\n")[y][x]])
     agree("another message")
-    count.expect(
-        "another message said",
-        (shown()["state"], shown()["says"], shown()["why"].split(",")[0]),
-        ("Read as another message", "923456", "The damage is beyond the limit"),
-    )
+    count.expect("another message said", (shown()["state"], shown()["says"], shown()["why"].split(",")[0]),
+                 ("Read as another message", "923456", "The damage is beyond the limit"))
     push("undo-all")
     count.expect("another message undone", (shown()["state"], shown()["says"]), ("Read", "123456"))
 
@@ -197,10 +141,8 @@ def touched():
     on.page.execute_cdp_cmd("Emulation.setTouchEmulationEnabled", {"enabled": True, "maxTouchPoints": 2})
     run("document.getElementById('symbol').scrollIntoView({ block: 'center' })")
     box = run("const b = document.getElementById('symbol').getBoundingClientRect(); return [b.left, b.top, b.width]")
-    at = lambda cell: {
-        "x": box[0] + (cell % 10 + QUIET + 0.5) * box[2] / 14,
-        "y": box[1] + (cell // 10 + QUIET + 0.5) * box[2] / 14,
-    }
+    at = lambda cell: {"x": box[0] + (cell % 10 + QUIET + 0.5) * box[2] / 14,
+                       "y": box[1] + (cell // 10 + QUIET + 0.5) * box[2] / 14}
     turned_over = lambda: changed(written("123456"), grid())
 
     def send(kind, *points):
@@ -228,9 +170,8 @@ def touched():
     before = run("return scrollY")
     tried_until(lambda: touch(83, 73, 63, 53, 43, 33, 23, 13), lambda: run("return scrollY") > before + 20)
     settle()
-    count.expect(
-        "a swipe scrolls and turns nothing over", (turned_over(), run("return scrollY") > before + 20), ([], True)
-    )
+    count.expect("a swipe scrolls and turns nothing over", (turned_over(), run("return scrollY") > before + 20),
+                 ([], True))
     zoomed = lambda: run("return visualViewport.scale") > 1.5
     to_top()
     box = run("const b = document.getElementById('symbol').getBoundingClientRect(); return [b.left, b.top, b.width]")
@@ -286,11 +227,8 @@ def by_keys():
     keys(Keys.ESCAPE)
     count.expect("left by Escape", on.page.switch_to.active_element.get_attribute("id") == "symbol", False)
     find("words").send_keys(Keys.HOME, Keys.ARROW_RIGHT, Keys.ARROW_RIGHT)
-    count.expect(
-        "codewords by keys",
-        (text_of("about"), find("words").get_attribute("aria-activedescendant")),
-        ("Codeword 3 of 8: data. It is 186, 10111010. It stands for the digits 56.", "word-2"),
-    )
+    count.expect("codewords by keys", (text_of("about"), find("words").get_attribute("aria-activedescendant")),
+                 ("Codeword 3 of 8: data. It is 186, 10111010. It stands for the digits 56.", "word-2"))
     for key, tab in (
         (Keys.ARROW_LEFT, "make"),
         (Keys.ARROW_LEFT, "read"),
@@ -310,60 +248,36 @@ def codewords():
     learn()
     count.expect("codewords", [held for held, _, _ in cells()], [142, 164, 186, 114, 25, 5, 88, 102])
     acting().move_to_element_with_offset(find("symbol"), *offset(11, 10)).perform()
-    count.expect(
-        "a module pointed at",
-        (text_of("about"), len(on.page.find_elements(By.CSS_SELECTOR, "#symbol .bits text"))),
-        ("Codeword 2 of 8: data. It is 164, 10100100. It stands for the digits 34.", 8),
-    )
+    count.expect("a module pointed at",
+                 (text_of("about"), len(on.page.find_elements(By.CSS_SELECTOR, "#symbol .bits text"))),
+                 ("Codeword 2 of 8: data. It is 164, 10100100. It stands for the digits 34.", 8))
     for side, message in ((10, "123456"), (26, "A" * 40), (52, "".join(chr(48 + k % 43) for k in range(200)))):
         write(message)
         clean, values = grid(), [held for held, _, _ in cells()]
-        expected = (
-            [ord(c) + 1 for c in message]
-            if not message.isdigit()
-            else [130 + int(message[k : k + 2]) for k in range(0, len(message), 2)]
-        )
+        expected = ([ord(c) + 1 for c in message] if not message.isdigit()
+                    else [130 + int(message[k : k + 2]) for k in range(0, len(message), 2)])
         if side != 52:
             count.expect(f"side {side}: data codewords", values[: len(expected)], expected)
         count.expect(f"side {side}: bits make values", [value_at(bits, clean) for _, bits in pointed()], values)
         push("to-limit")
-        about = [
-            re.match(
-                r"Codeword (\d+) of (\d+): (data|check)(?:, block (\d))?. It is (\d+), ([01]{8})"
-                r"(?:, and is corrected to (\d+), ([01]{8}))?\.",
-                text,
-            ).groups()
-            for text, _ in pointed()
-        ]
+        about = [re.match(r"Codeword (\d+) of (\d+): (data|check)(?:, block (\d))?. It is (\d+), ([01]{8})"
+                          r"(?:, and is corrected to (\d+), ([01]{8}))?\.", text).groups() for text, _ in pointed()]
         count.expect(f"side {side}: corrected to", [int(it[6] or it[4]) for it in about], values)
-        count.expect(
-            f"side {side}: in bits",
-            [(int(it[5], 2), int(it[7] or it[5], 2)) for it in about],
-            [(int(it[4]), int(it[6] or it[4])) for it in about],
-        )
-        count.expect(
-            f"side {side}: as held", [int(it[4]) for it in about], [value_at(bits, grid()) for _, bits in pointed()]
-        )
-        count.expect(
-            f"side {side}: coloured",
-            [("corrected" in kind, held) for held, _, kind in cells()],
-            [(it[6] is not None, int(it[4])) for it in about],
-        )
+        count.expect(f"side {side}: in bits", [(int(it[5], 2), int(it[7] or it[5], 2)) for it in about],
+                     [(int(it[4]), int(it[6] or it[4])) for it in about])
+        count.expect(f"side {side}: as held", [int(it[4]) for it in about],
+                     [value_at(bits, grid()) for _, bits in pointed()])
+        count.expect(f"side {side}: coloured", [("corrected" in kind, held) for held, _, kind in cells()],
+                     [(it[6] is not None, int(it[4])) for it in about])
         if side != 52:  # the cells of so many codewords have no room for it
             count.expect(f"side {side}: corrected to, in the cells", [mended for _, mended, _ in cells()], values)
-        count.expect(
-            f"side {side}: blocks",
-            [it[3] for it in about],
-            [str(1 + w % 2) if side == 52 else None for w in range(len(about))],
-        )
+        count.expect(f"side {side}: blocks", [it[3] for it in about],
+                     [str(1 + w % 2) if side == 52 else None for w in range(len(about))])
     push("one-more")
     beyond = [w % 2 for w, (_, _, kind) in enumerate(cells()) if "beyond" in kind]
     agree("side 52, past the limit")
-    count.expect(
-        "side 52: the block that is beyond",
-        (len(beyond), len(set(beyond))),
-        (144, 1) if shown()["state"] == "Refused" else (0, 0),
-    )
+    count.expect("side 52: the block that is beyond", (len(beyond), len(set(beyond))),
+                 (144, 1) if shown()["state"] == "Refused" else (0, 0))
 
 
 def blocks():
@@ -375,11 +289,8 @@ def blocks():
         _, x, y = bits[w % 8]
         click(104 * y + x, side=104)
         agree(f"codeword {w + 1} of six blocks")
-        count.expect(
-            f"block of codeword {w + 1}",
-            [b for b, line in enumerate(shown()["meters"][:-1]) if line.startswith("1 ")],
-            [w % 6],
-        )
+        count.expect(f"block of codeword {w + 1}",
+                     [b for b, line in enumerate(shown()["meters"][:-1]) if line.startswith("1 ")], [w % 6])
         push("undo")
 
 
@@ -392,20 +303,16 @@ def sizes():
         count.expect(f"side {side} isn't coloured", coloured(), [])
         push("to-limit")
         agree(f"side {side} at the limit")
-        count.expect(
-            f"side {side} at the limit, by the meters", shown()["meters"][:-1], [f"{limit} wrong, {limit}"] * parts
-        )
+        count.expect(f"side {side} at the limit, by the meters", shown()["meters"][:-1],
+                     [f"{limit} wrong, {limit}"] * parts)
         if side <= 72:  # in larger ones a module is too small to have a corner without a cross
             count.expect(f"side {side} damaged, by its pixels", drawn(side), grid())
         push("one-more")
         agree(f"side {side} past the limit")
         if shown()["state"] == "Refused":  # one block is beyond, and the others at the limit
             kinds = collections.Counter(word for _, _, kind in cells() for word in kind.split())
-            count.expect(
-                f"side {side} coloured",
-                (kinds["beyond"], kinds["corrected"], kinds["check"]),
-                ((data + check) // parts, limit * (parts - 1), check),
-            )
+            count.expect(f"side {side} coloured", (kinds["beyond"], kinds["corrected"], kinds["check"]),
+                         ((data + check) // parts, limit * (parts - 1), check))
         push("undo")
         count.expect(f"side {side}, one more undone", shown()["meters"][:-1], [f"{limit} wrong, {limit}"] * parts)
         push("undo-all", "scratch")
@@ -415,8 +322,7 @@ def sizes():
         count.expect(f"side {side}, facts", facts, [f"{side} × {side}", str(data), str(check), str(limit), *identifier])
 
 
-MUCH_DAMAGE = (
-    """
+MUCH_DAMAGE = ("""
     const [done] = arguments, { desks, gridText, idle, spelled } = mitsubadoor, out = [];
     const any = (below) => Math.floor(chance() * below), area = document.getElementById("grid");
     const shown = () => { %s };
@@ -431,9 +337,9 @@ MUCH_DAMAGE = (
         while (out.length < 600) {
             const k = out.length, length = k %% 20 ? 1 + any(60) : 200 + any(500), wide = any(2) ? 256 : 128;
             const items = Array.from({ length }, () => (chance() < 0.02 ? 256 : any(wide)));
-            const how = { form: k %% 2, shape: 0, rows: 0, columns: 0 }, letters = [{ items, marks: [], head: null }];
+            const how = { form: k %% 2, shape: 0, rows: 0, columns: 0 }, ways = [[{ items, marks: [], head: null }]];
             const { fault, modules, rows, columns } =
-                await desks.quick.ask("write", { letters, how, hasLook: false }, "test");
+                await desks.quick.ask("write", { ways, how, hasLook: false }, "test");
             if (fault || rows > 104) continue; // the program reads no larger ones
             for (let turns = any(rows * (k %% 20 ? 0.9 : 1.5)); turns; turns--) modules[any(modules.length)] ^= 1;
             area.value = gridText({ modules, rows, columns });
@@ -448,9 +354,7 @@ MUCH_DAMAGE = (
             out.push([area.value, shown(), standsFor]);
         }
         done(out);
-    })();"""
-    % SHOWN
-)
+    })();""" % SHOWN)
 
 
 def much_damage():
@@ -462,11 +366,8 @@ def much_damage():
     got = [as_program(seen) for _, seen, _ in some]
     odd = [(text, ours, theirs) for (text, _, _), ours, theirs in zip(some, got, answers) if ours != theirs]
     count.expect("600 damaged grids", odd[:1], [])
-    count.expect(
-        "what their codewords stand for",
-        [stands for _, _, stands in some if stands is not None],
-        [read for read, _ in answers if not read.startswith("refused")],
-    )
+    count.expect("what their codewords stand for", [stands for _, _, stands in some if stands is not None],
+                 [read for read, _ in answers if not read.startswith("refused")])
     reads = sum(not read.startswith("refused") for read, _ in answers)
     count.expect("some are read and some refused", 100 < reads < 500, True)
     push("tab-make")

@@ -1,7 +1,9 @@
 """GS1 element strings: what is taken, said and shown green, by hand and beside the rules of the Python library, which
 stand over the same table."""
 import random
+import re
 
+from tests import corpus
 from tests.page.stage import By, count, find, grid, on, push, rules, settle, shown, text_of, unseen, write, written
 
 NOTHING = "Nothing is read"
@@ -13,14 +15,13 @@ def misjoined():
     for text, why in (
         ("(01)0950600013435(21)0ABC", "(01) GTIN takes 14 digits, and has 13."),
         ("(17)2712311(10)A", "(17) USE BY OR EXPIRY takes 6 digits, and has 7."),
-        ("(01) 09506000134352", "(01) GTIN takes 14 digits, and has 15."),
+        ("(01)095 06000134352", "(01) GTIN takes 14 digits, and has 15."),
         ("(17)2712311", "(17) USE BY OR EXPIRY takes 6 digits, and has 7."),
         ("(10)A\\F21B", "(10) BATCH/LOT has a separator in its value: FNC1 is put in where one is due."),
     ):
         write(text)
-        count.expect(
-            f"{text} isn't taken", (shown()["state"], text_of("message-hint").startswith(why)), (NOTHING, True)
-        )
+        count.expect(f"{text} isn't taken", (shown()["state"], text_of("message-hint").startswith(why)),
+                     (NOTHING, True))
     for text, why, plain in (
         ("(05)123", "Column 1 begins (05), which is no identifier of GS1’s table.", "\\x2805)123"),
         ("[05]123", "Column 1 begins (05), which is no identifier of GS1’s table.", "\\x5B05]123"),
@@ -40,13 +41,12 @@ def misjoined():
         find("message-hint").find_element(By.TAG_NAME, "button").click()
         settle()
         line = plain.replace("(10)", "\\F10")
-        count.expect(
-            f"{text} respelled",
-            (find("message").get_attribute("value"), grid(), shown()["state"].split(",")[0]),
-            (plain, written(line), "Read"),
-        )
+        count.expect(f"{text} respelled",
+                     (find("message").get_attribute("value"), grid(), shown()["state"].split(",")[0]),
+                     (plain, written(line), "Read"))
     for text, line in (
         ("(10)A\\(B)", "\\F10A(B)"),
+        ("(01) 09506000134352 (10) AB ", "\\F010950600013435210AB"),
         ("(10)A\\x28B)", "\\F10A(B)"),
         ("\\x28a)5", "(a)5"),
         ("a(01)", "a(01)"),
@@ -73,19 +73,13 @@ class Strings:
     def piece(self, part):
         chance, least = self.chance, part.least + (2 if part.check == "pair" else 0)
         days = f"{chance.randint(1, 12):02}{chance.randint(1, 28):02}"
-        made = {
-            "date": f"{chance.randrange(100):02}{days}",
-            "month-day": f"{chance.randrange(100):02}{days[:2]}{chance.choice(['00', days[2:]])}",
-            "full-date": f"20{chance.randrange(100):02}{days}",
-            "time": chance.choice(["9999", "2359", "0800"]),
-            "hour": "23",
-            "minute": "59",
-            "second": "00",
-            "minus": "-",
-        }
-        text = made.get(part.check) or "".join(
-            chance.choice(CHARACTERS[part.charset]) for _ in range(chance.randint(least, part.most))
-        )
+        made = {"date": f"{chance.randrange(100):02}{days}",
+                "month-day": f"{chance.randrange(100):02}{days[:2]}{chance.choice(['00', days[2:]])}",
+                "full-date": f"20{chance.randrange(100):02}{days}", "time": chance.choice(["9999", "2359", "0800"]),
+                "hour": "23", "minute": "59", "second": "00", "minus": "-", "letters": "DE", "processor": "999",
+                "country": chance.choice(["276", "840"]), "currency": chance.choice(["978", "392"])}
+        text = made.get(part.check) or "".join(chance.choice(CHARACTERS[part.charset])
+                                               for _ in range(chance.randint(least, part.most)))
         if part.check == "check":
             return text[:-1] + self.gs1.check_digit(text[:-1])
         return text[:-2] + self.gs1.check_pair(text[:-2]) if part.check == "pair" else text
@@ -105,22 +99,13 @@ class Strings:
     def faulty(self):
         text, chance = self.right(), self.chance
         at = chance.randrange(1, len(text))
-        return chance.choice(
-            [
-                text[:at] + text[at + 1 :],
-                text[:at] + chance.choice("09A(") + text[at:],
-                text[:at] + chance.choice("059A") + text[at + 1 :],
-                text[:-1],
-                text + "0",
-                f"({chance.choice(['05', '18', '999', '7'])}){text[4:]}",
-            ]
-        )
+        return chance.choice([text[:at] + text[at + 1 :], text[:at] + chance.choice("09A(") + text[at:],
+                              text[:at] + chance.choice("059A") + text[at + 1 :], text[:-1], text + "0",
+                              f"({chance.choice(['05', '18', '999', '7'])}){text[4:]}"])
 
 
-# No check pair, one of nothing, no such year, a leap day and none, no such hour, no time at all.
-EDGES = ["(8013)2", "(8013)22", "(7250)00000101", "(7250)20240229", "(7250)20230229"]
-EDGES += ["(7251)202401012400", "(4324)2401019999", "[01]09506000134352[10]A(B)", "[10]A[21", "[10]A[05]1"]
-
+# What isn't plain text to the page, which in square brackets also takes a bracket that is escaped.
+LIKE_ELEMENTS = re.compile(r"\(|\[\d+\][^\\]*$")
 TAKEN = """
     const [texts, done] = arguments, area = document.getElementById("message"), out = [];
     (async () => {
@@ -129,7 +114,7 @@ TAKEN = """
             area.dispatchEvent(new Event("input", { bubbles: true }));
             await mitsubadoor.idle();
             const isGreen = document.getElementById("verdict").className.includes("good");
-            const state = document.getElementById("state").textContent;
+            const state = document.getElementById("state").textContent.replace(/^Made/, "Read");
             out.push([isGreen, state, isGreen ? mitsubadoor.gridText(mitsubadoor.mark).trim() : null]);
         }
         done(out);
@@ -139,7 +124,8 @@ TAKEN = """
 def as_the_library_says():
     gs1 = rules()
     maker = Strings(3, gs1)
-    texts = [*EDGES, *(maker.right() for _ in range(150)), *(maker.faulty() for _ in range(250))]
+    known = [text for text, _ in corpus.rows("elements") if LIKE_ELEMENTS.match(text)]
+    texts = [*known, *(maker.right() for _ in range(150)), *(maker.faulty() for _ in range(250))]
     push("profile-0")
     with unseen():
         taken = on.page.execute_async_script(TAKEN, texts)

@@ -108,10 +108,8 @@ def out_of_sight():
     push("tab-read", "example-c40")
     for name, begin in (("the camera", begin_camera), ("a picture", begin_picture)):
         begin()
-        run(
-            """Object.defineProperty(document, 'hidden', { configurable: true, value: true });
-               document.dispatchEvent(new Event('visibilitychange'));"""
-        )
+        run("""Object.defineProperty(document, 'hidden', { configurable: true, value: true });
+               document.dispatchEvent(new Event('visibilitychange'));""")
         settle()
         time.sleep(0.5)  # the address follows a little later
         settle()

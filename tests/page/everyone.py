@@ -11,24 +11,12 @@ import pack
 
 def one_file():
     """The page is one file: it fetches nothing, and its policy allows no connection."""
-    count.expect(
-        "resources",
-        run(
-            """return performance.getEntriesByType('resource').map((it) => it.name)
-                .filter((it) => !/^(data|blob):/.test(it))"""
-        ),
-        [],
-    )
+    count.expect("resources", run("""return performance.getEntriesByType('resource').map((it) => it.name)
+                .filter((it) => !/^(data|blob):/.test(it))"""), [])
     policy = on.page.find_element(By.CSS_SELECTOR, "meta[http-equiv=Content-Security-Policy]").get_attribute("content")
-    count.expect(
-        "policy",
-        (
-            policy.startswith("default-src 'none'; script-src 'sha256-"),
-            "connect-src" in policy,
-            "'unsafe-inline'" in policy.split("style-src")[0],
-        ),
-        (True, False, False),
-    )
+    count.expect("policy",
+                 (policy.startswith("default-src 'none'; script-src 'sha256-"), "connect-src" in policy,
+                  "'unsafe-inline'" in policy.split("style-src")[0]), (True, False, False))
     count.expect("no failure", find("broken").is_displayed(), False)
 
 
@@ -79,17 +67,15 @@ def to_be_seen_by_all():
         for tab in ("tab-read", "tab-make", "tab-learn"):
             push(tab)
             unfold("details")
-            count.expect(
-                f"width {width}, {tab}", run("return document.documentElement.scrollWidth <= innerWidth"), True
-            )
+            count.expect(f"width {width}, {tab}", run("return document.documentElement.scrollWidth <= innerWidth"),
+                         True)
         push("tab-make")
-        too_wide = run(
-            """return [...document.querySelectorAll('#facts dt, #facts dd')]
-                .filter((it) => it.scrollWidth > it.clientWidth).map((it) => it.textContent)"""
-        )
+        too_wide = run("""return [...document.querySelectorAll('#facts dt, #facts dd')]
+                .filter((it) => it.scrollWidth > it.clientWidth).map((it) => it.textContent)""")
         count.expect(f"width {width}: each fact has its place", too_wide, [])
     push("kind-text")
-    put("message", "\u041f\u0440\u0438\u0432\u0435\u0442" * 9)  # whose bytes are told, in one word
+    put("message", "\u041f\u0440\u0438\u0432\u0435\u0442" * 18)  # whose bytes are told, in one word
+    push("tab-learn")
     metrics(320, 800, mobile=True, scale=2)
     wide = run("""const it = document.getElementById('why');
         return [it.textContent.length > 400, it.scrollWidth > it.clientWidth]""")
@@ -99,22 +85,10 @@ def to_be_seen_by_all():
 
 def nameless():
     """The roles of what has a role, and no name for a screen reader."""
-    roles = {
-        "button",
-        "textbox",
-        "spinbutton",
-        "radio",
-        "tab",
-        "tabpanel",
-        "listbox",
-        "application",
-        "region",
-        "heading",
-        "combobox",
-    }
-    nodes = [
-        node for node in on.page.execute_cdp_cmd("Accessibility.getFullAXTree", {})["nodes"] if not node.get("ignored")
-    ]
+    roles = {"button", "textbox", "spinbutton", "radio", "tab", "tabpanel", "listbox", "application", "region",
+             "heading", "combobox"}
+    nodes = [node for node in on.page.execute_cdp_cmd("Accessibility.getFullAXTree", {})["nodes"]
+             if not node.get("ignored")]
     value_of = lambda node, name: node.get(name, {}).get("value")
     return [value_of(node, "role") for node in nodes if value_of(node, "role") in roles and not value_of(node, "name")]
 
@@ -148,7 +122,7 @@ def says_so(name):
 def open_unreadable():
     """Opens the page with a script that no browser can read."""
     file = on.folder / "unreadable.html"
-    file.write_text(pack.packed(b"", b"", {**pack.sources(), "page.mjs": "a word too many"}), encoding="utf-8")
+    file.write_text(pack.page_of("a word too many", {}), encoding="utf-8")
     on.page.get(file.as_uri())
 
 
@@ -161,8 +135,7 @@ def old_browser():
             says_so(f"without {name}")
     open_unreadable()
     says_so("with a script that it can't read")
-    count.expect(
-        "what the console says", ["SyntaxError" in entry["message"] for entry in on.page.get_log("browser")], [True]
-    )
+    count.expect("what the console says", ["SyntaxError" in entry["message"] for entry in on.page.get_log("browser")],
+                 [True])
     on.page.get(own)
     wait_for(lambda: run("return 'mitsubadoor' in globalThis"))

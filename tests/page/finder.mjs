@@ -38,10 +38,10 @@ function pictureOf({ width, height, kind, seed = 1 }) {
 }
 const plain = ({ modules, doubtful, ...symbol }) =>
   ({ ...symbol, modules: modules.join(""), doubtful: doubtful ? doubtful.join("") : "" });
-function answered({ file, ...question }) {
-  const picture = file ? pictureIn(file) : pictureOf(question), begun = performance.now();
+function answered({ file, width, height, kind, seed, ...asked }) {
+  const picture = file ? pictureIn(file) : pictureOf({ width, height, kind, seed }), begun = performance.now();
   try {
-    const { symbols, unread, isComplete } = ecc200.read(picture, question);
+    const { symbols, unread, isComplete } = ecc200.read(picture, asked);
     const time = performance.now() - begun, bytes = ecc200.sampler.size;
     return { symbols: symbols.map(plain), unread: unread.map(plain), isComplete, time, bytes };
   } catch (why) { return { thrown: `${why.name}: ${why.message}` }; }

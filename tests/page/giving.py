@@ -25,32 +25,22 @@ def gives_what_it_says():
     copied = "globalThis.copied = null; navigator.clipboard.writeText = async (text) => { globalThis.copied = text; }"
     run(copied)
     push("copy")
-    count.expect(
-        "copied undamaged",
-        (run("return copied").strip(), wait_for(lambda: text_of("toast"))),
-        (written("123456"), "Copied: the symbol, a line for each row"),
-    )
+    count.expect("copied undamaged", (run("return copied").strip(), wait_for(lambda: text_of("toast"))),
+                 (written("123456"), "Copied: the symbol, a line for each row"))
     push("which-damaged")
     damaged = saved_as("symbol-10-damaged.svg", "save-svg")
     count.expect("the damaged one by its own choice", (damaged is not None, damaged != clean), (True, True))
     push("copy")
-    count.expect(
-        "copied damaged",
-        (run("return copied").strip(), text_of("toast")),
-        (grid(), "Copied: the damaged symbol, a line for each row"),
-    )
+    count.expect("copied damaged", (run("return copied").strip(), text_of("toast")),
+                 (grid(), "Copied: the damaged symbol, a line for each row"))
     run("navigator.clipboard.writeText = async () => { throw new Error('no'); }; document.execCommand = () => false")
     push("copy")
-    count.expect(
-        "not copied", (wait_for(lambda: "doesn’t let" in text_of("toast")), "Copied" in text_of("toast")), (True, False)
-    )
+    count.expect("not copied", (wait_for(lambda: "doesn’t let" in text_of("toast")), "Copied" in text_of("toast")),
+                 (True, False))
     run("delete navigator.clipboard.writeText; delete document.execCommand")
     push("undo-all")
-    count.expect(
-        "undamaged again",
-        (find("which").is_displayed(), find("which-undamaged").get_attribute("checked")),
-        (False, "true"),
-    )
+    count.expect("undamaged again", (find("which").is_displayed(), find("which-undamaged").get_attribute("checked")),
+                 (False, "true"))
     push("tab-read", "example-c40")
     click(100, side=22)
     count.expect("a grid is given as it was opened", text_of("which-first"), "take the symbol as it was opened")
@@ -75,9 +65,8 @@ def print_():
         """const svg = document.querySelector('#paper svg'), paper = document.getElementById('paper');
            return [svg.getAttribute('width'), paper.innerText || paper.textContent, svg.innerHTML]"""
     )
-    count.expect(
-        "at its size with its text", (width, "123456" in text, "10 × 10 modules of 1 mm" in text), ("14mm", True, True)
-    )
+    count.expect("at its size with its text", (width, "123456" in text, "10 × 10 modules of 1 mm" in text),
+                 ("14mm", True, True))
     on.page.execute_cdp_cmd("Emulation.setEmulatedMedia", {"media": "print"})
     count.expect(
         "nothing else is printed",
@@ -87,11 +76,9 @@ def print_():
         ),
         ["paper"],
     )
-    count.expect(
-        "in millimetres",
-        round(run("return document.querySelector('#paper svg').getBoundingClientRect().width") / 96 * 25.4, 1),
-        14.0,
-    )
+    count.expect("in millimetres",
+                 round(run("return document.querySelector('#paper svg').getBoundingClientRect().width") / 96 * 25.4, 1),
+                 14.0)
     on.page.execute_cdp_cmd("Emulation.setEmulatedMedia", {"media": ""})
     click(33)
     pages()
@@ -100,24 +87,15 @@ def print_():
     run("document.getElementById('sheet').open = true")
     put("messages", "first\n(01)09506000134352\n\nthird\n")
     push("print-sheet")
-    sheet = run(
-        """const within = (it, what) => it.querySelector(what);
-           const both = (it) => [within(it, 'svg').getAttribute('width'), within(it, 'figcaption').textContent];
-           return [...document.querySelectorAll('#paper figure')].map(both)"""
-    )
-    count.expect("a sheet", sheet, [["16mm", "first"], ["20mm", "(01)09506000134352"], ["16mm", "third"]])
-    count.expect(
-        "printing of the sheet is asked for",
-        (run("return printed"), text_of("sheet-hint")),
-        (2, "3 symbols are on the sheet."),
-    )
+    sheet = run("""const both = (it) => [it.getAttribute('width'), it.nextElementSibling.textContent];
+           return [...document.querySelectorAll('#paper > svg > svg')].map(both)""")
+    count.expect("a sheet", sheet, [["16", "first"], ["20", "(01)09506000134352"], ["16", "third"]])
+    count.expect("printing of the sheet is asked for", (run("return printed"), text_of("sheet-hint")),
+                 (2, "3 symbols are on the sheet."))
     put("messages", "fine\ncaf\u00e9")
     push("print-sheet")
-    count.expect(
-        "a wrong line of a sheet",
-        (run("return printed"), text_of("sheet-hint")),
-        (2, "Message 2: column 4 is \u00e9, which has no spelling of its own"),
-    )
+    count.expect("a wrong line of a sheet", (run("return printed"), text_of("sheet-hint")),
+                 (2, "Message 2: column 4 is \u00e9, which has no spelling of its own"))
     run("document.getElementById('sheet').open = false; dispatchEvent(new Event('afterprint'))")
     put("millimetres", "0.5")
 
@@ -160,23 +138,17 @@ def pasted_pictures():
     it itself."""
 
     def copy(message):
-        count.expect(
-            f"{message} on the clipboard",
-            on.page.execute_async_script(
-                COPY_PICTURE, base64.b64encode(png(written(message).split("\n"), 3, 2)).decode()
-            ),
-            "",
-        )
+        count.expect(f"{message} on the clipboard",
+                     on.page.execute_async_script(COPY_PICTURE,
+                                                  base64.b64encode(png(written(message).split("\n"), 3, 2)).decode()),
+                     "")
 
     paste = (Keys.CONTROL, "v", Keys.NULL)
     write("123456")
     copy("pasted")
     find("message").send_keys(*paste)
-    count.expect_soon(
-        "a picture pasted in the message",
-        lambda: (verdict(), find("pane-read").is_displayed()),
-        (("Read", "pasted"), True),
-    )
+    count.expect_soon("a picture pasted in the message", lambda: (verdict(), find("pane-read").is_displayed()),
+                      (("Read", "pasted"), True))
     settle()
     count.expect("the message stays", find("message").get_attribute("value"), "123456")
     copy("pasted again")

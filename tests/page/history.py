@@ -1,24 +1,24 @@
-"""What the address keeps: Back from the other pane, the skip link, limits that a link asks for, long links."""
+"""What the history keeps: Back from the other pane, the skip link, limits that a link asks for, long links."""
 import urllib.parse
 
 from tests.page.conduct import linked, started
-from tests.page.stage import (Keys, agree, click, count, find, grid, on, push, put, run, shown, text_of, write,
-                              written)
+from tests.page.stage import (Keys, agree, click, count, find, forget, grid, on, push, put, run, shown, text_of,
+                              write, written)
 
 
 def afresh():
-    """The page as it begins, from an address without a fragment."""
+    """The page as it begins, where nothing is kept."""
     address = on.page.current_url.partition("#")[0]
+    forget()
     on.page.get("about:blank")
-    on.page.get(address)
+    on.page.get(f"{address}#make")
     started()
 
 
 def fields():
-    return {
-        name: values[0]
-        for name, values in urllib.parse.parse_qs(on.page.current_url.partition("#")[2], keep_blank_values=True).items()
-    }
+    """What is kept with this entry of the history."""
+    kept = run("return mitsubadoor.linkKept()").partition("#")[2]
+    return {name: values[0] for name, values in urllib.parse.parse_qs(kept, keep_blank_values=True).items()}
 
 
 def skipped():
@@ -50,30 +50,24 @@ def back():
     push("tab-read")
     linked()
     on.page.back()
-    count.expect_soon(
-        "Back at the beginning",
-        lambda: (find("pane-make").is_displayed(), find("message").get_attribute("value"), shown()["state"]),
-        (True, begun, "Read"),
-    )
+    count.expect_soon("Back at the beginning",
+                      lambda: (find("pane-make").is_displayed(), find("message").get_attribute("value"),
+                               shown()["state"]), (True, begun, "Read"))
     linked()
     on.page.forward()
     count.expect_soon("Forward", lambda: find("pane-read").is_displayed(), True)
     on.page.back()
     linked()
-    run(
-        """const area = document.getElementById('message');
+    run("""const area = document.getElementById('message');
            area.value = 'typed';
            area.dispatchEvent(new Event('input', { bubbles: true }));
-           document.getElementById('tab-read').click(); document.getElementById('example-c40').click()"""
-    )
+           document.getElementById('tab-read').click(); document.getElementById('example-c40').click()""")
     linked()
     count.expect("the grid", shown()["says"], "Every answer is proved.")
     on.page.back()
-    count.expect_soon(
-        "Back after typing",
-        lambda: (find("pane-make").is_displayed(), find("message").get_attribute("value"), shown()["says"]),
-        (True, "typed", "typed"),
-    )
+    count.expect_soon("Back after typing",
+                      lambda: (find("pane-make").is_displayed(), find("message").get_attribute("value"),
+                               shown()["says"]), (True, "typed", "typed"))
     linked()
     afresh()
     run("location.hash = '#message=another'")
@@ -91,19 +85,15 @@ def limits():
     for asked in ("99999", "-1", "1.5", "x"):
         run("location.hash = `#message=123456&border=${arguments[0]}`", asked)
         linked()
-        count.expect(
-            f"a link's limit of {asked}",
-            (text_of("border-hint"), find("border-limit").get_attribute("value"), shown()["meters"][-1]),
-            (f"{asked} isn’t a whole number from 0 to 65535: the usual limit is taken.", "2", "0 wrong, 2"),
-        )
+        count.expect(f"a link's limit of {asked}",
+                     (text_of("border-hint"), find("border-limit").get_attribute("value"), shown()["meters"][-1]),
+                     (f"{asked} isn’t a whole number from 0 to 65535: the usual limit is taken.", "2", "0 wrong, 2"))
     put("border-limit", "3")
     count.expect("a right one takes that away", (text_of("border-hint"), shown()["meters"][-1]), ("", "0 wrong, 3"))
     put("border-limit", "99999")
-    count.expect(
-        "an entered limit of 99999",
-        (text_of("border-hint"), find("border-limit").get_attribute("aria-invalid"), shown()["meters"][-1]),
-        ("99999 isn’t a whole number from 0 to 65535: 3 is taken.", "true", "0 wrong, 3"),
-    )
+    count.expect("an entered limit of 99999",
+                 (text_of("border-hint"), find("border-limit").get_attribute("aria-invalid"), shown()["meters"][-1]),
+                 ("99999 isn’t a whole number from 0 to 65535: 3 is taken.", "true", "0 wrong, 3"))
     push("usual")
     agree("the usual limit")
     count.expect("the usual limit, said", (text_of("border-hint"), shown()["meters"][-1]), ("", "0 wrong, 2"))
@@ -116,20 +106,16 @@ def long_links():
     message = "\u00e9\u20ac" * 3500  # 7,000 characters, of 52,500 in the address
     put("message", message)
     linked()
-    count.expect("7,000 characters in the address", fields()["message"], message)
+    count.expect("7,000 characters are kept", fields()["message"], message)
     on.page.refresh()
     started()
-    count.expect(
-        "and read from there", (find("message").get_attribute("value"), shown()["state"]), (message, "Nothing is read")
-    )
+    count.expect("and read from there", (find("message").get_attribute("value"), shown()["state"]),
+                 (message, "Nothing is read"))
     run(copying)
     push("tab-read", "example-c40", "copy-link")
-    count.expect_soon(
-        "a long link says so",
-        lambda: text_of("toast"),
-        "Copied: a link that holds what is entered. "
-        f"It has {len(run('return copied')):,} characters, which not every program takes.",
-    )
+    count.expect_soon("a long link says so", lambda: text_of("toast"),
+                      "Copied: a link that holds what is entered. "
+                      f"It has {len(run('return copied')):,} characters, which not every program takes.")
     write("short")
     push("copy-link")
     count.expect_soon("a short link", lambda: text_of("toast"), "Copied: a link that holds what is entered")
@@ -142,7 +128,7 @@ def long_links():
         True,
     )
     linked()
-    count.expect("the address has no message then", "message" in fields(), False)
+    count.expect("no message is kept then", "message" in fields(), False)
     run("delete navigator.clipboard.writeText")
     write("123456")
 

@@ -90,12 +90,10 @@ def installed():
     count.expect("what is asked of the server", {*server.asked, *again.asked} - OWN, set())
     opened_at(address)
     count.expect("the page that came last", on.page.title.startswith(LATER), True)
-    on.page.execute_async_script(
-        """const [done] = arguments;
+    on.page.execute_async_script("""const [done] = arguments;
            navigator.serviceWorker.getRegistrations()
                .then((all) => Promise.all(all.map((it) => it.unregister())))
-               .then(() => caches.delete("mitsubadoor")).then(done);"""
-    )
+               .then(() => caches.delete("mitsubadoor")).then(done);""")
 
 
 def beside_nothing():

@@ -4,12 +4,11 @@ import json
 import re
 import subprocess
 
+from tests import corpus
 from tests.page.judge import SMALLEST, letter_of, line_of_text, written_in
-from tests.page.sizes import marks, printed
 from tests.page.stage import count, flat, on, written
 from tests.support import places
 
-MARKS = places.path("tests", "marks")
 USES, TYPES = places.path("tests", "page", "uses.mjs"), places.path("web", "module", "ecc200.d.mts")
 TOO_LONG, NO_SIZE, BORDER, BLOCK, ITEM, MARK, HEAD = 14, 4, 5, 6, 15, 22, 23  # codes of refusals
 FORM, SHAPE = 16, 18
@@ -18,6 +17,11 @@ PART = {"part": 2, "parts": 3, "file": [9, 254]}
 IN_CHARSETS = [(number, charset, [65, byte]) for number, charset in ((21, "cp1250"), (22, "cp1251"), (23, "cp1252"),
                (24, "cp1256")) for byte in range(128, 256)]
 IN_CHARSETS += [(number, charset, [0xaa, 0xa1]) for number, charset in ((31, "gbk"), (32, "gb18030"))]
+# Texts of which each is marked by another rule, or isn't, and one for each charset of those that take few bytes.
+WORDS = ["garçon", "São Paulo", "Schwarz-Weiß negativ", "élève", "ÄÖÜ", "éaéaéa", "ÄÖ Caféx", "ÄÖ ÄÖ Caféx", "5 µm",
+         "10÷2", "£ abcdefg", "£ abcdefghi", "é\x81", "é \x81", "Ã©", "Łódź", "กทม.", "日本", "서울", "你好吗",
+         "與你嗎", "α €", "א\u200e", "日−", "ก\x80", "ğ 日", "뷁"]
+WANTED = "An identifier in brackets, such as (01), is wanted."
 GS1 = [256, *b"10AB", 256, *b"21C"]
 
 
@@ -33,6 +37,11 @@ def said(text, items=None, is_gs1=False, data=None, corrected=0):
             "corrected": [corrected]}
 
 
+def elements(pairs):
+    """Elements as the module has them."""
+    return [{"identifier": identifier, "value": value} for identifier, value in pairs]
+
+
 def read_as(text, charset):
     """What is read of a text that was written with a mark."""
     return {**letter_of(line_of_text(text)), "text": text, "charset": charset, "symbology": "]d4"}
@@ -46,20 +55,15 @@ def text_in(charset, items):
         return None
 
 
-def lines_of_others():
-    """How each mark of another encoder was made, and what it says: its ECI marks, its head, its symbology identifier
-    and its text."""
-    with open(f"{MARKS}/letters_made.txt", encoding="utf-8") as file:
-        return [line.rstrip("\n").split("\t") for line in file if not line.startswith("#")]
+def texts():
+    """The texts above, and those in ten scripts."""
+    return [*WORDS, *(text for _, text in corpus.texts())]
 
 
 def got_of(letter):
-    """A letter as these lines have it."""
-    head, text = letter["head"], letter["text"]
-    part = "{} {} {} {}".format(head["part"], head["parts"], *head["file"]) if isinstance(head, dict) else head
-    marks_there = " ".join(f"{mark['place']}:{mark['number']}" for mark in letter["marks"])
-    spelt = text and re.sub(r"[\0-\x1f\x7f-\x9f]", lambda it: f"\\x{ord(it[0]):02X}", text)
-    return [marks_there or "-", part or "-", letter["symbology"], spelt or "-"]
+    """What a letter says, as the corpus has it."""
+    spelled = letter["text"] and re.sub(r"[\0-\x1f\x7f-\x9f]", lambda it: f"\\x{ord(it[0]):02X}", letter["text"])
+    return {name: letter[name] for name in ("items", "marks", "head")}, letter["symbology"], spelled
 
 
 def near(came):
@@ -73,7 +77,10 @@ def near(came):
 
 def uses():
     given = json.dumps([[number, items] for number, _, items in IN_CHARSETS])
-    done = subprocess.run(["node", USES, on.module, MARKS, given], stdout=subprocess.PIPE, timeout=300, check=True)
+    rows = corpus.rows("charsets")
+    letters = [letter_of(line) for line, *_ in rows]
+    words = ["node", USES, on.module, given, json.dumps(texts()), json.dumps(letters)]
+    done = subprocess.run(words, stdout=subprocess.PIPE, timeout=300, check=True)
     answers = {answer.pop("name"): answer for answer in map(json.loads, done.stdout.splitlines())}
     came = lambda name: answers[name].get("came", answers[name])
     with open(TYPES, encoding="utf-8") as types:
@@ -83,6 +90,16 @@ def uses():
         "text": symbol("Gr\\xF6\\xDFe"),
         "bytes": symbol("Gr\\xC3\\xB6\\xC3\\x9Fe"),
         "gs1": said("10AB\x1d21C", GS1, True, [*b"10AB", 29, *b"21C"]),
+        "elements": [elements(each) for each in (
+            [("01", "09521234543213"), ("17", "251231"), ("10", "ABC123")], [("10", "A(B)"), ("21", "C")],
+            [("10", "A(01)B")])],
+        "no elements": [None] * 4,
+        "elements in a picture": [elements([("10", "AB")])],
+        "elements of parts": elements([("10", "AB")]),
+        "faulty elements": [["RangeError", why] for why in (
+            "(01) GTIN: the check digit 4 should be 3", "(01) GTIN: too short: 14 digits are due",
+            "Column 1 begins (05), which is no identifier of GS1’s table.", WANTED,
+            "(17) USE BY OR EXPIRY: 31 is no day of that month", WANTED)],
         "not UTF-8": said("\xffA", [255, 65]),
         "text of another script": read_as("Größe 日本", "utf-8"),
         "Latin-1 that may be UTF-8": read_as("Ã©", "iso-8859-1"),
@@ -93,7 +110,8 @@ def uses():
         "joined": {**letter_of("\\E{26}one two three"), "text": "one two three", "charset": "utf-8"},
         "a torn border": ["torn at its left side", 9, True],
         "letter in a picture": [{**letter_of("two ", PART), "text": "two ", "charset": "utf-8", "symbology": "]d1"},
-                                read_as("日本", "utf-8")],
+                                {**letter_of("\\E{26}\\xE6\\x97\\xA5\\xE6\\x9C\\xAC"), "text": "日本", "charset": "utf-8",
+                                 "symbology": "]d4"}],
         "shorter": symbol("\\xE9" * 20, 1),
         "corrected": said("corrected", corrected=1),
         "doubtful": [1],
@@ -105,6 +123,10 @@ def uses():
         "transparent": ["on white"],
         "luminance": ["grey"],
         "unread": [0, 22, BLOCK],
+        "quality": {"contrast": 1, "modulation": 1, "axial": 0, "grid": 0, "unused": [1], "growth": [0, 0],
+                    "border": [0] * 4, "quiet": [0] * 4, "readable": [8] * 4,
+                    "weakest": "codeword 2, at row 2, column 2", "modulations": 8, "unasked": None,
+                    "grades": dict.fromkeys(("contrast", "modulation", "unused", "axial", "grid"), "A")},
     }.items():
         count.expect(name, near(came(name)), wanted)
     count.expect("shapes", [[came(name)["rows"], came(name)["columns"]] for name in ("rectangle", "a size")],
@@ -112,13 +134,24 @@ def uses():
     count.expect("sizes", [came("sizes")[0], came("sizes")[1]["rows"], came("sizes")[1]["data"]], [48, 10, 3])
     smallest = written_in("HELLO WORLD AND ALL THAT IS THERE", "square", SMALLEST)
     count.expect("smallest", came("smallest")["modules"], flat(smallest))
-    count.expect("every size", came("every size"), [[head, printed(line)] for head, _, _, line, _ in marks()])
+    sizes = [[mark.name, letter_of(mark.said)] for mark in corpus.marks("sizes")]
+    count.expect("every size", came("every size"), sizes)
+    for mark, got in zip(corpus.marks("damaged"), came("damaged"), strict=True):
+        found = [] if mark.refusal else [list(mark.letter[0]), mark.damage[0], *map(list, mark.damage[1:])]
+        count.expect(mark.name, got, found or list(mark.refusal))
     count.expect("texts", (len(came("texts")), [text for text, read in came("texts") if text != read]), (200, []))
     count.expect("bytes in charsets", came("bytes in charsets"),
                  [[number, items, text_in(charset, items)] for number, charset, items in IN_CHARSETS])
-    for line, got in zip(lines_of_others(), came("letters of others")):
-        count.expect(f"letter of another, {line[:3]}", got_of(got), line[3:])
-    count.expect("letters of others", len(came("letters of others")), len(lines_of_others()))
+    for text, got in zip(texts(), came("letters of texts")):
+        count.expect(f"the letter of {text}", got, letter_of(line_of_text(text)))
+    for (line, charset, *text), got in zip(rows, came("charsets of letters")):
+        count.expect(f"the charset of {line}", got, [corpus.characters(text[0]) if text else None, charset])
+    count.expect("charsets of letters", len(came("charsets of letters")), len(rows))
+    others = corpus.marks("letters")
+    for mark, got in zip(others, came("letters of others")):
+        wanted = letter_of(mark.said), mark.more["identifier"], mark.more.get("text")
+        count.expect(f"letter of another, {mark.encoder}", got_of(got), wanted)
+    count.expect("letters of others", len(came("letters of others")), len(others))
     letter_in = lambda it: [it["items"], it["marks"], it["head"]]
     for one, other in came("written anew"):
         count.expect(f"written anew, {one['text']}", letter_in(other), letter_in(one))
@@ -130,7 +163,12 @@ def uses():
                        ("rows that no size has", TOO_LONG)):
         count.expect(name, [answers[name].get(each) for each in ("thrown", "isRefused", "code")],
                      ["Refused", True, code])
+    nearest = [re.sub(r"there is no option (\w+): the nearest is (\w+), of .*", r"\1 \2", message)
+               for _, message in came("options that there aren't")]
+    count.expect("options that there aren't", ([kind for kind, _ in came("options that there aren't")], nearest),
+                 (["TypeError"] * 5, ["gs gs1", "shap shape", "limits limit", "doubtfull doubtful", "margins margin"]))
     for name, kind in (("of no pixels", "RangeError"), ("of other pixels", "TypeError"),
                        ("joined but one", "RangeError"), ("joined with another", "RangeError"),
-                       ("joined with a message", "RangeError"), ("joined of none", "RangeError")):
+                       ("joined with a message", "RangeError"), ("joined of none", "RangeError"),
+                       ("elements that are no text", "TypeError")):
         count.expect(name, answers[name].get("thrown"), kind)

@@ -1,11 +1,11 @@
 """What the page's library says of symbols, without the page: in Node.js, by judge.mjs."""
 import functools
 import json
-import re
 import subprocess
 
+from tests import corpus
 from tests.page.stage import flat
-from tests.support import places
+from tests.support import package, places
 
 JUDGE = ["node", places.path("tests", "page", "judge.mjs"), places.path("web", "out", "lowered.wasm")]
 SHAPES = {"square": 0, "rectangle": 1, "extended": 2, "any": 3}
@@ -21,34 +21,23 @@ def judged(questions):
 
 
 def letter_of(line, head=None):
-    """The letter of a line as the program spells messages, with \\E{26} for ECI 26."""
-    pieces = re.split(r"\\E\{(\d+)\}", line.replace("\\\\", "\0"))
-    items, marks = items_of(pieces[0].replace("\0", "\\\\")), []
-    for number, piece in zip(pieces[1::2], pieces[2::2]):
-        marks.append({"place": len(items), "number": int(number)})
-        items += items_of(piece.replace("\0", "\\\\"))
-    return {"items": items, "marks": marks, "head": head}
+    """The letter of a line as `ecc200 read --escapes` prints it, with this head, if the line has none."""
+    items, marks, own = corpus.letter_of(line)
+    if isinstance(own, tuple):
+        own = {"part": own[0], "parts": own[1], "file": list(own[2:])}
+    places_of_marks = [{"place": place, "number": number} for place, number in marks]
+    return {"items": list(items), "marks": places_of_marks, "head": own or head}
 
 
 def line_of_text(text):
-    """The line of a text, as the fronts write it: in ISO 8859-1, with a mark where UTF-8 or Shift JIS may be meant, or
-    else in UTF-8 behind its mark."""
-    try:
-        data = text.encode("iso-8859-1")
-    except UnicodeEncodeError:
-        return "\\E{26}" + line_of_items(text.encode())
-    looks = (
-        rb"([\0-\x7f\xa1-\xdf]|[\x81-\x9f\xe0-\xef][\x40-\x7e\x80-\xfc])*",
-        rb"([\0-\x7f]|[\xc0-\xdf][\x80-\xff]|[\xe0-\xef][\x80-\xff]{2}|[\xf0-\xf7][\x80-\xff]{3})*",
-    )
-    is_clear = data.isascii() or not any(re.fullmatch(look, data) for look in looks)
-    return ("" if is_clear else "\\E{3}") + line_of_items(data)
+    """The line of a text, as Python writes it in the smallest square."""
+    data, marks = package.imported().charsets.letter_of(text)
+    return "".join(f"\\E{{{number}}}" for _, number in marks) + line_of_items(data)
 
 
 def items_of(line):
     """The items of a line as the program spells them."""
-    value = lambda part: 256 if part == "\\F" else 92 if part == "\\\\" else int(part[2:], 16)
-    return [ord(part) if len(part) == 1 else value(part) for part in re.findall(r"\\\\|\\F|\\x..|[^\\]", line)]
+    return list(corpus.letter_of(line)[0])
 
 
 def line_of_items(items):

@@ -4,41 +4,20 @@ import io
 import json
 import re
 import struct
+import xml.etree.ElementTree
 import zipfile
 import zlib
 
 from tests.page.paper import POINT, paper_is, printed
 from tests.page.pictures import opened
-from tests.page.stage import (
-    count,
-    drawn_rows,
-    find,
-    grid,
-    on,
-    push,
-    put,
-    run,
-    settle,
-    shown,
-    spelled,
-    task,
-    text_of,
-    unfold,
-    usable,
-    wait_for,
-    write,
-    written,
-)
+from tests.page.stage import (count, drawn_rows, find, grid, on, push, put, run, settle, shown, spelled, task, text_of,
+                              unfold, usable, wait_for, write, written)
 
 
 def chosen(name, value):
-    run(
-        """const choice = document.getElementById(arguments[0]);
+    run("""const choice = document.getElementById(arguments[0]);
            choice.value = arguments[1];
-           choice.dispatchEvent(new Event('change', { bubbles: true }))""",
-        name,
-        value,
-    )
+           choice.dispatchEvent(new Event('change', { bubbles: true }))""", name, value)
 
 
 def saved(name, button):
@@ -60,12 +39,11 @@ def pages_of(pdf):
     [left, top, module, rows], in the order in which they are drawn; and its texts."""
     text = pdf.decode("latin-1")
     places = [int(at) for at in re.findall(r"^(\d{10}) 00000 n $", text, re.M)]
-    count.expect(
-        "the table of the PDF", [text[at:].split(" ", 1)[0] for at in places], [str(k + 1) for k in range(len(places))]
-    )
+    count.expect("the table of the PDF", [text[at:].split(" ", 1)[0] for at in places],
+                 [str(k + 1) for k in range(len(places))])
     table = int(re.search(r"startxref\n(\d+)\n", text)[1])
     count.expect("where the table stands", text[table : table + 5], "xref\n")
-    found = []
+    found, letters = [], letters_in(text)
     boxes = re.findall(r"/MediaBox \[0 0 ([\d.]+) ([\d.]+)\].*?/Contents (\d+) 0 R", text)
     for width, height, content in boxes:
         whole = rf"(?s)\n{content} 0 obj\n<< /Length (\d+) >>\nstream\n(.*?)endstream"
@@ -74,8 +52,39 @@ def pages_of(pdf):
         scale = float(stream.split()[0]) * POINT
         size = [float(width) * POINT, float(height) * POINT]
         symbols = [drawn_rows(part, size[1], scale) for part in stream.split("\nf\n")[:-1]]
-        found.append(([round(side, 2) for side in size], symbols, re.findall(r"\((.*?)\) Tj", stream)))
+        found.append(([round(side, 2) for side in size], symbols, texts_in(stream, letters)))
     return found
+
+
+def letters_in(text):
+    """The letters of each font of a PDF, by its name on pages, and by their codes."""
+    fonts = {}
+    for name, number in set(re.findall(r"/(F\d+) (\d+) 0 R", text)):
+        told = re.search(rf"\n{number} 0 obj\n<< /Type /Font .*?/ToUnicode (\d+) 0 R", text)[1]
+        stream = re.search(rf"(?s)\n{told} 0 obj\n.*?stream\n(.*?)endstream", text)[1]
+        pairs = re.findall(r"<(\w\w)> <(\w+)>\nendbfchar", stream)
+        fonts[name] = {int(code, 16): bytes.fromhex(letter).decode("utf-16-be") for code, letter in pairs}
+    return fonts
+
+
+def texts_in(stream, letters):
+    """The whole text below each symbol that has one."""
+    texts = []
+    for part in stream.split("\nf\n")[1:]:
+        font, shown = None, ""
+        for name, codes in re.findall(r"/(F\d+) \S+ Tf|<(\w+)> Tj", part):
+            font = name or font
+            shown += "".join(letters[font][code] for code in bytes.fromhex(codes))
+        texts += [shown] if shown else []
+    return texts
+
+
+SIZES, WIDTH, LINE = (2.4, 2.1, 1.8, 1.5), 1233 / 2048, 1.25
+
+
+def height_below(text, width):
+    """The millimetres below a symbol of a text that has room in one line, with the largest letters that have."""
+    return next(LINE * size for size in SIZES if len(text) * WIDTH * size <= width)
 
 
 def centred(label, side, module, has_text):
@@ -90,18 +99,10 @@ def labels_of(columns, rows, width, height, across, page=(210, 297)):
     return [(left + k % columns * across, top + k // columns * height, width, height) for k in range(columns * rows)]
 
 
-STOCK = {
-    "a4-2x4": labels_of(2, 4, 99.1, 67.7, 101.6),
-    "a4-2x7": labels_of(2, 7, 99.1, 38.1, 101.6),
-    "a4-3x7": labels_of(3, 7, 63.5, 38.1, 66.04),
-    "a4-3x8": labels_of(3, 8, 70, 37, 70),
-    "a4-5x13": labels_of(5, 13, 38.1, 21.2, 40.6),
-    "25x25": [(0, 0, 25, 25)],
-    "38x25": [(0, 0, 38, 25)],
-    "50x30": [(0, 0, 50, 30)],
-    "100x50": [(0, 0, 100, 50)],
-    "own": [(0, 0, 60, 40)],
-}
+STOCK = {"a4-2x4": labels_of(2, 4, 99.1, 67.7, 101.6), "a4-2x7": labels_of(2, 7, 99.1, 38.1, 101.6),
+         "a4-3x7": labels_of(3, 7, 63.5, 38.1, 66.04), "a4-3x8": labels_of(3, 8, 70, 37, 70),
+         "a4-5x13": labels_of(5, 13, 38.1, 21.2, 40.6), "25x25": [(0, 0, 25, 25)], "38x25": [(0, 0, 38, 25)],
+         "50x30": [(0, 0, 50, 30)], "100x50": [(0, 0, 100, 50)], "own": [(0, 0, 60, 40)]}
 
 
 def on_labels():
@@ -132,6 +133,7 @@ def labels_printed():
     run("globalThis.printed = 0; window.print = () => { printed++; }")
     write("123456")
     paper_is("a4", "0.5")
+    push("label-text")
     for name, per_page, page in (("a4-3x7", 21, [210, 297]), ("50x30", 1, [50, 30]), ("own", 1, [60, 40])):
         chosen("stock", name)
         put("messages", "\n".join(["123456"] * (per_page + 1)))
@@ -141,30 +143,17 @@ def labels_printed():
         across = 5 if per_page == 1 else 2 * 66.04 + 5  # from the first symbol's left to the last one's right
         off = [round(abs(width - wanted), 2) for width, wanted in zip(widths, (across, 5))]
         count.expect(f"{name}: printed millimetres", (len(widths), [each for each in off if each > 0.1]), (2, []))
-        box = run(
-            """const [svg] = document.querySelectorAll('#paper svg'), page = svg.closest('.page');
-                     return [svg.parentElement.style.left, svg.parentElement.style.top, page.style.width]"""
-        )
-        x, y = centred(STOCK[name][0], 10, 0.5, True)
-        place = [round(float(length[:-2]) + 1, 2) for length in box[:2]]
-        count.expect(f"{name}: its place on the page", place, [x, y])
+        place = run("return ['x', 'y'].map((it) => document.querySelector('#paper svg svg').getAttribute(it))")
+        x, y = centred(STOCK[name][0], 10, 0.5, False)
+        count.expect(f"{name}: its place on the page", [round(float(length) + 1, 2) for length in place], [x, y])
         run("dispatchEvent(new Event('afterprint'))")
-    for name, value, message, why in (
-        (
-            "a4-5x13",
-            "1",
-            "123456789012345678901234567890",
-            "Message 1 takes 22 × 22 mm and 3 mm of text, and a label is "
-            "38.1 × 21.2 mm. Take narrower modules or larger labels.",
-        ),
-        (
-            "25x25",
-            "2",
-            "123456",
-            "Message 1 takes 28 × 28 mm and 3 mm of text, and a label is 25 × 25 mm. "
-            "Take narrower modules or larger labels.",
-        ),
-    ):
+    push("label-text")
+    for name, value, message, why in (("a4-5x13", "1", "123456789012345678901234567890",
+                                       "Message 1 takes 22 × 22 mm and 2.25 mm of text, and a label is "
+                                       "38.1 × 21.2 mm. Take narrower modules or larger labels."),
+                                      ("25x25", "2", "123456",
+                                       "Message 1 takes 28 × 28 mm and 3 mm of text, and a label is 25 × 25 mm. "
+                                       "Take narrower modules or larger labels.")):
         chosen("stock", name)
         paper_is("a4", value)
         put("messages", message)
@@ -193,8 +182,51 @@ CSV = {
         ["first", "first", "second"],
     ),
     "a message with copies": ("Quantity\tMESSAGE\r\n3\tA1\r\n1\tB2", ["A1"] * 3 + ["B2"], ["A1"] * 3 + ["B2"]),
+    "names of identifiers": (
+        'sep=;\n"GTIN";"Expiry date";"Lot, or batch";Batch/Lot;Serial number;Caption\n'
+        '09506000134352;271231;;AB-42;S1;"a; b"\n',
+        ["\\F010950600013435217271231" + "10AB-42\\F21S1"], ["a; b"],
+    ),
+    "what a spreadsheet keeps from being a formula": ("message,text\n'=1+1,'@x\n''-2,\n", ["=1+1", "'-2"], ["@x"]),
+    "line ends within a field": ('message,text\r\n"A\r\nB",x\r\n"C\nD",y\r\n', ["A\\x0D\\x0AB", "C\\x0AD"], ["x", "y"]),
     "an empty column": ("message,\nA1,\nB2,", ["A1", "B2"], ["A1", "B2"]),
 }
+
+
+PLACES = """
+    return [...document.querySelectorAll('#paper > svg')].map((page) => [page.getAttribute('viewBox'),
+        [...page.querySelectorAll('svg')].map((it) => [+it.getAttribute('x'), +it.getAttribute('y')])]);"""
+
+
+def one_after_another():
+    """On paper, one after another, print and PDF have the same symbols at the same places, within the margins; and
+    there may be more than a thousand."""
+    run("window.print = () => {}")
+    write("123456")
+    unfold("sheet")
+    paper_is("a4", "0.5")
+    chosen("stock", "none")
+    lines = [f"label {k}" + "0" * (k % 7 * 12) for k in range(150)]
+    put("messages", "\n".join(lines))
+    pages = pages_of(saved("symbols.pdf", "many-pdf"))
+    push("print-sheet")
+    there = run(PLACES)
+    run("dispatchEvent(new Event('afterprint'))")
+    count.expect("pages", [(box, len(places)) for box, places in there],
+                 [("0 0 210 297", len(symbols)) for _, symbols, _ in pages])
+    apart = [abs(x + 1 - left) + abs(y + 1 - top) for (_, places), (_, symbols, _) in zip(there, pages)
+             for (x, y), (left, top, *_) in zip(places, symbols)]
+    count.expect("places", max(apart) < 0.01, True)
+    count.expect("texts", [text for *_, texts in pages for text in texts], lines)
+    inside = [15 <= x < 195 and 15 <= y < 282 for _, symbols, _ in pages for x, y, *_ in symbols]
+    count.expect("within the margins", (len(pages) > 1, len(inside), all(inside)), (True, 150, True))
+    chosen("stock", "25x25")
+    put("messages", "\n".join(str(k) for k in range(1200)))
+    body = saved("symbols.pdf", "many-pdf")
+    count.expect("1,200 labels", (body.count(b"/Type /Page "), text_of("sheet-hint")),
+                 (1200, "1,200 symbols are in the PDF."))
+    chosen("stock", "none")
+    put("messages", "")
 
 
 def by_columns():
@@ -208,12 +240,15 @@ def by_columns():
         file.write_bytes(text.encode())
         find("lines").send_keys(str(file))
         wait_for(lambda: find("messages").get_attribute("value").strip() == text.replace("\r", "").strip())
+        push("kind-typed" if name.startswith("line ends") else "kind-message")
+        if name.startswith("names"):  # of which one isn't known
+            push("columns-taken")
         count.expect(f"{name}: taken as CSV", run("return document.getElementById('lines-as').value"), "csv")
         pages = pages_of(saved("symbols.pdf", "many-pdf"))
         symbols = [rows for _, some, _ in pages for *_, rows in some]
         count.expect(f"{name}: symbols", symbols, [written(line) for line in lines])
-        said = [re.sub(r"\\(.)", r"\1", each) for *_, some in pages for each in some]
-        count.expect(f"{name}: texts", said, texts)
+        count.expect(f"{name}: texts", [each for *_, some in pages for each in some], texts)
+    push("kind-message")
     for text, why in (
         ("(01)\n123", "Message 1: It isn’t right as GS1 data: (01) GTIN, too short: 14 digits are due."),
         ("(01),(98)\n09506000134352,", ""),
@@ -221,7 +256,7 @@ def by_columns():
         ("message\ncaf\u00e9", "Message 1: column 4 is \u00e9, which has no spelling of its own"),
         ("message,qty\nA,two", "Message 1: two is no number of copies."),
         ("message,qty\nA,0", "Each row has 0 copies."),
-        ("message,qty\nA,501", "501 labels, and a sheet takes no more than 500."),
+        ("message,qty\nA,9999\nB,2", "10,001 labels, and a list takes no more than 10,000."),
         ("message,text\nA,1\n,2", "Message 2: its row has no message."),
         ("message,qty\nA,1\nB,0", "1 symbol is in the PDF. 1 row wants 0 copies."),
     ):
@@ -253,7 +288,7 @@ def drawn_in(where):
     return grids
 
 
-SAY_FIRST = "Say first what the columns are, and then “Take them so”."
+SAY_FIRST = "Say first what the columns are, and then “Use these columns”."
 MAY_BE = "The first row may have headings or data."
 ASKED = [
     # (a name, a text, what is asked, what is chosen: the first row, and the columns; the messages and texts)
@@ -261,7 +296,7 @@ ASKED = [
      ["PART-0001", "PART-0002", "PART-0003"], []),
     ("a heading that isn't known", "part\nA1\nB2", f"{MAY_BE} It isn’t known what part may be.", "headings", {},
      ["A1", "B2"], []),
-    ("one beside those that are", "01,lot\n09506000134352,A", f"{MAY_BE} It isn’t known what lot may be.", "headings",
+    ("one beside those that are", "01,hue\n09506000134352,A", f"{MAY_BE} It isn’t known what hue may be.", "headings",
      {}, ["\\F0109506000134352"], []),
     ("two of a kind", "message,message,text\nA,B,C", "It isn’t known what message may be.", None, {}, ["A"], ["C"]),
     ("a message beside identifiers", "(01),message\n09506000134352,A", "It isn’t known what message may be.", None,
@@ -270,8 +305,8 @@ ASKED = [
      ["A", "C"], ["B"]),
     ("numbers that may be identifiers or data", "10\n20\n30", MAY_BE, "data", {}, ["10", "20", "30"], []),
     ("which are identifiers", "10\n20\n30", MAY_BE, "headings", {}, ["\\F1020", "\\F1030"], []),
-    ("the second column is the message", "place,part,number\nleft,A1,2",
-     f"{MAY_BE} It isn’t known what place, part, number may be.", "headings", {0: "text", 1: "message", 2: "copies"},
+    ("the second column is the message", "place,part,howmany\nleft,A1,2",
+     f"{MAY_BE} It isn’t known what place, part, howmany may be.", "headings", {0: "text", 1: "message", 2: "copies"},
      ["A1", "A1"], ["left", "left"]),
 ]
 CHOOSE = """
@@ -346,7 +381,7 @@ def labels_shown():
         some = lines[first:first + 3]
         count.expect_soon(f"labels from {first + 1} on", shown_now,
                           (f"{first + 1} to {first + len(some)} of 8", [written(line) for line in some]))
-        told = run(TOLD, "#labels-are :is(figcaption, code)")
+        told = run(TOLD, "#labels-are :is(title, code)")
         count.expect("their texts, and what they say", told, [line for line in some for _ in range(2)])
         count.expect("what can be leafed to", (usable("labels-back"), usable("labels-on")), (first > 0, first < 6))
         push("labels-on")
@@ -382,16 +417,14 @@ def labels_shown():
     count.expect_soon("no labels without a list", lambda: find("labels").is_displayed(), False)
 
 
-WIDE = "a text that is wider than its label, and is smaller there, and cut"
+WIDE = "a text that is wider than its label, and is smaller there, in lines"
+# Of each label that is shown its size, where its symbol stands, and the lines of its text.
 LABELS = """
-    return [...document.querySelectorAll('#labels-are figure > svg')].map((label) => {
-        const symbol = label.querySelector('svg'), text = label.querySelector('text');
-        return [label.getAttribute('viewBox'), +symbol.getAttribute('x'), +symbol.getAttribute('y'), text.textContent,
-            +text.getAttribute('font-size')];
+    return [...document.querySelectorAll(`${arguments[0]} svg:has(> svg)`)].map((label) => {
+        const symbol = label.querySelector('svg'), text = label.querySelector('title');
+        return [label.getAttribute('viewBox'), +symbol.getAttribute('x'), +symbol.getAttribute('y'),
+            text?.textContent.split('\\n') ?? []];
     });"""
-PRINTED = """
-    return [...document.querySelectorAll('#paper figcaption')].map((it) => [it.textContent,
-        parseFloat(it.style.fontSize)]);"""
 
 
 def on_one_label():
@@ -403,25 +436,128 @@ def on_one_label():
     put("messages", "\n".join(messages))
     grids = [written(message) for message in messages]
     count.expect_soon("symbols on labels", lambda: drawn_in("#labels-are"), grids)
-    texts = [text for *_, some in pages_of(saved("symbols.pdf", "many-pdf")) for text in some]
-    places = [[round(at - 0.8, 2) for at in centred((0, 0, 38, 25), rows.index("\n"), 0.4, True)] for rows in grids]
-    labels = run(LABELS)
-    count.expect("where they stand", [(box, [round(x, 2), round(y, 2)], text) for box, x, y, text, _ in labels],
-                 [("0 0 38 25", place, text) for place, text in zip(places, texts)])
-    count.expect("what is too wide is smaller, and cut", (labels[0][4], labels[1][4] < 2.4, texts[1] != WIDE),
-                 (2.4, True, True))
+    pages = pages_of(saved("symbols.pdf", "many-pdf"))
+    labels = run(LABELS, "#labels-are")
+    places = [[x - 0.8, y - 0.8] for _, symbols, _ in pages for x, y, *_ in symbols]
+    count.expect("where they stand", [(box, [round(x, 1), round(y, 1)]) for box, x, y, _ in labels],
+                 [("0 0 38 25", [round(x, 1), round(y, 1)]) for x, y in places])
+    count.expect("what they say below", ["".join(lines) for *_, lines in labels], messages)
+    count.expect("what is too wide has lines", [len(lines) for *_, lines in labels], [1, 2])
     run("window.print = () => {}")
     push("print-sheet")
-    count.expect("on paper", run(PRINTED), [[text, size] for *_, text, size in labels])
+    count.expect("on paper", run(LABELS, "#paper"), labels)
     run("dispatchEvent(new Event('afterprint'))")
     paper_is("a4", "1")
     chosen("stock", "25x25")
     length = grids[1].index("\n") + 4
-    why = f"Message 2 takes {length} × {length} mm and 3 mm of text, and a label is 25 × 25 mm."
-    count.expect_soon("what doesn't fit", lambda: run(TOLD, "#labels-are p"),
-                      ["1: one", f"{why} Take narrower modules or larger labels."])
+    why = f"Message 2 takes {length} × {length} mm and "
+    count.expect_soon("what doesn't fit", lambda: [it.startswith(why) for it in run(TOLD, "#labels-are p")],
+                      [False, True])
     paper_is("a4", "0.5")
     chosen("stock", "none")
+
+
+def shown_pages():
+    """The SVG of each label that is shown."""
+    return run("return [...document.querySelectorAll('#labels-are figure > svg')].map((it) => "
+               "new XMLSerializer().serializeToString(it))")
+
+
+SECURED = "\x1e06\x1dPSN-2026-000121\x1d1T5\x1e\x04"
+SAVED = [
+    # (a name, how lines are, the list, what is chosen, the texts below)
+    ("numbers that begin alike", "messages", "SN-2026-000121\nSN-2026-000122", "25x25",
+     ["SN-2026-000121", "SN-2026-000122"]),
+    ("elements, each whole", "messages", "(01)09506000134352(17)271231(10)AB-42", "25x25",
+     ["(01)09506000134352(17)271231(10)AB-42"]),
+    ("controls of ISO 15434, and NUL", "csv", f"message,text\n{SECURED},\nA\0B,\nC,a\0b\n", "50x30", ["a\\x00b"]),
+    ("controls that are below as they are", "csv", f"message\n{SECURED}\nA\0B\n", "50x30",
+     ["\\x1E06\\x1DPSN-2026-000121\\x1D1T5\\x1E\\x04", "A\\x00B"]),
+    ("markup", "messages", "<b>&amp;\"'</b> ]]>", "50x30", ["<b>&amp;\"'</b> ]]>"]),
+    ("letters of many kinds", "messages", "Größe → 5 µm\nЖук №5\nαβγ ≥ 1 €", "none",
+     ["Größe → 5 µm", "Жук №5", "αβγ ≥ 1 €"]),
+    ("rows that are wanted more than once", "csv", "message,qty\nA1,3\nB2,0\nC3,1\n", "38x25",
+     ["A1", "A1", "A1", "C3"]),
+    ("copies as large as they are", "csv", "message,qty\nA1,2\nB2,1\n", "none", ["A1", "A1", "B2"]),
+]
+
+
+def saved_as_shown():
+    """What is saved of labels is what is shown of them, by each format; each drawing is XML; and there are as many
+    labels as rows want."""
+    write("123456")
+    push("kind-typed", "profile-2")
+    unfold("sheet")
+    paper_is("a4", "0.4")
+    for name, kind, text, stock, texts in SAVED:
+        chosen("stock", stock)
+        chosen("lines-as", kind)
+        put("messages", text)
+        wait_for(lambda: find("labels").is_displayed() and shown_pages())
+        pdf = pages_of(saved("symbols.pdf", "many-pdf"))
+        said = f"{len(pdf) if stock != 'none' else sum(len(some) for _, some, _ in pdf)} symbols are in the "
+        said = said.replace("1 symbols are", "1 symbol is")
+        count.expect(f"{name}: what is said", text_of("sheet-hint").startswith(said), True)
+        count.expect(f"{name}: texts in the PDF", [each for *_, some in pdf for each in some], texts)
+        files = {}
+        for ending in ("svg", "png"):
+            with zipfile.ZipFile(io.BytesIO(saved(f"symbols-{ending}.zip", f"many-{ending}"))) as archive:
+                files[ending] = [archive.read(each) for each in archive.namelist()[:-1]]
+                count.expect(f"{name}: names are unlike", len(set(archive.namelist())), len(archive.namelist()))
+        symbols = [rows for _, some, _ in pdf for *_, rows in some]
+        count.expect(f"{name}: as many labels", [len(files[it]) for it in files], [len(symbols)] * 2)
+        whole = [body.decode() for body in files["svg"]]
+        for body in whole:
+            xml.etree.ElementTree.fromstring(body)
+        there = {it.strip() for it in whole}
+        count.expect_soon(f"{name}: drawings are those that are shown", lambda: there <= set(shown_pages()), True)
+        if name.startswith("elements"):
+            (*_, lines), = run(LABELS, "#labels-are")
+            count.expect("elements in lines", lines, ["(01)09506000134352", "(17)271231(10)AB-42"])
+        for drawing, picture in zip(whole, files["png"]):
+            across, down = re.search(r'^<svg [^>]*width="([\d.]+)mm" height="([\d.]+)mm"', drawing).groups()
+            pixels = [int.from_bytes(picture[at : at + 4], "big") for at in (16, 20)]
+            count.expect(f"{name}: pixels", pixels, [round(float(length) * 25) for length in (across, down)])
+    not_whole()
+    chosen("lines-as", "messages")
+    chosen("stock", "none")
+    paper_is("a4", "0.5")
+    put("messages", "")
+
+
+NOT_WHOLE = [
+    ("a text without room", "messages", "0" * 600, "25x25", "Message 1 takes "),
+    ("a letter that can't be drawn", "messages", "plain\n\U000F0000", "50x30",
+     "Message 2: the text below has the invisible character U+F0000, which can’t be drawn. "),
+    ("a quotation mark that none ends", "csv", 'message\nA1\n"B2\nC3\nD4\n', "50x30",
+     "Line 3: a quotation mark begins a field there and none ends it."),
+    ("a row without a message", "csv", "message,text\nA1,x\n,y\n", "50x30", "Message 2: its row has no message."),
+]
+
+
+def not_whole():
+    """What can't be shown whole, and rows that aren't labels, are named, and nothing is saved."""
+    for name, kind, text, stock, why in NOT_WHOLE:
+        chosen("stock", stock)
+        chosen("lines-as", kind)
+        put("messages", text)
+        for file in files():
+            (on.folder / file).unlink()
+        for button in ("many-pdf", "many-png", "many-svg"):
+            push(button)
+            count.expect(f"{name}: {button}", (text_of("sheet-hint")[:len(why)], files()), (why, []))
+    chosen("stock", "none")
+    chosen("lines-as", "messages")
+    put("messages", "")
+    put("messages", "gtin\tlot\n1\tA\n2\tB")
+    count.expect("a table that is pasted", (find("lines-as").get_attribute("value"), text_of("sheet-hint")),
+                 ("csv", "A table was pasted, and so the lines are taken as one."))
+    push("tab-make")
+    write("(01)09506000134353")
+    body = saved("symbol-16.svg", "save-svg")
+    count.expect("a wrong GS1 symbol is saved with a word", (body[:4], text_of("toast")), (b"<svg",
+                 "symbol-16.svg is saved. It isn’t right as GS1 data: (01) GTIN, the check digit 3 should be 2."))
+    write("123456")
 
 
 def serial_numbers():
@@ -447,9 +583,9 @@ def serial_numbers():
     for name, value, why in (
         ("serial-first", "12a", "The first number has 1 to 30 digits."),
         ("serial-first", "9", ""),
-        ("serial-count", "1001", "From 1 to 1000 can be added."),
-        ("serial-count", "0", "From 1 to 1000 can be added."),
-        ("serial-count", "1000", "1,007 lines, and no more than 1,000 are taken."),
+        ("serial-count", "10001", "From 1 to 10,000 can be added."),
+        ("serial-count", "0", "From 1 to 10,000 can be added."),
+        ("serial-count", "10000", "10,007 lines, and no more than 10,000 are taken."),
     ):
         put(name, value)
         before = lines()
@@ -470,10 +606,8 @@ def opened_again():
     """A list that was saved, by itself or in a file of labels, gives the same labels again."""
     write("123456")
     unfold("sheet")
-    lists = [
-        ("messages", "one\n(01)09506000134352\nthree", {}, "a4-3x7", "0.4"),
-        ("csv", "place,part\nleft,A1\nright,B2", {0: "text", 1: "message"}, "own", "0.3"),
-    ]
+    lists = [("messages", "one\n(01)09506000134352\nthree", {}, "a4-3x7", "0.4"),
+             ("csv", "place,part\nleft,A1\nright,B2", {0: "text", 1: "message"}, "own", "0.3")]
     for kind, text, columns, stock, millimetres in lists:
         chosen("lines-as", kind)
         put("messages", text)
@@ -543,42 +677,36 @@ def in_archives():
     for ending in ("svg", "png"):
         with zipfile.ZipFile(io.BytesIO(saved(f"symbols-{ending}.zip", f"many-{ending}"))) as archive:
             names = archive.namelist()
-            count.expect(
-                f"names in the archive of {ending}",
-                (archive.testzip(), names),
-                (None, [*(f"{k + 1:03}-symbol-{side}.{ending}" for k, side in enumerate(sides)), "labels.json"]),
-            )
+            count.expect(f"names in the archive of {ending}", (archive.testzip(), names),
+                         (None,
+                          [*(f"{k + 1:03}-symbol-{side}.{ending}" for k, side in enumerate(sides)), "labels.json"]))
             bodies = [archive.read(name) for name in names[:-1]]
         count.expect(f"{ending}: what is said", text_of("sheet-hint"), "3 symbols are in the archive.")
         for message, side, body in zip(messages, sides, bodies):
             if ending == "svg":
-                width, height = (f"{round((side + 4) * 0.4 + more, 2):g}mm" for more in (0, 3))
-                count.expect(f"SVG of {message}", f'width="{width}" height="{height}"' in body.decode(), True)
+                height = f"{round((side + 4) * 0.4 + height_below(message, 20), 3):g}mm"
+                count.expect(f"SVG of {message}", f'width="20mm" height="{height}"' in body.decode(), True)
             else:
                 at = body.index(b"pHYs") + 4
                 width, across = struct.unpack(">I", body[16:20])[0], struct.unpack(">I", body[at : at + 4])[0]
                 sum_of = (zlib.crc32(body[at - 4 : at + 9]), struct.unpack(">I", body[at + 9 : at + 13])[0])
-                count.expect(
-                    f"PNG of {message}",
-                    (round(1000 * width / across, 2), sum_of[0]),
-                    (round((side + 4) * 0.4, 2), sum_of[1]),
-                )
+                count.expect(f"PNG of {message}", (round(1000 * width / across, 2), sum_of[0]), (20, sum_of[1]))
             push("tab-read")
             opened(f"from-archive.{ending}", body)
             count.expect(f"{ending} of {message}, opened again", (grid(), shown()["says"]), (written(message), message))
             push("tab-make")
+    paper_is("label", "0.4")
     pages = pages_of(saved("symbols.pdf", "many-pdf"))
     lengths = [round((side + 4) * 0.4, 2) for side in sides]
-    count.expect(
-        "a PDF of many", [size for size, _, _ in pages], [[length, round(length + 3, 2)] for length in lengths]
-    )
+    heights = [round(length + height_below(message, 20), 1) for length, message in zip(lengths, messages)]
+    count.expect("a PDF of many", [[width, round(height, 1)] for (width, height), _, _ in pages],
+                 [[20, height] for height in heights])
     symbols = [rows for _, some, _ in pages for *_, rows in some]
     count.expect("its symbols", symbols, [written(each) for each in messages])
     run("document.getElementById('label-text').click()")
     pages = pages_of(saved("symbols.pdf", "many-pdf"))
-    count.expect(
-        "without texts", [(size, texts) for size, _, texts in pages], [([length] * 2, []) for length in lengths]
-    )
+    count.expect("without texts", [(size, texts) for size, _, texts in pages],
+                 [([length] * 2, []) for length in lengths])
     run("document.getElementById('label-text').click()")
     ((size, [(x, y, module, rows)], texts),) = pages_of(saved("symbol-10.pdf", "save-pdf"))
     count.expect(
@@ -596,32 +724,31 @@ CODINGS = {"utf-8": "", "utf-8-sig": "", "utf-16": " It is UTF-16.",
 
 def other_letters():
     """Text is taken as it is written, in a file too, which may have another encoding: that is said. Below a symbol in a
-    PDF stand the letters that its font has; those that it lacks are said to be missing."""
+    PDF stand the letters that are shown."""
     write("123456")
     push("kind-typed")
     unfold("sheet")
     chosen("stock", "50x30")
     paper_is("a4", "0.4")
     message, text, file = "Größe 5 µm", "Maß – 5 €", on.folder / "other.csv"
-    texts_in = lambda: [each.encode("latin-1").decode("cp1252") for *_, some in
-                        pages_of(saved("symbols.pdf", "many-pdf")) for each in some]
+    texts_below = lambda: [each for *_, some in pages_of(saved("symbols.pdf", "many-pdf")) for each in some]
     for coding, note in CODINGS.items():
         file.write_bytes(f"message;text\n{message};{text}\n".encode(coding))
         put("messages", "")
         find("lines").send_keys(str(file))
         count.expect_soon(f"a file in {coding}", lambda: (find("messages").get_attribute("value"),
                           text_of("sheet-hint")), (f"message;text\n{message};{text}", f"The lines of other.csv.{note}"))
-        count.expect(f"its text, in {coding}", texts_in(), [text])
+        count.expect(f"its text, in {coding}", texts_below(), [text])
         symbols = [rows for _, some, _ in pages_of(saved("symbols.pdf", "many-pdf")) for *_, rows in some]
         count.expect(f"its symbol, in {coding}", symbols, [written(spelled(message.encode("iso-8859-1")))])
     chosen("lines-as", "messages")
     put("messages", "plain\na → b\n→")
-    count.expect("letters that a PDF lacks", (texts_in(), text_of("sheet-hint")), (["plain", "a ? b", "?"],
-                 "3 symbols are in the PDF. Below 2 symbols ? stands for letters that the PDF’s font lacks."))
+    count.expect("letters that are in no font of a printer", (texts_below(), text_of("sheet-hint")),
+                 (["plain", "a → b", "→"], "3 symbols are in the PDF."))
     chosen("stock", "none")
     paper_is("a4", "0.5")
     put("messages", "")
 
 
-PARTS = [on_labels, labels_printed, by_columns, asked_about_columns, labels_shown, serial_numbers, opened_again,
-         in_archives, other_letters]
+PARTS = [on_labels, labels_printed, saved_as_shown, one_after_another, by_columns, asked_about_columns, labels_shown,
+         serial_numbers, opened_again, in_archives, other_letters]

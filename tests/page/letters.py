@@ -7,44 +7,19 @@ import json
 import re
 import zipfile
 
+from tests import corpus
 from tests.library.model import SIZE_OF, codewords, modules_of, padded
 from tests.page.conduct import linked, started
 from tests.page.history import fields
-from tests.page.judge import (
-    SMALLEST,
-    asked_to_read,
-    asked_to_write,
-    in_lines,
-    judged,
-    letter_of,
-    line_of_text,
-    written_in,
-)
+from tests.page.judge import (SMALLEST, asked_to_read, asked_to_write, in_lines, judged, letter_of, line_of_text,
+                              written_in)
 from tests.page.labels import chosen, pages_of, saved
 from tests.page.photographs import CAMERA, LISTED
 from tests.page.pictures import opened, png
-from tests.page.stage import (
-    choose,
-    count,
-    find,
-    fold,
-    grid,
-    on,
-    push,
-    put,
-    run,
-    settle,
-    shown,
-    text_of,
-    unfold,
-    unseen,
-    usable,
-    written,
-)
+from tests.page.stage import (choose, count, find, fill, fold, grid, on, push, put, run, settle, shown, text_of, unfold,
+                              unseen, usable, written)
 from tests.page.tasks import COLLECT
-from tests.support import places
-
-TEXTS = places.path("tests", "marks", "texts.txt")
+from tests.support import package
 
 
 def type_in(text, kind="typed", form=SMALLEST):
@@ -125,15 +100,9 @@ def gs1_in_the_smallest():
 READ = "const { items, marks, head } = mitsubadoor.mark.seen.answer; return { items, marks, head }"
 
 
-def texts():
-    """The texts of tests/marks, each with its script."""
-    with open(TEXTS, encoding="utf-8") as file:
-        return [line.rstrip("\n").split("\t") for line in file if not line.startswith("#")]
-
-
 def texts_of_all_scripts():
-    """Texts in ten scripts are written as Latin-1, or as UTF-8 behind its mark, and are read as what was typed."""
-    all_texts = texts()
+    """Texts in ten scripts are written as Python writes them, and are read as what was typed."""
+    all_texts = corpus.texts()
     count.expect("how many", len(all_texts), 200)
     lines = [line_of_text(text) for _, text in all_texts]
     grids = [in_lines(it) for it in judged([asked_to_write(line, "square", SMALLEST) for line in lines])]
@@ -152,48 +121,24 @@ def texts_of_all_scripts():
     as_usual()
 
 
-# Texts in the charsets of ECIs.
-IN_CHARSETS = {
-    0: ("ibm437", "Ünï ½ Ω"), 1: ("iso-8859-1", "Größe"), 2: ("ibm437", "▒ αß"), 3: ("iso-8859-1", "ÿ ½ é"),
-    4: ("iso-8859-2", "Łódź"), 5: ("iso-8859-3", "Ħaġar"), 6: ("iso-8859-4", "Žemė ą"), 7: ("iso-8859-5", "Привет"),
-    8: ("iso-8859-6", "سلام"), 9: ("iso-8859-7", "Κρήτη"), 10: ("iso-8859-8", "שלום"), 11: ("iso-8859-9", "Iğdır"),
-    12: ("iso-8859-10", "Þorn ŋ"), 13: ("iso-8859-11", "สวัสด"), 15: ("iso-8859-13", "Žąsis"),
-    16: ("iso-8859-14", "Ŵyth ŷ"), 17: ("iso-8859-15", "5 € œ"), 18: ("iso-8859-16", "Țară „€”"),
-    20: ("shift_jis", "日本語 ｱ"), 21: ("windows-1250", "Łódź – €"), 22: ("windows-1251", "Київ №"),
-    23: ("windows-1252", "„5 €“ Š"), 24: ("windows-1256", "پاكستان"), 25: ("utf-16be", "Aж日"), 26: ("utf-8", "😀 日本"),
-    27: ("us-ascii", "plain"), 28: ("big5", "中文字"), 29: ("gb2312", "汉字"), 30: ("euc-kr", "한국어"),
-    31: ("gbk", "漢字"), 32: ("gb18030", "汉字 ê"), 33: ("utf-16le", "Aж日"), 34: ("utf-32be", "A日"),
-    35: ("utf-32le", "A日"), 170: ("us-ascii", "A B"),
-}
-NO_TEXT = [
-    # what is spelled, and the charset
-    ("\\E{899}\\x80\\xFF", "binary"),
-    ("\\E{9999}ABC", "ECI 9999"),
-    ("\\E{26}\\xFF", "utf-8"),
-    ("\\E{27}\\x80", "us-ascii"),
-    ("\\E{25}ABC", "utf-16be"),
-    ("\\E{3}\\x80", "iso-8859-1"),  # a control character, and not the euro sign
-    ("\\E{11}\\x80", "iso-8859-9"),
-]
-
-
 def charsets():
-    """Bytes behind an ECI are shown as text in its charset, and named so; what is none as it is spelled."""
+    """Bytes behind an ECI are shown as text in its charset, and named so; what is none, or has control characters, as
+    it is spelled."""
+    marked = [row for row in corpus.rows("charsets") if "\\E" in row[0] and "\\F" not in row[0]]
     with unseen():
-        for number, (charset, text) in IN_CHARSETS.items():
-            data = text.encode(charset)
-            line = f"\\E{{{number}}}" + "".join(f"\\x{byte:02X}" for byte in data)
+        for line, charset, *spelled in marked:
             type_in(line, "message")
+            text = spelled[0] if spelled and "\\x" not in spelled[0] else None
             seen = shown()
-            told = f"It is text in {charset.upper()}, as ECI {number} says, of these bytes: " in seen["why"]
-            count.expect(f"ECI {number}", (seen["says"], seen["charset"], told), (text, charset, True))
-        for line, charset in NO_TEXT:
-            type_in(line, "message")
-            count.expect(line, (shown()["says"], shown()["charset"]), (line, None))
+            count.expect(line, (seen["says"], seen["charset"]), (text or line, text and charset))
+            letter = letter_of(line)
+            numbers = [it["number"] for it in letter["marks"]]
+            if text and letter["marks"][0]["place"] == 0 and len(numbers) == 1:
+                told = f"It is text in {charset.upper()}, as ECI {numbers[0]} says."
+                count.expect(f"{line}: what is said", told in seen["why"], True)
+        count.expect("how many", len(marked), 57)
         type_in("A\\E{7}\\xBF\\E{9}\\xD9\\E{26}", "message")
-        several = "A\u041f\u03a9", "utf-8, iso-8859-5, iso-8859-7"
-        count.expect("several in one", (shown()["says"], shown()["charset"]), several)
-        count.expect("said of several", "as ECIs say, of these bytes: A\\xBF\\xD9" in shown()["why"], True)
+        count.expect("said of several", "as ECIs say." in shown()["why"], True)
     as_usual()
 
 
@@ -201,6 +146,7 @@ def charsets():
 
 MESSAGE = "Größe und Maße: 12 × 34 × 56 mm, \u2264 7 kg, \u65e5\u672c\u8a9e"
 LATIN = "Größe 5 µm, Stück für Stück"
+JAPANESE = "ｱ 取扱説明書と部品番号、ｶﾀｶﾅ"
 CARD = """
     const text = (id) => document.getElementById(id).textContent, card = document.getElementById("gathered");
     return card.hidden ? null : { title: text("gathered-title"), whole: text("whole"),
@@ -224,15 +170,15 @@ def parts_of(text, count_of_them, kind="text"):
 
 def decoded(letters):
     """What parts say together, each in the charset of its one mark, or in ASCII."""
-    charset = {3: "iso-8859-1", 26: "utf-8"}
-    name = lambda it: charset[it["marks"][0]["number"]] if it["marks"] else "ascii"
+    charset_of = package.imported().charsets.charset_of
+    name = lambda it: charset_of(it["marks"][0]["number"]) if it["marks"] else "ascii"
     return "".join(bytes(it["items"]).decode(name(it)) for it in letters)
 
 
 def made_in_parts():
     """A message in several symbols: each has its head and its mark, no character is cut, and all together say it; the
     link keeps how many there are and which is shown."""
-    for text, many in ((MESSAGE, 2), (MESSAGE, 16), (LATIN, 3), ("plain ASCII of some length", 4)):
+    for text, many in ((MESSAGE, 2), (MESSAGE, 16), (LATIN, 3), (JAPANESE, 4), ("plain ASCII of some length", 4)):
         grids, letters = parts_of(text, many)
         heads = [it["head"] for it in letters]
         file = heads[0]["file"]
@@ -281,10 +227,8 @@ def made_in_parts():
 def spelled_heads():
     """A head in front of what is spelled, and one that there isn't; so many symbols are made of it as it says."""
     choose("parts", "3")
-    for line, head, state in (
-        ("\\A{2/5:007209}AB", {"part": 2, "parts": 5, "file": [7, 209]}, "Read, as part 2 of 5"),
-        ("\\P\\E{26}AB", "programming", "Read, as reader programming"),
-    ):
+    for line, head, state in (("\\A{2/5:007209}AB", {"part": 2, "parts": 5, "file": [7, 209]}, "Read, as part 2 of 5"),
+                              ("\\P\\E{26}AB", "programming", "Read, as reader programming")):
         type_in(line, "message")
         marks = [{"place": 0, "number": 26}] if "E{" in line else []
         wanted = state, {"items": [65, 66], "marks": marks, "head": head}
@@ -327,7 +271,7 @@ def labels_in_parts():
     chosen("stock", "50x30")
     pages = pages_of(saved("symbols.pdf", "many-pdf"))
     texts_below = [below for _, _, below in pages]
-    wanted = [[f"{line} \\({k}/2\\)"] for line in ("Größe 5 µm", "A second line of text") for k in (1, 2)]
+    wanted = [[f"{line} ({k}/2)"] for line in ("Größe 5 µm", "A second line of text") for k in (1, 2)]
     count.expect("texts below", texts_below, wanted)
     answers = judged([asked_to_read(rows) for _, ((*_, rows),), _ in pages])
     count.expect("their heads", [it["head"]["part"] for it in answers], [1, 2, 1, 2])
@@ -403,7 +347,7 @@ def found_in_parts(grids):
     count.expect("heads in JSON", [it["head"] for it in listed], heads)
     said = [(it["marks"], it["charset"], it["identifier"]) for it in listed]
     count.expect("marks in JSON", said, [([[0, 26]], "utf-8", "]d4")] * 3)
-    table = list(csv.reader(io.StringIO(saved("found.csv", "found-csv").decode())))[1:]
+    table = list(csv.reader(io.StringIO(saved("found.csv", "found-csv").decode("utf-8-sig"))))[1:]
     named = sorted(row[2].rsplit("; ", 1)[-1] for row in table)
     count.expect("parts in CSV", named, [f"part {k} of 3" for k in (1, 2, 3)])
     push("found-copy")
@@ -500,16 +444,6 @@ def told_of_marks():
 BOTH = "return [...document.querySelectorAll('#same strong, #same p')].map((it) => it.textContent)"
 
 
-def fill(slot, text):
-    run(
-        """const area = document.querySelector(arguments[0]);
-           area.value = arguments[1];
-           area.dispatchEvent(new Event('input', { bubbles: true }))""",
-        f"#slot-{slot} textarea",
-        text,
-    )
-
-
 def letters_compared():
     """Two symbols are compared by all that they say; where their texts are the same and their bytes aren't, or their
     symbology identifiers differ, that is said."""
@@ -596,17 +530,5 @@ def any_border():
     as_usual()
 
 
-PARTS = [
-    the_smallest,
-    gs1_in_the_smallest,
-    texts_of_all_scripts,
-    charsets,
-    made_in_parts,
-    labels_in_parts,
-    read_in_parts,
-    parts_by_camera,
-    programs_the_reader,
-    told_of_marks,
-    letters_compared,
-    any_border,
-]
+PARTS = [the_smallest, gs1_in_the_smallest, texts_of_all_scripts, charsets, made_in_parts, labels_in_parts,
+         read_in_parts, parts_by_camera, programs_the_reader, told_of_marks, letters_compared, any_border]

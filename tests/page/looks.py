@@ -13,11 +13,8 @@ def lesson():
     step = lambda: find("step").get_attribute("textContent")
     chips = lambda: run("return [...document.querySelectorAll('#step .chip')].map((it) => it.firstChild.textContent)")
     values = [held for held, _, _ in cells()]
-    count.expect(
-        "the message",
-        (text_of("step-count"), chips()),
-        ("Step 1 of 6: The message", [str(ord(c)) for c in "A" * 10 + "123"]),
-    )
+    count.expect("the message", (text_of("step-count"), chips()),
+                 ("Step 1 of 6: The message", [str(ord(c)) for c in "A" * 10 + "123"]))
     push("step-on")
     count.expect("codewords", ("12 data codewords" in step(), chips()), (True, [str(value) for value in values[:12]]))
     push("step-on")
@@ -28,11 +25,9 @@ def lesson():
     push("to-limit")
     count.expect("damage shows in the sums", sums().split().count("0") < 12, True)
     push("undo", "step-on")
-    run(
-        """const walk = document.getElementById('walk');
+    run("""const walk = document.getElementById('walk');
            walk.value = walk.max;
-           walk.dispatchEvent(new Event('input', { bubbles: true }))"""
-    )
+           walk.dispatchEvent(new Event('input', { bubbles: true }))""")
     path = run("return document.querySelector('#path .way').getAttribute('d')")
     points = [(int(float(x)), int(float(y))) for x, y in re.findall(r"[ML]([\d.]+) ([\d.]+)", path)]
     last_bits = [next((x, y) for number, x, y in bits if number == "8") for _, bits in pointed()]
@@ -51,13 +46,11 @@ def slider():
     while text_of("step-count") != "Step 5 of 6: Places":
         push("step-on" if usable("step-on") else "step-back")
     slide, width = find("walk"), find("walk").rect["width"]
-    run(
-        """globalThis.walked = [];
+    run("""globalThis.walked = [];
            const one = (where) => document.querySelector(where);
            const now = () => [+one('#walk').value, one('#step output').textContent,
                one('#walk-words').textContent.split(',')[0], one('#path .way').getAttribute('d').split('L').length];
-           one('#step').addEventListener('input', () => walked.push(now()));"""
-    )
+           one('#step').addEventListener('input', () => walked.push(now()));""")
     chain = acting().move_to_element_with_offset(slide, 8 - width / 2, 0).click_and_hold()
     for share in (0.3, 0.6, 0.99):
         chain.move_to_element_with_offset(slide, (share - 0.5) * width, 0).pause(0.1)
@@ -78,11 +71,9 @@ def words_and_looks():
     count.expect("a way to double the backslash", button.text, "Spell it with the backslash doubled")
     button.click()
     settle()
-    count.expect(
-        "the backslash is doubled",
-        (find("message").get_attribute("value"), verdict()[1], on.page.switch_to.active_element.get_attribute("id")),
-        ("C:\\\\new", "C:\\new", "message"),
-    )
+    count.expect("the backslash is doubled",
+                 (find("message").get_attribute("value"), verdict()[1],
+                  on.page.switch_to.active_element.get_attribute("id")), ("C:\\\\new", "C:\\new", "message"))
     write("\\A{1/2}")
     find("message-hint").find_element(By.TAG_NAME, "button").click()
     settle()
@@ -95,16 +86,12 @@ def words_and_looks():
         ("a\tb", "a tab"),
     ):
         write(text)
-        count.expect(
-            f"{text!r} is named",
-            text_of("message-hint").startswith(f"Column 2 is {name}, which has no spelling of its own."),
-            True,
-        )
+        count.expect(f"{text!r} is named",
+                     text_of("message-hint").startswith(f"Column 2 is {name}, which has no spelling of its own."), True)
     for text, more in (("A" * 1559, "1 character"), ("0" * 3124, "8 characters"), ("A" * 1642, "84 characters")):
         write(text)
-        count.expect(
-            f"{len(text)} of {text[0]} are too long", f"It is {more} too long." in text_of("message-hint"), True
-        )
+        count.expect(f"{len(text)} of {text[0]} are too long", f"It is {more} too long." in text_of("message-hint"),
+                     True)
     write("123456")
     for name, bad, good in (
         ("millimetres", "0", "0.5"),
@@ -129,11 +116,9 @@ def words_and_looks():
         ),
         [["Codewords", "1", "2"], ["Border", "0", "2"]],
     )
-    count.expect(
-        "what is said of pictures is spoken",
-        [find(it).get_attribute("aria-live") for it in ("picture-hint", "grid-hint", "verdict", "same")],
-        ["polite"] * 4,
-    )
+    count.expect("what is said of pictures is spoken",
+                 [find(it).get_attribute("aria-live") for it in ("picture-hint", "grid-hint", "verdict", "same")],
+                 ["polite"] * 4)
     click(55)
     damaged = grid()
     push("undo-all")
@@ -148,17 +133,13 @@ def words_and_looks():
     push("undo", "undo", "undo")
     count.expect("focus stays", on.page.switch_to.active_element.get_attribute("id"), "undo")
     metrics(1280, 900)
-    count.expect(
-        "the symbol on the first screen",
-        run("scrollTo(0, 0); return document.getElementById('easel').getBoundingClientRect().bottom <= 900"),
-        True,
-    )
+    count.expect("the symbol on the first screen",
+                 run("scrollTo(0, 0); return document.getElementById('easel').getBoundingClientRect().bottom <= 900"),
+                 True)
     usual_metrics()
     media(forced_colors="active")
-    looks = run(
-        """return ['tab-learn', 'tab-read'].map((id) => getComputedStyle(document.getElementById(id)))
-            .map((style) => style.textDecorationLine + style.borderBottomColor)"""
-    )
+    looks = run("""return ['tab-learn', 'tab-read'].map((id) => getComputedStyle(document.getElementById(id)))
+            .map((style) => style.textDecorationLine + style.borderBottomColor)""")
     count.expect("forced colours tell the tabs apart", looks[0] != looks[1], True)
     media(forced_colors="none")
 

@@ -46,17 +46,13 @@ def typed_and_done_at_once():
     for text in ("7", "65", "432", "9876"):
         clean = written(text)
         typed_then(text, learning(pressing("one-more")))
-        count.expect(
-            f"{text} and one codeword more",
-            (shown()["state"], shown()["says"], len(changed(clean, grid()))),
-            ("Read", text, 1),
-        )
+        count.expect(f"{text} and one codeword more", (shown()["state"], shown()["says"], len(changed(clean, grid()))),
+                     ("Read", text, 1))
         typed_then(text, learning(turning(33)))
         count.expect(f"{text} and a module", (shown()["says"], changed(clean, grid())), (text, [33]))
         typed_then(text, learning(pressing("one-more"), pressing("undo")))
-        count.expect(
-            f"{text}, one codeword more, undone", (shown()["why"], grid()), ("Nothing had to be corrected.", clean)
-        )
+        count.expect(f"{text}, one codeword more, undone", (shown()["why"], grid()),
+                     ("Nothing had to be corrected.", clean))
         typed_then(f"{text}0", pressing("copy"))
         count.expect(f"{text}0 is copied", run("return copied.at(-1)").strip(), written(f"{text}0"))
         typed_then(text, pressing("copy-link"))
@@ -69,43 +65,33 @@ def taken_at_once():
     """What takes the symbol above, or the written one, right after it was entered, takes that one."""
     write("123456")
     head = "return document.querySelector('#same strong').textContent"
-    run(
-        """const put = (where, text) => {
+    run("""const put = (where, text) => {
                const node = document.querySelector(where);
                node.value = text;
                node.dispatchEvent(new Event('input', { bubbles: true }));
            };
            put('#slot-b textarea', '654321');
            put('#message', '654321');
-           document.querySelector('#slot-a button').click();"""
-    )
+           document.querySelector('#slot-a button').click();""")
     settle()
     count.expect("a slot takes what was entered last", run(head), "Yes, they say the same.")
     run(COLLECT)
-    run(
-        """const area = document.getElementById('message');
+    run("""const area = document.getElementById('message');
            area.value = '8888';
            area.dispatchEvent(new Event('input', { bubbles: true }));
-           document.getElementById('copy').click();"""
-    )
+           document.getElementById('copy').click();""")
     settle()
     copied = lambda: "".join(run("return copied")).strip()
     count.expect_soon("what is copied is what was entered last", copied, written("8888"))
     run("delete navigator.clipboard.writeText")
-    run(
-        """const area = document.getElementById('message');
+    run("""const area = document.getElementById('message');
            area.value = '777';
            area.dispatchEvent(new Event('input', { bubbles: true }));
-           document.getElementById('tab-read').click(); document.getElementById('take-written').click()"""
-    )
+           document.getElementById('tab-read').click(); document.getElementById('take-written').click()""")
     settle()
-    count.expect(
-        "the written symbol is the one entered last",
-        (shown()["says"], find("grid").get_attribute("value").strip()),
-        ("777", written("777")),
-    )
-    run(
-        """const put = (where, text) => {
+    count.expect("the written symbol is the one entered last",
+                 (shown()["says"], find("grid").get_attribute("value").strip()), ("777", written("777")))
+    run("""const put = (where, text) => {
                const node = document.querySelector(where);
                node.value = text;
                node.dispatchEvent(new Event('input', { bubbles: true }));
@@ -113,23 +99,16 @@ def taken_at_once():
            put('#message', '4444');
            document.getElementById('take-written').click();
            put('#slot-b textarea', '654321');
-           put('#grid', arguments[0]);""",
-        written("55"),
-    )
+           put('#grid', arguments[0]);""", written("55"))
     settle()
-    count.expect(
-        "a grid that is entered before the written symbol is there",
-        (shown()["state"], shown()["says"], find("grid").get_attribute("value")),
-        ("Read", "55", written("55")),
-    )
+    count.expect("a grid that is entered before the written symbol is there",
+                 (shown()["state"], shown()["says"], find("grid").get_attribute("value")),
+                 ("Read", "55", written("55")))
     push("tab-make")
     put("message", "caf\u00e9")
     push("tab-read", "take-written")
-    count.expect(
-        "no written symbol",
-        (shown()["state"], text_of("grid-hint")),
-        ("Nothing is read", "There is no written symbol: the message can’t be taken."),
-    )
+    count.expect("no written symbol", (shown()["state"], text_of("grid-hint")),
+                 ("Nothing is read", "There is no written symbol: the message can’t be taken."))
     push("tab-make")
     write("123456")
 
@@ -163,8 +142,7 @@ TASKS = {"read": "read", "make": "write", "learn": None}  # with their panes
 
 # Plays bursts of acts, as quickly as they say, and tells what the page has come to after each. Meanwhile each frame is
 # looked at: a green verdict on a message must be about what stands in the field.
-PLAY = (
-    """
+PLAY = ("""
     const [bursts, done] = arguments, LINKED_EACH = 10, at = (id) => document.getElementById(id), told = [], wrong = [];
     const put = (id, text) => { at(id).value = text; at(id).dispatchEvent(new Event("input", { bubbles: true })); };
     const tap = ({ across, down }) => {
@@ -206,14 +184,12 @@ PLAY = (
             }));
             const isLooked = told.length %% LINKED_EACH === 0, wait = (then) => setTimeout(then, 20);
             while (isLooked && !mitsubadoor.isLinked()) await new Promise(wait);
-            const linked = isLooked ? location.hash : null;
+            const linked = isLooked ? mitsubadoor.linkKept() : null;
             told.push({ marks, pane: mark.name, shown: shown(), field: at("message").value, linked });
         }
         isOn = false;
         done({ told, wrong });
-    })();"""
-    % SHOWN
-)
+    })();""" % SHOWN)
 
 
 ALL, TELL = "everything undone", "all damage marked as doubtful"
@@ -372,16 +348,10 @@ class Generator:
                 return share
 
     def press(self):
-        here, name = self.panes[self.here], self.chance.choice(
-            ["one-more", "one-more", "undo", "undo", "redo", "undo-all", "tell"]
-        )
-        {
-            "one-more": lambda: here.step(None),
-            "undo": here.undo,
-            "redo": here.redo,
-            "undo-all": here.undo_all,
-            "tell": here.tell,
-        }[name]()
+        here, name = self.panes[self.here], self.chance.choice(["one-more", "one-more", "undo", "undo", "redo",
+                                                                "undo-all", "tell"])
+        {"one-more": lambda: here.step(None), "undo": here.undo, "redo": here.redo, "undo-all": here.undo_all,
+         "tell": here.tell}[name]()
         return {"kind": "push", "id": name}
 
     def accept(self):
@@ -426,13 +396,8 @@ def bursts():
     for (acts, ends, size), now in list(zip(some, told_of["told"]))[1:]:
         for name, end in ends.items():
             pane = now["marks"][name]
-            fault = (
-                differs(end, (pane["past"], pane["now"], pane["future"]))
-                if end[0] is not None
-                else ""
-                if pane["stage"] == "bad"
-                else "no refusal"
-            )
+            fault = (differs(end, (pane["past"], pane["now"], pane["future"])) if end[0] is not None else ""
+                     if pane["stage"] == "bad" else "no refusal")
             odd += [(fault, name, acts)] if fault else []
         if now["linked"]:
             odd += [("linked", now["linked"], acts)] if not is_linked(now, ends, size) else []
@@ -447,18 +412,13 @@ def bursts():
     count.expect(f"each of {len(some)} bursts has come to what was entered and done last", odd[:1], [])
     for limit, both in grids.items():
         more = [] if limit is None else ["--border", str(limit)]
-        count.expect(
-            f"what is read after them, limit {limit}",
-            [shown for _, shown in both],
-            told([text for text, _ in both], *more),
-        )
+        count.expect(f"what is read after them, limit {limit}", [shown for _, shown in both],
+                     told([text for text, _ in both], *more))
     count.expect("rectangles, and what has doubtful modules", len(others) > 300, True)
     answers = judged([question for question, _ in others])
-    count.expect(
-        "what is read of these",
-        [as_program(shown) if shown["state"] != "Refused" else None for _, shown in others],
-        [as_answered(question, answer) for (question, _), answer in zip(others, answers)],
-    )
+    count.expect("what is read of these",
+                 [as_program(shown) if shown["state"] != "Refused" else None for _, shown in others],
+                 [as_answered(question, answer) for (question, _), answer in zip(others, answers)])
     said = [entry["message"] for entry in on.page.get_log("browser")]
     # (it bounds how often an address may change, and says so)
     count.expect("console", [message for message in said if "Throttling navigation" not in message], [])

@@ -12,15 +12,12 @@ def printed():
     """Prints to a PDF as the browser does: the millimetres of each page, and of the dark modules on it from the left to
     the right."""
     body = base64.b64decode(on.page.execute_cdp_cmd("Page.printToPDF", {"preferCSSPageSize": True})["data"])
-    boxes = [
-        [round(float(x) * POINT, 1) for x in box.split()[2:]] for box in re.findall(rb"/MediaBox\s*\[([^\]]*)\]", body)
-    ]
-    streams = [
-        zlib.decompress(stream) for stream in re.findall(rb"/FlateDecode.*?stream\r?\n(.*?)\r?\nendstream", body, re.S)
-    ]
-    return boxes, [
-        width for width in map(dark_width, (text.decode("latin-1") for text in streams if b" cm\n" in text)) if width
-    ]
+    boxes = [[round(float(x) * POINT, 1) for x in box.split()[2:]]
+             for box in re.findall(rb"/MediaBox\s*\[([^\]]*)\]", body)]
+    streams = [zlib.decompress(stream)
+               for stream in re.findall(rb"/FlateDecode.*?stream\r?\n(.*?)\r?\nendstream", body, re.S)]
+    return boxes, [width for width in map(dark_width, (text.decode("latin-1") for text in streams if b" cm\n" in text))
+                   if width]
 
 
 def dark_width(content):
@@ -46,12 +43,9 @@ def dark_width(content):
 
 
 def paper_is(name, millimetres):
-    run(
-        """const choice = document.getElementById('paper-size');
+    run("""const choice = document.getElementById('paper-size');
            choice.value = arguments[0];
-           choice.dispatchEvent(new Event('change', { bubbles: true }))""",
-        name,
-    )
+           choice.dispatchEvent(new Event('change', { bubbles: true }))""", name)
     put("millimetres", millimetres)
 
 
@@ -80,23 +74,12 @@ def printed_at_its_size():
         before = asked()
         push("print")
         boxes, widths = printed()
-        count.expect(
-            f"{millimetres} mm on {name}",
-            (
-                asked() - before,
-                [
-                    [round(side) if side > 7.5 and side != 215.9 and side != 279.4 else side for side in box]
-                    for box in boxes
-                ],
-                widths,
-            ),
-            (1, [page], [round(10 * float(millimetres), 2)]),
-        )
-        count.expect(
-            f"{millimetres} mm on {name}: it is said",
-            text_of("print-size"),
-            f"{length_of(millimetres)} × {length_of(millimetres)} mm with 2 modules of quiet zone",
-        )
+        count.expect(f"{millimetres} mm on {name}",
+                     (asked() - before,
+                      [[round(side) if side > 7.5 and side != 215.9 and side != 279.4 else side for side in box]
+                       for box in boxes], widths), (1, [page], [round(10 * float(millimetres), 2)]))
+        count.expect(f"{millimetres} mm on {name}: it is said", text_of("print-size"),
+                     f"{length_of(millimetres)} × {length_of(millimetres)} mm with 2 modules of quiet zone")
     for name, millimetres, room in (
         ("a4", "20", "A4 has room for 180 mm"),
         ("a4", "12.9", "A4 has room for 180 mm"),
@@ -105,22 +88,13 @@ def printed_at_its_size():
         paper_is(name, millimetres)
         before = asked()
         push("print")
-        count.expect(
-            f"{millimetres} mm on {name} isn't printed",
-            (
-                asked() - before,
-                room in text_of("print-size"),
-                "bad" in find("print-size").get_attribute("class"),
-                room in text_of("toast"),
-            ),
-            (0, True, True, True),
-        )
+        count.expect(f"{millimetres} mm on {name} isn't printed",
+                     (asked() - before, room in text_of("print-size"),
+                      "bad" in find("print-size").get_attribute("class"), room in text_of("toast")),
+                     (0, True, True, True))
         boxes, widths = printed()
-        count.expect(
-            f"{millimetres} mm on {name}, by the browser's own command",
-            (len(boxes), widths, room in text_of("paper")),
-            (1, [], True),
-        )
+        count.expect(f"{millimetres} mm on {name}, by the browser's own command",
+                     (len(boxes), widths, room in text_of("paper")), (1, [], True))
     paper_is("a4", "0.5")
 
 
@@ -132,19 +106,14 @@ def text_on_paper():
         boxes, _ = printed()
         said = text_of("paper")
         shown = re.match(r"([A0]+)(?:… and ([\d,]+) characters? more)?", said)
-        count.expect(
-            f"{len(text)} characters and {millimetres} mm",
-            (len(boxes), len(shown[1]) + int((shown[2] or "0").replace(",", "")), shown[2] is not None),
-            (1, len(text), is_cut),
-        )
+        count.expect(f"{len(text)} characters and {millimetres} mm",
+                     (len(boxes), len(shown[1]) + int((shown[2] or "0").replace(",", "")), shown[2] is not None),
+                     (1, len(text), is_cut))
     paper_is("a4", "0.5")
     write("(01)09506000134353")
     printed()
-    count.expect(
-        "a wrong check digit on paper",
-        "It isn’t right as GS1 data: (01) GTIN, the check digit 3 should be 2." in text_of("paper"),
-        True,
-    )
+    count.expect("a wrong check digit on paper",
+                 "It isn’t right as GS1 data: (01) GTIN, the check digit 3 should be 2." in text_of("paper"), True)
     write("(01)09506000134352")
     printed()
     count.expect("a right one", "isn’t right" in text_of("paper"), False)
@@ -177,28 +146,22 @@ def sheets():
         count.expect(f"a sheet with {text[-20:]!r}", (asked(), text_of("sheet-hint")), (0, why))
     paper_is("label", "1")
     put("messages", "12\n0123456789\n7")
-    push("print-sheet")
+    push("label-text", "print-sheet")
     boxes, widths = printed()
-    count.expect(
-        "labels, each on a page of its own",
-        (asked(), [[round(side) for side in box] for box in boxes], widths),
-        (1, [[16, 16]] * 3, [10, 12, 10]),
-    )
+    count.expect("labels, each on a page of its own",
+                 (asked(), [[round(side) for side in box] for box in boxes], widths), (1, [[16, 16]] * 3, [10, 12, 10]))
     run("dispatchEvent(new Event('afterprint'))")
+    push("label-text")
     paper_is("a4", "0.5")
     bytes_of = "\\xE9\\xE8\\xEA\\xE9\\xE8\\xEA"
     put("messages", bytes_of)
-    for profile, words in (
-        (0, "1 symbol is on the sheet."),
-        (1, "1 symbol is on the sheet, stored as bytes where that is smaller."),
-    ):
+    for profile, words in ((0, "1 symbol is on the sheet."),
+                           (1, "1 symbol is on the sheet, stored as bytes where that is smaller.")):
         push(f"profile-{profile}", "print-sheet")
         side = written(bytes_of, profile).index("\n")
-        count.expect(
-            f"a sheet under profile {profile}",
-            (run("return document.querySelector('#paper svg').getAttribute('viewBox')"), text_of("sheet-hint")),
-            (f"-2 -2 {side + 4} {side + 4}", words),
-        )
+        count.expect(f"a sheet under profile {profile}",
+                     (run("return document.querySelector('#paper svg svg').getAttribute('viewBox')"),
+                      text_of("sheet-hint")), (f"-2 -2 {side + 4} {side + 4}", words))
         run("dispatchEvent(new Event('afterprint'))")
     push("profile-0")
     run("document.getElementById('sheet').open = false")

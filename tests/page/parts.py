@@ -1,78 +1,29 @@
 """The parts of the page's test, and how one is run in the browser."""
 import pathlib
 
-from tests.page import (
-    bounds,
-    conduct,
-    damage,
-    elements,
-    endurance,
-    everyone,
-    giving,
-    history,
-    installed,
-    labels,
-    letters,
-    looks,
-    order,
-    paper,
-    photographs,
-    pictures,
-    sights,
-    sizes,
-    tasks,
-    texts,
-)
-from tests.page.stage import Failed, count, on, run, settle, text_of, to_top, wait_for
+from tests.page import (bounds, conduct, damage, elements, endurance, everyone, first, giving, history, installed,
+                        labels, kept, letters, looks, order, paper, photographs, pictures, several, sights, sizes,
+                        tasks, texts)
+from tests.page.stage import Failed, count, forget, on, run, settle, text_of, to_top, unfold, wait_for
 
 # (the longest last)
-PARTS = [
-    everyone.one_file,
-    damage.codewords,
-    damage.by_keys,
-    damage.dragged,
-    damage.touched,
-    damage.border,
-    damage.fixed_square,
-    damage.another_message,
-    texts.pasted,
-    pictures.pictures,
-    pictures.other_codes,
-    texts.compared,
-    pictures.saved,
-    texts.spellings,
-    damage.small_symbol,
-    everyone.to_be_seen_by_all,
-    texts.profiles,
-    *conduct.PARTS,
-    *giving.PARTS,
-    *looks.PARTS,
-    *tasks.PARTS,
-    *order.PARTS,
-    *history.PARTS,
-    *elements.PARTS,
-    *paper.PARTS,
-    *labels.PARTS,
-    *sights.PARTS,
-    *installed.PARTS,
-    *sizes.PARTS,
-    *letters.PARTS,
-    *bounds.PARTS,
-    damage.blocks,
-    damage.sizes,
-    *endurance.PARTS,
-    damage.much_damage,
-    *photographs.PARTS,
-    texts.other_encoders,
-    everyone.old_browser,
-]
+PARTS = [everyone.one_file, damage.codewords, damage.by_keys, damage.dragged, damage.touched, damage.border,
+         damage.fixed_square, damage.another_message, texts.pasted, pictures.pictures, pictures.other_codes,
+         pictures.printed, texts.compared, pictures.saved, texts.spellings, damage.small_symbol,
+         everyone.to_be_seen_by_all, texts.profiles, *conduct.PARTS, *giving.PARTS, *looks.PARTS, *tasks.PARTS,
+         *order.PARTS, *first.PARTS, *history.PARTS, *kept.PARTS, *elements.PARTS, *paper.PARTS, *labels.PARTS,
+         *sights.PARTS, *several.PARTS, *installed.PARTS, *sizes.PARTS, *letters.PARTS, *bounds.PARTS, damage.blocks,
+         damage.sizes, *endurance.PARTS,
+         damage.much_damage, *photographs.PARTS, texts.other_encoders, everyone.old_browser]
 
 
 def load(file):
+    forget()
     on.page.get("about:blank")  # else an address that differs in its fragment alone loads nothing
-    on.page.get(pathlib.Path(file).resolve().as_uri())
+    on.page.get(f"{pathlib.Path(file).resolve().as_uri()}#make")
     if not wait_for(lambda: run("return 'mitsubadoor' in globalThis")):
         count.expect("the page starts", text_of("broken"), "")
+    unfold("more-ways")  # so that all buttons can be pressed
     settle()
 
 

@@ -26,9 +26,8 @@ def made():
         if subprocess.run([DEBIANS, "-c", "import cv2, numpy"], stderr=subprocess.DEVNULL, check=False).returncode:
             print("left out: photographs; not installed: python3-opencv or python3-numpy")
             return folder, []
-        subprocess.run(
-            [DEBIANS, MAKER, "--program", on.program, "--share", str(SHARE), folder], check=True, timeout=1800
-        )
+        subprocess.run([DEBIANS, MAKER, "--program", on.program, "--share", str(SHARE), folder], check=True,
+                       timeout=1800)
     return folder, json.loads((folder / "index.json").read_text())
 
 
@@ -45,9 +44,8 @@ def photographs():
         if is_read and not said.startswith(f"{file.name}: "):
             count.expect(f"{file.name}: what is said", said, file.name)
     if pictures:
-        count.expect(
-            f"{read} of {len(pictures)} photographs read, at least nine of ten", 10 * read >= 9 * len(pictures), True
-        )
+        count.expect(f"{read} of {len(pictures)} photographs read, at least nine of ten",
+                     10 * read >= 9 * len(pictures), True)
         count.expect("at least as many as dmtxread", dmtxread_misses(folder, pictures, len(pictures) - read), True)
         print(f"photographs: {read} of {len(pictures)} read")
     push("tab-make")
@@ -83,11 +81,8 @@ def turned_about():
         grid = [row[::-1] for row in rows] if mirrored else rows
         body = slanted(grid, scale, dark, light, specks)
         said = opened(name, body)
-        count.expect(
-            name,
-            (shown()["state"], shown()["says"], said),
-            ("Read", "Turned about", f"{name}: {side} × {side}. The symbol is {how}, and shown upright."),
-        )
+        count.expect(name, (shown()["state"], shown()["says"], said),
+                     ("Read", "Turned about", f"{name}: {side} × {side}. The symbol is {how}, and shown upright."))
 
 
 def slanted(rows, scale, dark, light, specks):
@@ -102,13 +97,8 @@ def slanted(rows, scale, dark, light, specks):
             c, r = (across * cosine + down * sine) / scale + side / 2, (
                 down * cosine - across * sine
             ) / scale + side / 2
-            is_dark = (
-                0 <= c < side
-                and 0 <= r < side
-                and rows[int(r)][int(c)] == "1"
-                or specks
-                and (7 * x + 13 * y) % specks == 0
-            )
+            is_dark = (0 <= c < side and 0 <= r < side and rows[int(r)][int(c)] == "1"
+                       or specks and (7 * x + 13 * y) % specks == 0)
             line.append(dark if is_dark else light)
         lines.append(bytes(line))
     return chunks(width, width, b"".join(lines))
@@ -147,9 +137,8 @@ def camera():
     before = asked()
     run(CAMERA, files, True)
     wait_for(lambda: asked() > before + 1)
-    count.expect(
-        "the camera looks on", (find("viewfinder").is_displayed(), shown()["says"]), (True, "Every answer is proved.")
-    )
+    count.expect("the camera looks on", (find("viewfinder").is_displayed(), shown()["says"]),
+                 (True, "Every answer is proved."))
     for k, message in enumerate(messages):
         run("globalThis.shown = arguments[0]", list(range(k + 1)))
         says = lambda: (shown()["state"], shown()["says"])
@@ -230,11 +219,9 @@ def camera_ends():
     why = "The camera is off, since something else was entered."
     count.expect("a grid that was typed", (tracks(), said(), shown()["says"]), (["ended"], why, "typed"))
     on_again()
-    run(
-        """Object.defineProperty(document, 'hidden', { configurable: true, value: true });
+    run("""Object.defineProperty(document, 'hidden', { configurable: true, value: true });
            document.dispatchEvent(new Event('visibilitychange'));
-           delete document.hidden;"""
-    )
+           delete document.hidden;""")
     why = "The camera is off, since the page was out of sight."
     count.expect("out of sight", (tracks(), said()), (["ended"], why))
     run("streams.length = 0; document.getElementById('camera').click()")

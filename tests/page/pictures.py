@@ -5,53 +5,27 @@ import struct
 import subprocess
 import zlib
 
-from tests.page.stage import (
-    Keys,
-    agree,
-    count,
-    find,
-    grid,
-    on,
-    push,
-    put,
-    run,
-    settle,
-    shown,
-    text_of,
-    turned,
-    unfold,
-    usable,
-    wait_for,
-    write,
-    written,
-)
+from tests.page.stage import (Keys, agree, count, find, grid, on, push, put, run, settle, shown, text_of, turned,
+                              unfold, usable, wait_for, write, written)
 
 
-def png(rows, scale, around, light=255, dark=0):
-    """A grey picture of a grid."""
+def png(rows, scale, around, light=255, dark=0, speck=0):
+    """A grey picture of a grid, perhaps with a speck of so many pixels in a corner, so that it is no grid alone."""
     down, across = len(rows) + 2 * around, len(rows[0]) + 2 * around
     blank = [bytes([light]) * (across * scale)] * (around * scale)
-    lines = (
-        blank
-        + [
-            b"".join(bytes([dark if module == "1" else light]) * scale for module in "0" * around + row + "0" * around)
-            for row in rows
-            for _ in range(scale)
-        ]
-        + blank
-    )
+    margin = "0" * around
+    inner = [b"".join(bytes([dark if module == "1" else light]) * scale for module in margin + row + margin)
+             for row in rows for _ in range(scale)]
+    lines = blank + inner + blank
+    lines[:speck] = [bytes([dark]) * speck + line[speck:] for line in lines[:speck]]
     return chunks(across * scale, down * scale, b"".join(b"\0" + line for line in lines))
 
 
 def chunks(width, height, lines):
     """The file of a grey picture, of lines with a zero in front of each."""
     chunk = lambda kind, body: struct.pack(">I", len(body)) + kind + body + struct.pack(">I", zlib.crc32(kind + body))
-    return (
-        b"\x89PNG\r\n\x1a\n"
-        + chunk(b"IHDR", struct.pack(">IIBBBBB", width, height, 8, 0, 0, 0, 0))
-        + chunk(b"IDAT", zlib.compress(lines, 1))
-        + chunk(b"IEND", b"")
-    )
+    return (b"\x89PNG\r\n\x1a\n" + chunk(b"IHDR", struct.pack(">IIBBBBB", width, height, 8, 0, 0, 0, 0))
+            + chunk(b"IDAT", zlib.compress(lines, 1)) + chunk(b"IEND", b""))
 
 
 def opened(name, body):
@@ -87,41 +61,21 @@ def pictures():
         said = opened(name, png(turned(text, quarters, mirrored, False).split("\n"), scale, around, *grey))
         count.expect(f"picture {name}", grid(), text)
         agree(f"picture {name}")
-        how = ", and ".join(
-            filter(
-                None,
-                [
-                    inverted and "inverted, light for dark",
-                    mirrored and "mirrored left to right",
-                    ["", "turned a quarter to the right", "turned upside down", "turned a quarter to the left"][
-                        quarters
-                    ],
-                ],
-            )
-        )
+        how = ", and ".join(filter(None,
+                                   [inverted and "inverted, light for dark", mirrored and "mirrored left to right",
+                                    ["", "turned a quarter to the right", "turned upside down",
+                                     "turned a quarter to the left"][quarters]]))
         side = text.index("\n")
-        count.expect(
-            f"picture {name}: said",
-            said,
-            f"{name}: {side} × {side}. "
-            + (f"The symbol is {how}, and shown upright." if how else "Read as it stands."),
-        )
+        count.expect(f"picture {name}: said", said,
+                     f"{name}: {side} × {side}. "
+                     + (f"The symbol is {how}, and shown upright." if how else "Read as it stands."))
     rows = written("123456").split("\n")
-    spoilt = [
-        rows[0],
-        *(row[0] + row[1:9].translate(str.maketrans("01", "10")) + row[9] for row in rows[1:5]),
-        *rows[5:],
-    ]
+    spoilt = [rows[0], *(row[0] + row[1:9].translate(str.maketrans("01", "10")) + row[9] for row in rows[1:5]),
+              *rows[5:]]
     said = opened("i.png", png(spoilt, 8, 3))
-    count.expect(
-        "a symbol that isn't read is shown as it stands",
-        (said, shown()["state"]),
-        (
-            "i.png: 10 × 10. It can’t be read as it stands, nor turned, mirrored or inverted. It is shown as it "
-            "stands.",
-            "Refused",
-        ),
-    )
+    count.expect("a symbol that isn't read is shown as it stands", (said, shown()["state"]),
+                 ("i.png: 10 × 10. It can’t be read as it stands, nor turned, mirrored or inverted. It is shown as it "
+                  "stands.", "Refused"))
     before = grid()
     noise = ["".join(random.choice("01") for _ in range(23)) for _ in range(23)]
     no_symbol = "No symbol that can be read was found in the picture."
@@ -138,13 +92,38 @@ def pictures():
         ("half.png", whole[: len(whole) // 2], "The file is cut off: the end of the picture is missing."),
     ):
         count.expect(f"{name} is no symbol", opened(name, body).split(LIKEST)[0], f"{name}: {why}")
-        count.expect(
-            f"{name}: no verdict of the one before",
-            (shown()["state"], shown()["says"], usable("save-png")),
-            ("Nothing is read", "", False),
-        )
-    count.expect("what isn't opened changes nothing", grid(), before)
+        count.expect(f"{name}: no verdict of the one before", (shown()["state"], shown()["says"], usable("save-png")),
+                     ("Nothing is read", "", False))
+    count.expect("no symbol of another picture is left", (grid(), before != ""), ("", True))
     push("tab-make")
+
+
+def printed():
+    """How good the print is stands beside what is read in a picture, if that is no grid alone, and beside nothing
+    else."""
+    push("tab-read")
+    rows = written("Mitsubadoor").split("\n")
+    table = lambda: run("return [...document.querySelectorAll('#print-quality tbody tr')]"
+                        ".map((row) => [...row.cells].map((cell) => cell.textContent))")
+    for name, light, dark, grade, contrast in (("a.png", 255, 0, "A", "100 %"), ("b.png", 200, 90, "C", "43 %"),
+                                               ("c.png", 150, 120, "F", "12 %")):
+        opened(name, png(rows, 8, 6, light, dark, 5))
+        told = table()
+        count.expect(f"{name}: contrast", told[0], [grade, "contrast", contrast])
+        count.expect(f"{name}: the rest", [cells[0] for cells in told[1:]], [*"AAAA", *"––––"])
+        count.expect(f"{name}: damage", [cells[2] for cells in told[6:8]], ["none", "none"])
+    torn = ["0" + row[1:] if 3 <= k < 6 else row for k, row in enumerate(rows)]
+    opened("torn.png", png(torn, 8, 6, speck=5))
+    count.expect("a torn border", [cells[2] for cells in table()[6:]],
+                 [f"{round(300 / len(rows))} % on the left", "none", "the left border, rows 4 to 6"])
+    opened("grid.png", png(rows, 8, 6))
+    count.expect("of a grid there is no print", (unseen_print(), table()), (True, []))
+    push("tab-make")
+    count.expect("nor of what is made", unseen_print(), True)
+
+
+def unseen_print():
+    return run("return document.getElementById('print-quality').hidden")
 
 
 # A QR code of version 1, which says `A QR code`: of each row its modules as a number, as zint draws it.
@@ -184,12 +163,8 @@ def saved():
     for file in (svg, picture):
         file.unlink(missing_ok=True)
     push("save-svg", "save-png")
-    wait_for(
-        lambda: svg.exists()
-        and svg.read_bytes().endswith(b"</svg>\n")
-        and picture.exists()
-        and picture.read_bytes()[-8:-4] == b"IEND"
-    )
+    wait_for(lambda: svg.exists() and svg.read_bytes().endswith(b"</svg>\n") and picture.exists()
+             and picture.read_bytes()[-8:-4] == b"IEND")
     text = svg.read_text()
     count.expect(
         "SVG",
@@ -199,24 +174,17 @@ def saved():
     body = picture.read_bytes()
     at = body.index(b"pHYs") + 4
     width, across, down, unit = (*struct.unpack(">I", body[16:20]), *struct.unpack(">IIB", body[at : at + 9]))
-    count.expect(
-        "PNG: pixels a metre",
-        (across, down, unit, zlib.crc32(body[at - 4 : at + 9])),
-        (25000, 25000, 1, struct.unpack(">I", body[at + 9 : at + 13])[0]),
-    )
+    count.expect("PNG: pixels a metre", (across, down, unit, zlib.crc32(body[at - 4 : at + 9])),
+                 (25000, 25000, 1, struct.unpack(">I", body[at + 9 : at + 13])[0]))
     count.expect("PNG: millimetres", round(1000 * width / across, 3), 5.6)
     push("tab-read")
     write("other")
     for name, file in (("SVG", svg), ("PNG", picture)):
-        count.expect(
-            f"{name} opened again",
-            (opened(f"again{file.suffix}", file.read_bytes()), grid()),
-            (f"again{file.suffix}: 10 × 10. Read as it stands.", written("123456")),
-        )
+        count.expect(f"{name} opened again", (opened(f"again{file.suffix}", file.read_bytes()), grid()),
+                     (f"again{file.suffix}: 10 × 10. Read as it stands.", written("123456")))
     if shutil.which("dmtxread"):
-        out = subprocess.run(
-            ["dmtxread", "-n", str(picture)], stdout=subprocess.PIPE, timeout=300, check=False
-        ).stdout.decode()
+        out = subprocess.run(["dmtxread", "-n", str(picture)], stdout=subprocess.PIPE, timeout=300,
+                             check=False).stdout.decode()
         count.expect("PNG by dmtxread", out.strip(), "123456")
     else:
         print("left out: the saved picture read by another reader, since dmtxread isn't installed")
@@ -232,7 +200,6 @@ def saved():
     push("tab-make")
     find("message").send_keys(Keys.CONTROL, "a", Keys.NULL)
     find("message").send_keys(Keys.CONTROL, "v", Keys.NULL)
-    count.expect(
-        "a grid that is pasted as a message", (find("pane-read").is_displayed(), shown()["says"]), (True, "Mitsubadoor")
-    )
+    count.expect("a grid that is pasted as a message", (find("pane-read").is_displayed(), shown()["says"]),
+                 (True, "Mitsubadoor"))
     push("tab-make")

@@ -17,13 +17,13 @@ typedef struct input {
 
 typedef struct head {
     char name[20];           /* of the call */
-    uint32_t widths[INPUTS];     /* of the inputs */
+    uint32_t widths[INPUTS]; /* of the inputs */
     uint32_t counts[INPUTS];
     uint32_t is_counted[INPUTS]; /* whether the call is given the count */
     uint32_t number_count;
-    uint32_t numbers[5];     /* the call's other arguments, but for the output */
+    uint32_t numbers[5]; /* the call's other arguments, but for the output */
     uint32_t answer;
-    uint32_t output_size;    /* 0 if the call has none but its answer */
+    uint32_t output_size; /* 0 if the call has none but its answer */
 } head;
 
 static void put(const void *bytes, size_t size) {

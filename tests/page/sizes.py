@@ -2,58 +2,22 @@
 modules that the reader is told to be doubtful, linked, compared, and measured on labels. The page's library judges,
 without the page; the marks that another encoder made in every size stand beside it."""
 import base64
-import functools
 import io
 import math
 import random
 import re
 import zipfile
 
+from tests import corpus
 from tests.page.conduct import linked, started
 from tests.page.history import fields
-from tests.page.judge import (
-    SHAPES,
-    asked_to_read,
-    asked_to_write,
-    in_lines,
-    items_of,
-    judged,
-    letter_of,
-    table,
-    written_in,
-)
+from tests.page.judge import (SHAPES, asked_to_read, asked_to_write, in_lines, items_of, judged, letter_of, table,
+                              written_in)
 from tests.page.labels import chosen, pages_of, saved
 from tests.page.paper import paper_is
 from tests.page.pictures import chunks, opened, png
-from tests.page.stage import (
-    QUIET,
-    acting,
-    cells,
-    changed,
-    choose,
-    click,
-    coloured,
-    count,
-    drawn,
-    find,
-    flat,
-    grid,
-    offset,
-    on,
-    push,
-    put,
-    run,
-    settle,
-    shown,
-    text_of,
-    turned,
-    unfold,
-    write,
-    written,
-)
-from tests.support import places
-
-MARKS = places.path("tests", "marks", "every-size.txt")
+from tests.page.stage import (QUIET, acting, cells, changed, choose, click, coloured, count, drawn, find, flat, grid,
+                              offset, on, push, put, run, settle, shown, text_of, turned, unfold, write, written)
 
 
 def agree_with_judge(name, line=None):
@@ -68,10 +32,8 @@ def agree_with_judge(name, line=None):
     size = table()[name_of(grid())]
     checks = size["check"] // size["blocks"]
     told_of = lambda erased, left: f"{erased} doubtful; {left} of {checks} checks left" if erased else size["limit"]
-    blocks = [
-        f"{wrong} wrong, {told_of(erased, left)}"
-        for wrong, erased, left in zip(answer["corrected"], answer["erased"], answer["left"])
-    ]
+    blocks = [f"{wrong} wrong, {told_of(erased, left)}"
+              for wrong, erased, left in zip(answer["corrected"], answer["erased"], answer["left"])]
     count.expect(f"{name}: meters", seen["meters"][:-1], blocks)
     count.expect(f"{name}: border", seen["meters"][-1].split(" ")[0], str(answer["border"]))
     if line is not None:
@@ -168,40 +130,15 @@ def sizes_by_shape():
 
 def refusal_in(size):
     """Whether it is said that a size, or no size of a shape, holds the message."""
-    whose = {
-        "square": "No square up to 144 × 144 modules holds",
-        "rectangle": "No rectangle up to 16 × 48 modules holds",
-        "extended": "No rectangle up to 26 × 64 modules holds",
-        "any": "No size holds",
-    }
+    whose = {"square": "No square up to 144 × 144 modules holds",
+             "rectangle": "No rectangle up to 16 × 48 modules holds",
+             "extended": "No rectangle up to 26 × 64 modules holds", "any": "No size holds"}
     begin = whose.get(size) or f"{words_of(size)} modules don’t hold"
     said = text_of("message-hint")
     return said.startswith(f"{begin} this message in this form. It is ") and " too long." in said
 
 
 # ---- Read
-
-
-@functools.cache
-def marks():
-    """The marks of another encoder in every size: rows, columns, what they say, and their grids."""
-    found = []
-    with open(MARKS, encoding="latin-1") as file:
-        for record in file.read().split("\n\n"):
-            lines = [line for line in record.split("\n") if not line.startswith("#")]
-            if len(lines) > 3:
-                rows, columns = map(int, lines[0].split()[1:3])
-                found.append((lines[0], rows, columns, lines[2], "\n".join(lines[3:])))
-    return found
-
-
-def printed(line):
-    """The letter of a line of the marks, whose head stands in front of the rest."""
-    part, programming = re.match(r"\\A\{(\d+)/(\d+) (\d+) (\d+)\}", line), line.startswith("\\P")
-    if not part:
-        return letter_of(line.removeprefix("\\P"), "programming" if programming else None)
-    number, of, *file = map(int, part.groups())
-    return letter_of(line[part.end() :], {"part": number, "parts": of, "file": file})
 
 
 ANSWERED = """
@@ -216,15 +153,16 @@ def marks_of_every_size():
     codewords stand for that."""
     push("tab-read")
     letters = 0
-    for head, rows, columns, line, text in marks():
+    marks = corpus.marks("sizes")
+    for mark in marks:
+        head, text, wanted = mark.name, "\n".join(mark.lines), letter_of(mark.said)
         put("grid", text)
-        count.expect(f"{head}: as it stands", (grid(), shown()["side"]), (text, rows))
-        wanted = printed(line)
+        count.expect(f"{head}: as it stands", (grid(), shown()["side"]), (text, mark.rows))
         items, numbers = wanted["items"], [it["number"] for it in wanted["marks"]]
         said = {"letter": wanted, "told": items, "marks": numbers, "untold": 0}
         count.expect(head, (shown()["state"].split(",")[0], run(ANSWERED)), ("Read", said))
         letters += bool(numbers or wanted["head"])
-    sizes = {name_of(text) for *_, text in marks()}
+    sizes = {name_of("\n".join(mark.lines)) for mark in marks}
     count.expect("every new size is among them", sorted(set(new_sizes()) - sizes), [])
     count.expect("some have more than items", letters, 18)
 
@@ -255,29 +193,16 @@ def in_all_ways():
             rows = turned(text, *way[:2], False).split("\n")
             light, dark = (40, 210) if inverted else (230, 20)
             said = opened(f"{name}.png", png(rows, scale, around, light, dark))
-            count.expect(
-                f"a picture of {name} {how}, {scale} pixels",
-                (said, grid(), shown()["says"]),
-                (
-                    f"{name}.png: {words_of(name)}. "
-                    + (f"The symbol is {how}, and shown upright." if how else "Read as it stands."),
-                    text,
-                    line,
-                ),
-            )
+            count.expect(f"a picture of {name} {how}, {scale} pixels", (said, grid(), shown()["says"]),
+                         (f"{name}.png: {words_of(name)}. "
+                          + (f"The symbol is {how}, and shown upright." if how else "Read as it stands."), text, line))
     text = written_in("Rectangle", "8x32")
     beyond = "".join("0" if module == "1" and k % 32 and k < 224 else module for k, module in enumerate(flat(text)))
     lines = "\n".join(beyond[k : k + 32] for k in range(0, 256, 32))
     put("grid", turned(lines, 1, False, False))
-    count.expect(
-        "one that can't be read lies on its side",
-        (text_of("grid-hint"), grid()),
-        (
-            "It can’t be read as it stands, nor turned, mirrored or inverted. It is shown upright, as if it were "
-            "turned a quarter to the right.",
-            lines,
-        ),
-    )
+    count.expect("one that can't be read lies on its side", (text_of("grid-hint"), grid()),
+                 ("It can’t be read as it stands, nor turned, mirrored or inverted. It is shown upright, as if it were "
+                  "turned a quarter to the right.", lines))
     push("tab-make")
 
 
@@ -394,13 +319,9 @@ def rectangles_are_compared():
         (one, written_in("Rectangles", "8x32"), "No, they say different things."),
     ):
         for name, text in (("a", a), ("b", b)):
-            run(
-                """const area = document.querySelector(arguments[0]);
+            run("""const area = document.querySelector(arguments[0]);
                    area.value = arguments[1];
-                   area.dispatchEvent(new Event('input', { bubbles: true }))""",
-                f"#slot-{name} textarea",
-                text,
-            )
+                   area.dispatchEvent(new Event('input', { bubbles: true }))""", f"#slot-{name} textarea", text)
         settle()
         count.expect(f"{name_of(a)} and {name_of(b)}", verdict(), wanted)
     said = run("return document.querySelector('#slot-a svg').getAttribute('aria-label')")
@@ -413,10 +334,8 @@ def rectangles_are_compared():
 
 def doubts():
     """Which modules the reader is told to be doubtful."""
-    return run(
-        """const { doubtful } = mitsubadoor.mark;
-           return doubtful ? [...doubtful.keys()].filter((k) => doubtful[k]) : []"""
-    )
+    return run("""const { doubtful } = mitsubadoor.mark;
+           return doubtful ? [...doubtful.keys()].filter((k) => doubtful[k]) : []""")
 
 
 def doubted():
@@ -459,11 +378,9 @@ def doubted():
     agree_with_judge("at the limit", line)
     push("tell")
     answer = agree_with_judge("told of all that was turned over", line)
-    count.expect(
-        "each doubtful codeword takes one check codeword",
-        (answer["corrected"], answer["erased"], answer["left"]),
-        ([0], [size["limit"]], [size["check"] - size["limit"]]),
-    )
+    count.expect("each doubtful codeword takes one check codeword",
+                 (answer["corrected"], answer["erased"], answer["left"]),
+                 ([0], [size["limit"]], [size["check"] - size["limit"]]))
     count.expect("the cells say so", kinds("corrected erased"), size["limit"])
     told_of = changed(clean, grid())
     count.expect("what is told", doubts(), told_of)
@@ -508,11 +425,10 @@ def doubted_when_read():
     for cell in first_bits[: table()[name]["check"]]:
         click(cell, side=10)
     agree_with_judge("all checks spent", None)
-    count.expect(
-        "no green verdict",
-        (shown()["state"], find("verdict").get_attribute("class"), "No check codeword is left" in shown()["why"]),
-        ("Read, but nothing shows that it is right", "card verdict other", True),
-    )
+    count.expect("no green verdict",
+                 (shown()["state"], find("verdict").get_attribute("class"),
+                  "No check codeword is left" in shown()["why"]),
+                 ("Read, but nothing shows that it is right", "card verdict other", True))
     push("undo")
     count.expect("one left", shown()["state"], "Read")
     push("brush-turn", "undo-all", "tab-make")
@@ -523,7 +439,7 @@ def damaged_at_random():
     answers."""
     chance = random.Random(5)
     names = list(table())
-    questions, cases = [], []
+    cases = []
     push("tab-read")
     for _ in range(60):
         name = chance.choice(names)
@@ -574,16 +490,14 @@ def labels_of_rectangles():
         x, y = (50 - wide) / 2 + QUIET * 0.4, (30 - high - 3) / 2 + QUIET * 0.4
         ((left, top, module, drawn_there),) = symbols
         count.expect(f"a label of {line}: its size and text", (size, texts), ([50, 30], [line]))
-        count.expect(
-            f"a label of {line}: where it stands",
-            [round(it, 2) for it in (left, top, module)],
-            [round(x, 2), round(y, 2), 0.4],
-        )
+        count.expect(f"a label of {line}: where it stands", [round(it, 2) for it in (left, top, module)],
+                     [round(x, 2), round(y, 2), 0.4])
         count.expect(f"a label of {line}: its modules", drawn_there, text)
     chosen("stock", "none")
+    paper_is("label", "0.4")
     pages = pages_of(saved("symbols.pdf", "many-pdf"))
     length = lambda modules, more=0: round((modules + 4) * 0.4 + more, 2)
-    wanted = [[length(text.index("\n")), length(text.count("\n") + 1, 3)] for text in grids]
+    wanted = [[20, length(text.count("\n") + 1, 3)] for text in grids]
     count.expect("pages as large as they are", [size for size, _, _ in pages], wanted)
     in_files(lines, grids)
     ((size, ((*_, rows),), _),) = pages_of(saved("symbol-8x18.pdf", "save-pdf"))
@@ -600,16 +514,16 @@ def in_files(lines, grids):
         count.expect(f"names of {ending}", names, [*wanted, "labels.json"])
         for line, text, body in zip(lines, grids, bodies):
             rows = text.split("\n")
-            wide, high = round((len(rows[0]) + 4) * 0.4, 2), round((len(rows) + 4) * 0.4 + 3, 2)
+            high = round((len(rows) + 4) * 0.4 + 3, 2)
             if ending == "svg":
-                size, text_there = f'width="{wide:g}mm" height="{high:g}mm"', f">{line}</text>"
+                size, text_there = f'width="20mm" height="{high:g}mm"', f">{line}</title>"
                 drawing = body.decode()
                 count.expect(f"SVG of {line}", (size in drawing, text_there in drawing), (True, True))
             else:
                 each = 10  # pixels of a module
                 size = [int.from_bytes(body[at : at + 4], "big") for at in (16, 20)]
-                across, down = (len(rows[0]) + 4) * each, (len(rows) + 4) * each
-                count.expect(f"PNG of {line}", size, [across, down + 75])
+                down = (len(rows) + 4) * each
+                count.expect(f"PNG of {line}", size, [500, down + 75])
                 count.expect(f"PNG of {line}: its text", inked_below(body, down), True)
             push("tab-read")
             opened(f"label.{ending}", body)
@@ -619,8 +533,7 @@ def in_files(lines, grids):
 
 def inked_below(body, row):
     """Whether a picture has something dark below a row of its pixels, as the browser opens it."""
-    return on.page.execute_async_script(
-        """const [picture, row, done] = arguments, image = new Image();
+    return on.page.execute_async_script("""const [picture, row, done] = arguments, image = new Image();
            image.src = "data:image/png;base64," + picture;
            image.decode().then(() => {
                const { naturalWidth: width, naturalHeight: height } = image;
@@ -628,10 +541,7 @@ def inked_below(body, row):
                pen.drawImage(image, 0, 0);
                const { data } = pen.getImageData(0, row, width, height - row);
                done(data.some((value, k) => k % 4 === 0 && value < 128));
-           });""",
-        base64.b64encode(body).decode(),
-        row,
-    )
+           });""", base64.b64encode(body).decode(), row)
 
 
 # ---- Told
@@ -664,16 +574,5 @@ def lessons():
     write("123456")
 
 
-PARTS = [
-    each_is_made,
-    sizes_by_shape,
-    marks_of_every_size,
-    in_all_ways,
-    at_an_angle,
-    rectangles_are_linked,
-    rectangles_are_compared,
-    doubted,
-    damaged_at_random,
-    labels_of_rectangles,
-    lessons,
-]
+PARTS = [each_is_made, sizes_by_shape, marks_of_every_size, in_all_ways, at_an_angle, rectangles_are_linked,
+         rectangles_are_compared, doubted, damaged_at_random, labels_of_rectangles, lessons]

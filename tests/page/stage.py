@@ -24,12 +24,13 @@ QUIET = 2
 LIBRARY = pathlib.Path(__file__).resolve().parents[2] / "library"
 LEFT_OUT = {"structured append": 233, "reader programming": 234, "macro 05": 236, "macro 06": 237}
 
-# What the page shows, as plain text: the verdict, the meters and the facts. Elements are told from a text that looks
+# What the page shows, as plain text: the verdict (of a symbol that is made as of one that is read), the meters and the
+# facts. Elements are told from a text that looks
 # like some by their identifiers, which have a colour.
 SHOWN = """
     const text = (id) => document.getElementById(id).textContent, one = (where) => document.querySelector(where);
     const meters = [...document.querySelectorAll("#meters .count")].map((it) => it.textContent);
-    return { state: text("state"), says: text("says"), why: text("why"),
+    return { state: text("state").replace(/^Made/, "Read"), says: text("says"), why: text("why"),
              areElements: one("#says i")?.textContent.startsWith("(") ?? false,
              charset: one("#says").dataset.text ?? null,
              side: parseInt(one("#facts dd")?.textContent),
@@ -198,6 +199,13 @@ def find(name):
     return on.page.find_element(By.ID, name)
 
 
+def processor_time():
+    """Milliseconds of a processor that the page has taken, whatever else the machine does."""
+    on.page.execute_cdp_cmd("Performance.enable", {})
+    metrics = on.page.execute_cdp_cmd("Performance.getMetrics", {})["metrics"]
+    return 1000 * next(it["value"] for it in metrics if it["name"] == "ProcessTime")
+
+
 def text_of(name):
     return find(name).get_attribute("textContent").strip()
 
@@ -217,13 +225,9 @@ def settle():
 
 def put(name, text):
     """Gives a field a value as typing does, but all at once."""
-    run(
-        """const node = document.getElementById(arguments[0]);
+    run("""const node = document.getElementById(arguments[0]);
            node.value = arguments[1];
-           node.dispatchEvent(new Event('input', { bubbles: true }))""",
-        name,
-        text,
-    )
+           node.dispatchEvent(new Event('input', { bubbles: true }))""", name, text)
     settle()
 
 
@@ -235,14 +239,25 @@ def push(*names):
 
 def choose(name, value):
     """Chooses one of a list, as a person does."""
-    run(
-        """const node = document.getElementById(arguments[0]);
+    run("""const node = document.getElementById(arguments[0]);
            node.value = arguments[1];
-           node.dispatchEvent(new Event('change', { bubbles: true }))""",
-        name,
-        value,
-    )
+           node.dispatchEvent(new Event('change', { bubbles: true }))""", name, value)
     settle()
+
+
+def forget():
+    """Empties the browser's storage, as for who comes for the first time. In WebKit the page does it."""
+    if hasattr(on.page, "execute_cdp_cmd"):
+        on.page.execute_cdp_cmd("Storage.clearDataForOrigin", {"origin": "file://", "storageTypes": "local_storage"})
+    else:
+        run("if ('mitsubadoor' in globalThis) localStorage.clear()")
+
+
+def fill(slot, text):
+    """Enters a text on one side of the comparison."""
+    run("""const area = document.querySelector(arguments[0]);
+           area.value = arguments[1];
+           area.dispatchEvent(new Event('input', { bubbles: true }))""", f"#slot-{slot} textarea", text)
 
 
 def write(message, profile=0, size="square"):
@@ -320,9 +335,8 @@ def metrics(width, height, mobile=False, scale=1):
     """Makes the window of this size, or a phone's."""
     how = {"width": width, "height": height, "deviceScaleFactor": scale, "mobile": mobile}
     on.page.execute_cdp_cmd("Emulation.setDeviceMetricsOverride", how)
-    wait_for(
-        lambda: run("return innerWidth === arguments[0] && innerHeight === arguments[1]", width, height), seconds=5
-    )
+    wait_for(lambda: run("return innerWidth === arguments[0] && innerHeight === arguments[1]", width, height),
+             seconds=5)
 
 
 def usual_metrics():
@@ -334,13 +348,8 @@ def media(**features):
     named = {name.replace("_", "-"): value for name, value in features.items()}
     each = [{"name": name, "value": value} for name, value in named.items()]
     on.page.execute_cdp_cmd("Emulation.setEmulatedMedia", {"features": each})
-    wait_for(
-        lambda: run(
-            """return Object.entries(arguments[0])
-        .every(([name, value]) => matchMedia(`(${name}: ${value})`).matches)""",
-            named,
-        )
-    )
+    wait_for(lambda: run("""return Object.entries(arguments[0])
+        .every(([name, value]) => matchMedia(`(${name}: ${value})`).matches)""", named))
 
 
 @contextlib.contextmanager
@@ -356,16 +365,14 @@ def unseen():
 
 def to_top():
     """Scrolls to the top of the page, where it stays: what a swipe has set going has come to rest."""
-    on.page.execute_async_script(
-        """
+    on.page.execute_async_script("""
         const [done] = arguments;
         let frames = 0;
         const look = () => {
             if (scrollY) { scrollTo(0, 0); frames = 0; } else frames++;
             if (frames > 10) done(); else requestAnimationFrame(look);
         };
-        look();"""
-    )
+        look();""")
 
 
 def acting():
@@ -398,8 +405,7 @@ def drawn(columns, rows=None, share=0.12):
     """The grid of a square of this side, or of a rectangle, according to the pixels of the screen, taken at a corner of
     each module, away from crosses and numbers, or at another share of it; also checks the quiet zone."""
     picture = find("symbol").screenshot_as_base64
-    text = on.page.execute_async_script(
-        """
+    text = on.page.execute_async_script("""
         const [picture, columns, rows, quiet, share, done] = arguments, image = new Image();
         const across = columns + 2 * quiet, down = rows + 2 * quiet;
         image.src = "data:image/png;base64," + picture;
@@ -418,13 +424,7 @@ def drawn(columns, rows=None, share=0.12):
                 rows.push(row);
             }
             done(rows.join("\\n"));
-        });""",
-        picture,
-        columns,
-        rows or columns,
-        QUIET,
-        share,
-    )
+        });""", picture, columns, rows or columns, QUIET, share)
     lines = text.split("\n")
     around = lines[:QUIET] + lines[-QUIET:] + [line[:QUIET] + line[-QUIET:] for line in lines]
     assert "1" not in "".join(around), "a quiet zone that isn't"
@@ -434,9 +434,8 @@ def drawn(columns, rows=None, share=0.12):
 def drawn_rows(content, height, scale):
     """Where a symbol stands that is drawn in a PDF as rectangles, and its grid: [left, top, module, rows], in
     millimetres from the upper left corner of a page of this height."""
-    numbers = [
-        [float(number) * scale for number in line.split()[:4]] for line in content.split("\n") if line.endswith(" re")
-    ]
+    numbers = [[float(number) * scale for number in line.split()[:4]] for line in content.split("\n")
+               if line.endswith(" re")]
     module, left, right = numbers[0][3], min(x for x, *_ in numbers), max(x + width for x, _, width, _ in numbers)
     top = height - max(y + tall for _, y, _, tall in numbers)
     columns, down = round((right - left) / module), round((height - top - min(y for _, y, *_ in numbers)) / module)
@@ -451,27 +450,22 @@ def drawn_rows(content, height, scale):
 
 def coloured():
     """The colours in the symbol other than dark and light, and what is marked: turned over, or wrong from the start."""
-    return run(
-        """
+    return run("""
         const fills = [...document.querySelectorAll("#symbol > path")].map((path) => path.getAttribute("fill"))
             .filter((fill) => !["none", "#14181f", "url(#hatch)"].includes(fill));
-        return [...fills, ...["turned", "wrong"].filter((it) => document.querySelector(`#symbol .${it}`))];"""
-    )
+        return [...fills, ...["turned", "wrong"].filter((it) => document.querySelector(`#symbol .${it}`))];""")
 
 
 def cells():
     """What each codeword's cell shows: its value, what it is corrected to, and its colour."""
-    got = run(
-        """return [...document.querySelectorAll('#words > b')]
-        .map((b) => [b.firstChild.textContent, (b.querySelector('small') || b).textContent, b.className])"""
-    )
+    got = run("""return [...document.querySelectorAll('#words > b')]
+        .map((b) => [b.firstChild.textContent, (b.querySelector('small') || b).textContent, b.className])""")
     return [(int(held), int(below[1:]) if below.startswith("→") else int(held), kind) for held, below, kind in got]
 
 
 def pointed(words=None):
     """Points at these codewords, or at all: what is told of each, and the numbers in the symbol with their places."""
-    return run(
-        """
+    return run("""
         const [words] = arguments, cells = [...document.querySelectorAll("#words > b")];
         const number = (bit, name) => Math.floor(bit.getAttribute(name));
         return cells.filter((_, w) => !words || words.includes(w)).map((cell) => {
@@ -479,9 +473,7 @@ def pointed(words=None):
             const bits = [...document.querySelectorAll("#symbol .bits text")];
             return [document.getElementById("about").textContent,
                 bits.map((bit) => [bit.textContent, number(bit, "x"), number(bit, "y")])];
-        });""",
-        words,
-    )
+        });""", words)
 
 
 def value_at(bits, text):

@@ -3,30 +3,8 @@ stands, what GS1 data looks like, and that only where one learns a symbol is dam
 from tests.page.conduct import linked, started, verdict
 from tests.page.history import afresh, fields
 from tests.page.judge import line_of_text, written_in
-from tests.page.stage import (
-    acting,
-    agree,
-    changed,
-    click,
-    count,
-    find,
-    grid,
-    learn,
-    offset,
-    on,
-    push,
-    put,
-    run,
-    settle,
-    shown,
-    spelled,
-    task,
-    text_of,
-    unfold,
-    usable,
-    write,
-    written,
-)
+from tests.page.stage import (acting, agree, changed, click, count, find, forget, grid, learn, offset, on, push, put,
+                              run, settle, shown, spelled, task, text_of, unfold, usable, write, written)
 
 ELEMENTS = "(01)09506000134352(17)271231(10)AB-42"
 LINE = "\\F010950600013435217271231" + "10AB-42"
@@ -51,6 +29,7 @@ def tasks_are_linked():
     count.expect("what is shown first", first, wanted)
     for name in ("read", "make", "learn"):
         address = on.page.current_url.partition("#")[0]
+        forget()
         on.page.get("about:blank")
         on.page.get(f"{address}#{name}")
         started()
@@ -63,14 +42,11 @@ def tasks_are_linked():
         count.expect(f"the message after #{name} has the height of a line", 30 < height < 60, True)
         put("message", f"at {name}")
         go(f"#{name}")
-        count.expect(
-            f"#{name} within the page", (seen_panes(), find("message").get_attribute("value")), ([name], f"at {name}")
-        )
-        count.expect(
-            f"#{name} is what the address says",
-            (on.page.current_url.partition("#")[2].split("&")[0], fields().get("message")),
-            (name, f"at {name}"),
-        )
+        count.expect(f"#{name} within the page", (seen_panes(), find("message").get_attribute("value")),
+                     ([name], f"at {name}"))
+        count.expect(f"#{name} is what the address says",
+                     (on.page.current_url.partition("#")[2].split("&")[0], fields().get("message")),
+                     (name, f"at {name}"))
         selected = run("return [...document.querySelectorAll('[role=tab]')].map((it) => it.ariaSelected)")
         count.expect(f"#{name}: its tab", selected, [str(each == name).lower() for each in ("read", "make", "learn")])
 
@@ -90,18 +66,13 @@ def earlier_links():
         (f"message=old&damage=5&grid={letters}&pane=read", "read", "Every answer is proved.", []),
     ):
         go(f"#{fragment}")
-        damage = run(
-            "const { modules, original } = mitsubadoor.mark;"
-            "return [...modules.keys()].filter((k) => modules[k] !== original[k])"
-        )
+        damage = run("const { modules, original } = mitsubadoor.mark;"
+                     "return [...modules.keys()].filter((k) => modules[k] !== original[k])")
         count.expect(fragment.replace(letters, "..."), (seen_panes(), shown()["says"], damage), ([name], says, turned))
     for side in (105, 145, 999):
         go(f"#read&grid={side}{'A' * -(-side * side // 6)}")
-        count.expect(
-            f"a grid of side {side}",
-            (find("grid").get_attribute("value"), verdict()),
-            ("", ("Nothing is entered yet", "")),
-        )
+        count.expect(f"a grid of side {side}", (find("grid").get_attribute("value"), verdict()),
+                     ("", ("Nothing is entered yet", "")))
     push("tab-make")
     write("123456")
 
@@ -117,11 +88,7 @@ def text_and_gs1():
     line = spelled(TEXT.encode("iso-8859-1"))
     count.expect("text", (grid(), find("kind-typed").is_selected()), (written(line), True))
     agree("text, as it is read")
-    count.expect(
-        "text is said",
-        (shown()["says"], f"It is text in ISO-8859-1, of these bytes: {line}" in shown()["why"]),
-        (TEXT, True),
-    )
+    count.expect("text is said", (shown()["says"], shown()["why"]), (TEXT, "It is text in ISO-8859-1."))
     push("copy-message")
     linked()
     count.expect("text in the link", (fields()["message"], fields()["as"]), (TEXT, "typed"))
@@ -133,30 +100,27 @@ def text_and_gs1():
     linked()
     count.expect("text alone in the link", (fields()["message"], fields()["as"]), (TEXT, "text"))
     put("message", "a\\b (01) \\F\n2")
-    count.expect(
-        "nothing is spelled in text", (shown()["says"], text_of("message-hint")), ("a\\\\b (01) \\\\F\\x0A2", "")
-    )
+    count.expect("nothing is spelled in text", (shown()["says"], text_of("message-hint")),
+                 ("a\\\\b (01) \\\\F\\x0A2", ""))
     for text in ("\ufeff\u00e9", "\u00e9\n", "e\u0301", "\u00a0", "\u00c3\u00a0"):
         put("message", text)
         line = line_of_text(text)
         wanted = line, written_in(line, "square")
         count.expect(f"{text!r} isn't all to be seen", (shown()["says"], grid()), wanted)
-    for text, told in (("\u00e9\\(01)", "ISO-8859-1, as ECI 3"), ("\u20ac\\(01)", "UTF-8, as ECI 26")):
+    for text, told in (("\u00e9\\(01)", "ISO-8859-1"), ("\u20ac\\(01)", "ISO-8859-15, as ECI 17 says")):
         put("message", text)
-        said = f"It is text in {told} says, of these bytes: " in shown()["why"]
+        said = f"It is text in {told}." in shown()["why"]
         wanted = text, True, written_in(line_of_text(text), "square")
         count.expect(f"a backslash in {text}", (shown()["says"], said, grid()), wanted)
     put("message", "~" * 25001)
-    count.expect(
-        "too much text", (verdict(), "25,001 characters" in text_of("message-hint")), (("Nothing is read", ""), True)
-    )
+    count.expect("too much text", (verdict(), "25,001 characters" in text_of("message-hint")),
+                 (("Nothing is read", ""), True))
     run(COLLECT)
     find("pane-make").find_element("css selector", "[data-message^='(01)']").click()
     settle()
     agree("GS1 data, as it is read")
-    count.expect(
-        "GS1 data", (grid(), shown()["says"], find("kind-typed").is_selected()), (written(LINE), ELEMENTS, True)
-    )
+    count.expect("GS1 data", (grid(), shown()["says"], find("kind-typed").is_selected()),
+                 (written(LINE), ELEMENTS, True))
     push("copy-message", "print")
     for name in ("read", "make", "learn"):
         push(f"tab-{name}")
@@ -172,20 +136,8 @@ def text_and_gs1():
     settle()
     count.expect("taken as text", (grid(), shown()["state"]), (written("caf\\xE9"), "Read"))
     run("delete navigator.clipboard.writeText")
-    for line in (
-        "\\F01095060001343521" + "0AB\\F",
-        "\\F0512",
-        "\\F10A\\F\\F21B",
-        "\\F10A\\x1D21B",
-        "\\F10A(B)",
-        "\\F10\\\\(",
-        "\\F",
-        "\\FAB\\x1D",
-        "A\\FB",
-        "\\F9112\\F",
-        "\\F91\\x80",
-        "(01)5\\F",
-    ):
+    for line in ("\\F01095060001343521" + "0AB\\F", "\\F0512", "\\F10A\\F\\F21B", "\\F10A\\x1D21B", "\\F10A(B)",
+                 "\\F10\\\\(", "\\F", "\\FAB\\x1D", "A\\FB", "\\F9112\\F", "\\F91\\x80", "(01)5\\F"):
         write(line if not line.startswith("(") else "\\x28" + line[1:])
         agree(f"{line} as it is shown")
     write("123456")
@@ -198,7 +150,7 @@ TYPED = [
     ("\\F01 \\x41", "A backslash is one here, and spells nothing. Take it as spelled", "\\\\F01 \\\\x41",
      "\\F01 \\x41"),
     ("a (b) [c]", "", "a (b) [c]", "a (b) [c]"),
-    ("\u20ac 5", "", "\\E{26}\\xE2\\x82\\xAC 5", "\u20ac 5"),
+    ("\u20ac 5", "", "\\E{17}\\xA4 5", "\u20ac 5"),
     ("\u00c3\u00a9", "", "\\E{3}\\xC3\\xA9", "\u00c3\u00a9"),
     ("(21)A\\(b", "Taken as GS1 data. Take it as text", "\\F21A(b", "(21)A\\(b"),
 ]
@@ -254,9 +206,8 @@ def damaged_only_where_one_learns():
         on.page.switch_to.active_element.send_keys(" ")
         settle()
         symbol = find("symbol")
-        count.expect(
-            f"{name}: a click and a key", (grid(), usable("undo"), symbol.get_attribute("role")), (clean, False, "img")
-        )
+        count.expect(f"{name}: a click and a key", (grid(), usable("undo"), symbol.get_attribute("role")),
+                     (clean, False, "img"))
         count.expect(f"{name}: no buttons for damage", find("to-limit").is_displayed(), False)
     learn()
     where = lambda: [run("return mitsubadoor.store.pane"), find("learn-read").is_selected()]

@@ -1,5 +1,6 @@
 """The module for programs in JavaScript, in Node.js: what it reads and writes, against the program; its types; and
 where it looks for the members of structs, against a compiler of C."""
+import importlib
 import json
 import os
 import pathlib
@@ -8,7 +9,7 @@ import sys
 
 from tests.page.javascript import TYPES, uses
 from tests.page.stage import count, on
-from tests.support import commands, needs, places
+from tests.support import commands, needs, package, places
 from tests.support.case import Case
 
 # Lines of TypeScript over the module: whether each is right.
@@ -19,6 +20,13 @@ LINES = [
     ("const text: string | null = readGrid(write([FNC1, 65])).text;", True),
     ("try { normal(write('a'), { form: 'ascii' }); } catch (why) { if (why instanceof Refused) why.code + 1; }", True),
     ("const one: number = sizes()[0].rows;", True),
+    ("const grid = write('(10)A', { gs1: true }), [{ identifier, value }] = readGrid(grid).elements ?? [];"
+     " const element: string = identifier + value; void element;", True),
+    ("const { quality } = read(new ImageData(3, 4), { quality: true }).symbols[0];"
+     " const grade: 'A' | 'B' | 'C' | 'D' | 'F' | undefined = quality?.grades.contrast; void grade;", True),
+    ("read(new ImageData(3, 4), { quality: 1 });", False),
+    ("write('(10)A', { gs1: 1 });", False),
+    ("readGrid(write('a')).elements.length;", False),
     ("const marks = [{ place: 0, number: 26 }];"
      " const grid = write({ items: [65], marks, head: 'programming' }, { form: 'smallest' });"
      " const { charset, head, symbology } = readGrid(grid, { limit: 'auto' });"
@@ -37,6 +45,26 @@ LINES = [
 ]
 CONFIG = {"compilerOptions": {"strict": True, "noEmit": True, "types": [], "target": "es2022", "module": "node16",
                               "moduleResolution": "node16", "lib": ["es2022", "dom"]}, "include": ["*.mts"]}
+# Prints of each charset the bytes of all texts of one letter, and of two of which one isn't in ISO 8859-1.
+CHARACTERS = """
+const { waysOfText } = await import(process.argv[1]), [, , others] = process.argv, told = {};
+for (let code = 0; code < 0xffff; code++) {
+  const letter = String.fromCharCode(code), texts = code < 256 ? [...others].map((it) => letter + it) : [letter];
+  for (const text of code < 0xd800 || code >= 0xe000 ? texts : [])
+    for (const { items, marks: [{ number }] } of waysOfText(text))
+      (told[number] ??= {})[text] = Buffer.from(items).toString("hex");
+}
+console.log(JSON.stringify(told));
+"""
+# Prints what columns are, by their headings.
+KNOWN = """
+const [, gs1, headings] = process.argv, [texts, given] = process.argv.slice(3).map(JSON.parse);
+const { readIdentifiers } = await import(gs1), { readHeadings, knownAs } = await import(headings);
+readIdentifiers(texts[0]);
+readHeadings(texts[1]);
+console.log(JSON.stringify(given.map(knownAs)));
+"""
+BEYOND = "ĄĦĸПبαאğŋกģẁ€țあ國国한"  # a letter of each charset
 
 
 def members_of(layout):
@@ -59,6 +87,34 @@ class JavaScript(Case):
         on.program, on.module, count.rows = places.PROGRAM, places.path("web", "out", "ecc200.mjs"), []
         uses()
         self.rows(count.rows)
+
+    def test_charsets_have_the_characters_that_python_writes(self):
+        words = ["node", "--input-type=module", "-e", CHARACTERS, places.path("web", "charsets.mjs"), BEYOND]
+        told = json.loads(commands.run(words).output)
+        letters = [chr(code) for code in (*range(0xD800), *range(0xE000, 0xFFFF))]
+        texts = [*(letter + other for letter in letters[:256] for other in BEYOND), *letters[256:]]
+        wanted = {}
+        for text in texts:
+            for data, ((_, number),) in package.imported().core._writings(text):
+                wanted.setdefault(str(number), {})[text] = data.hex()
+        self.row("the charsets", sorted(told), sorted(wanted))
+        for number, own in wanted.items():
+            self.row(f"ECI {number}", sorted({*own.items()} ^ {*told[number].items()})[:5], [])
+
+    def test_headings_are_those_of_the_command(self):
+        given = ["gs1_identifiers.txt", "headings.txt"]
+        texts = [places.text_of("library", "python", "ecc200", "data", name) for name in given]
+        listed = [heading for line in texts[1].splitlines() if not line.startswith("#")
+                  for heading in line.partition(": ")[2].split(", ")]
+        headings = [*listed, *map(str.upper, listed), " Lot_No.", "-", "--", "(01)", "10", "(10", "05", "7", "",
+                    "GTIN 2", *(f" {heading.replace(' ', '_.-')} " for heading in listed)]
+        modules = [places.path("web", name) for name in ("gs1.mjs", "headings.mjs")]
+        words = ["node", "--input-type=module", "-e", KNOWN, *modules, *map(json.dumps, (texts, headings))]
+        tables = importlib.import_module(f"{package.imported().__name__}.tables")
+        told = json.loads(commands.run(words).output)
+        for heading, meaning in zip(headings, told, strict=True):
+            self.row(heading, meaning, tables.known_as(heading))
+        self.assertGreater(len([meaning for meaning in told if meaning is None]), 4)
 
     @needs.programs("tsc")
     def test_types(self):

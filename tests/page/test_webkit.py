@@ -27,13 +27,9 @@ class WebKit(Case):
             raise AssertionError(problem)
         on.program, on.folder = places.PROGRAM, pathlib.Path(cls.folder_of_class())
         cls.addClassCleanup(browser.end)
-        screen = cls.enterClassContext(
-            commands.started(
-                ["Xvfb", "-displayfd", "1", "-screen", "0", "1240x1500x24", "-nolisten", "tcp"],
-                stdout=subprocess.PIPE,
-                stderr=subprocess.DEVNULL,
-            )
-        )
+        screen = cls.enterClassContext(commands.started(["Xvfb", "-displayfd", "1", "-screen", "0", "1240x1500x24",
+                                                         "-nolisten", "tcp"], stdout=subprocess.PIPE,
+                                                        stderr=subprocess.DEVNULL))
         browser.start_webkit(f":{screen.stdout.readline().decode().strip()}")
 
     def setUp(self):
@@ -71,20 +67,9 @@ class WebKit(Case):
         self.told()
 
     def test_parts_that_need_nothing_of_chromium(self):
-        for part in (
-            damage.by_keys,
-            damage.fixed_square,
-            conduct.a_picture_does_not_win,
-            tasks.tasks_are_linked,
-            tasks.earlier_links,
-            tasks.text_and_gs1,
-            tasks.typed,
-            photographs.turned_about,
-            sights.handed_on,
-            sights.unread,
-            sizes.marks_of_every_size,
-            sizes.in_all_ways,
-        ):
+        for part in (damage.by_keys, damage.fixed_square, conduct.a_picture_does_not_win, tasks.tasks_are_linked,
+                     tasks.earlier_links, tasks.text_and_gs1, tasks.typed, photographs.turned_about, sights.handed_on,
+                     sights.unread, sizes.marks_of_every_size, sizes.in_all_ways):
             random.seed(1)
             load(PAGE)
             part()

@@ -1,63 +1,14 @@
 """Messages, profiles, grids as text, marks of other encoders, and two symbols compared."""
-import pathlib
-
+from tests import corpus
 from tests.page.pictures import png
-from tests.page.stage import (
-    By,
-    Keys,
-    agree,
-    as_program,
-    count,
-    find,
-    grid,
-    is_wide,
-    on,
-    push,
-    put,
-    run,
-    settle,
-    shown,
-    text_of,
-    told,
-    turned,
-    unfold,
-    unseen,
-    write,
-    written,
-)
-
-HERE = pathlib.Path(__file__).resolve().parent
-# The marks of other encoders, and three that dmtxwrite made (-e c, t and x): characters of each shift set, with and
-# without an Upper Shift.
-MARKS = (HERE.parent / "marks" / "grids.txt", HERE / "shifts.txt")
-# Marks in EDIFACT and with macros, and how they were made: encoder, side, message, and perhaps what the encoder wrote
-# instead, with tabs between.
-WIDE_GRIDS, WIDE_MADE = HERE.parent / "marks" / "wide_grids.txt", HERE.parent / "marks" / "wide_made.txt"
+from tests.page.stage import (By, Keys, agree, as_program, count, find, grid, is_wide, on, push, put, run, settle,
+                              shown, text_of, told, turned, unfold, unseen, write, written)
 
 
 def spellings():
-    for text in [
-        "A\\\\B",
-        "\\F011234567890123110ABC\\F17251231",
-        "\\x80\\FA",
-        "\\x8f",
-        " ",
-        "",
-        "~" * 50,
-        "0" * 1632,
-        "0" * 1631,
-        "A\\",
-        "A\\xg1",
-        "AB\\q",
-        "A\\x4",
-        "12\\f",
-        "\\x",
-        "caf\u00e9",
-        "100 \u20ac",
-        "tab\t",
-        "0" * 3117,
-        "\\xFF" * 780,
-    ]:
+    for text in ["A\\\\B", "\\F011234567890123110ABC\\F17251231", "\\x80\\FA", "\\x8f", " ", "", "~" * 50, "0" * 1632,
+                 "0" * 1631, "A\\", "A\\xg1", "AB\\q", "A\\x4", "12\\f", "\\x", "caf\u00e9", "100 \u20ac", "tab\t",
+                 "0" * 3117, "\\xFF" * 780]:
         write(text)
         line, words = written(text), text_of("message-hint")
         name = f"spelling {text[:12]!r}"
@@ -91,18 +42,8 @@ def spellings():
 def profiles():
     """Both normal forms, against the program's."""
     letters = "".join(f"\\x{byte:02X}" for byte in range(128, 256))
-    for text in (
-        "123456",
-        "\\xE9\\xE8",
-        "\\xE9\\xE8\\xEA",
-        letters,
-        letters * 2,
-        letters[: 4 * 122] * 2 + letters[:24],
-        "\\F" + letters,
-        "A" * 30 + letters[:200],
-        "",
-        letters * 13,
-    ):
+    for text in ("123456", "\\xE9\\xE8", "\\xE9\\xE8\\xEA", letters, letters * 2, letters[: 4 * 122] * 2 + letters[:24],
+                 "\\F" + letters, "A" * 30 + letters[:200], "", letters * 13):
         sides = []
         for profile in (0, 1):
             write(text, profile)
@@ -115,9 +56,8 @@ def profiles():
                 push("to-limit")
                 agree(f"profile {profile} of {text[:24]} at the limit")
             else:
-                count.expect(
-                    f"profile {profile} of {text[:24]}", text_of("message-hint").startswith("No square up to"), True
-                )
+                count.expect(f"profile {profile} of {text[:24]}", text_of("message-hint").startswith("No square up to"),
+                             True)
         count.expect(f"sides told for {text[:24]}", [text_of("side-0"), text_of("side-1")], sides)
     write("123456")
 
@@ -126,15 +66,9 @@ def pasted():
     push("tab-read", "example-c40")
     count.expect("C40", [shown()[it] for it in ("state", "says")], ["Read", "Every answer is proved."])
     push("example-turned")
-    count.expect(
-        "turned and inverted",
-        (text_of("grid-hint"), shown()["says"]),
-        (
-            "The grid is inverted, light for dark, and turned a quarter to the right: found by trying, and shown "
-            "upright.",
-            "Every answer is proved.",
-        ),
-    )
+    count.expect("turned and inverted", (text_of("grid-hint"), shown()["says"]),
+                 ("The grid is inverted, light for dark, and turned a quarter to the right: found by trying, and shown "
+                  "upright.", "Every answer is proved."))
     push("example-edifact")
     count.expect("EDIFACT", (shown()["state"], shown()["says"]), ("Read", "GOODS"))
     briefs = run("return mitsubadoor.mark.seen.told.map((it) => it.brief)")
@@ -149,9 +83,8 @@ def pasted():
         ("1\n" * 145, "More than 144 rows or 144 columns, and no symbol has as many."),
     ]:
         put("grid", text)
-        count.expect(
-            f"grid refused: {why}", (text_of("grid-hint"), find("grid").get_attribute("aria-invalid")), (why, "true")
-        )
+        count.expect(f"grid refused: {why}", (text_of("grid-hint"), find("grid").get_attribute("aria-invalid")),
+                     (why, "true"))
     clean = written("Mitsubadoor")
     spoilt = clean[:30] + "10"[int(clean[30])] + clean[31:]
     for name, text in {
@@ -171,18 +104,12 @@ def pasted():
         count.expect(f"pasted {name}", grid(), spoilt)
         agree(f"pasted {name}")
         count.expect(f"pasted {name}: said", text_of("grid-hint"), "Read as it stands.")
-    count.expect(
-        "a wrong module that wasn't turned here has a dot",
-        [len(on.page.find_elements(By.CSS_SELECTOR, f"#symbol .{it}")) for it in ("wrong", "turned")],
-        [1, 0],
-    )
+    count.expect("a wrong module that wasn't turned here has a dot",
+                 [len(on.page.find_elements(By.CSS_SELECTOR, f"#symbol .{it}")) for it in ("wrong", "turned")], [1, 0])
     push("to-limit")
     agree("pasted, to the limit")
-    count.expect(
-        "pasted, to the limit: meters",
-        shown()["meters"][0],
-        "7 wrong, 7" if len(clean.split("\n")) == 18 else "6 wrong, 6",
-    )
+    count.expect("pasted, to the limit: meters", shown()["meters"][0],
+                 "7 wrong, 7" if len(clean.split("\n")) == 18 else "6 wrong, 6")
     push("undo")
     count.expect("pasted, undone", grid(), spoilt)
     quarter = ["", "turned a quarter to the right", "turned upside down", "turned a quarter to the left"]
@@ -190,39 +117,22 @@ def pasted():
         for mirrored in (False, True):
             for quarters in range(4):
                 put("grid", turned(spoilt, quarters, mirrored, inverted))
-                how = ", and ".join(
-                    filter(
-                        None,
-                        [
-                            inverted and "inverted, light for dark",
-                            mirrored and "mirrored left to right",
-                            quarter[quarters],
-                        ],
-                    )
-                )
-                count.expect(
-                    f"stands {how or 'upright'}",
-                    (text_of("grid-hint"), grid()),
-                    (
-                        f"The grid is {how}: found by trying, and shown upright." if how else "Read as it stands.",
-                        spoilt,
-                    ),
-                )
+                how = ", and ".join(filter(None,
+                                           [inverted and "inverted, light for dark",
+                                            mirrored and "mirrored left to right", quarter[quarters]]))
+                count.expect(f"stands {how or 'upright'}", (text_of("grid-hint"), grid()),
+                             (f"The grid is {how}: found by trying, and shown upright." if how
+                              else "Read as it stands.", spoilt))
     put("grid", "\n".join(["1" * 10] * 10))
     agree("all dark")
-    count.expect(
-        "all dark: said",
-        text_of("grid-hint"),
-        "It can’t be read as it stands, nor turned, mirrored or inverted. It is shown as it stands.",
-    )
+    count.expect("all dark: said", text_of("grid-hint"),
+                 "It can’t be read as it stands, nor turned, mirrored or inverted. It is shown as it stands.")
     push("tab-make")
 
 
 def other_encoders():
     """The marks of other encoders: what is shown, and what each of their codewords stands for."""
-    grids = [
-        record.rstrip("\n") + "\n" for file in MARKS for record in file.read_text().split("\n\n") if record.strip()
-    ]
+    grids = [mark.text for mark in (*corpus.marks("squares"), *corpus.marks("shifts"))]
     push("tab-read")
     answers = told(grids)
     with unseen():
@@ -231,43 +141,33 @@ def other_encoders():
             name = f"mark of another encoder, {answer[0][:20]}"
             count.expect(name, as_program(shown()), answer)
             if shown()["state"] != "Refused":
-                count.expect(
-                    f"{name}: its codewords",
-                    run("return mitsubadoor.spelled(mitsubadoor.mark.seen.told.flatMap((it) => it.items))"),
-                    answer[0],
-                )
-                count.expect(
-                    f"{name}: one for each",
-                    run("const { told, size } = mitsubadoor.mark.seen; return told.length === size.data"),
-                    True,
-                )
+                count.expect(f"{name}: its codewords",
+                             run("return mitsubadoor.spelled(mitsubadoor.mark.seen.told.flatMap((it) => it.items))"),
+                             answer[0])
+                count.expect(f"{name}: one for each",
+                             run("const { told, size } = mitsubadoor.mark.seen; return told.length === size.data"),
+                             True)
         wide_marks()
 
 
 def wide_marks():
     """Marks in EDIFACT and with macros: what is read is what was written, and so is what their codewords stand for."""
-    grids = [record for record in WIDE_GRIDS.read_text().split("\n\n") if record.strip()]
-    messages = [
-        line.split("\t")[-1] for line in WIDE_MADE.read_text().splitlines() if line and not line.startswith("#")
-    ]
-    count.expect("a message for each mark", len(messages), len(grids))
-    for text, message in zip(grids, messages):
-        put("grid", text)
+    marks = corpus.marks("wide")
+    count.expect("how many", len(marks), 109)
+    for mark in marks:
+        message = mark.said
+        put("grid", mark.text)
         stands = run("return mitsubadoor.spelled(mitsubadoor.mark.seen.told.flatMap((it) => it.items))")
-        count.expect(
-            f"wide mark {message[:20]}",
-            (shown()["state"].split(",")[0], as_program(shown())[0], stands),
-            ("Read", message, message),
-        )
+        count.expect(f"wide mark {message[:20]}", (shown()["state"].split(",")[0], as_program(shown())[0], stands),
+                     ("Read", message, message))
 
 
 def compared():
     head = lambda: run("return [...document.querySelectorAll('#same strong, #same p')].map((it) => it.textContent)")
     push("tab-read")
     unfold("comparison")
-    count.expect(
-        "same", head(), ["Yes, they say the same.", "Their modules differ, but both have this one normal grid:"]
-    )
+    count.expect("same", head(),
+                 ["Yes, they say the same.", "Their modules differ, but both have this one normal grid:"])
     count.expect("one normal grid", len(find("same").find_elements(By.TAG_NAME, "svg")), 1)
     area = lambda slot: find(f"slot-{slot}").find_element(By.TAG_NAME, "textarea")
 
@@ -281,21 +181,15 @@ def compared():
 
     write("another")
     take("a")
-    count.expect(
-        "different",
-        (head(), len(find("same").find_elements(By.TAG_NAME, "svg"))),
-        (["No, they say different things.", "Their normal grids differ:"], 2),
-    )
+    count.expect("different", (head(), len(find("same").find_elements(By.TAG_NAME, "svg"))),
+                 (["No, they say different things.", "Their normal grids differ:"], 2))
     fill("b", "1" * 10 + "\n" + "0" * 9)
     count.expect("no grid", head(), ["No answer", "Symbol B isn’t a grid."])
     fill("b", "another")
     count.expect("a message", head(), ["Yes, they say the same.", "Both have this one normal grid:"])
     fill("b", "(05)12")
-    count.expect(
-        "no message",
-        (head(), "Column 1 begins (05), which is no identifier" in text_of("slot-b")),
-        (["No answer", "Symbol B can’t be taken."], True),
-    )
+    count.expect("no message", (head(), "Column 1 begins (05), which is no identifier" in text_of("slot-b")),
+                 (["No answer", "Symbol B can’t be taken."], True))
     for slot in "ab":
         fill(slot, "Größe \\F")
     count.expect("as it is typed", (head()[0], "Größe \\F" in text_of("slot-a")), ("Yes, they say the same.", True))
@@ -303,11 +197,9 @@ def compared():
     take("b")
     count.expect("alike", head(), ["Yes, they say the same.", "Both have this one normal grid:"])
     fill("b", turned(written("another"), 1, False, True))
-    count.expect(
-        "turned",
-        (head()[0], "inverted, light for dark, and turned a quarter to the right" in text_of("slot-b")),
-        ("Yes, they say the same.", True),
-    )
+    count.expect("turned",
+                 (head()[0], "inverted, light for dark, and turned a quarter to the right" in text_of("slot-b")),
+                 ("Yes, they say the same.", True))
     fill("b", turned(written("Another"), 1, False, True))
     count.expect("one letter", head()[0], "No, they say different things.")
     message = "".join(f"\\x{128 + k % 128:02X}" for k in range(60))
@@ -316,9 +208,8 @@ def compared():
     write(message, 0)
     push("to-limit")
     take("b")
-    count.expect(
-        "two profiles", head(), ["Yes, they say the same.", "Their modules differ, but both have this one normal grid:"]
-    )
+    count.expect("two profiles", head(),
+                 ["Yes, they say the same.", "Their modules differ, but both have this one normal grid:"])
     message = "".join(f"\\x{128 + k % 128:02X}" for k in range(800))
     write(message, 1)
     take("a")

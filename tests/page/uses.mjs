@@ -1,7 +1,7 @@
-// Uses the module for other programs as such would: node uses.mjs MODULE.mjs MARKS BYTES prints a line of JSON for each
-// thing that it does: its name, and what came of it, or what was thrown. MARKS is the folder tests/marks, BYTES a list
-// of numbers of ECIs, each with the bytes behind it.
-import { readFileSync } from "node:fs";
+// Uses the module for other programs as such would: node uses.mjs MODULE.mjs BYTES TEXTS LETTERS prints a line of JSON
+// for each thing that it does: its name, and what came of it, or what was thrown. BYTES is a list of numbers of ECIs,
+// each with the bytes behind it, TEXTS a list of texts, LETTERS one of letters.
+import { marksOf, texts } from "../corpus/corpus.mjs";
 
 const module = await import(process.argv[2]);
 const { FNC1, Refused, joined, luminanceOf, normal, read, readGrid, sizes, write } = module;
@@ -26,13 +26,7 @@ function pictureOf(grids, dark = [20, 30, 40, 255], light = [250, 240, 230, 255]
 const plain = (grid) => ({ rows: grid.rows, columns: grid.columns, modules: grid.modules.join("") });
 const said = ({ text, items, isGs1, bytes, corrected }) => ({ text, items, isGs1, bytes: [...bytes], corrected });
 const letter = ({ text, charset, items, marks, head, symbology }) => ({ text, charset, items, marks, head, symbology });
-const fileOf = (name) => readFileSync(`${process.argv[3]}/${name}`, "utf8");
-// The records of a file, each its lines without comments.
-const recordsOf = (name) => fileOf(name).split("\n\n")
-  .map((record) => record.split("\n").filter((line) => line && line[0] !== "#")).filter((lines) => lines.length > 3);
-const gridIn = (rows) =>
-  ({ rows: rows.length, columns: rows[0].length, modules: Uint8Array.from(rows.join(""), Number) });
-const others = () => recordsOf("letters_grids.txt").map((rows) => readGrid(gridIn(rows)));
+const others = () => marksOf("letters").map((mark) => readGrid(mark));
 const ASCII = { form: "ascii" };
 const spoilt = (grid, count) => {
   const modules = grid.modules.slice();
@@ -75,12 +69,21 @@ const TASKS = {
     return [text, border, plain(normal(torn(grid), { limit: "auto" })).modules === plain(grid).modules];
   },
   "a torn border as usual": () => readGrid(torn(write("torn at its left side", ASCII))),
-  "every size": () => recordsOf("every-size.txt").map(([name, , , ...rows]) => {
-    const { items, marks, head } = readGrid(gridIn(rows));
-    return [name, { items, marks, head }];
+  "every size": () => marksOf("sizes").map((mark) => {
+    const { items, marks, head } = readGrid(mark);
+    return [mark.name, { items, marks, head }];
   }),
-  texts: () => fileOf("texts.txt").split("\n").filter((line) => line && line[0] !== "#")
-    .map((line) => line.split("\t")[1]).map((text) => [text, readGrid(write(text)).text]),
+  damaged: () => marksOf("damaged").map((mark) => {
+    try {
+      const { items, border, corrected, erased } = readGrid(mark, { doubtful: mark.doubtful });
+      return [items, border, corrected, erased];
+    } catch (why) { return [why.code, why.value, why.place]; }
+  }),
+  texts: () => texts().map((text) => [text, readGrid(write(text)).text]),
+  "letters of texts": () => JSON.parse(process.argv[4]).map((text) => readGrid(write(text)))
+    .map(({ items, marks, head }) => ({ items, marks, head })),
+  "charsets of letters": () => JSON.parse(process.argv[5]).map((it) => readGrid(write(it)))
+    .map(({ text, charset }) => [text, charset]),
   "letters of others": () => others().map(letter),
   "written anew": () => others().map((reading) => [letter(reading), letter(readGrid(write(reading)))]),
   "joined in one charset": () => {
@@ -89,9 +92,20 @@ const TASKS = {
   },
   "letter in a picture": () => read(pictureOf([write("日本", { shape: "rectangle" }), write(PARTS[1])]), { most: 2 })
     .symbols.map(letter).sort(({ text: one }, { text: other }) => (one < other ? -1 : 1)),
-  "bytes in charsets": () => JSON.parse(process.argv[4]).map(([number, items]) =>
+  "bytes in charsets": () => JSON.parse(process.argv[3]).map(([number, items]) =>
     [number, items, readGrid(write({ items, marks: [{ place: 0, number }] })).text]),
   gs1: () => said(readGrid(write([FNC1, ...Buffer.from("10AB"), FNC1, ...Buffer.from("21C")]))),
+  elements: () => ["(01)09521234543213(17)251231(10)ABC123", "[10]A(B)[21]C", "(10)A\\(01)B"]
+    .map((text) => readGrid(write(text, { gs1: true })).elements),
+  "no elements": () => [write("10AB"), write([FNC1, ...Buffer.from("0109521234543214")]), write([FNC1]),
+    write({ items: [FNC1, ...Buffer.from("10AB")], head: PARTS[1].head })].map((grid) => readGrid(grid).elements),
+  "elements in a picture": () => read(pictureOf([write("(10)AB", { gs1: true })])).symbols.map((it) => it.elements),
+  "elements of parts": () => joined([[FNC1, 49, 48, 65], [66]].map((items, k) => readGrid(write({ items,
+    head: { part: k + 1, parts: 2, file: [9, 9] } })))).elements,
+  "faulty elements": () => ["(01)09521234543214", "(01)0952", "(05)1", "10AB", "(17)250231", ""].map((text) => {
+    try { return write(text, { gs1: true }) && "done"; } catch (why) { return [why.name, why.message]; }
+  }),
+  "elements that are no text": () => write([49, 48, 65], { gs1: true }),
   "not UTF-8": () => said(readGrid(write([255, 65]))),
   rectangle: () => plain(write("Hello", { shape: "rectangle" })),
   "a size": () => plain(write("Hello", { rows: 16, columns: 48 })),
@@ -111,6 +125,11 @@ const TASKS = {
   "too small a size": () => write("Hello, world, once more", { rows: 10, columns: 10 }),
   "no such form": () => write("A", { form: "binary" }),
   "no such form of a normal symbol": () => normal(write("A"), { form: "binary" }),
+  "options that there aren't": () => [() => write("A", { gs: true }), () => write("A", { shap: "any" }),
+    () => readGrid(write("A"), { limits: 1 }), () => normal(write("A"), { doubtfull: null }),
+    () => read(pictureOf(two()), { margins: 1 })].map((act) => {
+    try { return act() && "done"; } catch (why) { return [why.name, why.message]; }
+  }),
   "no such shape": () => write("A", { shape: "round" }),
   "rows that no size has": () => write("A", { rows: 65546, columns: 10 }),
   "no size": () => readGrid({ rows: 11, columns: 11, modules: new Uint8Array(121) }),
@@ -129,6 +148,11 @@ const TASKS = {
     const { symbols, unread } = read(pictureOf([{ ...grid, modules: grid.modules.map((it, k) => it ^ isInside(k)) }]),
       { mostUnread: 2 });
     return [symbols.length, unread[0].rows, unread[0].fault.code];
+  },
+  quality: () => {
+    const [{ quality }] = read(pictureOf([write("one")]), { quality: true }).symbols;
+    const [{ quality: other }] = read(pictureOf([write("one")])).symbols;
+    return { ...quality, modulations: quality.modulations.length, unasked: other ?? null };
   },
   "of no pixels": () => read({ data: new Uint8Array(0), width: 0, height: 5 }),
   "of other pixels": () => read({ data: new Uint8Array(7), width: 2, height: 2 }),

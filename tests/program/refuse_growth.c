@@ -25,12 +25,14 @@ __attribute__((destructor)) static void end(void) {
 
 void *malloc(size_t size) {
     static void *(*next)(size_t);
-    if (!next) next = (void *(*)(size_t))dlsym(RTLD_NEXT, "malloc");
+    if (!next)
+        next = (void *(*)(size_t))dlsym(RTLD_NEXT, "malloc");
     return ++growths == refused ? NULL : next(size);
 }
 
 void *realloc(void *old, size_t size) {
     static void *(*next)(void *, size_t);
-    if (!next) next = (void *(*)(void *, size_t))dlsym(RTLD_NEXT, "realloc");
+    if (!next)
+        next = (void *(*)(void *, size_t))dlsym(RTLD_NEXT, "realloc");
     return ++growths == refused ? NULL : next(old, size);
 }

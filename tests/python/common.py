@@ -3,63 +3,66 @@ import contextlib
 import os
 import shutil
 import subprocess
+from unittest import mock
 
+from tests import corpus
 from tests.support import package, places
+from tests.support.case import Rows
 
-TOP, MARKS, SHARED = places.TOP, places.MARKS, places.SHARED
+package.imported()
+TOP, SHARED = places.TOP, places.SHARED
 SAMPLER = os.environ.get("ECC200_SAMPLE_LIBRARY") or places.path("sampler", "out", "libecc200_sample.so")
 PACKAGE = package.tree()
 PYTHON = "/usr/bin/python3"  # Debian's, for which numpy, Pillow and mypy are installed
 
-left_out = []
 # Each of some hundreds of interpreters would compile the package anew otherwise.
 subprocess.run([PYTHON, "-m", "compileall", "-q", PACKAGE], check=True)
-# By which variables the package finds the libraries.
-LIBRARIES = {"ECC200_LIBRARY": SHARED, **({"ECC200_SAMPLE_LIBRARY": SAMPLER} if os.path.isfile(SAMPLER) else {})}
 
 
-def same(name, got, wanted):
-    """A test's name, and what is wrong, if anything is."""
-    return name, None if got == wanted else f"{got!r}, and not {wanted!r}"
+def libraries():
+    """The variables by which the package finds the libraries that are built by now."""
+    return {"ECC200_LIBRARY": SHARED, **({"ECC200_SAMPLE_LIBRARY": SAMPLER} if os.path.isfile(SAMPLER) else {})}
 
 
-def holds(name, whether, said=""):
-    return name, None if whether else said or "it doesn't hold"
+class PackageCase(Rows):
+    """The cases of a module, in the environment in which the package finds its libraries, with a folder for all."""
 
+    @classmethod
+    def setUpClass(cls):
+        cls.enterClassContext(mock.patch.dict(os.environ, libraries()))
+        cls.room = cls.folder_of_class()
+        os.chmod(cls.room, 0o755)
 
-def raises(name, kind, part, call):
-    """That a call raises this kind of exception, whose words have this part."""
-    try:
-        got = call()
-    except kind as why:
-        return name, None if part in str(why) else f"{str(why)!r} has no {part!r}"
-    except Exception as why:  # whatever it is, it isn't the one wanted
-        return name, f"{why!r}, and not {kind.__name__}"
-    return name, f"{got!r}, and no {kind.__name__}"
+    def holds(self, name, whether, said=""):
+        self.sound(name, None if whether else said or "it doesn't hold")
 
+    def raises(self, name, kind, part, call):
+        """That a call raises this kind of exception, whose words have this part."""
+        with self.subTest(name):
+            with self.assertRaises(kind, msg=name) as raised:
+                call()
+            self.assertIn(part, str(raised.exception), name)
 
-def wanted_module(name, package, what):
-    """A module that needn't be installed, or None, and then what needs it is left out."""
-    try:
-        return __import__(name)
-    except ImportError:
-        left_out.append(f"{what} ({package} isn't installed)")
-        return None
+    def says(self, name, got, status=0, output=None, errors=None):
+        """That a run has this status, this output, and errors that have each of these parts."""
+        has_output = output is None or got[1] == output
+        has_errors = not got[2] if errors is None else all(part in got[2] for part in errors)
+        self.holds(name, got[0] == status and has_output and has_errors, f"{got!r}")
 
+    def wanted_module(self, name, package, what):
+        """A module that needn't be installed, or None, and then what needs it is left out."""
+        try:
+            return __import__(name)
+        except ImportError:
+            return self.leave_out(f"{what} ({package} isn't installed)")
 
-def has(program, what):
-    if shutil.which(program):
-        return True
-    left_out.append(f"{what} ({program} isn't installed)")
-    return False
+    def has(self, program, what):
+        """Whether a program is installed; if it isn't, what needs it is left out."""
+        return bool(shutil.which(program)) or self.leave_out(f"{what} ({program} isn't installed)")
 
-
-def has_sampler(what):
-    """Whether the sampler's library is built; if it isn't, what it is needed for is left out."""
-    if os.path.isfile(SAMPLER):
-        return True
-    left_out.append(f"{what} (the library ecc200_sample isn't built)")
-    return False
+    def has_sampler(self, what):
+        """Whether the sampler's library is built; if it isn't, what needs it is left out."""
+        return os.path.isfile(SAMPLER) or self.leave_out(f"{what} (the library ecc200_sample isn't built)")
 
 
 def run(words, given=b"", **more):
@@ -75,8 +78,7 @@ def clean(**more):
 
 def marks():
     """The marks of other encoders: rows of characters."""
-    with open(os.path.join(MARKS, "grids.txt"), encoding="ascii") as file:
-        return [record.split() for record in file.read().strip().split("\n\n")]
+    return [mark.lines for mark in corpus.marks("squares")]
 
 
 @contextlib.contextmanager

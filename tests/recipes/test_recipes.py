@@ -15,7 +15,7 @@ class Recipes(Shell):
 
     def test_each_line_that_tells_its_result(self):
         for number, block in enumerate(blocks(), 1):
-            if "() {" not in block and "tests/marks/make" not in block:
+            if "() {" not in block and "tests.corpus.make" not in block:
                 self.block(f"block {number}", block)
 
     def block(self, name, block):

@@ -42,6 +42,23 @@ static int try_searches(const uint8_t *pixels, size_t width, size_t height) {
     return 0;
 }
 
+/* Tells the number of the first measure that goes wrong; 0 if none does. */
+static int try_measures(const uint8_t *pixels, size_t width, size_t height) {
+    static ecc200_sample_quality quality;
+    static ecc200_sample other;
+    if (ecc200_sample_measure(pixels, width, height, 400, &symbols[0], &quality) != ECC200_SAMPLE_OK ||
+        quality.contrast_grade != 4 || quality.blocks != 1 || strncmp(quality.weakest, "codeword", 8) != 0)
+        return 1;
+    if (ecc200_sample_measure(pixels, width, height, width - 1, &symbols[0], &quality) != ECC200_SAMPLE_PICTURE ||
+        ecc200_sample_measure(pixels, 0, height, 400, &symbols[0], &quality) != ECC200_SAMPLE_PICTURE ||
+        quality.contrast > 0 || quality.weakest[0] != 0)
+        return 2;
+    if (ecc200_sample_measure(pixels, width, height, 400, &other, &quality) != ECC200_SAMPLE_SYMBOL)
+        return 3;
+    other.rows = other.columns = 14; /* with all corners at one place */
+    return ecc200_sample_measure(pixels, width, height, 400, &other, &quality) == ECC200_SAMPLE_SYMBOL ? 0 : 4;
+}
+
 int main(int count, char **words) {
     static uint8_t pixels[400 * 400];
     size_t width, height, found = 9;
@@ -70,6 +87,9 @@ int main(int count, char **words) {
     if (ecc200_sample_picture(pixels, width, height, 400, &options, symbols, 2, &found) != ECC200_SAMPLE_OK ||
         found != 1)
         return 1;
+    wrong = try_measures(pixels, width, height);
+    if (wrong != 0)
+        return 40 + wrong;
     uint8_t text[ECC200_MOST_ITEMS];
     size_t length = ecc200_text(&symbols[0].reading, text, sizeof text, NULL);
     printf("%d %d %.*s %.1f", symbols[0].rows, symbols[0].columns, (int)length, (const char *)text,

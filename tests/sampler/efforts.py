@@ -2,10 +2,11 @@
 are."""
 import random
 
-from tests.sampler.pictures import check, grid_of
+from tests.sampler.pictures import grid_of
 from tests.sampler.searches import Searches
 from tests.sampler.sheets import labels, sheet_of
 from tests.sampler.sizes import tilted
+from tests.sampler.timing import draw
 
 
 def said(messages):
@@ -13,16 +14,15 @@ def said(messages):
     return [f"none;; {message}" for message in messages]
 
 
-def blanked(folder, built):
-    """Once all symbols of a sheet have been read, little is left to be searched, whether it is their texture or their
-    outlines that would take long."""
-    searches, chance = Searches(folder, built), random.Random(43)
-    small, large = (["".join(chance.choice("ABCDEFGH") for _ in range(length)) for _ in range(count)]
-                    for count, length in ((100, 8), (64, 40)))
-    for messages, across, pixels, percent in ((small, 10, 3, 30), (large, 8, 5, 20)):
-        rows = sheet_of([grid_of(message) for message in messages], across, 2, pixels)
-        check(f"{len(messages)} symbols with {percent} % of the usual work",
-              searches.of(rows, len(messages) + 1, percent), (said(messages), "whole"))
+def captioned(chance):
+    """A sheet of 60 symbols with two lines of what looks like small text below each, and what they say."""
+    messages, grids = labels(60, chance)
+    rows, apart = sheet_of(grids, 6, 8, 5), 5 * (len(grids[0]) + 8)
+    for at in range(60):
+        glyphs = [[chance.choice((20, 230)) if column % 4 else 230 for column in range(24)] for _ in range(6)]
+        text = [[level for level in row for _ in range(2)] for row in glyphs for _ in range(2)]
+        draw(rows, text, 55 + at // 6 * apart + 5 * len(grids[0]) + 10, 55 + at % 6 * apart)
+    return messages, rows
 
 
 def noisy(seed):
@@ -33,12 +33,47 @@ def noisy(seed):
                       for row in tilted(sheet_of(grids, 8, 1, 4), 2.32)]
 
 
-def neighbours(folder, built):
-    """Symbols that only their neighbours show are found before much else is tried, dark on light and light on dark."""
-    searches = Searches(folder, built)
-    messages, rows = noisy(34)
-    found, _ = searches.of(rows, 64, 12)
-    check("dark on light with 12 % of the usual work", sorted(found), sorted(said(messages)))
-    messages, rows = noisy(33)
-    found, _ = searches.of([[255 - level for level in row] for row in rows], 64)
-    check("light on dark with the usual work", sorted(found), sorted(said(messages)))
+class Efforts:
+    def test_blanked(self):
+        """Once all symbols of a sheet have been read, little is left to be searched, whether it is their texture or
+        their outlines that would take long."""
+        searches, chance = Searches(self), random.Random(43)
+        small, large = (["".join(chance.choice("ABCDEFGH") for _ in range(length)) for _ in range(count)]
+                        for count, length in ((100, 8), (64, 40)))
+        for messages, across, pixels, percent in ((small, 10, 3, 30), (large, 8, 5, 20)):
+            rows = sheet_of([grid_of(message) for message in messages], across, 2, pixels)
+            self.row(f"{len(messages)} symbols with {percent} % of the usual work",
+                     searches.of(rows, len(messages) + 1, percent), (said(messages), "whole"))
+
+    def test_captions(self):
+        """What looks like a lattice beside symbols that were read doesn't take these in, which would take long."""
+        messages, rows = captioned(random.Random(5))
+        self.row("60 symbols with text below with 5 % of the usual work",
+                 Searches(self).of(rows, 61, 5), (said(messages), "whole"))
+
+    def test_large_work(self):
+        """A large picture is allowed less than a small one, for the time that it takes to open it: of the usual work
+        for each, a blank one of 12 megapixels needs a share more than six times as large as one of 2."""
+        searches = Searches(self)
+        shares = []
+        for wide, high in ((2000, 1000), (4000, 3000)):
+            rows, least, most = [bytes([230]) * wide] * high, 1, 1000
+            while least < most:
+                percent = (least + most) // 2
+                is_enough = searches.of(rows, 1, percent)[1] == "whole"
+                least, most = (least, percent) if is_enough else (percent + 1, most)
+            shares.append(least)
+        small, large = shares
+        self.row(f"a picture of 12 megapixels takes {large} % of its usual work, one of 2 {small} %",
+                 6.5 * small < large < 7.6 * small, True)
+
+    def test_neighbours(self):
+        """Symbols that only their neighbours show are found before much else is tried, dark on light and light on
+        dark."""
+        searches = Searches(self)
+        messages, rows = noisy(34)
+        found, _ = searches.of(rows, 64, 12)
+        self.row("dark on light with 12 % of the usual work", sorted(found), sorted(said(messages)))
+        messages, rows = noisy(33)
+        found, _ = searches.of([[255 - level for level in row] for row in rows], 64)
+        self.row("light on dark with the usual work", sorted(found), sorted(said(messages)))

@@ -3,13 +3,7 @@ import json
 import math
 import random
 
-from tests.sampler.pictures import check, grid_of, message_of, pgm, pixels_of, record, run, tool
-
-
-def sizes():
-    """Of each size: its side, its data codewords, and how many wrong codewords can be corrected in each block."""
-    rows = (list(map(int, line.split())) for line in tool(["table"], "").splitlines())
-    return [(row[0], row[4], row[7]) for row in rows]
+from tests.sampler.pictures import grid_of, message_of, pgm, pixels_of, record, run, sizes
 
 
 def crowded(grid, chance, among=(0, 1), around=5):
@@ -21,129 +15,8 @@ def crowded(grid, chance, among=(0, 1), around=5):
     return field
 
 
-def touching(sampler):
-    """Symbols among random modules, without a quiet zone, and in a dark ground, dark on light and light on dark."""
-    chance = random.Random(11)
-    for side, count, _ in sizes()[2:]:
-        grid = grid_of(message_of(count))
-        for name, among in (("others", (0, 1)), ("dark", (1,))):
-            rows = pixels_of(crowded(grid, chance, among), 4 if side < 50 else 3)
-            if side % 4:
-                rows = [[250 - level for level in row] for row in rows]
-            done = run([sampler, "--time=30000"], pgm(rows))
-            check(f"side {side} among {name}", (done.returncode, done.stdout.decode()), (0, record(grid)))
-
-
-def torn(sampler):
-    """Symbols without a corner, of which each is read though more of the border is wrong than usual."""
-    for at, (side, count, _) in enumerate(sizes()[3:12]):
-        message = message_of(count)
-        reach, turn = int(0.36 * side), at % 4
-        grid = grid_of(message)
-        for row in range(side):
-            for column in range(side):
-                right, down = (column, side - 1 - column)[turn % 2], (row, side - 1 - row)[turn // 2]
-                if right + down < reach:
-                    grid[row][column] = 0
-        done = run([sampler, "--json", "--time=30000"], pgm(pixels_of(grid, 5)))
-        told = json.loads(done.stdout or b"{}")
-        check(f"side {side} without corner {turn}", (told.get("message"), told.get("border_faults", 0) > side // 4),
-              (message, reach > side // 4))
-
-
-def wider_border(sampler):
-    """A symbol whose border is more damaged than usual is read if each block leaves a correction unused, and only
-    then."""
-    chance = random.Random(12)
-    for side, count, limit in sizes()[1:6]:
-        message = message_of(count)
-        grid, kept = grid_of(message), {}
-        while limit not in kept:
-            done = run([sampler, "--json", "--time=30000"], pgm(pixels_of(grid)))
-            corrected = json.loads(done.stdout)["corrected"][0] if done.returncode == 0 else None
-            if corrected is None:  # one flip has made two codewords wrong, or too many
-                grid = grid_of(message)
-            else:
-                kept[corrected] = [row[:] for row in grid]
-            row, column = chance.randrange(1, side - 1), chance.randrange(1, side - 1)
-            grid[row][column] ^= 1
-        for wrong in sorted(kept):
-            spoilt = [row[:] for row in kept[wrong]]
-            for k in range(side // 4 + 1):
-                spoilt[2 + k][0] ^= 1
-            done = run([sampler, "--json", "--time=30000"], pgm(pixels_of(spoilt)))
-            told = json.loads(done.stdout)["message"] if done.returncode == 0 else None
-            check(f"side {side}, {wrong} of {limit} corrections and a border beyond the limit", told,
-                  message if wrong < limit else None)
-
-
 def drawn(wide, high, level):
     return [[int(level(x + 0.5, y + 0.5)) for x in range(wide)] for y in range(high)]
-
-
-def dots(sampler):
-    """Dots of three fifths of a module, which don't touch, turned a little, with some so faint that they are lost."""
-    of_dots(sampler, sizes()[:9], (6,), 0.3, 200)
-
-
-def small_dots(sampler):
-    """The same with dots of two fifths of a module, dark and light ones."""
-    for ground in (200, 50):
-        of_dots(sampler, sizes()[1:9], (4, 7, 11), 0.2, ground)
-
-
-def of_dots(sampler, of_sizes, scales, radius, ground):
-    chance = random.Random(13)
-    for at, (side, count, _) in enumerate(of_sizes):
-        grid, message, scale = grid_of(message_of(count)), message_of(count), scales[at % len(scales)]
-        faint = {(row, column) for row in range(side) for column in range(side) if chance.random() < 0.02}
-        wide, turn = int((side + 8) * scale * 1.15), 0.1 * (side % 5)
-
-        def level(x, y):
-            right, down = (x - wide / 2) / scale, (y - wide / 2) / scale
-            across = math.cos(turn) * right + math.sin(turn) * down + side / 2
-            along = math.cos(turn) * down - math.sin(turn) * right + side / 2
-            row, column = math.floor(along), math.floor(across)
-            if not (0 <= row < side and 0 <= column < side and grid[row][column]):
-                return ground
-            away = math.hypot(across - column - 0.5, along - row - 0.5) - radius
-            depth = (30 if (row, column) in faint else 150) * (1 if ground > 127 else -1)
-            return ground - depth * min(1, max(0, 0.5 - away * scale))
-        done = run([sampler, "--json", "--time=30000"], pgm(drawn(wide, wide, level)))
-        check(f"dots of side {side}, a radius of {radius} and {scale} pixels a module on {ground}",
-              json.loads(done.stdout or b"{}").get("message"), message)
-
-
-def bent(sampler):
-    """Symbols around a cylinder, up to forty degrees each way, upright and on their sides."""
-    for at, (side, count, _) in enumerate(sizes()[4:18:2]):
-        grid, scale = grid_of(message_of(count)), 6
-        reach, wide = math.radians(40), (side + 8) * scale
-        radius = side * scale / 2 / reach
-
-        def level(x, y):
-            across, along = (x, y) if at % 2 else (y, x)
-            sine = (across - wide / 2) / radius
-            if abs(sine) >= 1:
-                return 230
-            column, row = (math.floor(math.asin(sine) * radius / scale + side / 2),
-                           math.floor((along - wide / 2) / scale + side / 2))
-            inside = 0 <= row < side and 0 <= column < side
-            return 30 if inside and grid[row][column] else 230
-        done = run([sampler, "--json", "--time=30000"], pgm(drawn(wide, wide, level)))
-        check(f"side {side} around a cylinder", json.loads(done.stdout or b"{}").get("message"), message_of(count))
-
-
-def bands(sampler):
-    """In the light of a lamp that flickers while the rows are read one by one."""
-    for at, (side, count, _) in enumerate(sizes()[3:12]):
-        grid = grid_of(message_of(count))
-        rows = pixels_of(grid, 5)
-        period, depth = 5 * (5 + at), 0.4 + 0.03 * at
-        lit = [[int(level * (1 - depth * (0.5 + 0.5 * math.sin(2 * math.pi * y / period)))) for level in row]
-               for y, row in enumerate(rows)]
-        done = run([sampler, "--time=30000"], pgm(lit))
-        check(f"side {side} in bands of {period} pixels", (done.returncode, done.stdout.decode()), (0, record(grid)))
 
 
 def moved_along(rows, path):
@@ -153,34 +26,152 @@ def moved_along(rows, path):
              // len(path) for x in range(wide)] for y in range(high)]
 
 
-def motion(sampler):
-    """A camera that moves by 2.4 modules while it takes a picture, so that no threshold tells the modules apart."""
-    scale, turn, reach = 5, 0.1 + math.pi / 4, 12
-    path = [(round(math.cos(turn) * (step - reach / 2)), round(math.sin(turn) * (step - reach / 2)))
-            for step in range(reach + 1)]
-    for side, count, _ in (sizes()[at] for at in (3, 4, 6, 7, 8)):
-        done = run([sampler, "--json"], pgm(moved_along(pixels_of(grid_of(message_of(count)), scale, 4), path)))
-        check(f"side {side} by a camera that moves", json.loads(done.stdout or b"{}").get("message"), message_of(count))
+class Hard:
+    def test_touching(self):
+        """Symbols among random modules, without a quiet zone, and in a dark ground, dark on light and light on dark."""
+        chance = random.Random(11)
+        for side, count, _ in sizes()[2:]:
+            grid = grid_of(message_of(count))
+            for name, among in (("others", (0, 1)), ("dark", (1,))):
+                rows = pixels_of(crowded(grid, chance, among), 4 if side < 50 else 3)
+                if side % 4:
+                    rows = [[250 - level for level in row] for row in rows]
+                done = run([self.sampler, "--time=30000"], pgm(rows))
+                self.row(f"side {side} among {name}", (done.returncode, done.stdout.decode()), (0, record(grid)))
 
+    def test_torn(self):
+        """Symbols without a corner, of which each is read though more of the border is wrong than usual."""
+        for at, (side, count, _) in enumerate(sizes()[3:12]):
+            message = message_of(count)
+            reach, turn = int(0.36 * side), at % 4
+            grid = grid_of(message)
+            for row in range(side):
+                for column in range(side):
+                    right, down = (column, side - 1 - column)[turn % 2], (row, side - 1 - row)[turn // 2]
+                    if right + down < reach:
+                        grid[row][column] = 0
+            done = run([self.sampler, "--json", "--time=30000"], pgm(pixels_of(grid, 5)))
+            told = json.loads(done.stdout or b"{}")
+            self.row(f"side {side} without corner {turn}",
+                     (told.get("message"), told.get("border_faults", 0) > side // 4), (message, reach > side // 4))
 
-def craters(sampler):
-    """Craters in streaked metal that is lit from one side, so that one half of each is dark."""
-    chance = random.Random(14)
-    for at, (side, count, _) in enumerate(sizes()[2:10]):
-        grid, message, scale = grid_of(message_of(count)), message_of(count), (6, 7)[at % 2]
-        wide, turn = int((side + 8) * scale * 1.15), 0.15 + 0.2 * at
-        noise = [chance.gauss(0, 18) for _ in range(wide + 4)]
-        streaks = [sum(noise[y:y + 4]) / 2 for y in range(wide)]
+    def test_wider_border(self):
+        """A symbol whose border is more damaged than usual is read if each block leaves a correction unused, and only
+        then."""
+        chance = random.Random(12)
+        for side, count, limit in sizes()[1:6]:
+            message = message_of(count)
+            grid, kept = grid_of(message), {}
+            while limit not in kept:
+                done = run([self.sampler, "--json", "--time=30000"], pgm(pixels_of(grid)))
+                corrected = json.loads(done.stdout)["corrected"][0] if done.returncode == 0 else None
+                if corrected is None:  # one flip has made two codewords wrong, or too many
+                    grid = grid_of(message)
+                else:
+                    kept[corrected] = [row[:] for row in grid]
+                row, column = chance.randrange(1, side - 1), chance.randrange(1, side - 1)
+                grid[row][column] ^= 1
+            for wrong in sorted(kept):
+                spoilt = [row[:] for row in kept[wrong]]
+                for k in range(side // 4 + 1):
+                    spoilt[2 + k][0] ^= 1
+                done = run([self.sampler, "--json", "--time=30000"], pgm(pixels_of(spoilt)))
+                told = json.loads(done.stdout)["message"] if done.returncode == 0 else None
+                self.row(f"side {side}, {wrong} of {limit} corrections and a border beyond the limit", told,
+                         message if wrong < limit else None)
 
-        def level(x, y):
-            right, down = (x - wide / 2) / scale, (y - wide / 2) / scale
-            across = math.cos(turn) * right + math.sin(turn) * down + side / 2
-            along = math.cos(turn) * down - math.sin(turn) * right + side / 2
-            row, column, shade = math.floor(along), math.floor(across), 0
-            if 0 <= row < side and 0 <= column < side and grid[row][column]:
-                beside, below = across - column - 0.5, along - row - 0.5
-                inside = min(1, max(0, 0.5 - (math.hypot(beside, below) - 0.32) * scale))
-                shade = 90 * inside * min(1, max(-0.3, 0.5 + 3 * beside))
-            return max(0, min(255, 140 + streaks[int(y)] - shade))
-        done = run([sampler, "--json"], pgm(drawn(wide, wide, level)))
-        check(f"craters of side {side}", json.loads(done.stdout or b"{}").get("message"), message)
+    def test_dots(self):
+        """Dots of three fifths of a module, which don't touch, turned a little, with some so faint that they are
+        lost."""
+        self.of_dots(self.sampler, sizes()[:9], (6,), 0.3, 200)
+
+    def test_small_dots(self):
+        """The same with dots of two fifths of a module, dark and light ones."""
+        for ground in (200, 50):
+            self.of_dots(self.sampler, sizes()[1:9], (4, 7, 11), 0.2, ground)
+
+    def of_dots(self, sampler, of_sizes, scales, radius, ground):
+        chance = random.Random(13)
+        for at, (side, count, _) in enumerate(of_sizes):
+            grid, message, scale = grid_of(message_of(count)), message_of(count), scales[at % len(scales)]
+            faint = {(row, column) for row in range(side) for column in range(side) if chance.random() < 0.02}
+            wide, turn = int((side + 8) * scale * 1.15), 0.1 * (side % 5)
+
+            def level(x, y):
+                right, down = (x - wide / 2) / scale, (y - wide / 2) / scale
+                across = math.cos(turn) * right + math.sin(turn) * down + side / 2
+                along = math.cos(turn) * down - math.sin(turn) * right + side / 2
+                row, column = math.floor(along), math.floor(across)
+                if not (0 <= row < side and 0 <= column < side and grid[row][column]):
+                    return ground
+                away = math.hypot(across - column - 0.5, along - row - 0.5) - radius
+                depth = (30 if (row, column) in faint else 150) * (1 if ground > 127 else -1)
+                return ground - depth * min(1, max(0, 0.5 - away * scale))
+            done = run([sampler, "--json", "--time=30000"], pgm(drawn(wide, wide, level)))
+            self.row(f"dots of side {side}, a radius of {radius} and {scale} pixels a module on {ground}",
+                     json.loads(done.stdout or b"{}").get("message"), message)
+
+    def test_bent(self):
+        """Symbols around a cylinder, up to forty degrees each way, upright and on their sides."""
+        for at, (side, count, _) in enumerate(sizes()[4:18:2]):
+            grid, scale = grid_of(message_of(count)), 6
+            reach, wide = math.radians(40), (side + 8) * scale
+            radius = side * scale / 2 / reach
+
+            def level(x, y):
+                across, along = (x, y) if at % 2 else (y, x)
+                sine = (across - wide / 2) / radius
+                if abs(sine) >= 1:
+                    return 230
+                column, row = (math.floor(math.asin(sine) * radius / scale + side / 2),
+                               math.floor((along - wide / 2) / scale + side / 2))
+                inside = 0 <= row < side and 0 <= column < side
+                return 30 if inside and grid[row][column] else 230
+            done = run([self.sampler, "--json", "--time=30000"], pgm(drawn(wide, wide, level)))
+            self.row(f"side {side} around a cylinder", json.loads(done.stdout or b"{}").get("message"),
+                     message_of(count))
+
+    def test_bands(self):
+        """In the light of a lamp that flickers while the rows are read one by one."""
+        for at, (side, count, _) in enumerate(sizes()[3:12]):
+            grid = grid_of(message_of(count))
+            rows = pixels_of(grid, 5)
+            period, depth = 5 * (5 + at), 0.4 + 0.03 * at
+            lit = [[int(level * (1 - depth * (0.5 + 0.5 * math.sin(2 * math.pi * y / period)))) for level in row]
+                   for y, row in enumerate(rows)]
+            done = run([self.sampler, "--time=30000"], pgm(lit))
+            self.row(f"side {side} in bands of {period} pixels", (done.returncode, done.stdout.decode()),
+                     (0, record(grid)))
+
+    def test_motion(self):
+        """A camera that moves by 2.4 modules while it takes a picture, so that no threshold tells the modules apart."""
+        scale, turn, reach = 5, 0.1 + math.pi / 4, 12
+        path = [(round(math.cos(turn) * (step - reach / 2)), round(math.sin(turn) * (step - reach / 2)))
+                for step in range(reach + 1)]
+        for side, count, _ in (sizes()[at] for at in (3, 4, 6, 7, 8)):
+            done = run([self.sampler, "--json"],
+                       pgm(moved_along(pixels_of(grid_of(message_of(count)), scale, 4), path)))
+            self.row(f"side {side} by a camera that moves", json.loads(done.stdout or b"{}").get("message"),
+                     message_of(count))
+
+    def test_craters(self):
+        """Craters in streaked metal that is lit from one side, so that one half of each is dark."""
+        chance = random.Random(14)
+        for at, (side, count, _) in enumerate(sizes()[2:10]):
+            grid, message, scale = grid_of(message_of(count)), message_of(count), (6, 7)[at % 2]
+            wide, turn = int((side + 8) * scale * 1.15), 0.15 + 0.2 * at
+            noise = [chance.gauss(0, 18) for _ in range(wide + 4)]
+            streaks = [sum(noise[y:y + 4]) / 2 for y in range(wide)]
+
+            def level(x, y):
+                right, down = (x - wide / 2) / scale, (y - wide / 2) / scale
+                across = math.cos(turn) * right + math.sin(turn) * down + side / 2
+                along = math.cos(turn) * down - math.sin(turn) * right + side / 2
+                row, column, shade = math.floor(along), math.floor(across), 0
+                if 0 <= row < side and 0 <= column < side and grid[row][column]:
+                    beside, below = across - column - 0.5, along - row - 0.5
+                    inside = min(1, max(0, 0.5 - (math.hypot(beside, below) - 0.32) * scale))
+                    shade = 90 * inside * min(1, max(-0.3, 0.5 + 3 * beside))
+                return max(0, min(255, 140 + streaks[int(y)] - shade))
+            done = run([self.sampler, "--json"], pgm(drawn(wide, wide, level)))
+            self.row(f"craters of side {side}", json.loads(done.stdout or b"{}").get("message"), message)

@@ -7,7 +7,7 @@ import sys
 from tests.library.letter_cases import printed
 from tests.library.letters import Letter, letter_words, said_by, symbol_of
 from tests.library.model import FNC1, ONE
-from tests.sampler.pictures import check, grid_of, pgm, pixels_of, record, run, turned
+from tests.sampler.pictures import grid_of, pgm, pixels_of, record, run, turned
 from tests.sampler.searches import Searches
 from tests.sampler.sizes import tilted
 from tests.support import places
@@ -72,57 +72,6 @@ def told(sampler, rows, *more):
     return [seen(line) for line in run([sampler, "--json", "--all", *more], pgm(rows)).stdout.splitlines()]
 
 
-def read(sampler):
-    """Each letter is read as it was written, however its symbol lies, and with damage up to the limit."""
-    for at, letter in enumerate(LETTERS):
-        modules = grid(letter)
-        spoilt = [row[:] for row in modules]
-        spoilt[len(spoilt) // 2][4] ^= 1
-        plain = pixels_of(modules, 3 + at % 3)
-        ways = {"upright": plain, "turned": turned(plain), "mirrored": [row[::-1] for row in plain],
-                "light on dark": [[255 - level for level in row] for row in plain], "spoilt": pixels_of(spoilt),
-                "tilted": tilted(pixels_of(modules, 5), 0.4 + at)}
-        ways |= {f"{rows} by {columns}": pixels_of(grid(letter, (rows, columns)), 3) for rows, columns in OTHER_SIZES}
-        for way, picture in ways.items():
-            check(f"{letter}, {way}", told(sampler, picture), [wanted(letter, identifier(letter))])
-
-
-def of_an_encoder(sampler):
-    """Symbols of another encoder in all sizes beyond the squares to 104, and with marks and heads, drawn."""
-    count = 0
-    for at, (number, (rows, columns), letter, modules) in enumerate(printed()):
-        lines = [modules[row * columns:(row + 1) * columns] for row in range(rows)]
-        done = run([sampler, "--json", "--time=30000"], pgm(pixels_of(lines, 3 + at % 3)))
-        said = json.loads(done.stdout.splitlines()[0]) if done.stdout else {}
-        told_of_it = {name: said.get(name) for name in ("rows", "columns", "message", "head", "marks", "grid")}
-        all_of_it = {"rows": rows, "columns": columns, "head": None, "marks": None, **wanted(letter, None),
-                     "grid": ["".join(map(str, line)) for line in lines]}
-        del all_of_it["identifier"]
-        check(f"mark {number}, {rows} by {columns}", told_of_it, all_of_it)
-        count += bool(letter.head or letter.marks)
-    check("some say more than a message", count > 5, True)
-
-
-def no_records(sampler):
-    """What says more than a message can't be handed on to dm_tool: it is named, and what stands beside it is handed
-    on."""
-    reasons = {GREEK: "has an ECI", FIRST: "is one part of several (structured append)",
-               LETTERS[-2]: "programs the reader", LETTERS[-1]: "programs the reader"}
-    square = grid_of("SQUARE")
-    for letter, why in reasons.items():
-        modules = grid(letter)
-        named = (f"dm_sample: -: the symbol of {len(modules)} by {len(modules)} modules at 12.0,12.0 {why}, which "
-                 "dm_tool doesn't read: --json has it\n")
-        done = run([sampler, "--corners"], pgm(pixels_of(modules)))
-        check(f"{letter} is no record", (done.returncode, done.stdout, done.stderr.decode()), (1, b"", named))
-        above, below = pixels_of(modules), pixels_of(square)
-        wide = max(len(above[0]), len(below[0]))
-        both = [row + [230] * (wide - len(row)) for row in above + below]
-        done = run([sampler, "--all"], pgm(both))
-        check(f"{letter} above a message", (done.returncode, done.stdout.decode(), done.stderr.decode()),
-              (1, record(square), named))
-
-
 def parts():
     """A picture of three symbols side by side, which say two parts of one file and a programming."""
     letters = [FIRST, LAST, LETTERS[-1]]
@@ -132,13 +81,6 @@ def parts():
     return letters, [[level for picture in padded for level in picture[row]] for row in range(high)]
 
 
-def in_c(folder, built):
-    """The library tells a caller in C of heads and marks."""
-    letters, rows = parts()
-    found, ended = Searches(folder, built).of(rows, 8)
-    check("letters in C", (found, ended), (list(map(in_a_line, letters)), "whole"))
-
-
 def in_a_line(letter):
     """A letter as searched.c prints it."""
     head = {None: "none", PROGRAMMING: PROGRAMMING}.get(letter.head) or "part {} of {}, file {} {}".format(*letter.head)
@@ -146,13 +88,69 @@ def in_a_line(letter):
     return f"{head};{marks}; {bytes(letter.items).decode()}"
 
 
-def through_python(built):
-    """Python's `find` gives them."""
-    letters, rows = parts()
-    env = {**os.environ, "PYTHONPATH": places.PACKAGE, "ECC200_LIBRARY": places.SHARED,
-           "ECC200_SAMPLE_LIBRARY": os.path.join(built, "libecc200_sample.so")}
-    done = run([sys.executable, "-c", FINDS], pgm(rows), env=env)
-    check("Python finds them", done.stderr.decode(), "")
-    letters_of = [[list(letter.items), [[place, number] for number, place in letter.marks],
-                   wanted(letter, None).get("head"), identifier(letter)] for letter in letters]
-    check("letters in Python", json.loads(done.stdout or b"[]"), letters_of)
+class Letters:
+    def test_letters(self):
+        """Each letter is read as it was written, however its symbol lies, and with damage up to the limit."""
+        for at, letter in enumerate(LETTERS):
+            modules = grid(letter)
+            spoilt = [row[:] for row in modules]
+            spoilt[len(spoilt) // 2][4] ^= 1
+            plain = pixels_of(modules, 3 + at % 3)
+            ways = {"upright": plain, "turned": turned(plain), "mirrored": [row[::-1] for row in plain],
+                    "light on dark": [[255 - level for level in row] for row in plain], "spoilt": pixels_of(spoilt),
+                    "tilted": tilted(pixels_of(modules, 5), 0.4 + at)}
+            ways |= {f"{rows} by {columns}": pixels_of(grid(letter, (rows, columns)), 3)
+                     for rows, columns in OTHER_SIZES}
+            for way, picture in ways.items():
+                self.row(f"{letter}, {way}", told(self.sampler, picture), [wanted(letter, identifier(letter))])
+
+    def test_marks(self):
+        """Symbols of another encoder in all sizes beyond the squares to 104, and with marks and heads, drawn."""
+        count = 0
+        for at, (number, (rows, columns), letter, modules) in enumerate(printed()):
+            lines = [modules[row * columns:(row + 1) * columns] for row in range(rows)]
+            done = run([self.sampler, "--json", "--time=30000"], pgm(pixels_of(lines, 3 + at % 3)))
+            said = json.loads(done.stdout.splitlines()[0]) if done.stdout else {}
+            told_of_it = {name: said.get(name) for name in ("rows", "columns", "message", "head", "marks", "grid")}
+            all_of_it = {"rows": rows, "columns": columns, "head": None, "marks": None, **wanted(letter, None),
+                         "grid": ["".join(map(str, line)) for line in lines]}
+            del all_of_it["identifier"]
+            self.row(f"mark {number}, {rows} by {columns}", told_of_it, all_of_it)
+            count += bool(letter.head or letter.marks)
+        self.row("some say more than a message", count > 5, True)
+
+    def test_letters_are_no_records(self):
+        """What says more than a message can't be handed on to dm_tool: it is named, and what stands beside it is handed
+        on."""
+        reasons = {GREEK: "has an ECI", FIRST: "is one part of several (structured append)",
+                   LETTERS[-2]: "programs the reader", LETTERS[-1]: "programs the reader"}
+        square = grid_of("SQUARE")
+        for letter, why in reasons.items():
+            modules = grid(letter)
+            named = (f"dm_sample: -: the symbol of {len(modules)} by {len(modules)} modules at 12.0,12.0 {why}, which "
+                     "dm_tool doesn't read: --json has it\n")
+            done = run([self.sampler, "--corners"], pgm(pixels_of(modules)))
+            self.row(f"{letter} is no record", (done.returncode, done.stdout, done.stderr.decode()), (1, b"", named))
+            above, below = pixels_of(modules), pixels_of(square)
+            wide = max(len(above[0]), len(below[0]))
+            both = [row + [230] * (wide - len(row)) for row in above + below]
+            done = run([self.sampler, "--all"], pgm(both))
+            self.row(f"{letter} above a message", (done.returncode, done.stdout.decode(), done.stderr.decode()),
+                     (1, record(square), named))
+
+    def test_letters_in_c(self):
+        """The library tells a caller in C of heads and marks."""
+        letters, rows = parts()
+        found, ended = Searches(self).of(rows, 8)
+        self.row("letters in C", (found, ended), (list(map(in_a_line, letters)), "whole"))
+
+    def test_letters_in_python(self):
+        """Python's `find` gives them."""
+        letters, rows = parts()
+        env = {**os.environ, "PYTHONPATH": places.PACKAGE, "ECC200_LIBRARY": places.SHARED,
+               "ECC200_SAMPLE_LIBRARY": os.path.join(self.plain, "libecc200_sample.so")}
+        done = run([sys.executable, "-c", FINDS], pgm(rows), env=env)
+        self.row("Python finds them", done.stderr.decode(), "")
+        letters_of = [[list(letter.items), [[place, number] for number, place in letter.marks],
+                       wanted(letter, None).get("head"), identifier(letter)] for letter in letters]
+        self.row("letters in Python", json.loads(done.stdout or b"[]"), letters_of)

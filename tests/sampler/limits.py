@@ -2,63 +2,12 @@
 import os
 import random
 import shutil
-import time
 
-from tests.sampler.pictures import check, grid_of, left_out, pgm, pixels_of, record, run
-from tests.support import places
+from tests.sampler.pictures import grid_of, pgm, pixels_of, record, run
+from tests.support import places, work
 
-EXPORTS = ["ecc200_sample_abi", "ecc200_sample_find", "ecc200_sample_picture", "ecc200_sample_usual",
-           "ecc200_sample_usual_search"]
-
-
-def hostile(folder, careful):
-    """Files cut short and with random bytes changed, and small pictures of noise: a status, and nothing from the
-    sanitisers."""
-    chance = random.Random(5)
-    seeds = sorted(name for name in os.listdir(folder) if name.endswith((".png", ".jpg", ".pgm")))
-    for round_of in range(2 * len(seeds)):
-        with open(os.path.join(folder, seeds[round_of % len(seeds)]), "rb") as file:
-            text = bytearray(file.read())
-        if round_of % 3 == 0:
-            del text[chance.randrange(len(text)):]
-        for _ in range(chance.randint(1, 6)):
-            if text:
-                text[chance.randrange(min(len(text),
-                                          400 if chance.random() < 0.5 else len(text)))] = chance.randrange(256)
-        tame(f"a spoilt {seeds[round_of % len(seeds)]}, round {round_of}",
-             run([careful, "--time=300", "--all"], bytes(text)))
-    for wide, high in ((1, 1), (1, 300), (300, 1), (2, 2), (7, 9), (23, 24), (48, 49), (90, 70)):
-        noise = [[chance.choice((0, 255)) for _ in range(wide)] for _ in range(high)]
-        tame(f"noise of {wide} by {high}", run([careful, "--time=300", "--all", "--unread"], pgm(noise)))
-
-
-def tame(name, done):
-    said = done.stderr.decode(errors="replace")
-    quiet = "Sanitizer" not in said and "runtime error" not in said
-    check(name, (done.returncode in (0, 1, 3, 4), quiet or said[:1500]), (True, True))
-
-
-def large(sampler):
-    """Fifty megapixels with a symbol in them, and light or noisy all over."""
-    wide, high = 8192, 6200
-    grid = grid_of("FIFTY MEGAPIXELS")
-    light = bytearray(b"\xe6" * (wide * high))
-    header = f"P5 {wide} {high} 255\n".encode()
-    check("50 megapixels of nothing", run([sampler, "--time=3000"], header + light).returncode in (1, 4), True)
-    for y, row in enumerate(pixels_of(grid, 12)):
-        light[(3000 + y) * wide + 4000:(3000 + y) * wide + 4000 + len(row)] = bytes(row)
-    done = run([sampler, "--time=20000"], header + light)
-    check("a symbol in 50 megapixels", (done.returncode, done.stdout.decode()), (0, record(grid)))
-    for most in (60000, 150000):  # kilobytes: too few to read the picture, and to search it
-        done = run(["sh", "-c", f'ulimit -v {most} && exec "$@"', "sh", sampler, "--time=20000"], header + light)
-        check(f"50 megapixels in {most} KB", (done.returncode, done.stderr), (3, b"dm_sample: -: no memory\n"))
-    noise = random.Random(1).randbytes(wide * high)
-    begun = time.time()
-    check("50 megapixels of noise", run([sampler, "--time=2000"], header + noise).returncode in (1, 4), True)
-    check("the time for 50 megapixels of noise", time.time() - begun < 60, True)
-    begun = time.time()
-    check("a comb of many teeth", run([sampler, "--time=300"], comb(32767, 20)).returncode in (1, 4), True)
-    check("the time for a comb", time.time() - begun < 8, True)
+EXPORTS = ["ecc200_sample_abi", "ecc200_sample_find", "ecc200_sample_measure", "ecc200_sample_picture",
+           "ecc200_sample_usual", "ecc200_sample_usual_search"]
 
 
 def comb(wide, high):
@@ -67,26 +16,6 @@ def comb(wide, high):
     teeth, back = (row[:8] + middle + row[-8:]
                    for middle in (b"\x14\x14\xe6\xe6" * (wide // 4 - 4) + row[:wide % 4], b"\x14" * (wide - 16)))
     return f"P5 {wide} {high + 19} 255\n".encode() + light + teeth * high + back * 3 + light
-
-
-def library(folder, built, base):
-    """From C and C++, and what the library exports."""
-    picture = pgm(pixels_of(grid_of("FROM C")))
-    for name, words in (("calls.c", ["cc", "-std=c11"]), ("calls.cpp", ["c++", "-std=c++17"])):
-        if not shutil.which(words[0]):
-            left_out.append(f"{name} ({words[0]} isn't installed)")
-            continue
-        shutil.copy(places.path("tests", "sampler", "calls.c"), os.path.join(folder, name))
-        made = os.path.join(folder, name + ".out")
-        paths = [f"-I{places.path('sampler')}", f"-I{places.path('library')}", "-Wall", "-Wextra", "-Werror"]
-        with_these = [os.path.join(built, "libecc200_sample.so"), os.path.join(base, "libecc200.so")]
-        done = run([*words, *paths, os.path.join(folder, name), "-o", made, *with_these])
-        check(f"{name} compiles", done.stderr.decode(), "")
-        done = run([made, "x"], picture, env=paths_for(folder, built, base))
-        check(name, (done.returncode, done.stdout), (0, b"14 14 FROM C 12.0"))
-    names = run(["nm", "-D", "--defined-only",
-                 os.path.join(built, "libecc200_sample.so")]).stdout.decode().split()[2::3]
-    check("what the library exports", sorted(names), EXPORTS)
 
 
 def paths_for(folder, built, base):
@@ -99,10 +28,70 @@ def paths_for(folder, built, base):
     return {**os.environ, "LD_LIBRARY_PATH": folder}
 
 
-def missing():
-    """What isn't installed without which nothing can be built."""
-    for header, package in (("png.h", "libpng-dev"), ("jpeglib.h", "libjpeg-dev")):
-        test = ["cc", "-fsyntax-only", "-include", "stdio.h", "-include", header, "-x", "c", "-"]
-        if not shutil.which("cc") or run(test).returncode:
-            return package if shutil.which("cc") else "cc"
-    return None
+class Limits:
+    def test_hostile(self):
+        """Files cut short and with random bytes changed, and small pictures of noise: a status, and nothing from the
+        sanitisers."""
+        chance = random.Random(5)
+        seeds = sorted(name for name in os.listdir(self.room) if name.endswith((".png", ".jpg", ".pgm")))
+        for round_of in range(2 * len(seeds)):
+            with open(os.path.join(self.room, seeds[round_of % len(seeds)]), "rb") as file:
+                text = bytearray(file.read())
+            if round_of % 3 == 0:
+                del text[chance.randrange(len(text)):]
+            for _ in range(chance.randint(1, 6)):
+                if text:
+                    text[chance.randrange(min(len(text),
+                                              400 if chance.random() < 0.5 else len(text)))] = chance.randrange(256)
+            self.tame(f"a spoilt {seeds[round_of % len(seeds)]}, round {round_of}",
+                      run([self.careful, "--time=300", "--all"], bytes(text)))
+        for wide, high in ((1, 1), (1, 300), (300, 1), (2, 2), (7, 9), (23, 24), (48, 49), (90, 70)):
+            noise = [[chance.choice((0, 255)) for _ in range(wide)] for _ in range(high)]
+            self.tame(f"noise of {wide} by {high}", run([self.careful, "--time=300", "--all", "--unread"], pgm(noise)))
+
+    def tame(self, name, done):
+        said = done.stderr.decode(errors="replace")
+        quiet = "Sanitizer" not in said and "runtime error" not in said
+        self.row(name, (done.returncode in (0, 1, 3, 4), quiet or said[:1500]), (True, True))
+
+    def test_large(self):
+        """Fifty megapixels with a symbol in them, and light or noisy all over."""
+        wide, high = 8192, 6200
+        grid = grid_of("FIFTY MEGAPIXELS")
+        light = bytearray(b"\xe6" * (wide * high))
+        header = f"P5 {wide} {high} 255\n".encode()
+        self.row("50 megapixels of nothing", run([self.sampler, "--time=3000"], header + light).returncode in (1, 4),
+                 True)
+        for y, row in enumerate(pixels_of(grid, 12)):
+            light[(3000 + y) * wide + 4000:(3000 + y) * wide + 4000 + len(row)] = bytes(row)
+        done = run([self.sampler, "--time=20000"], header + light)
+        self.row("a symbol in 50 megapixels", (done.returncode, done.stdout.decode()), (0, record(grid)))
+        for most in (60000, 150000):  # kilobytes: too few to read the picture, and to search it
+            done = run(["sh", "-c", f'ulimit -v {most} && exec "$@"', "sh", self.sampler, "--time=20000"],
+                       header + light)
+            self.row(f"50 megapixels in {most} KB", (done.returncode, done.stderr), (3, b"dm_sample: -: no memory\n"))
+        noise = random.Random(1).randbytes(wide * high)
+        for name, milliseconds, picture, most in (("50 megapixels of noise", 2000, header + noise, 60),
+                                                  ("a comb of many teeth", 300, comb(32767, 20), 10)):
+            with work.measured() as took:
+                self.row(name, run([self.sampler, f"--time={milliseconds}"], picture).returncode in (1, 4), True)
+            self.row(f"the work of {name}", took.pieces < most or str(took), True)
+
+    def test_library(self):
+        """From C and C++, and what the library exports."""
+        picture = pgm(pixels_of(grid_of("FROM C")))
+        for name, words in (("calls.c", ["cc", "-std=c11"]), ("calls.cpp", ["c++", "-std=c++17"])):
+            if not shutil.which(words[0]):
+                self.leave_out(f"{name} ({words[0]} isn't installed)")
+                continue
+            shutil.copy(places.path("tests", "sampler", "calls.c"), os.path.join(self.room, name))
+            made = os.path.join(self.room, name + ".out")
+            paths = [f"-I{places.path('sampler')}", f"-I{places.path('library')}", "-Wall", "-Wextra", "-Werror"]
+            with_these = [os.path.join(self.plain, "libecc200_sample.so"), os.path.join(places.BUILT, "libecc200.so")]
+            done = run([*words, *paths, os.path.join(self.room, name), "-o", made, *with_these])
+            self.row(f"{name} compiles", done.stderr.decode(), "")
+            done = run([made, "x"], picture, env=paths_for(self.room, self.plain, places.BUILT))
+            self.row(name, (done.returncode, done.stdout), (0, b"14 14 FROM C 12.0"))
+        names = run(["nm", "-D", "--defined-only",
+                     os.path.join(self.plain, "libecc200_sample.so")]).stdout.decode().split()[2::3]
+        self.row("what the library exports", sorted(names), EXPORTS)

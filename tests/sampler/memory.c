@@ -19,14 +19,8 @@ static int fails(void) {
     return 1;
 }
 
-void *malloc(size_t size) {
-    return fails() ? NULL : __libc_malloc(size);
-}
+void *malloc(size_t size) { return fails() ? NULL : __libc_malloc(size); }
 
-void *calloc(size_t count, size_t size) {
-    return fails() ? NULL : __libc_calloc(count, size);
-}
+void *calloc(size_t count, size_t size) { return fails() ? NULL : __libc_calloc(count, size); }
 
-void *realloc(void *old, size_t size) {
-    return fails() ? NULL : __libc_realloc(old, size);
-}
+void *realloc(void *old, size_t size) { return fails() ? NULL : __libc_realloc(old, size); }

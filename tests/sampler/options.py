@@ -6,48 +6,8 @@ import re
 import shutil
 import subprocess
 
-from tests.sampler.pictures import CAREFUL, check, grid_of, left_out, pgm, pixels_of, record, run
+from tests.sampler.pictures import CAREFUL, grid_of, pgm, pixels_of, record, run
 from tests.support import places
-
-
-def options(folder, sampler):
-    grid = grid_of("123456")
-    path = os.path.join(folder, "one.pgm")
-    two = os.path.join(folder, "two.pgm")
-    other = grid_of("SECOND")
-    pair = [a + b for a, b in zip(pixels_of(grid) + [[230] * 64] * 8, pixels_of(other))]
-    for name, rows in ((path, pixels_of(grid)), (two, pair)):
-        with open(name, "wb") as file:
-            file.write(pgm(rows))
-    check("--all", sorted(run([sampler, "--all", two]).stdout.decode().split("\n\n")[:-1]),
-          sorted([record(grid)[:-2], record(other)[:-2]]))
-    check("without --all", run([sampler, two]).stdout.decode() in (record(grid), record(other)), True)
-    said = run([sampler, "--corners", path])
-    check("--corners", (said.stdout.decode(), said.stderr.decode()),
-          (record(grid), f"{path}: 12.0,12.0 52.0,12.0 52.0,52.0 12.0,52.0\n"))
-    told = json.loads(run([sampler, "--json", path]).stdout)
-    check("--json", {name: told[name] for name in told if name != "corners"}, {
-        "file": path, "rows": 10, "columns": 10, "inverted": False, "mirrored": False, "message": "123456",
-        "identifier": "]d1", "corrected": [0], "erased": [0], "left": [5], "border_faults": 0, "border_limit": 2,
-        "complete": True,
-        "grid": ["".join(map(str, row)) for row in grid]})
-    check("corners in --json", [[round(c) for c in corner] for corner in told["corners"]],
-          [[12, 12], [52, 12], [52, 52], [12, 52]])
-    text = "\\F01\\x80\"\\\\"
-    check("--json spells messages as dm_tool does",
-          json.loads(run([sampler, "--json"], pgm(pixels_of(grid_of(text)))).stdout)["message"], text)
-    check("--min-modules", [run([sampler, f"--min-modules={least}", path]).returncode for least in (10, 11)], [0, 1])
-    spoilt = [row[:] for row in grid]
-    spoilt[4][4] ^= 1
-    damaged = pgm(pixels_of(spoilt))
-    check("--margin", [run([sampler, f"--margin={margin}"], damaged).returncode for margin in (0, 1, 2, 3)],
-          [0, 0, 1, 1])
-    for y, x in ((2, 2), (4, 6), (6, 3), (7, 7), (3, 5), (5, 1)):
-        spoilt[y][x] ^= 1
-    lost = pgm(pixels_of(spoilt))
-    check("a symbol beyond the limit", (run([sampler], lost).returncode, run([sampler], lost).stdout), (1, b""))
-    check("--unread", run([sampler, "--unread"], lost).stdout.decode(), record(spoilt))
-    check("--unread --json", "block" in json.loads(run([sampler, "--unread", "--json"], lost).stdout)["refused"], True)
 
 
 def beside(pictures):
@@ -60,116 +20,6 @@ def beyond_repair(message):
     grid = grid_of(message)
     return [[module ^ (0 < row < len(grid) - 1 and 0 < column < len(grid) - 1 and (row * 7 + column * 5) % 3 == 0)
              for column, module in enumerate(line)] for row, line in enumerate(grid)]
-
-
-def unread(sampler):
-    """What is found and not read is listed, once each, with the reason, also beside what is read."""
-    good, lost = grid_of("GOOD 1"), beyond_repair("LOST 1")
-    rows = beside([pixels_of(grid) for grid in (lost, good, lost)])
-    said = [json.loads(line) for line in run([sampler, "--all", "--json", "--unread", "--time=30000"],
-                                             pgm(rows)).stdout.splitlines()]
-    check("what is read, and what isn't", sorted((one.get("message", ""), "block" in one.get("refused", ""))
-                                                 for one in said), [("", True), ("", True), ("GOOD 1", False)])
-    wide = len(rows[0]) // 3
-    check("where they are", sorted(round(one["corners"][0][0]) for one in said), [12, 12 + wide, 12 + 2 * wide])
-    check("their grids", [one["grid"] for one in said if "refused" in one],
-          [["".join(map(str, row)) for row in lost]] * 2)
-    done = run([sampler, "--all", "--unread", "--time=30000"], pgm(rows))
-    check("as records, what is read", done.stdout.decode(), record(good))
-    said = json.loads(run([sampler, "--json", "--unread", "--margin=9", "--time=30000"],
-                          pgm(pixels_of(good))).stdout)
-    check("what leaves too little", (said["refused"], "message" in said), ("too few corrections unused", False))
-
-
-def early(sampler):
-    """A search that ends early says so, once, and one that doesn't, doesn't."""
-    grid = grid_of("123456")
-    picture = pgm(pixels_of(grid))
-    for words, status, said in (
-            (["--all", "--time=30000"], 0, b""), (["--time=30000"], 0, b""),
-            (["--time=0"], 4, b"dm_sample: -: the search ended early, after 0 milliseconds: there may be a symbol\n")):
-        done = run([sampler, *words], picture)
-        check(" ".join(words), (done.returncode, done.stderr), (status, said))
-
-
-def unread_without_a_symbol(sampler):
-    """Where nothing has a symbol's border, nothing is found, --unread or not."""
-    chance = random.Random(3)
-    pictures = {"a dark square": [[1] * 14] * 14, "an elbow": [[1] + [0] * 13] * 13 + [[1] * 14],
-                "a frame": [[1] * 20] + [[1] + [0] * 18 + [1]] * 18 + [[1] * 20]}
-    pictures = {name: pixels_of(modules, 6, 4) for name, modules in pictures.items()}
-    pictures["noise"] = [[chance.randrange(256) for _ in range(200)] for _ in range(200)]
-    for name, rows in pictures.items():
-        for words in ([], ["--unread"]):
-            done = run([sampler, *words, "--time=30000"], pgm(rows))
-            check(f"{name} {words}", (done.returncode, done.stdout), (1, b""))
-
-
-def wide(folder, sampler):
-    """What is in EDIFACT is read too."""
-    path = os.path.join(folder, "edifact.png")
-    if not shutil.which("dmtxwrite"):
-        left_out.append("a symbol in EDIFACT (dmtxwrite isn't installed)")
-        return
-    run(["dmtxwrite", "-e", "e", "-o", path], b"AB.CD/12 34")
-    check("a symbol in EDIFACT", json.loads(run([sampler, "--json", path]).stdout or b"{}").get("message"),
-          "AB.CD/12 34")
-
-
-def usage(sampler):
-    for words in (["--what"], ["--time"], ["--time=x"], ["--time=-1"], ["--time="], ["--margin=1x"],
-                  ["--min-modules", "9" * 20], ["-q"]):
-        done = run([sampler, *words])
-        check(" ".join(words), (done.returncode, done.stdout, done.stderr.startswith(b"dm_sample: usage: dm_sample ")),
-              (2, b"", True))
-    done = run([sampler, "--help"])
-    check("--help", (done.returncode, done.stdout.startswith(b"usage: dm_sample "), done.stderr), (0, True, b""))
-    done = run([sampler, "--version"])
-    check("--version", (done.returncode, done.stdout.split()[0], done.stdout.count(b"\n")), (0, b"dm_sample", 1))
-
-
-def errors(folder, sampler):
-    """Each bad file is named with what is wrong, and the next goes on."""
-    good = os.path.join(folder, "good.pgm")
-    grid = grid_of("GOOD")
-    with open(good, "wb") as file:
-        file.write(pgm(pixels_of(grid)))
-    cases = {b"": "an empty file", b"hello": "neither PNG, JPEG nor PNM", b"P7\n": "neither", b"P5": "neither",
-             b"P5 ": "a faulty header",
-             b"P5 x 2 255\n": "a faulty header", b"P5 2 2 0\n....": "a faulty header",
-             b"P5 2 2 70000\n....": "a faulty header",
-             b"P5 2 2 255\n...": "cut short", b"P2 2 2 255\n1 2 3": "cut short",
-             b"P2 2 2 255\n1 2 3 x": "a faulty sample",
-             b"P2 2 2 9\n1 2 3 10": "a faulty sample",
-             b"P1 2 2\n012 1": "a faulty sample", b"P1 2 2\n0112": "a faulty sample", b"P1 2 2\n011 ": "cut short",
-             b"P5 0 5 255\n": "without pixels", b"P4 40000 1\n" + bytes(5000): "more than 32767",
-             b"\x89PNG\r\n\x1a\n": "PNG: ", b"\x89PNG\r\n\x1a\n" + b"junk" * 9: "PNG: ", b"\xff\xd8\xff": "JPEG: ",
-             b"\xff\xd8\xff\xe0" + b"junk" * 9: "JPEG: "}
-    for text, wanted in cases.items():
-        bad = os.path.join(folder, "bad")
-        with open(bad, "wb") as file:
-            file.write(text)
-        done = run([sampler, bad, good])
-        said = done.stderr.decode()
-        is_named = said.startswith(f"dm_sample: {bad}: ") and wanted in said
-        check(f"{text[:20]}", (done.returncode, done.stdout.decode(), is_named), (3, record(grid), True))
-    for bad, wanted in ((os.path.join(folder, "not there"), "No such file"), (folder, "Is a directory")):
-        done = run([sampler, bad, good])
-        check(wanted, (done.returncode, done.stdout.decode(), wanted in done.stderr.decode()), (3, record(grid), True))
-    for text, wanted in spoilt_jpegs(folder):
-        done = run([sampler], text)
-        check(wanted, (done.returncode, done.stdout, done.stderr.decode()), (3, b"", f"dm_sample: -: {wanted}\n"))
-    light = pgm([[255] * 40] * 40)
-    check("nothing in it", (run([sampler], light).returncode, run([sampler], light).stdout), (1, b""))
-    check("nothing in one of two", run([sampler, good, "-"], light).returncode, 1)
-    with open("/dev/full", "wb") as full:
-        done = subprocess.run([sampler, good], stdout=full, stderr=subprocess.PIPE)
-    check("a full device", (done.returncode, done.stderr), (3, b"dm_sample: write failed\n"))
-    taking, giving = os.pipe()
-    os.close(taking)
-    done = subprocess.run([sampler, good], stdout=giving, stderr=subprocess.PIPE)
-    os.close(giving)
-    check("a closed pipe", (done.returncode, done.stderr), (3, b"dm_sample: write failed\n"))
 
 
 def spoilt_jpegs(folder):
@@ -188,46 +38,224 @@ def spoilt_jpegs(folder):
              "a picture with more than 32767 pixels on a side")]
 
 
-def memory(folder, sampler):
-    """Whichever allocation fails, it is said, or the symbol is found all the same."""
-    made = os.path.join(folder, "memory.so")
-    done = run(["cc", "-shared", "-fPIC", "-o", made, places.path("tests", "sampler", "memory.c")])
-    check("memory.c compiles", done.stderr.decode(), "")
-    grid = grid_of("MEMORY")
-    told = 0
-    for number in range(1, 60):
-        done = run([sampler], pgm(pixels_of(grid)), env={**os.environ, "LD_PRELOAD": made, "FAIL_AT": str(number)})
-        said = done.stderr.decode()
-        is_told = done.returncode == 3 and not done.stdout and said.startswith("dm_sample: -: ") and "memory" in said
-        told += is_told
-        check(f"allocation {number} fails",
-              is_told or (done.returncode, done.stdout.decode(), said) == (0, record(grid), ""), True)
-    check("allocations that fail are told", told > 12, True)
+class Options:
+    def test_options(self):
+        grid = grid_of("123456")
+        path = os.path.join(self.room, "one.pgm")
+        two = os.path.join(self.room, "two.pgm")
+        other = grid_of("SECOND")
+        pair = [a + b for a, b in zip(pixels_of(grid) + [[230] * 64] * 8, pixels_of(other))]
+        for name, rows in ((path, pixels_of(grid)), (two, pair)):
+            with open(name, "wb") as file:
+                file.write(pgm(rows))
+        self.row("--all", sorted(run([self.sampler, "--all", two]).stdout.decode().split("\n\n")[:-1]),
+                 sorted([record(grid)[:-2], record(other)[:-2]]))
+        self.row("without --all", run([self.sampler, two]).stdout.decode() in (record(grid), record(other)), True)
+        said = run([self.sampler, "--corners", path])
+        self.row("--corners", (said.stdout.decode(), said.stderr.decode()),
+                 (record(grid), f"{path}: 12.0,12.0 52.0,12.0 52.0,52.0 12.0,52.0\n"))
+        told = json.loads(run([self.sampler, "--json", path]).stdout)
+        self.row("--json", {name: told[name] for name in told if name != "corners"},
+                 {"file": path, "rows": 10, "columns": 10, "inverted": False, "mirrored": False, "message": "123456",
+                  "identifier": "]d1", "corrected": [0], "erased": [0], "left": [5], "border_faults": 0,
+                  "border_limit": 2, "complete": True, "grid": ["".join(map(str, row)) for row in grid]})
+        self.row("corners in --json", [[round(c) for c in corner] for corner in told["corners"]],
+                 [[12, 12], [52, 12], [52, 52], [12, 52]])
+        text = "\\F01\\x80\"\\\\"
+        self.row("--json spells messages as dm_tool does",
+                 json.loads(run([self.sampler, "--json"], pgm(pixels_of(grid_of(text)))).stdout)["message"], text)
+        self.row("--min-modules",
+                 [run([self.sampler, f"--min-modules={least}", path]).returncode for least in (10, 11)], [0, 1])
+        spoilt = [row[:] for row in grid]
+        spoilt[4][4] ^= 1
+        damaged = pgm(pixels_of(spoilt))
+        self.row("--margin", [run([self.sampler, f"--margin={margin}"], damaged).returncode for margin in (0, 1, 2, 3)],
+                 [0, 0, 1, 1])
+        for y, x in ((2, 2), (4, 6), (6, 3), (7, 7), (3, 5), (5, 1)):
+            spoilt[y][x] ^= 1
+        lost = pgm(pixels_of(spoilt))
+        self.row("a symbol beyond the limit", (run([self.sampler], lost).returncode, run([self.sampler], lost).stdout),
+                 (1, b""))
+        self.row("--unread", run([self.sampler, "--unread"], lost).stdout.decode(), record(spoilt))
+        self.row("--unread --json",
+                 "block" in json.loads(run([self.sampler, "--unread", "--json"], lost).stdout)["refused"], True)
 
+    def test_unread(self):
+        """What is found and not read is listed, once each, with the reason, also beside what is read."""
+        good, lost = grid_of("GOOD 1"), beyond_repair("LOST 1")
+        rows = beside([pixels_of(grid) for grid in (lost, good, lost)])
+        said = [json.loads(line) for line in run([self.sampler, "--all", "--json", "--unread", "--time=30000"],
+                                                 pgm(rows)).stdout.splitlines()]
+        self.row("what is read, and what isn't", sorted((one.get("message", ""), "block" in one.get("refused", ""))
+                                                        for one in said), [("", True), ("", True), ("GOOD 1", False)])
+        wide = len(rows[0]) // 3
+        self.row("where they are", sorted(round(one["corners"][0][0]) for one in said), [12, 12 + wide, 12 + 2 * wide])
+        self.row("their grids", [one["grid"] for one in said if "refused" in one],
+                 [["".join(map(str, row)) for row in lost]] * 2)
+        done = run([self.sampler, "--all", "--unread", "--time=30000"], pgm(rows))
+        self.row("as records, what is read", done.stdout.decode(), record(good))
+        said = json.loads(run([self.sampler, "--json", "--unread", "--margin=9", "--time=30000"],
+                              pgm(pixels_of(good))).stdout)
+        self.row("what leaves too little", (said["refused"], "message" in said), ("too few corrections unused", False))
 
-def part(folder, sampler, name, files):
-    """Runs a C file of this folder over some of the sampler's, which stand in that folder. It prints what is wrong."""
-    made = os.path.join(folder, f"{name}.out")
-    words = ["cc", "-std=c17", "-Wall", "-Wextra", "-Werror", *CAREFUL]
-    headers = [f"-I{sampler}", f"-I{places.path('library')}"]
-    sources = [places.path("tests", "sampler", f"{name}.c"), *(os.path.join(sampler, f"{file}.c") for file in files)]
-    done = run([*words, *headers, "-D_POSIX_C_SOURCE=200809L", *sources, "-o", made, places.ARCHIVE, "-lm"])
-    check(f"{name}.c compiles", done.stderr.decode(), "")
-    done = run([made])
-    check(name, (done.returncode, done.stdout, done.stderr.decode()[:600]), (0, b"", ""))
+    def test_early(self):
+        """A search that ends early says so, once, and one that doesn't, doesn't."""
+        grid = grid_of("123456")
+        picture = pgm(pixels_of(grid))
+        ended = b"dm_sample: -: the search ended early, after 0 milliseconds: there may be a symbol\n"
+        for words, status, said in ((["--all", "--time=30000"], 0, b""), (["--time=30000"], 0, b""),
+                                    (["--time=0"], 4, ended)):
+            done = run([self.sampler, *words], picture)
+            self.row(" ".join(words), (done.returncode, done.stderr), (status, said))
 
+    def test_unread_without_a_symbol(self):
+        """Where nothing has a symbol's border, nothing is found, --unread or not."""
+        chance = random.Random(3)
+        pictures = {"a dark square": [[1] * 14] * 14, "an elbow": [[1] + [0] * 13] * 13 + [[1] * 14],
+                    "a frame": [[1] * 20] + [[1] + [0] * 18 + [1]] * 18 + [[1] * 20]}
+        pictures = {name: pixels_of(modules, 6, 4) for name, modules in pictures.items()}
+        pictures["noise"] = [[chance.randrange(256) for _ in range(200)] for _ in range(200)]
+        for name, rows in pictures.items():
+            for words in ([], ["--unread"]):
+                done = run([self.sampler, *words, "--time=30000"], pgm(rows))
+                self.row(f"{name} {words}", (done.returncode, done.stdout), (1, b""))
 
-def parts(folder, sampler):
-    """Points far outside of a picture, the usual work, and straight pieces that are joined."""
-    part(folder, sampler, "parts", ("geometry", "limit", "outline"))
+    def test_wide(self):
+        """What is in EDIFACT is read too."""
+        path = os.path.join(self.room, "edifact.png")
+        if not shutil.which("dmtxwrite"):
+            self.leave_out("a symbol in EDIFACT (dmtxwrite isn't installed)")
+            return
+        run(["dmtxwrite", "-e", "e", "-o", path], b"AB.CD/12 34")
+        self.row("a symbol in EDIFACT", json.loads(run([self.sampler, "--json", path]).stdout or b"{}").get("message"),
+                 "AB.CD/12 34")
 
+    def test_usage(self):
+        for words in (["--what"], ["--time"], ["--time=x"], ["--time=-1"], ["--time="], ["--margin=1x"],
+                      ["--min-modules", "9" * 20], ["-q"]):
+            done = run([self.sampler, *words])
+            self.row(" ".join(words),
+                     (done.returncode, done.stdout, done.stderr.startswith(b"dm_sample: usage: dm_sample ")),
+                     (2, b"", True))
+        done = run([self.sampler, "--help"])
+        self.row("--help", (done.returncode, done.stdout.startswith(b"usage: dm_sample "), done.stderr), (0, True, b""))
+        done = run([self.sampler, "--version"])
+        self.row("--version", (done.returncode, done.stdout.split()[0], done.stdout.count(b"\n")), (0, b"dm_sample", 1))
 
-def judged(folder, sampler):
-    """Readings that say the same, and others."""
-    files = [name.removesuffix(".c") for name in sorted(os.listdir(sampler)) if name.endswith(".c")]
-    part(folder, sampler, "judged", [name for name in files if name != "judge"])
+    def test_errors(self):
+        """Each bad file is named with what is wrong, and the next goes on."""
+        good = os.path.join(self.room, "good.pgm")
+        grid = grid_of("GOOD")
+        with open(good, "wb") as file:
+            file.write(pgm(pixels_of(grid)))
+        cases = {b"": "an empty file", b"hello": "neither PNG, JPEG nor PNM", b"P7\n": "neither", b"P5": "neither",
+                 b"P5 ": "a faulty header",
+                 b"P5 x 2 255\n": "a faulty header", b"P5 2 2 0\n....": "a faulty header",
+                 b"P5 2 2 70000\n....": "a faulty header",
+                 b"P5 2 2 255\n...": "cut short", b"P2 2 2 255\n1 2 3": "cut short",
+                 b"P2 2 2 255\n1 2 3 x": "a faulty sample",
+                 b"P2 2 2 9\n1 2 3 10": "a faulty sample",
+                 b"P1 2 2\n012 1": "a faulty sample", b"P1 2 2\n0112": "a faulty sample", b"P1 2 2\n011 ": "cut short",
+                 b"P5 0 5 255\n": "without pixels", b"P4 40000 1\n" + bytes(5000): "more than 32767",
+                 b"\x89PNG\r\n\x1a\n": "PNG: ", b"\x89PNG\r\n\x1a\n" + b"junk" * 9: "PNG: ", b"\xff\xd8\xff": "JPEG: ",
+                 b"\xff\xd8\xff\xe0" + b"junk" * 9: "JPEG: "}
+        for text, wanted in cases.items():
+            bad = os.path.join(self.room, "bad")
+            with open(bad, "wb") as file:
+                file.write(text)
+            done = run([self.sampler, bad, good])
+            said = done.stderr.decode()
+            is_named = said.startswith(f"dm_sample: {bad}: ") and wanted in said
+            self.row(f"{text[:20]}", (done.returncode, done.stdout.decode(), is_named), (3, record(grid), True))
+        for bad, wanted in ((os.path.join(self.room, "not there"), "No such file"), (self.room, "Is a directory")):
+            done = run([self.sampler, bad, good])
+            self.row(wanted, (done.returncode, done.stdout.decode(), wanted in done.stderr.decode()),
+                     (3, record(grid), True))
+        for text, wanted in spoilt_jpegs(self.room):
+            done = run([self.sampler], text)
+            self.row(wanted, (done.returncode, done.stdout, done.stderr.decode()),
+                     (3, b"", f"dm_sample: -: {wanted}\n"))
+        light = pgm([[255] * 40] * 40)
+        self.row("nothing in it", (run([self.sampler], light).returncode, run([self.sampler], light).stdout), (1, b""))
+        self.row("nothing in one of two", run([self.sampler, good, "-"], light).returncode, 1)
+        with open("/dev/full", "wb") as full:
+            done = subprocess.run([self.sampler, good], stdout=full, stderr=subprocess.PIPE)
+        self.row("a full device", (done.returncode, done.stderr), (3, b"dm_sample: write failed\n"))
+        taking, giving = os.pipe()
+        os.close(taking)
+        done = subprocess.run([self.sampler, good], stdout=giving, stderr=subprocess.PIPE)
+        os.close(giving)
+        self.row("a closed pipe", (done.returncode, done.stderr), (3, b"dm_sample: write failed\n"))
 
+    def test_names(self):
+        """No name of a file controls a terminal, ends a line, or turns letters around, on either stream."""
+        picture = {"read": pgm(pixels_of(grid_of("123456"))), "refused": b"P5 ", "empty": pgm([[230] * 40] * 40),
+                   "held back": pgm(pixels_of(next(grid for rows, columns, _, grid in self.symbols()
+                                                   if rows < columns)))}
+        for name, shown, told in ((b"a\x1b[1mb", "a\\x1B[1mb", "a\x1b[1mb"), (b"a\nb\tc", "a\\x0Ab\\x09c", "a\nb\tc"),
+                                  (b"\xc2\x9b1m\x7f", "\\xC2\\x9B1m\\x7F", "\x9b1m\x7f"),
+                                  (b"\x9b1m", "\\x9B1m", "\ufffd1m"),
+                                  ("é\u202ex".encode(), "é\\xE2\\x80\\xAEx", "é\u202ex")):
+            for kind, words, said in (("read", ["--corners"], "{}: 12.0,12.0 52.0,12.0 52.0,52.0 12.0,52.0"),
+                                      ("refused", [], "dm_sample: {}: PNM: a faulty header"),
+                                      ("empty", ["--time=0"],
+                                       "dm_sample: {}: the search ended early, after 0 "
+                                       "milliseconds: there may be a symbol"),
+                                      ("held back", [],
+                                       "dm_sample: {}: the symbol of 8 by 18 modules at 12.0,12.0 is no "
+                                       "square: --json has it")):
+                with open(os.path.join(os.fsencode(self.room), name), "wb") as file:
+                    file.write(picture[kind])
+                done = run([self.sampler, *words, name], cwd=self.room)
+                self.row(f"{kind} {name}", done.stderr.decode(errors="replace"), said.format(shown) + "\n")
+            with open(os.path.join(os.fsencode(self.room), name), "wb") as file:
+                file.write(picture["read"])
+            line = run([self.sampler, "--json", name], cwd=self.room).stdout.decode(errors="replace")
+            self.row(f"--json {name}", (json.loads(line)["file"], line[:-1].isprintable(), line.count("\n")),
+                     (told, True, 1))
+            os.remove(os.path.join(os.fsencode(self.room), name))
 
-def tracks(folder, sampler):
-    """Alternating borders of which a part doesn't show."""
-    part(folder, sampler, "tracks", ("finder", "found", "geometry", "layout", "limit", "outline", "plane", "track"))
+    def test_memory(self):
+        """Whichever allocation fails, it is said, or the symbol is found all the same."""
+        made = os.path.join(self.room, "memory.so")
+        done = run(["cc", "-shared", "-fPIC", "-o", made, places.path("tests", "sampler", "memory.c")])
+        self.row("memory.c compiles", done.stderr.decode(), "")
+        grid = grid_of("MEMORY")
+        told = 0
+        for number in range(1, 60):
+            done = run([self.sampler], pgm(pixels_of(grid)),
+                       env={**os.environ, "LD_PRELOAD": made, "FAIL_AT": str(number)})
+            said = done.stderr.decode()
+            is_told = (done.returncode == 3 and not done.stdout
+                       and said.startswith("dm_sample: -: ") and "memory" in said)
+            told += is_told
+            self.row(f"allocation {number} fails",
+                     is_told or (done.returncode, done.stdout.decode(), said) == (0, record(grid), ""), True)
+        self.row("allocations that fail are told", told > 12, True)
+
+    def part(self, folder, sampler, name, files):
+        """Runs a C file of this folder over some of the sampler's, which stand in that folder. It prints what is
+        wrong."""
+        made = os.path.join(folder, f"{name}.out")
+        words = ["cc", "-std=c17", "-Wall", "-Wextra", "-Werror", *CAREFUL]
+        headers = [f"-I{sampler}", f"-I{places.path('library')}"]
+        sources = [places.path("tests", "sampler", f"{name}.c"),
+                   *(os.path.join(sampler, f"{file}.c") for file in files)]
+        done = run([*words, *headers, "-D_POSIX_C_SOURCE=200809L", *sources, "-o", made, places.ARCHIVE, "-lm"])
+        self.row(f"{name}.c compiles", done.stderr.decode(), "")
+        done = run([made])
+        self.row(name, (done.returncode, done.stdout, done.stderr.decode()[:600]), (0, b"", ""))
+
+    def test_parts(self):
+        """Points far outside of a picture, the usual work, and straight pieces that are joined."""
+        self.part(self.room, self.sources, "parts", ("geometry", "limit", "outline"))
+
+    def test_judged(self):
+        """Readings that say the same, and others; margins; and known damage that is read in two ways."""
+        files = [name.removesuffix(".c") for name in sorted(os.listdir(self.sources)) if name.endswith(".c")]
+        self.part(self.room, self.sources, "judged", [name for name in files if name != "judge"])
+
+    def test_tracks(self):
+        """Alternating borders of which a part doesn't show."""
+        self.part(self.room, self.sources, "tracks",
+                  ("finder", "found", "geometry", "layout", "limit", "outline", "plane", "track"))

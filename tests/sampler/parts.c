@@ -13,8 +13,8 @@
 static const struct {
     double at;
     int side;
-} TRIED[] = {{-INFINITY, 0}, {-1e300, 0}, {-3e9, 0}, {-1, 0}, {-1e-300, 0}, {NAN, 0},
-             {1.5, 1}, {3, 2}, {3e9, 2}, {1e300, 2}, {INFINITY, 2}};
+} TRIED[] = {{-INFINITY, 0}, {-1e300, 0}, {-3e9, 0}, {-1, 0},    {-1e-300, 0}, {NAN, 0},
+             {1.5, 1},       {3, 2},      {3e9, 2},  {1e300, 2}, {INFINITY, 2}};
 enum { COUNT = sizeof TRIED / sizeof *TRIED };
 
 /* Whether a plane of three by three pixels shows at a point what it should; `is_inside`: whether the point lies in the

@@ -1,24 +1,24 @@
-"""Makes pictures of symbols without any other library, runs the sampler on them, and keeps what is compared."""
+"""Makes pictures of symbols without any other library, and runs the sampler on them."""
+import functools
+import importlib
 import subprocess
 
-from tests.support.places import PROGRAM
+from tests.support import package
 
 PYTHON = "/usr/bin/python3"  # Debian's, which has Debian's numpy and OpenCV
 CAREFUL = ["-fsanitize=address,undefined,float-cast-overflow", "-fno-sanitize-recover=all"]
-# What a case compares, as rows: a name, what came, and what is wanted; and what it leaves out, each with its reason.
-results, left_out = [], []
-
-
-def check(name, got, wanted):
-    results.append((name, got, wanted))
 
 
 def run(words, given=b"", **more):
     return subprocess.run(words, input=given, stdout=subprocess.PIPE, stderr=subprocess.PIPE, timeout=600, **more)
 
 
-def tool(words, text):
-    return run([PROGRAM, *words], text.encode()).stdout.decode()
+@functools.cache
+def sizes():
+    """Of each square to side 104: its side, its data codewords, and how many wrong codewords can be corrected in each
+    block."""
+    return [(size.rows, size.data_codewords, size.limit) for size in package.imported().sizes()
+            if size.rows == size.columns <= 104]
 
 
 def message_of(count):
@@ -27,7 +27,10 @@ def message_of(count):
 
 
 def grid_of(message):
-    return [[int(module) for module in row] for row in tool(["write"], message + "\n").split()]
+    """The normal grid of a message, spelled as dm_tool spells it."""
+    ecc200 = package.imported()
+    spelling = importlib.import_module("ecc200.spelling")
+    return [list(row) for row in ecc200.write(spelling.of_spelling(message, "iso-8859-1").items)]
 
 
 def record(grid):
@@ -44,7 +47,7 @@ def pixels_of(grid, scale=4, quiet=3, dark=20, light=230):
 
 def pgm(rows):
     head = f"P5\n# made for a test\n{len(rows[0])} {len(rows)}\n255\n"
-    return head.encode() + bytes(level for row in rows for level in row)
+    return head.encode() + b"".join(map(bytes, rows))
 
 
 def turned(rows):

@@ -4,48 +4,12 @@ import json
 import math
 import os
 
-from tests.sampler.pictures import (CAREFUL, PYTHON, check, grid_of, left_out, message_of, pgm, pixels_of, record, run,
-                                    tool, turned)
+from tests.sampler.pictures import (CAREFUL, PYTHON, grid_of, message_of, pgm, pixels_of, record, run,
+                                    sizes, turned)
 from tests.support import places
 from tests.support.places import PROGRAM
 
 LEAST_SHARE = 0.93           # of the symbols of fifty pictures
-
-
-def every_size(sampler):
-    """Each size, upright and turned, mirrored, inverted: the grid comes out as it was written."""
-    for at, size in enumerate(tool(["table"], "").splitlines()):
-        side, count = (int(size.split()[column]) for column in (0, 4))
-        grid = grid_of(message_of(count))
-        rows = pixels_of(grid, 3 + at % 4)
-        ways = {"upright": rows, "mirrored": [row[::-1] for row in rows],
-                "inverted": [[255 - level for level in row] for row in rows]}
-        for times in range(at % 3 + 1):
-            ways[f"turned {times + 1}"] = turned(list(ways.values())[-1])
-        for way, picture in ways.items():
-            check(f"side {side}, {way}", run([sampler, "--time=30000", "-"], pgm(picture)).stdout.decode(),
-                  record(grid))
-
-
-def without_quiet_zone(sampler, careful):
-    """A symbol that fills its picture, on all sides or on some, is found, with its corners where it stands: each size,
-    some at each scale."""
-    for at, size in enumerate(tool(["table"], "").splitlines()):
-        side, count = (int(size.split()[column]) for column in (0, 4))
-        grid = grid_of(message_of(count))
-        for scale in range(2, 10) if side < 20 else (3 + at % 4,):
-            rows = pixels_of(grid, scale, 0)
-            ways = {"as it is": rows, "turned": turned(rows), "mirrored": [row[::-1] for row in rows],
-                    "light on dark": [[255 - level for level in row] for row in rows],
-                    "on the left": [row + [230] * 20 for row in rows] + [[230] * (len(rows) + 20)] * 20}
-            for way, picture in ways.items():
-                done = run([careful if at == scale else sampler, "--corners", "--time=30000"], pgm(picture))
-                check(f"side {side} at {scale} without a quiet zone, {way}", (done.returncode, done.stdout.decode()),
-                      (0, record(grid)))
-                if way in ("as it is", "on the left"):
-                    near = corners_near(done.stderr.decode(),
-                                        [(0, 0), (len(rows), 0), (len(rows), len(rows)), (0, len(rows))], 0.15 * scale)
-                    check(f"side {side} at {scale} without a quiet zone, {way}: corners", near, True)
 
 
 def corners_near(said, wanted, apart):
@@ -55,69 +19,127 @@ def corners_near(said, wanted, apart):
                                  for one, other in zip(here, there))
 
 
-def hard_shadow(sampler):
-    """A symbol across which a hard shadow falls, with two fifths of the light or somewhat less left."""
-    for count, left, slope in ((8, 0.4, 0.15), (8, 0.4, 0.6), (8, 0.35, 1.5), (18, 0.4, 3), (18, 0.35, 0.15),
-                               (18, 0.35, 1.5)):
-        grid = grid_of(message_of(count))
-        rows = pixels_of(grid, 5, 4, 30, 210)
-        middle = len(rows) * (slope + 1) / 2
-        rows = [[int(level * left) if slope * x + y < middle else level for x, level in enumerate(row)]
-                for y, row in enumerate(rows)]
-        done = run([sampler, "--time=30000"], pgm(rows))
-        check(f"{count} codewords in a shadow of {left}, slope {slope}", (done.returncode, done.stdout.decode()),
-              (0, record(grid)))
+def the_set(case, folder, words):
+    """Fifty pictures and two with several symbols: none is read wrong, and at least LEAST_SHARE of the symbols are
+    read. `words` call the sampler."""
+    if not os.path.isfile(PROGRAM):
+        case.leave_out("fifty photographs (the program that makes their symbols isn't built)")
+        return
+    made = os.path.join(folder, "set")
+    done = run([PYTHON, places.path("bench", "photographs"), "--program", PROGRAM, "--share", "13", made])
+    if done.returncode:
+        case.leave_out("fifty photographs (python3-opencv and python3-numpy aren't installed)")
+        return
+    with open(os.path.join(made, "index.json"), encoding="utf-8") as file:
+        index = json.load(file)
+    symbols = right = 0
+    for picture in index:
+        more = ["--all"] if len(picture["messages"]) > 1 else []
+        said = run([*words, "--json", "--time=30000", *more,
+                    os.path.join(made, picture["file"])]).stdout.decode()
+        messages = {json.loads(line)["message"] for line in said.splitlines()}
+        case.row(f"{picture['file']}: wrong messages", messages - set(picture["messages"]), set())
+        symbols, right = symbols + len(picture["messages"]), right + len(messages)
+    print(f"of {symbols} symbols in {len(index)} photographs {right} were read")
+    case.row("the symbols that are read", right >= LEAST_SHARE * symbols and len(index) >= 50, True)
+    through = run(["sh", "-c", f'"$@" | "{PROGRAM}" read', "sh", *words,
+                   os.path.join(made, index[0]["file"])]).stdout.decode()
+    case.row("dm_sample | dm_tool read", through.rstrip("\n"), index[0]["messages"][0])
 
 
-def glare(sampler):
-    """A symbol on a dim ground with a bright spot on it, in which dark modules are lighter than light ones
-    elsewhere."""
-    for count in (18, 44):
-        grid = grid_of(message_of(count))
-        rows = pixels_of(grid, 5, 4, 30, 130)
-        reach = 2 * (0.15 * len(rows)) ** 2
-        for across, down in ((0.5, 0.5), (0.35, 0.6)):
-            away = lambda x, y: (x - across * len(rows)) ** 2 + (y - down * len(rows)) ** 2
-            lit = [[min(255, int(level + 140 * math.exp(-away(x, y) / reach))) for x, level in enumerate(row)]
-                   for y, row in enumerate(rows)]
-            done = run([sampler, "--time=30000"], pgm(lit))
-            check(f"{count} codewords with glare at {across}, {down}", (done.returncode, done.stdout.decode()),
-                  (0, record(grid)))
+class Reading:
+    def test_every_size(self):
+        """Each size, upright and turned, mirrored, inverted: the grid comes out as it was written."""
+        for at, (side, count, _) in enumerate(sizes()):
+            grid = grid_of(message_of(count))
+            rows = pixels_of(grid, 3 + at % 4)
+            ways = {"upright": rows, "mirrored": [row[::-1] for row in rows],
+                    "inverted": [[255 - level for level in row] for row in rows]}
+            for times in range(at % 3 + 1):
+                ways[f"turned {times + 1}"] = turned(list(ways.values())[-1])
+            for way, picture in ways.items():
+                self.row(f"side {side}, {way}", run([self.sampler, "--time=30000", "-"], pgm(picture)).stdout.decode(),
+                         record(grid))
 
+    def test_without_quiet_zone(self):
+        """A symbol that fills its picture, on all sides or on some, is found, with its corners where it stands: each
+        size, some at each scale."""
+        for at, (side, count, _) in enumerate(sizes()):
+            grid = grid_of(message_of(count))
+            for scale in range(2, 10) if side < 20 else (3 + at % 4,):
+                rows = pixels_of(grid, scale, 0)
+                ways = {"as it is": rows, "turned": turned(rows), "mirrored": [row[::-1] for row in rows],
+                        "light on dark": [[255 - level for level in row] for row in rows],
+                        "on the left": [row + [230] * 20 for row in rows] + [[230] * (len(rows) + 20)] * 20}
+                for way, picture in ways.items():
+                    done = run([self.careful if at == scale else self.sampler, "--corners", "--time=30000"],
+                               pgm(picture))
+                    self.row(f"side {side} at {scale} without a quiet zone, {way}",
+                             (done.returncode, done.stdout.decode()), (0, record(grid)))
+                    if way in ("as it is", "on the left"):
+                        near = corners_near(done.stderr.decode(),
+                                            [(0, 0), (len(rows), 0), (len(rows), len(rows)), (0, len(rows))],
+                                            0.15 * scale)
+                        self.row(f"side {side} at {scale} without a quiet zone, {way}: corners", near, True)
 
-def formats(folder, sampler):
-    """The same picture in every format that is read."""
-    grid = grid_of("FORMATS")
-    rows = pixels_of(grid)
-    wide, high = len(rows[0]), len(rows)
-    flat = [level for row in rows for level in row]
-    bits = [[level < 128 for level in row] for row in rows]
-    made = {
-        "P1": f"P1 {wide} {high}\n".encode() + b"".join(b"".join(b"01"[bit:bit + 1] for bit in row) + b"\n"
-                                                        for row in bits),
-        "P2": f"P2 {wide} {high} 255\n".encode() + b" ".join(b"%d" % level for level in flat),
-        "P3": f"P3 {wide} {high} 255\n".encode() + b"\n".join(b"%d %d %d" % (level, level, level) for level in flat),
-        "P4": f"P4 {wide} {high}\n".encode() + b"".join(
-            int("".join("01"[bit] for bit in row).ljust((wide + 7) // 8 * 8, "0"), 2).to_bytes((wide + 7) // 8, "big")
-                                                        for row in bits),
-        "P5": pgm(rows),
-        "P5 of two bytes": f"P5 {wide} {high} 1000\n".encode()
-                           + b"".join((level * 1000 // 255).to_bytes(2, "big") for level in flat),
-        "P6": f"P6 {wide} {high} 255\n".encode() + b"".join(bytes([level, level, level]) for level in flat),
-    }
-    for name, text in made.items():
-        done = run([sampler], text)
-        check(name, (done.returncode, done.stdout.decode()), (0, record(grid)))
-    with open(os.path.join(folder, "formats.pgm"), "wb") as file:
-        file.write(pgm(rows))
-    for file in coloured_formats(folder):
-        done = run([sampler, file])
-        check(os.path.basename(file), (done.returncode, done.stdout.decode()), (0, record(grid)))
+    def test_hard_shadow(self):
+        """A symbol across which a hard shadow falls, with two fifths of the light or somewhat less left."""
+        for count, left, slope in ((8, 0.4, 0.15), (8, 0.4, 0.6), (8, 0.35, 1.5), (18, 0.4, 3), (18, 0.35, 0.15),
+                                   (18, 0.35, 1.5)):
+            grid = grid_of(message_of(count))
+            rows = pixels_of(grid, 5, 4, 30, 210)
+            middle = len(rows) * (slope + 1) / 2
+            rows = [[int(level * left) if slope * x + y < middle else level for x, level in enumerate(row)]
+                    for y, row in enumerate(rows)]
+            done = run([self.sampler, "--time=30000"], pgm(rows))
+            self.row(f"{count} codewords in a shadow of {left}, slope {slope}", (done.returncode, done.stdout.decode()),
+                     (0, record(grid)))
 
+    def test_glare(self):
+        """A symbol on a dim ground with a bright spot on it, in which dark modules are lighter than light ones
+        elsewhere."""
+        for count in (18, 44):
+            grid = grid_of(message_of(count))
+            rows = pixels_of(grid, 5, 4, 30, 130)
+            reach = 2 * (0.15 * len(rows)) ** 2
+            for across, down in ((0.5, 0.5), (0.35, 0.6)):
+                away = lambda x, y: (x - across * len(rows)) ** 2 + (y - down * len(rows)) ** 2
+                lit = [[min(255, int(level + 140 * math.exp(-away(x, y) / reach))) for x, level in enumerate(row)]
+                       for y, row in enumerate(rows)]
+                done = run([self.sampler, "--time=30000"], pgm(lit))
+                self.row(f"{count} codewords with glare at {across}, {down}", (done.returncode, done.stdout.decode()),
+                         (0, record(grid)))
 
-def coloured_formats(folder):
-    """The picture as PNG and JPEG in several forms, by Pillow."""
-    script = """
+    def test_formats(self):
+        """The same picture in every format that is read."""
+        grid = grid_of("FORMATS")
+        rows = pixels_of(grid)
+        wide, high = len(rows[0]), len(rows)
+        flat = [level for row in rows for level in row]
+        bits = [[level < 128 for level in row] for row in rows]
+        line = (wide + 7) // 8
+        made = {"P1": f"P1 {wide} {high}\n".encode()
+                + b"".join(b"".join(b"01"[bit:bit + 1] for bit in row) + b"\n" for row in bits),
+                "P2": f"P2 {wide} {high} 255\n".encode() + b" ".join(b"%d" % level for level in flat),
+                "P3": f"P3 {wide} {high} 255\n".encode() + b"\n".join(b"%d %d %d" % (it, it, it) for it in flat),
+                "P4": f"P4 {wide} {high}\n".encode()
+                + b"".join(int("".join("01"[bit] for bit in row).ljust(8 * line, "0"), 2).to_bytes(line, "big")
+                           for row in bits), "P5": pgm(rows),
+                "P5 of two bytes": f"P5 {wide} {high} 1000\n".encode()
+                + b"".join((level * 1000 // 255).to_bytes(2, "big") for level in flat),
+                "P6": f"P6 {wide} {high} 255\n".encode() + b"".join(bytes([level, level, level]) for level in flat)}
+        for name, text in made.items():
+            done = run([self.sampler], text)
+            self.row(name, (done.returncode, done.stdout.decode()), (0, record(grid)))
+        with open(os.path.join(self.room, "formats.pgm"), "wb") as file:
+            file.write(pgm(rows))
+        for file in self.coloured_formats(self.room):
+            done = run([self.sampler, file])
+            self.row(os.path.basename(file), (done.returncode, done.stdout.decode()), (0, record(grid)))
+
+    def coloured_formats(self, folder):
+        """The picture as PNG and JPEG in several forms, by Pillow."""
+        script = """
 import sys
 from PIL import Image
 folder = sys.argv[1]
@@ -136,56 +158,35 @@ for name, image, more in (
     image.save(folder + "/" + name, **more)
     print(folder + "/" + name)
 """
-    done = run([PYTHON, "-c", script, folder])
-    if done.returncode:
-        left_out.append("PNG and JPEG in all their forms (python3-pil isn't installed)")
-        return []
-    return done.stdout.decode().split()
+        done = run([PYTHON, "-c", script, folder])
+        if done.returncode:
+            self.leave_out("PNG and JPEG in all their forms (python3-pil isn't installed)")
+            return []
+        return done.stdout.decode().split()
 
+    def test_every_png(self):
+        """PNG of every colour type, depth and gamma: the luminance is what was put in, and what Pillow and netpbm
+        see."""
+        made = os.path.join(self.room, "luminance.out")
+        sources = [places.path("sampler", "program", f"{name}.c") for name in ("picture", "png", "jpeg", "pnm")]
+        words = ["cc", "-std=c17", "-Wall", "-Wextra", "-Werror", *CAREFUL,
+                 *(f"-I{places.path(name)}" for name in ("sampler", "library"))]
+        done = run([*words, places.path("tests", "sampler", "luminance.c"), *sources, "-o", made, "-lpng", "-ljpeg"])
+        self.row("luminance.c compiles", done.stderr.decode(), "")
+        forms = run([PYTHON, places.path("tests", "sampler", "pngs.py"), self.room])
+        if forms.returncode:
+            self.leave_out("PNG of every form (python3-pil isn't installed)")
+            return
+        for form in map(json.loads, forms.stdout.splitlines()):
+            done = run([made, form["file"]])
+            for by, wanted in form["luminance"].items():
+                if wanted is None:
+                    continue
+                got = done.stdout[-len(wanted):]
+                most = 2.5 if by == "Pillow" else 1.5  # Pillow drops the lower eight of sixteen bits
+                is_near = len(got) == len(wanted) and all(abs(one - other) <= most for one, other in zip(got, wanted))
+                self.row(f"{os.path.basename(form['file'])}: {by}", (done.returncode, is_near, done.stderr[:600]),
+                         (0, True, b""))
 
-def every_png(folder):
-    """PNG of every colour type, depth and gamma: the luminance is what was put in, and what Pillow and netpbm see."""
-    made = os.path.join(folder, "luminance.out")
-    sources = [places.path("sampler", "program", f"{name}.c") for name in ("picture", "png", "jpeg", "pnm")]
-    words = ["cc", "-std=c17", "-Wall", "-Wextra", "-Werror", *CAREFUL,
-             *(f"-I{places.path(name)}" for name in ("sampler", "library"))]
-    done = run([*words, places.path("tests", "sampler", "luminance.c"), *sources, "-o", made, "-lpng", "-ljpeg"])
-    check("luminance.c compiles", done.stderr.decode(), "")
-    forms = run([PYTHON, places.path("tests", "sampler", "pngs.py"), folder])
-    if forms.returncode:
-        left_out.append("PNG of every form (python3-pil isn't installed)")
-        return
-    for form in map(json.loads, forms.stdout.splitlines()):
-        done = run([made, form["file"]])
-        for by, wanted in form["luminance"].items():
-            if wanted is None:
-                continue
-            got = done.stdout[-len(wanted):]
-            most = 2.5 if by == "Pillow" else 1.5  # Pillow drops the lower eight of sixteen bits
-            is_near = len(got) == len(wanted) and all(abs(one - other) <= most for one, other in zip(got, wanted))
-            check(f"{os.path.basename(form['file'])}: {by}", (done.returncode, is_near, done.stderr[:600]),
-                  (0, True, b""))
-
-
-def the_set(folder, words):
-    """Fifty pictures and two with several symbols: none is read wrong, and at least LEAST_SHARE of the symbols are
-    read. `words` call the sampler."""
-    made = os.path.join(folder, "set")
-    done = run([PYTHON, places.path("bench", "photographs"), "--program", PROGRAM, "--share", "13", made])
-    if done.returncode:
-        left_out.append("fifty photographs (python3-opencv and python3-numpy aren't installed)")
-        return
-    with open(os.path.join(made, "index.json"), encoding="utf-8") as file:
-        index = json.load(file)
-    symbols = right = 0
-    for picture in index:
-        more = ["--all"] if len(picture["messages"]) > 1 else []
-        said = run([*words, "--json", "--time=30000", *more, os.path.join(made, picture["file"])]).stdout.decode()
-        messages = {json.loads(line)["message"] for line in said.splitlines()}
-        check(f"{picture['file']}: wrong messages", messages - set(picture["messages"]), set())
-        symbols, right = symbols + len(picture["messages"]), right + len(messages)
-    print(f"of {symbols} symbols in {len(index)} photographs {right} were read")
-    check("the symbols that are read", right >= LEAST_SHARE * symbols and len(index) >= 50, True)
-    through = run(["sh", "-c", f'"$@" | "{PROGRAM}" read', "sh", *words,
-                   os.path.join(made, index[0]["file"])]).stdout.decode()
-    check("dm_sample | dm_tool read", through.rstrip("\n"), index[0]["messages"][0])
+    def test_the_set(self):
+        the_set(self, self.room, [self.sampler])

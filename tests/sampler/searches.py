@@ -2,25 +2,26 @@
 import os
 
 from tests.sampler.limits import paths_for
-from tests.sampler.pictures import check, pgm, run
+from tests.sampler.pictures import pgm, run
 from tests.support import places
 
 
 class Searches:
-    """A program over the library that is built in one folder, in another one."""
+    """A program over the library of a case, in its folder."""
 
-    def __init__(self, folder, built):
-        self.made, self.env = os.path.join(folder, "searched.out"), paths_for(folder, built, places.BUILT)
-        libraries = [os.path.join(built, "libecc200_sample.so"), os.path.join(places.BUILT, "libecc200.so")]
+    def __init__(self, case):
+        self.case, self.made = case, os.path.join(case.room, "searched.out")
+        self.env = paths_for(case.room, case.plain, places.BUILT)
+        libraries = [os.path.join(case.plain, "libecc200_sample.so"), os.path.join(places.BUILT, "libecc200.so")]
         done = run(["cc", "-std=c11", "-Wall", "-Wextra", "-Werror", f"-I{places.path('sampler')}",
                     f"-I{places.path('library')}", places.path("tests", "sampler", "searched.c"), "-o", self.made,
                     *libraries])
-        check("searched.c compiles", done.stderr.decode(), "")
+        self.case.row("searched.c compiles", done.stderr.decode(), "")
 
     def of(self, rows, room, percent=100):
         """What the symbols of a picture say, at most so many, found with so many percent of the usual work, and how the
         search ended."""
         done = run([self.made, str(room), str(percent)], pgm(rows), env=self.env)
-        check("searched.c", (done.returncode, done.stderr), (0, b""))
+        self.case.row("searched.c", (done.returncode, done.stderr), (0, b""))
         *found, ended = done.stdout.decode().splitlines() or [""]
         return found, ended

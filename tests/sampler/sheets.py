@@ -3,14 +3,13 @@ import json
 import math
 import os
 import random
-import resource
 import sys
 
-from tests.sampler.pictures import check, grid_of, pgm, pixels_of, run
+from tests.sampler.pictures import grid_of, pgm, pixels_of, run
 from tests.sampler.sizes import tilted
-from tests.support import places
+from tests.support import places, work
 
-MOST_MILLISECONDS = 20  # of processor time for a symbol of a sheet, the picture's opening included
+MOST_WORK = 0.2  # for a symbol of a sheet, the picture's opening included: about 20 milliseconds
 
 
 def labels(count, chance):
@@ -32,77 +31,88 @@ def sheet_of(grids, across, gap, pixels):
 
 
 def told(sampler, rows, *words):
-    """What is said of all symbols in the usual work, in its order, and the milliseconds of processor time."""
-    before = resource.getrusage(resource.RUSAGE_CHILDREN).ru_utime
-    done = run([sampler, "--all", "--json", *words], pgm(rows) if rows else b"")
-    took = 1000 * (resource.getrusage(resource.RUSAGE_CHILDREN).ru_utime - before)
+    """What is said of all symbols in the usual work, in its order, and the work."""
+    with work.measured() as took:
+        done = run([sampler, "--all", "--json", *words], pgm(rows) if rows else b"")
     return [json.loads(line)["message"] for line in done.stdout.splitlines()], took, (done.returncode, done.stderr)
 
 
-def sheets(sampler):
-    """Sheets are read whole, in reading order, however near their symbols are; and the time a symbol doesn't grow with
-    their number."""
-    chance = random.Random(21)
-    for count, across, pixels in ((100, 10, 4), (400, 20, 3)):
-        messages, grids = labels(count, chance)
-        for gap in (1, 2, 4, 6):
-            name = f"{count} symbols, {gap} modules apart"
-            got, took, ended = told(sampler, sheet_of(grids, across, gap, pixels))
-            check(name, (got, ended), (messages, (0, b"")))
-            check(f"{name}: the time", took / count < MOST_MILLISECONDS or took, True)
+class Sheets:
+    def test_sheets(self):
+        """Sheets are read whole, in reading order, however near their symbols are; and the time a symbol doesn't grow
+        with their number."""
+        chance = random.Random(21)
+        for count, across, pixels in ((100, 10, 4), (400, 20, 3)):
+            messages, grids = labels(count, chance)
+            for gap in (1, 2, 4, 6):
+                name = f"{count} symbols, {gap} modules apart"
+                got, took, ended = told(self.sampler, sheet_of(grids, across, gap, pixels))
+                self.row(name, (got, ended), (messages, (0, b"")))
+                self.row(f"{name}: the work", took.pieces < MOST_WORK * count or str(took), True)
 
+    def test_turned_sheets(self):
+        """A sheet that lies turned is read in the order that it has when it is turned back."""
+        messages, grids = labels(56, random.Random(22))
+        for gap, angle in ((1, 0.12), (2, -0.3), (4, 0.7)):
+            got, _, ended = told(self.sampler, tilted(sheet_of(grids, 8, gap, 4), angle))
+            self.row(f"{gap} modules apart, turned by {angle}", (got, ended), (messages, (0, b"")))
 
-def turned_sheets(sampler):
-    """A sheet that lies turned is read in the order that it has when it is turned back."""
-    messages, grids = labels(56, random.Random(22))
-    for gap, angle in ((1, 0.12), (2, -0.3), (4, 0.7)):
-        got, _, ended = told(sampler, tilted(sheet_of(grids, 8, gap, 4), angle))
-        check(f"{gap} modules apart, turned by {angle}", (got, ended), (messages, (0, b"")))
+    def test_trays(self):
+        """Symbols of a tray, each turned by itself, are read row by row."""
+        chance = random.Random(23)
+        messages, grids = labels(30, chance)
+        pictures = [tilted(pixels_of(grid, 4, 1), chance.uniform(0, 2 * math.pi)) for grid in grids]
+        side = max(len(picture) for picture in pictures)
+        padded = [[row + [230] * (side - len(row)) for row in picture] + [[230] * side] * (side - len(picture))
+                  for picture in pictures]
+        rows = [[level for picture in padded[first:first + 6] for level in picture[line]]
+                for first in range(0, 30, 6) for line in range(side)]
+        got, _, ended = told(self.sampler, rows)
+        self.row("a tray", (got, ended), (messages, (0, b"")))
 
+    def test_noisy_sheets(self):
+        """Of sheets that are turned and full of noise, whose symbols nearly touch, those are read too whose borders the
+        noise hides from who doesn't know where its neighbours are."""
+        chance = random.Random(32)
+        for angle, noise in ((3.03, 22), (2.32, 16), (4.21, 10), (4.04, 16)):
+            messages, grids = labels(64, chance)
+            rows = [[max(0, min(255, level + round(chance.gauss(0, noise)))) for level in row]
+                    for row in tilted(sheet_of(grids, 8, 1, 4), angle)]
+            got, _, ended = told(self.sampler, rows)
+            self.row(f"noise of {noise}, turned by {angle}", (sorted(got), ended), (sorted(messages), (0, b"")))
 
-def trays(sampler):
-    """Symbols of a tray, each turned by itself, are read row by row."""
-    chance = random.Random(23)
-    messages, grids = labels(30, chance)
-    pictures = [tilted(pixels_of(grid, 4, 1), chance.uniform(0, 2 * math.pi)) for grid in grids]
-    side = max(len(picture) for picture in pictures)
-    padded = [[row + [230] * (side - len(row)) for row in picture] + [[230] * side] * (side - len(picture))
-              for picture in pictures]
-    rows = [[level for picture in padded[first:first + 6] for level in picture[line]]
-            for first in range(0, 30, 6) for line in range(side)]
-    got, _, ended = told(sampler, rows)
-    check("a tray", (got, ended), (messages, (0, b"")))
+    def test_our_own_sheets(self):
+        """The sheets that the command draws, with their usual quiet zone and perhaps what they say below them, are read
+        whole, in their order, and there is no word that there may be more."""
+        env = {**os.environ, "PYTHONPATH": places.PACKAGE, "ECC200_LIBRARY": places.SHARED}
+        for count, words in ((10, []), (57, []), (400, []), (40, ["--caption"]), (60, ["--caption"]),
+                             (200, ["--caption"])):
+            path, messages = os.path.join(self.room, f"sheet-{count}.png"), [f"MESSAGE{k}" for k in range(count)]
+            done = run([sys.executable, "-m", "ecc200", "write", "--sheet", *words, "-o", path],
+                       "".join(message + "\n" for message in messages).encode(), env=env)
+            self.row(f"a sheet of {count} is drawn", (done.returncode, done.stderr), (0, b""))
+            got, took, ended = told(self.sampler, None, path)
+            self.row(f"a sheet of {count}", (got, ended), (messages, (0, b"")))
+            self.row(f"a sheet of {count}: the work", took.pieces < 10 + MOST_WORK * count or str(took), True)
 
+    def test_more_than_are_looked_for(self):
+        """More symbols than are looked for: those that are found are read, and it is said that there may be more."""
+        _, grids = labels(25, random.Random(24))
+        rows = sheet_of([grids[k % 25] for k in range(1050)], 35, 2, 3)
+        got, _, (status, said) = told(self.sampler, rows, "--time=100000")
+        self.row("more than are looked for", (len(got), status, said),
+                 (1024, 4, b"dm_sample: -: the search ended early, with 1024 symbols: there may be more\n"))
 
-def noisy_sheets(sampler):
-    """Of sheets that are turned and full of noise, whose symbols nearly touch, those are read too whose borders the
-    noise hides from who doesn't know where its neighbours are."""
-    chance = random.Random(32)
-    for angle, noise in ((3.03, 22), (2.32, 16), (4.21, 10), (4.04, 16)):
-        messages, grids = labels(64, chance)
-        rows = [[max(0, min(255, level + round(chance.gauss(0, noise)))) for level in row]
-                for row in tilted(sheet_of(grids, 8, 1, 4), angle)]
-        got, _, ended = told(sampler, rows)
-        check(f"noise of {noise}, turned by {angle}", (sorted(got), ended), (sorted(messages), (0, b"")))
-
-
-def our_own(folder, sampler):
-    """The sheets that the command draws, with their usual quiet zone, are read whole, in their order."""
-    env = {**os.environ, "PYTHONPATH": places.PACKAGE, "ECC200_LIBRARY": places.SHARED}
-    for count in (10, 57, 400):
-        path, messages = os.path.join(folder, f"sheet-{count}.png"), [f"LOT7/{k:05d}" for k in range(count)]
-        done = run([sys.executable, "-m", "ecc200", "write", "--sheet", "-o", path],
-                   "".join(message + "\n" for message in messages).encode(), env=env)
-        check(f"a sheet of {count} is drawn", (done.returncode, done.stderr), (0, b""))
-        got, took, ended = told(sampler, None, path)
-        check(f"a sheet of {count}", (got, ended), (messages, (0, b"")))
-        check(f"a sheet of {count}: the time", took < 1000 + MOST_MILLISECONDS * count or took, True)
-
-
-def most(sampler):
-    """More symbols than are looked for: those that are found are read, and it is said that there may be more."""
-    _, grids = labels(25, random.Random(24))
-    rows = sheet_of([grids[k % 25] for k in range(1050)], 35, 2, 3)
-    got, _, (status, said) = told(sampler, rows, "--time=100000")
-    check("more than are looked for", (len(got), status, said),
-          (1024, 4, b"dm_sample: -: the search ended early, with 1024 symbols: there may be more\n"))
+    def test_uneven_trays(self):
+        """Symbols in rows, each tilted by itself by up to 15 degrees, to one side, are read row by row, also where all
+        lie on their sides."""
+        chance = random.Random(41)
+        for across, down, quarter in ((3, 2, 0), (3, 2, 1), (6, 4, 0), (6, 4, 1), (6, 4, 3)):
+            messages, grids = labels(across * down, chance)
+            pictures = [tilted(pixels_of(grid, 4), chance.uniform(0, math.pi / 12) + quarter * math.pi / 2)
+                        for grid in grids]
+            rows = [[level for picture in pictures[first:first + across] for level in picture[line]]
+                    for first in range(0, across * down, across) for line in range(len(pictures[0]))]
+            got, _, ended = told(self.sampler, rows)
+            self.row(f"{across} by {down}, turned by {90 * quarter} degrees and more", (got, ended),
+                     (messages, (0, b"")))

@@ -5,7 +5,7 @@ import os
 import shutil
 import sys
 
-from tests.sampler.pictures import check, grid_of, left_out, message_of, pgm, pixels_of, record, run, turned
+from tests.sampler.pictures import grid_of, message_of, pgm, pixels_of, record, run, turned
 from tests.support import places
 
 # What the library writes in each size of such a record's: its rows, columns and message, and its grid.
@@ -20,16 +20,6 @@ for size in core.sizes():
         print(json.dumps([size.rows, size.columns, message, [list(row) for row in modules]]))
 """
 symbols_kept = []
-
-
-def symbols():
-    """Of each of these sizes: its rows, its columns, a message that fills it, and its grid."""
-    if not symbols_kept:
-        env = {**os.environ, "ECC200_LIBRARY": places.SHARED}
-        done = run([sys.executable, "-c", WRITES, os.path.dirname(places.MODULE)], env=env)
-        check("the library writes each size", done.stderr.decode(), "")
-        symbols_kept.extend(json.loads(line) for line in done.stdout.splitlines())
-    return symbols_kept
 
 
 def told(sampler, rows):
@@ -67,72 +57,81 @@ def tilted(rows, angle):
     return [[pixel(x + 0.5, y + 0.5) for x in range(reach)] for y in range(reach)]
 
 
-def every_other_size(sampler):
-    """Each size upright, turned by each quarter, mirrored and inverted, at three pixels a module and more, and without
-    a quiet zone."""
-    for at, (rows, columns, message, grid) in enumerate(symbols()):
-        scale = 3 + at % 4
-        plain = pixels_of(grid, scale)
-        ways = {"at 3 pixels a module": pixels_of(grid, 3), "without a quiet zone": pixels_of(grid, scale, 0),
-                "mirrored": [row[::-1] for row in plain], "turned": turned(plain),
-                "on its head": turned(turned(plain)), "turned back": turned(turned(turned(plain))),
-                "light on dark": [[255 - level for level in row] for row in plain],
-                "turned in a mirror, light on dark": turned([[255 - level for level in row[::-1]] for row in plain])}
-        for way, picture in ways.items():
-            said = told(sampler, picture)
-            check(f"{rows} by {columns} at {scale}, {way}", seen(said), wanted(rows, columns, message, grid))
-            check(f"{rows} by {columns}, {way}: mirrored, inverted", (said.get("mirrored"), said.get("inverted")),
-                  ("mirror" in way, "light" in way))
+class Sizes:
+    def symbols(self):
+        """Of each of these sizes: its rows, its columns, a message that fills it, and its grid."""
+        if not symbols_kept:
+            env = {**os.environ, "ECC200_LIBRARY": places.SHARED}
+            done = run([sys.executable, "-c", WRITES, os.path.dirname(places.MODULE)], env=env)
+            self.row("the library writes each size", done.stderr.decode(), "")
+            symbols_kept.extend(json.loads(line) for line in done.stdout.splitlines())
+        return symbols_kept
 
+    def test_every_other_size(self):
+        """Each size upright, turned by each quarter, mirrored and inverted, at three pixels a module and more, and
+        without a quiet zone."""
+        for at, (rows, columns, message, grid) in enumerate(self.symbols()):
+            scale = 3 + at % 4
+            plain = pixels_of(grid, scale)
+            ways = {"at 3 pixels a module": pixels_of(grid, 3), "without a quiet zone": pixels_of(grid, scale, 0),
+                    "mirrored": [row[::-1] for row in plain], "turned": turned(plain),
+                    "on its head": turned(turned(plain)), "turned back": turned(turned(turned(plain))),
+                    "light on dark": [[255 - level for level in row] for row in plain],
+                    "turned in a mirror, light on dark": turned([[255 - level for level in row[::-1]]
+                                                                 for row in plain])}
+            for way, picture in ways.items():
+                said = told(self.sampler, picture)
+                self.row(f"{rows} by {columns} at {scale}, {way}", seen(said), wanted(rows, columns, message, grid))
+                self.row(f"{rows} by {columns}, {way}: mirrored, inverted",
+                         (said.get("mirrored"), said.get("inverted")), ("mirror" in way, "light" in way))
 
-def every_angle(sampler):
-    """Each size, turned by some angle."""
-    for at, (rows, columns, message, grid) in enumerate(symbols()):
-        angle = 0.23 + 0.61 * at
-        said = told(sampler, tilted(pixels_of(grid, 3 if rows > 100 else 4 + at % 3), angle))
-        check(f"{rows} by {columns} turned by {angle:.2f}", [said.get(name) for name in ("rows", "columns", "message")],
-              [rows, columns, message])
+    def test_every_angle(self):
+        """Each size, turned by some angle."""
+        for at, (rows, columns, message, grid) in enumerate(self.symbols()):
+            angle = 0.23 + 0.61 * at
+            said = told(self.sampler, tilted(pixels_of(grid, 3 if rows > 100 else 4 + at % 3), angle))
+            self.row(f"{rows} by {columns} turned by {angle:.2f}",
+                     [said.get(name) for name in ("rows", "columns", "message")], [rows, columns, message])
 
+    def test_corners(self):
+        """The corners of a rectangle, as it stands and as a mirror shows it, are those of the upright symbol."""
+        rows, columns, _, grid = self.symbols()[2]
+        plain, wide, high = pixels_of(grid), 4 * columns + 24, 4 * rows + 24
+        left, right, top, below = 12, wide - 12, 12, high - 12
+        for way, picture, places_of in (
+                ("as it is", plain, [(left, top), (right, top), (right, below), (left, below)]),
+                ("mirrored", [row[::-1] for row in plain], [(right, top), (left, top), (left, below), (right, below)])):
+            said = told(self.sampler, picture)
+            got = [tuple(round(place) for place in corner) for corner in said.get("corners", [])]
+            self.row(f"corners of {rows} by {columns}, {way}", got, places_of)
 
-def corners(sampler):
-    """The corners of a rectangle, as it stands and as a mirror shows it, are those of the upright symbol."""
-    rows, columns, _, grid = symbols()[2]
-    plain, wide, high = pixels_of(grid), 4 * columns + 24, 4 * rows + 24
-    left, right, top, below = 12, wide - 12, 12, high - 12
-    for way, picture, places_of in (
-            ("as it is", plain, [(left, top), (right, top), (right, below), (left, below)]),
-            ("mirrored", [row[::-1] for row in plain], [(right, top), (left, top), (left, below), (right, below)])):
-        said = told(sampler, picture)
-        got = [tuple(round(place) for place in corner) for corner in said.get("corners", [])]
-        check(f"corners of {rows} by {columns}, {way}", got, places_of)
+    def test_zint(self):
+        """What zint prints in each size."""
+        if not shutil.which("zint"):
+            self.leave_out("zint's own pictures (zint isn't installed)")
+            return
+        path = os.path.join(self.room, "zint.png")
+        for version in range(22, 49):
+            message = message_of(4)
+            run(["zint", "-b", "71", f"--vers={version}", "--dmre", "-d", message, "--scale=2", "-o", path])
+            said = json.loads(run([self.sampler, "--json", "--time=30000", path]).stdout or b"{}")
+            self.row(f"zint --vers={version}", said.get("message"), message)
 
-
-def zint(folder, sampler):
-    """What zint prints in each size."""
-    if not shutil.which("zint"):
-        left_out.append("zint's own pictures (zint isn't installed)")
-        return
-    path = os.path.join(folder, "zint.png")
-    for version in range(22, 49):
-        message = message_of(4)
-        run(["zint", "-b", "71", f"--vers={version}", "--dmre", "-d", message, "--scale=2", "-o", path])
-        said = json.loads(run([sampler, "--json", "--time=30000", path]).stdout or b"{}")
-        check(f"zint --vers={version}", said.get("message"), message)
-
-
-def no_records(sampler):
-    """What can't be handed on to dm_tool is named, and what can is."""
-    for rows, columns, _, grid in (symbols()[1], symbols()[-1]):
-        done = run([sampler, "--time=30000"], pgm(pixels_of(grid)))
-        why = "is no square" if rows != columns else "is larger than those of dm_tool"
-        said = f"dm_sample: -: the symbol of {rows} by {columns} modules at 12.0,12.0 {why}: --json has it\n"
-        check(f"{rows} by {columns} is no record", (done.returncode, done.stdout, done.stderr.decode()), (1, b"", said))
-    rows, columns, _, grid = symbols()[0]
-    square = grid_of("SQUARE")
-    beside, other = pixels_of(grid), pixels_of(square)
-    wide = max(len(beside[0]), len(other[0]))
-    both = [row + [230] * (wide - len(row)) for row in beside + other]
-    done = run([sampler, "--all", "--corners", "--time=30000"], pgm(both))
-    said = done.stderr.decode().splitlines()
-    check("a square below a rectangle", (done.returncode, done.stdout.decode(), len(said)), (1, record(square), 2))
-    check("the rectangle is named", any(f"{rows} by {columns} modules" in line for line in said), True)
+    def test_no_records(self):
+        """What can't be handed on to dm_tool is named, and what can is."""
+        for rows, columns, _, grid in (self.symbols()[1], self.symbols()[-1]):
+            done = run([self.sampler, "--time=30000"], pgm(pixels_of(grid)))
+            why = "is no square" if rows != columns else "is larger than those of dm_tool"
+            said = f"dm_sample: -: the symbol of {rows} by {columns} modules at 12.0,12.0 {why}: --json has it\n"
+            self.row(f"{rows} by {columns} is no record", (done.returncode, done.stdout, done.stderr.decode()),
+                     (1, b"", said))
+        rows, columns, _, grid = self.symbols()[0]
+        square = grid_of("SQUARE")
+        beside, other = pixels_of(grid), pixels_of(square)
+        wide = max(len(beside[0]), len(other[0]))
+        both = [row + [230] * (wide - len(row)) for row in beside + other]
+        done = run([self.sampler, "--all", "--corners", "--time=30000"], pgm(both))
+        said = done.stderr.decode().splitlines()
+        self.row("a square below a rectangle", (done.returncode, done.stdout.decode(), len(said)),
+                 (1, record(square), 2))
+        self.row("the rectangle is named", any(f"{rows} by {columns} modules" in line for line in said), True)

@@ -4,10 +4,10 @@ import os
 import unittest
 
 from tests.library.systems import Emulated, lacking, targets
-from tests.sampler import reading, test_sampler
 from tests.sampler.pictures import grid_of, pgm, pixels_of
+from tests.sampler.reading import the_set
 from tests.support import commands, needs, places
-from tests.support.case import Case
+from tests.support.case import Rows
 
 ARM = "aarch64-unknown-linux-gnu"
 
@@ -15,9 +15,7 @@ ARM = "aarch64-unknown-linux-gnu"
 @needs.program
 @needs.library
 @unittest.skipIf(places.OTHER_LIBRARY, "another library is taken")
-class Targets(Case):
-    told = test_sampler.Sampler.told
-
+class Targets(Rows):
     def built(self, triple):
         """Builds the sampler for a target, and gives the folders with its library and with ecc200's."""
         for words in (["library/build", "--target", triple], ["sampler/build", "--target", triple]):
@@ -55,4 +53,4 @@ class Targets(Case):
         program = os.path.join(self.built(ARM)[0], "dm_sample")
         if not os.path.isfile(program):
             self.skipTest("libpng-dev:arm64 or libjpeg-dev:arm64 isn't installed")
-        self.told(reading.the_set, self.folder(), [*target.emulator, program])
+        the_set(self, self.folder(), [*target.emulator, program])

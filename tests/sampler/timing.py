@@ -2,24 +2,9 @@
 import json
 import os
 import random
-import resource
 
-from tests.sampler.pictures import check, grid_of, pgm, pixels_of, record, run
-from tests.support import places
-
-
-def by_clock(folder, name):
-    """The environment in which the clock is one of these."""
-    made = os.path.join(folder, f"{name}.so")
-    if not os.path.exists(made):
-        words = ["cc", "-shared", "-fPIC", "-Wall", "-Wextra", "-Werror", "-o", made]
-        check(f"{name}.c compiles", run([*words, places.path("tests", "sampler", f"{name}.c")]).stderr.decode(), "")
-    return {**os.environ, "LD_PRELOAD": made}
-
-
-def by_processor(folder):
-    """The environment in which the time of a picture is the processor's."""
-    return by_clock(folder, "clock")
+from tests.sampler.pictures import grid_of, pgm, pixels_of, record, run
+from tests.support import places, work
 
 
 def draw(rows, part, down, right):
@@ -43,45 +28,6 @@ def label_of(grids, chance):
     return rows
 
 
-def a_label(folder, sampler):
-    """Twelve symbols beside frames and text are read within half of the usual second, dark on light or light on
-    dark."""
-    chance = random.Random(7)
-    grids = [grid_of("".join(chance.choice("ABCDEFGHIJ") for _ in range(10))) for _ in range(12)]
-    label = label_of(grids, chance)
-    wanted = sorted(record(grid)[:-2] for grid in grids)
-    for name, rows in (("as it is", label), ("light on dark", [[255 - level for level in row] for row in label])):
-        for more in ([], ["--time=500"]):
-            done = run([sampler, "--all", *more], pgm(rows), env=by_processor(folder))
-            check(f"a label of twelve, {name} {more}", sorted(done.stdout.decode().split("\n\n")[:-1]), wanted)
-
-
-def early(folder, sampler):
-    """What was found when the time was over is printed, and it is said that there may be more."""
-    chance, wide = random.Random(4), 3000
-    symbol = pixels_of(grid_of("123456"), 12)
-    rows = [bytes(row) + b"\xe6" * (wide - len(row)) for row in symbol]
-    picture = f"P5 {wide} {wide} 255\n".encode() + b"".join(rows) + chance.randbytes(wide * (wide - len(rows)))
-    done = run([sampler, "--all", "--json", "--time=900"], picture, env=by_processor(folder))
-    told = [json.loads(line) for line in done.stdout.splitlines()]
-    said = b"dm_sample: -: the search ended early, after 900 milliseconds: there may be more symbols\n"
-    check("found before the time was over", ([(one["message"], one["complete"]) for one in told], done.returncode,
-                                             done.stderr), ([("123456", False)], 4, said))
-
-
-def late(folder, sampler):
-    """A busy machine says what an idle one does, unless a time is given."""
-    grid = grid_of("LATE")
-    found, none = pgm(pixels_of(grid)), pgm([[k * j % 251 for k in range(300)] for j in range(300)])
-    for name, picture in (("a symbol", found), ("none", none)):
-        idle, busy = (run([sampler, "--all", "--json"], picture, env=env)
-                      for env in (None, by_clock(folder, "late")))
-        check(f"{name} on a busy machine", (busy.returncode, busy.stdout, busy.stderr),
-              (idle.returncode, idle.stdout, idle.stderr))
-    done = run([sampler, "--time=1000"], found, env=by_clock(folder, "late"))
-    check("a second that is over at once", (done.returncode, done.stdout), (4, b""))
-
-
 def cluttered(wide, high, chance, count):
     """Rows of pixels with rectangles of all shades, so many on each million."""
     rows = [bytearray(b"\xd0" * wide) for _ in range(high)]
@@ -93,51 +39,98 @@ def cluttered(wide, high, chance, count):
     return rows
 
 
-def work(sampler):
-    """A picture of many megapixels with much in it and no symbol is given up, and it is said why."""
-    wide, high = 3000, 2000
-    before = resource.getrusage(resource.RUSAGE_CHILDREN).ru_utime
-    done = run([sampler], f"P5 {wide} {high} 255\n".encode() + b"".join(cluttered(wide, high, random.Random(8), 400)))
-    took = resource.getrusage(resource.RUSAGE_CHILDREN).ru_utime - before
-    said = (b"dm_sample: -: the search ended early, after the usual work: there may be a symbol, --time searches "
-            b"longer\n")
-    check("given up", (done.returncode, done.stdout, done.stderr), (4, b"", said))
-    check("within the time of a second or two", took < 2 or took, True)
+class Timing:
+    def by_clock(self, folder, name):
+        """The environment in which the clock is one of these."""
+        made = os.path.join(folder, f"{name}.so")
+        if not os.path.exists(made):
+            words = ["cc", "-shared", "-fPIC", "-Wall", "-Wextra", "-Werror", "-o", made]
+            self.row(f"{name}.c compiles", run([*words, places.path("tests", "sampler", f"{name}.c")]).stderr.decode(),
+                     "")
+        return {**os.environ, "LD_PRELOAD": made}
 
+    def by_processor(self, folder):
+        """The environment in which the time of a picture is the processor's."""
+        return self.by_clock(folder, "clock")
 
-def photographs(sampler):
-    """A picture of twelve megapixels with a small symbol in it, and one without, take at most the time of a second,
-    which is twice what they take alone."""
-    wide, high = 4000, 3000
-    for message in ("SMALL", None):
-        rows = cluttered(wide, high, random.Random(9), 40)
-        if message:
-            draw(rows, pixels_of(grid_of(message), 7), 1900, 2300)
-        before = resource.getrusage(resource.RUSAGE_CHILDREN).ru_utime
-        done = run([sampler, "--json"], f"P5 {wide} {high} 255\n".encode() + b"".join(rows))
-        took = resource.getrusage(resource.RUSAGE_CHILDREN).ru_utime - before
-        check(f"twelve megapixels: {message}", json.loads(done.stdout or b"{}").get("message"), message)
-        check(f"twelve megapixels: the time, {message}", took < 1 or took, True)
+    def test_a_label(self):
+        """Twelve symbols beside frames and text are read within half of the usual second, dark on light or light on
+        dark."""
+        chance = random.Random(7)
+        grids = [grid_of("".join(chance.choice("ABCDEFGHIJ") for _ in range(10))) for _ in range(12)]
+        label = label_of(grids, chance)
+        wanted = sorted(record(grid)[:-2] for grid in grids)
+        for name, rows in (("as it is", label), ("light on dark", [[255 - level for level in row] for row in label])):
+            for more in ([], ["--time=500"]):
+                done = run([self.sampler, "--all", *more], pgm(rows), env=self.by_processor(self.room))
+                self.row(f"a label of twelve, {name} {more}", sorted(done.stdout.decode().split("\n\n")[:-1]), wanted)
 
+    def test_early_with_a_symbol(self):
+        """What was found when the time was over is printed, and it is said that there may be more."""
+        chance, wide = random.Random(4), 3000
+        symbol = pixels_of(grid_of("123456"), 12)
+        rows = [bytes(row) + b"\xe6" * (wide - len(row)) for row in symbol]
+        picture = f"P5 {wide} {wide} 255\n".encode() + b"".join(rows) + chance.randbytes(wide * (wide - len(rows)))
+        done = run([self.sampler, "--all", "--json", "--time=900"], picture, env=self.by_processor(self.room))
+        told = [json.loads(line) for line in done.stdout.splitlines()]
+        said = b"dm_sample: -: the search ended early, after 900 milliseconds: there may be more symbols\n"
+        self.row("found before the time was over",
+                 ([(one["message"], one["complete"]) for one in told], done.returncode, done.stderr),
+                 ([("123456", False)], 4, said))
 
-def shares(sampler):
-    """However much is tried by the first ways to search, enough is left of the usual work for those behind them: a
-    symbol that is light on dark, among much else."""
-    wide, high = 3000, 2000
-    rows = cluttered(wide, high, random.Random(8), 525)
-    draw(rows, pixels_of(grid_of("LIGHT"), 12, 2, 230, 20), 300, 500)
-    done = run([sampler, "--json"], f"P5 {wide} {high} 255\n".encode() + b"".join(rows))
-    check("light on dark among many rectangles", json.loads(done.stdout or b"{}").get("message"), "LIGHT")
+    def test_busy(self):
+        """A busy machine says what an idle one does, unless a time is given."""
+        grid = grid_of("LATE")
+        found, none = pgm(pixels_of(grid)), pgm([[k * j % 251 for k in range(300)] for j in range(300)])
+        for name, picture in (("a symbol", found), ("none", none)):
+            idle, busy = (run([self.sampler, "--all", "--json"], picture, env=env)
+                          for env in (None, self.by_clock(self.room, "late")))
+            self.row(f"{name} on a busy machine", (busy.returncode, busy.stdout, busy.stderr),
+                     (idle.returncode, idle.stdout, idle.stderr))
+        done = run([self.sampler, "--time=1000"], found, env=self.by_clock(self.room, "late"))
+        self.row("a second that is over at once", (done.returncode, done.stdout), (4, b""))
 
+    def test_work(self):
+        """A picture of many megapixels with much in it and no symbol is given up, and it is said why."""
+        wide, high = 3000, 2000
+        picture = f"P5 {wide} {high} 255\n".encode() + b"".join(cluttered(wide, high, random.Random(8), 400))
+        with work.measured() as took:
+            done = run([self.sampler], picture)
+        said = (b"dm_sample: -: the search ended early, after the usual work: there may be a symbol, --time searches "
+                b"longer\n")
+        self.row("given up", (done.returncode, done.stdout, done.stderr), (4, b"", said))
+        self.row("six times what it takes alone", took.pieces < 20 or str(took), True)
 
-def deadline(folder, sampler):
-    """The time binds also what is computed before the search."""
-    path = os.path.join(folder, "fifty.pgm")
-    with open(path, "wb") as file:
-        file.write(b"P5 8192 6200 255\n" + random.Random(2).randbytes(8192 * 6200))
-    for milliseconds in (0, 100):
-        before = resource.getrusage(resource.RUSAGE_CHILDREN).ru_utime
-        done = run([sampler, f"--time={milliseconds}", path], env=by_processor(folder))
-        took = resource.getrusage(resource.RUSAGE_CHILDREN).ru_utime - before
-        check(f"{milliseconds} milliseconds for 50 megapixels", (done.returncode, took < 0.5), (4, True))
-    os.remove(path)
+    def test_large_photographs(self):
+        """A picture of twelve megapixels with a small symbol in it, and one without, take at most about the time of a
+        second, which is three times what they take."""
+        wide, high = 4000, 3000
+        for message in ("SMALL", None):
+            rows = cluttered(wide, high, random.Random(9), 40)
+            if message:
+                draw(rows, pixels_of(grid_of(message), 7), 1900, 2300)
+            with work.measured() as took:
+                done = run([self.sampler, "--json"], f"P5 {wide} {high} 255\n".encode() + b"".join(rows))
+            self.row(f"twelve megapixels: {message}", json.loads(done.stdout or b"{}").get("message"), message)
+            self.row(f"twelve megapixels: the work, {message}", took.pieces < 10 or str(took), True)
+
+    def test_shares(self):
+        """However much is tried by the first ways to search, enough is left of the usual work for those behind them: a
+        symbol that is light on dark, among much else."""
+        wide, high = 3000, 2000
+        rows = cluttered(wide, high, random.Random(8), 525)
+        draw(rows, pixels_of(grid_of("LIGHT"), 12, 2, 230, 20), 300, 500)
+        done = run([self.sampler, "--json"], f"P5 {wide} {high} 255\n".encode() + b"".join(rows))
+        self.row("light on dark among many rectangles", json.loads(done.stdout or b"{}").get("message"), "LIGHT")
+
+    def test_deadline(self):
+        """The time binds also what is computed before the search."""
+        path = os.path.join(self.room, "fifty.pgm")
+        with open(path, "wb") as file:
+            file.write(b"P5 8192 6200 255\n" + random.Random(2).randbytes(8192 * 6200))
+        for milliseconds in (0, 100):
+            with work.measured() as took:
+                done = run([self.sampler, f"--time={milliseconds}", path], env=self.by_processor(self.room))
+            self.row(f"{milliseconds} milliseconds for 50 megapixels", (done.returncode, took.pieces < 6 or str(took)),
+                     (4, True))
+        os.remove(path)

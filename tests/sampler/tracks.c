@@ -52,8 +52,8 @@ static int is_followed(struct hidden hidden) {
     struct plane picture = {.width = WIDE, .height = WIDE, .stride = WIDE, .pixels = pixels}, grey, dark;
     struct limit limit = limit_from_now(ECC200_SAMPLE_ANY_TIME, ECC200_SAMPLE_ANY_EFFORT, 1);
     double first = QUIET * MODULE, last = first + SIDE * MODULE;
-    struct elbow elbow = {point_at(first, last), point_at(first, first), point_at(last, last), MODULE, MODULE,
-                          false, false, true, 1};
+    struct elbow elbow = {
+        point_at(first, last), point_at(first, first), point_at(last, last), MODULE, MODULE, false, false, true, 1};
     list_shapes(&shapes);
     draw(hidden, pixels);
     if (!plane_smooth(&picture, &limit, &grey) || !plane_darken(&grey, 2, &limit, &dark))

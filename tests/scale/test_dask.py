@@ -6,6 +6,7 @@ import subprocess
 import sys
 import time
 
+from tests import corpus
 from tests.scale.runs import free_port
 from tests.support import commands, needs, package, places, spelling
 from tests.support.case import Case
@@ -21,7 +22,7 @@ def recipe():
 
 def grids():
     """The marks of other encoders, again and again, some of them damaged, with more empty lines than are needed."""
-    marks = places.text_of("tests", "marks", "grids.txt").strip().split("\n\n")
+    marks = [mark.text.strip() for mark in corpus.marks("squares")]
     texts = []
     for turn in range(12):
         for number, mark in enumerate(marks):
@@ -82,6 +83,9 @@ class Dask(Case):
                 answers = self.space["read_on"](client, rows, size)
             self.row(f"answers in parts of {size}, in order", [str(answer) for answer in answers],
                      [str(answer) for answer in here])
+        foreign = ["10\n", "1\xe9\n", "\n", *(f"{row}\n" for row in self.records[1])]
+        self.row("a foreign character is refused by itself", [str(answer) for answer in self.space["read_on"](
+            client, foreign)], [str(self.ecc200.read_many([["10", "1\xe9"]])[0]), str(here[1])])
         workers = client.run(os.getpid)
         where = client.gather([client.submit(os.getpid, pure=False, workers=[worker]) for worker in workers])
         self.row("two workers in processes of their own", (len(workers), len(set(where) - {os.getpid()})), (2, 2))

@@ -28,6 +28,11 @@ class Signals(Faults):
                     which = f"{name}: {number.name} to {'all of its processes' if to_all else 'the script'}"
                     self.sound(which, signalled(block, *self.of(name), number, to_all, None))
 
+    def test_a_closed_pipe_that_the_script_itself_meets(self):
+        kept = in_parts(self.recipes[FILE], "20K")
+        for which, block, delay in (("into a file", kept, 0.3), ("once an answer has come", to_output(kept), None)):
+            self.sound(which, signalled(block, *self.of(FILE), signal.SIGPIPE, False, delay))
+
     def test_after_a_part_of_a_second(self):
         for name in ALONE:
             kept = in_parts(self.recipes[name], "20K")

@@ -61,3 +61,22 @@ class Case(unittest.TestCase):
     def process(self, words, **how):
         """Starts a process, which is ended when the case ends."""
         return self.enterContext(commands.started(words, **how))
+
+
+class Rows(Case):
+    """A case that has rows: one without any is no test."""
+
+    def setUp(self):
+        self.counted = 0
+
+    def tearDown(self):
+        self.assertGreater(self.counted, 0, "there is no row")
+
+    def subTest(self, *name, **more):
+        self.counted += 1
+        return super().subTest(*name, **more)
+
+    def leave_out(self, what):
+        """Leaves out what something isn't installed for."""
+        with self.subTest(what):
+            self.skipTest(what)

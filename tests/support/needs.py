@@ -19,8 +19,9 @@ PACKAGES = {
     "wasm-ld": "lld",
 }
 # What `make page` needs besides the library.
-PAGE = ("wasm-opt", "clang", "wasm-ld")
+PAGE = ("wasm-opt", "clang", "wasm-ld", "esbuild")
 WASI_LIBC = "/usr/lib/wasm32-wasi/libc.a"
+FONT = "/usr/share/fonts/truetype/dejavu/DejaVuSansMono.ttf"
 PATH = os.pathsep.join([os.environ.get("PATH", os.defpath), "/usr/sbin"])
 
 
@@ -42,7 +43,8 @@ def programs(*names):
 def page(kind):
     """Skips a class or a case where something isn't installed that `make page` needs."""
     has_libc = unittest.skipUnless(os.path.isfile(WASI_LIBC), "wasi-libc isn't installed (Debian package wasi-libc)")
-    return programs(*PAGE, "node")(has_libc(kind))
+    has_font = unittest.skipUnless(os.path.isfile(FONT), "the font isn't installed (Debian package fonts-dejavu-core)")
+    return programs(*PAGE, "node")(has_font(has_libc(kind)))
 
 
 def module(name):
@@ -63,9 +65,19 @@ def program(kind):
 
 
 def library(kind):
-    """Marks a class whose cases use the library, which `make library` brings up to date first, unless another one is
-    named."""
-    return built(kind, places.SHARED, "library", lambda _: None if is_library_built() else made("library"))
+    """Marks a class whose cases use the library, which `make library` brings up to date first, or without the toolchain
+    `make assembled`, unless another one is named."""
+    target = "library" if has("rt") else "assembled"
+    return built(kind, places.SHARED, target, lambda _: None if is_library_built() else made(target))
+
+
+def have_library():
+    """Builds the library, where it isn't and can be, for a module that imports the package over it; where it can't be,
+    the module is skipped."""
+    if not os.path.isfile(places.SHARED) and not has("rt"):
+        raise unittest.SkipTest("the library isn't built (run `make library` first)")
+    if problem := None if is_library_built() else made("library"):
+        raise ImportError(problem)
 
 
 @functools.cache

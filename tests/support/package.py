@@ -7,7 +7,7 @@ import sys
 import tempfile
 from unittest import mock
 
-from tests.support import places
+from tests.support import needs, places
 
 
 @functools.cache
@@ -31,7 +31,8 @@ def settings():
 
 @functools.cache
 def imported():
-    """Gives the package, imported here over the library."""
+    """Gives the package, imported here over the library, which is built first where it isn't."""
+    needs.have_library()
     sys.path.insert(0, tree())
     with mock.patch.dict(os.environ, ECC200_LIBRARY=places.SHARED):
         module = importlib.import_module("ecc200")

@@ -19,7 +19,6 @@ MODULE = os.path.join(PACKAGE, "ecc200", "core.py")
 BUILT = os.path.abspath(OTHER_LIBRARY) if OTHER_LIBRARY else path("library", "out")
 ARCHIVE = os.path.join(BUILT, "libecc200.a")
 SHARED = os.path.join(BUILT, "libecc200.so")
-MARKS = path("tests", "marks")
 
 
 def text_of(*parts):

@@ -19,7 +19,7 @@ class Tally(unittest.TestResult):
         super().__init__()
         self.passed = self.failed = 0
         self.left_out = collections.defaultdict(list)
-        self.say = say
+        self.say, self.closing = say, ""
         self.kind, self.before = None, (0, 0, 0)
         self.begun = self.ended = times()
         self.rows = 0
@@ -111,6 +111,8 @@ class Tally(unittest.TestResult):
         for reason, names in self.left_out.items():
             self.say(f"left out, since {reason}: {', '.join(together(names))}")
         self.say(f"all of it: of a processor {times()[1]:.0f} s")
+        if self.closing:
+            self.say(self.closing)
         self.say(f"{self.passed} passed, {self.failed} failed, {self.skips} skipped")
         return 1 if self.failed or not self.passed and not self.skips else 0
 

@@ -1,0 +1,78 @@
+"""A Debian root without the toolchain, with nothing but what README asks for: behind `git clone` a label is read there
+by one command, and what was built is tested by another."""
+import contextlib
+import os
+import platform
+import re
+import subprocess
+import unittest
+
+from tests.support import commands, needs, places
+from tests.support.case import Case
+from tests.support.tally import times
+
+WANTED = re.search(r"`apt install (gcc [^`]*)`", places.text_of("README.md"))[1].split()
+PATH = "/usr/sbin:/usr/bin:/sbin:/bin"
+LABEL = "(01)09521234543213(17)271231(10)ABC123\n"
+SYMBOL = "16 x 16: ]d4, 5 bytes, ECI 26 at 0\n"  # the last line of the example in C
+USES = ["cd /tmp", "ecc200 read /m/out/first/label.png",
+        "python3 -c 'import ecc200; print(ecc200.decode(\"/m/out/first/label.png\")[0].text)'",
+        "cc -std=c11 -Wall -Wextra -Werror ~/.local/share/doc/libecc200-dev/examples/example.c -I ~/.local/include "
+        "-L ~/.local/lib -lecc200 -o example", "./example | tail -n 1"]
+# Seconds of processor time: a minute and three, of which a busy machine counts up to twice as many.
+MOST_TO_BUILD, MOST_TO_CHECK = 120, 360
+
+
+@contextlib.contextmanager
+def mounted(root):
+    """A root with the system's processes, devices and terminals."""
+    done = []
+    try:
+        for words in (["-t", "proc", "proc", f"{root}/proc"], ["--bind", "/dev", f"{root}/dev"],
+                      ["--bind", "/dev/pts", f"{root}/dev/pts"]):
+            if commands.said(["mount", *words])[0]:
+                raise unittest.SkipTest("nothing can be mounted here")
+            done.append(words[-1])
+        yield
+    finally:
+        for place in reversed(done):
+            commands.said(["umount", place])
+
+
+@needs.programs("debootstrap", "git")
+@unittest.skipUnless(os.geteuid() == 0, "only root can make a root")
+class Clean(Case):
+    @classmethod
+    def setUpClass(cls):
+        cls.root = os.path.join(cls.folder_of_class(), "root")
+        release = platform.freedesktop_os_release().get("VERSION_CODENAME", "stable")
+        words = ["debootstrap", "--variant=minbase", f"--include=git,{','.join(WANTED)}", release, cls.root]
+        status, told = commands.said(words, env=commands.environment(PATH=needs.PATH))
+        if status:
+            raise unittest.SkipTest(f"Debian can't be had ({told.strip().splitlines()[-1:]})")
+        cls.enterClassContext(mounted(cls.root))
+        subprocess.run(["git", "clone", "--quiet", "--bare", places.TOP, f"{cls.root}/source.git"], check=True)
+
+    def done(self, words):
+        """Status, output, and seconds of processor time of a command of the shell in the root."""
+        before = times()[1]
+        inside = ["chroot", self.root, "/usr/bin/env", "-i", f"PATH={PATH}", "HOME=/root", "/bin/sh", "-c", words]
+        status, told = commands.said(inside, timeout=3600)
+        return status, told, times()[1] - before
+
+    def test_a_label_is_read_and_what_was_built_is_tested(self):
+        status, told, seconds = self.done("git clone --quiet /source.git m && make -C m")
+        self.assertEqual((status, LABEL in told, "isn't read" in told), (0, True, True), told[-3000:])
+        self.row("the time to build", seconds < MOST_TO_BUILD, True)
+        status, told, seconds = self.done("m/out/bin/ecc200 read m/out/first/label.png")
+        self.row("the command as it lies there", (status, told), (0, LABEL))
+        status, told, seconds = self.done("cd m && make check")
+        counts = re.search(r"^Nothing was proved here.*\n(\d+) passed, 0 failed, \d+ skipped\n\Z", told, re.M)
+        failed = "\n".join(re.findall("^FAILED.*", told, re.M))
+        self.assertEqual((status, bool(counts)), (0, True), f"{failed}\n{told[-1000:]}")
+        self.row("the time to check", seconds < MOST_TO_CHECK, True)
+        status, told, _ = self.done("make -C m install PREFIX=$HOME/.local")
+        self.row("installed in a home", (status, told.count("\n    export ")), (0, 3))
+        lines = re.findall(r"^    (export .*)$", told, re.M)
+        status, told, _ = self.done("\n".join(["set -e", *lines, *USES]))
+        self.row("what is installed there is used", (status, told), (0, f"{LABEL}{re.sub('[()]', '', LABEL)}{SYMBOL}"))

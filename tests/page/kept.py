@@ -1,0 +1,146 @@
+"""Work is kept in the browser's storage: lists, settings, what was read, and parts survive a reload and another visit,
+until they are forgotten; and no message stands in the address, but for a link that was copied."""
+from tests.page.conduct import linked, started
+from tests.page.labels import CHOOSE, chosen, pages_of, saved
+from tests.page.photographs import LISTED
+from tests.page.pictures import opened
+from tests.page.sights import scene
+from tests.page.stage import (count, find, grid, on, push, put, run, shown, text_of, unfold, wait_for, write, written)
+
+FIELDS = ["message", "lines-as", "messages", "stock", "millimetres", "paper-size", "label-width", "copies", "shape"]
+STATE = "return arguments[0].map((id) => document.getElementById(id).value)"
+KEPT = "return Object.keys(localStorage).map((name) => localStorage.getItem(name)).join(' ')"
+
+
+def visit():
+    """Another visit: by the address alone, and not by the history."""
+    address = on.page.current_url.partition("#")[0]
+    on.page.get("about:blank")
+    on.page.get(address)
+    started()
+
+
+def state():
+    return run(STATE, FIELDS), [find(f"profile-{k}").is_selected() for k in range(3)]
+
+
+def work_survives():
+    """A list with its columns, how labels look, a message, and what was read of a picture, by reload and anew."""
+    write("kept as it is", 1, "rectangle")
+    unfold("sheet")
+    chosen("lines-as", "csv")
+    put("messages", "place,part\nleft,A1\nright,B2")
+    push("first-headings")
+    for column, role in ((0, "text"), (1, "message")):
+        run(CHOOSE, column, role)
+    push("columns-taken")
+    chosen("stock", "own")
+    for name, value in (("label-width", "44.5"), ("millimetres", "0.4"), ("copies", "2")):
+        put(name, value)
+        run("document.getElementById(arguments[0]).dispatchEvent(new Event('change', { bubbles: true }))", name)
+    push("label-text")
+    pdf = pages_of(saved("symbols.pdf", "many-pdf"))
+    messages = ["first", "second", "third"]
+    push("tab-read")
+    opened("three.png", scene(360, 130, [(written(it).split("\n"), (30 + 110 * k, 40))
+                                         for k, it in enumerate(messages)]))
+    count.expect_soon("what is listed", lambda: len(run(LISTED)), 3)
+    run("document.querySelectorAll('#found-are button')[1].click()")
+    linked()
+    listed, at_hand, before = run(LISTED), grid(), state()
+    wait_for(lambda: all(f'"text": "{it}"' in run(KEPT) for it in messages))
+    for name, go in (("a reload", on.page.refresh), ("another visit", visit)):
+        go()
+        started()
+        count.expect(f"{name}: what was read", (find("pane-read").is_displayed(), shown()["says"], grid()),
+                     (True, "second", at_hand))
+        count.expect_soon(f"{name}: the list of it", lambda: run(LISTED), listed)
+        pressed = "return [...document.querySelectorAll('#found-are button')].map((it) => it.ariaPressed)"
+        count.expect(f"{name}: which is at hand", run(pressed), ["false", "true", "false"])
+        count.expect(f"{name}: settings and lists", state(), before)
+        push("tab-make")
+        unfold("sheet")
+        count.expect(f"{name}: the labels", pages_of(saved("symbols.pdf", "many-pdf")), pdf)
+        push("tab-read")
+        linked()
+    push("tab-make")
+
+
+def parts_survive():
+    """Parts that were read are still there after a reload."""
+    push("tab-read")
+    for part in (1, 3):
+        put("grid", written_part(part))
+    linked()
+    wait_for(lambda: "parts" in run("return Object.keys(localStorage).join()"))
+    title = text_of("gathered-title")
+    count.expect("parts that are read", title, "A message in 3 symbols: 2 of them read")
+    on.page.refresh()
+    started()
+    count.expect("after a reload", text_of("gathered-title"), title)
+    put("grid", written_part(2))
+    count.expect("the last one makes the message", text_of("whole"), "one and two and three")
+
+
+def written_part(part):
+    """The grid of a part of a message."""
+    push("tab-make", "kind-typed", "profile-2")
+    chosen("parts", "3")
+    put("message", "one and two and three")
+    for _ in range(part - 1):
+        push("part-on")
+    text = run("return mitsubadoor.gridText(mitsubadoor.mark.seen)")
+    chosen("parts", "1")
+    push("tab-read")
+    return text
+
+
+def address_is_bare():
+    """No message stands in the address, whatever is entered, until a link is copied, and then until something
+    changes."""
+    address = lambda: on.page.current_url.partition("#")[2]
+    write("a secret")
+    linked()
+    count.expect("a message", address(), "make")
+    push("tab-read", "example-c40")
+    linked()
+    count.expect("a grid", address(), "read")
+    push("tab-learn", "to-limit")
+    linked()
+    count.expect("damage", address(), "learn")
+    push("tab-make")
+    run("globalThis.copied = null; navigator.clipboard.writeText = async (text) => { globalThis.copied = text; }")
+    push("copy-link")
+    count.expect_soon("a link that is copied", lambda: "message=a+secret" in (run("return copied") or ""), True)
+    count.expect("it stands in the address", on.page.current_url, run("return copied"))
+    put("message", "another")
+    linked()
+    count.expect("until something changes", address(), "make")
+    run("delete navigator.clipboard.writeText; location.hash = '#make&message=followed'")
+    linked()
+    count.expect("a link that is followed", (shown()["says"], address()), ("followed", "make"))
+
+
+def forgotten():
+    """Forget leaves nothing: in the page, in the browser's storage, by reload, and by the history."""
+    write("a secret")
+    unfold("sheet")
+    put("messages", "another secret")
+    push("tab-read", "example-c40")
+    linked()
+    wait_for(lambda: "another secret" in run(KEPT))
+    run("globalThis.isOld = true; document.getElementById('forget').click()")
+    wait_for(lambda: not run("return 'isOld' in globalThis"))
+    started()
+    gone = lambda: (find("message").get_attribute("value"), find("messages").get_attribute("value"),
+                    find("grid").get_attribute("value"), "secret" in run(KEPT))
+    count.expect("after Forget", gone(), ("Hello", "", "", False))
+    on.page.refresh()
+    started()
+    count.expect("after a reload", gone(), ("Hello", "", "", False))
+    on.page.back()
+    linked()
+    count.expect("by the history", gone(), ("Hello", "", "", False))
+
+
+PARTS = [work_survives, parts_survive, address_is_bare, forgotten]

@@ -1,0 +1,154 @@
+"""The command ecc200: the pages of pictures, what symbols say compared and explained, spellings, progress on a
+terminal, completion."""
+import io
+import json
+import os
+import pty
+import re
+import subprocess
+import tempfile
+
+from tests.python.common import PACKAGE, PYTHON, SAMPLER, TOP, PackageCase, marks, run
+from tests.python.test_surface import WORDS, ecc, edifact, environment, hurt, text
+from tests.support import needs
+
+import ecc200
+from ecc200 import explaining
+from ecc200.spelling import Misspelled, of_spelling, shown, spelled
+
+
+@needs.library
+class Comparing(PackageCase):
+    def test_pages(self):
+        """Pages behind the first are read, also without the sampler, and a turned photograph is read either way."""
+        pillow = self.wanted_module("PIL.Image", "Pillow", "pages of pictures")
+        if not pillow:
+            return
+        for name, module in (("small", 25.4 / 300), ("large", 0.5)):
+            drawn = [ecc200.encode(message, module=module).png() for message in (b"first", b"third")]
+            first, third = (pillow.Image.open(io.BytesIO(data)).convert("L") for data in drawn)
+            path = os.path.join(self.room, f"{name}.tiff")
+            first.save(path, save_all=True, append_images=[third])
+            without = {**environment(), "ECC200_SAMPLE_LIBRARY": os.path.join(self.room, "none.so")}
+            got = run([*WORDS, "read", path], env=without)
+            self.says(f"{name} pages without the sampler", got, output="first\nthird\n")
+            if os.path.isfile(SAMPLER):
+                self.says(f"{name} pages", ecc("read", path), output="first\nthird\n")
+        if os.path.isfile(SAMPLER):
+            told = [json.loads(line) for line in ecc("read", "--json", path)[1].splitlines()]
+            self.row("pages in JSON", [(one["symbol"], one["page"]) for one in told], [(1, 1), (2, 2)])
+        turned, exif = first.transpose(pillow.Image.ROTATE_90), pillow.Image.Exif()
+        exif[274] = 6  # shown turned by a quarter, clockwise
+        path = os.path.join(self.room, "turned.png")
+        turned.save(path, exif=exif)
+        self.says("a turned picture without the sampler", run([*WORDS, "read", path], env=without), output="first\n")
+
+    def test_comparing(self):
+        def saved(name, grid):
+            path = os.path.join(self.room, name)
+            with open(path, "w") as file:
+                file.write(grid)
+            return path
+        ascii_ = saved("ascii", text(ecc200.write(b"\x80" * 3)))
+        shorter = saved("shorter", text(ecc200.write(b"\x80" * 3, profile=1)))
+        other = saved("other", text(ecc200.write(b"\x80" * 4)))
+        lost = saved("lost", text([bytes(10)] * 10))
+        gs, fnc1 = saved("gs", text(ecc200.write([256, 65, 0x1D,
+                                                  66]))), saved("fnc1", text(ecc200.write([256, 65, 256, 66])))
+        plain = saved("plain", text(ecc200.write(b"A")))
+        marked = saved("marked", text(ecc200.write(b"A", gs1=True)))
+        for name, pair, status, end in [("the same", (ascii_, shorter), 0, "the same\n"),
+                                        ("different", (ascii_, other), 1, "different: they differ from item 4 on\n"),
+                                        ("separators", (gs, fnc1), 1, "has the byte 0x1D\n"),
+                                        ("marked", (plain, marked), 1, "and the other isn't\n")]:
+            got = ecc("compare", *pair)
+            self.holds(name, got[0] == status and got[1].endswith(end) and not got[2], str(got))
+        for name, pair, part in [("one isn't read", (ascii_, lost), "27 of the 36"),
+                                 ("one isn't there", (ascii_, lost + "x"), "No such file"),
+                                 ("two in one", (ascii_, saved("two", text(ecc200.write(b"A")) * 2)), "there are 2"),
+                                 ("none in one", (saved("empty", ""), ascii_), "there are no grids")]:
+            got = ecc("compare", *pair)
+            self.holds(name, got[0] >= 2 and part in got[2], str(got))
+
+    def test_explained(self):
+        """Meanings: joined they are what the library reads, on all marks of other encoders and on messages of all
+        bytes."""
+        grids = [[bytes(map(int, line)) for line in lines] for lines in marks()]
+        grids += [ecc200.write(bytes(range(begin, begin + 32)), profile=profile) for begin in range(0, 256, 32)
+                  for profile in (0, 1)] + [ecc200.write([256, 65, 256])]
+        for number, rows in enumerate(grids):
+            told = explaining.explain(rows)
+            size = next(size for size in ecc200.sizes() if (size.rows, size.columns) == (len(rows), len(rows[0])))
+            self.row(f"codewords {number}", bytes(word.value for word in told.codewords), ecc200.inspect(rows).mended)
+            has_meanings = all(word.meaning for word in told.codewords[:size.data_codewords])
+            self.holds(f"meanings {number}", told.refused is not None or told.reading is not None and has_meanings)
+        status, output, _ = ecc("explain", given=text(ecc200.write(b"12A\xe9")))
+        for part in ("1    142  ASCII       the digits 12", "2     66  ASCII       the character A", "Upper Shift",
+                     "the byte 233", "a check codeword of block 1", "It says 12A\u00e9"):
+            self.holds(f"explain: {part}", status == 0 and part in output, output)
+        status, output, _ = ecc("explain", given=text(hurt(1)))
+        self.holds("explain a correction", "corrected; the symbol has" in output and "It says 123456" in output, output)
+        status, output, errors = ecc("explain", given=text(hurt(5)))
+        self.holds("explain beyond correction", status == 1 and "beyond correction" in output
+                   and "block 1 of its 1" in errors, output + errors)
+        words = json.loads(ecc("explain", "--json", given=text(ecc200.write(b"12")))[1])["codewords"]
+        first = {"place": 1, "value": 142, "held": 142, "encodation": "ASCII", "meaning": "the digits 12"}
+        self.row("explain --json", (words[0], len(words)), (first, 8))
+        status, output, _ = ecc("explain", "--usual", given=edifact())
+        self.holds("explain --usual", status == 1 and "what can't be read begins here" in output, output)
+
+    def test_spellings(self):
+        everything = [*range(256), 256]
+        self.row("spelled and back", of_spelling(spelled(everything), "latin-1"), (everything, [], None))
+        for wrong in ("\\", "\\q", "\\x1", "\\xg0"):
+            self.raises(f"the spelling {wrong}", Misspelled, "backslash",
+                        lambda wrong=wrong: of_spelling(wrong, "latin-1"))
+        self.row("shown", [shown(b"A\\"), shown(b"\xe9"), shown("\u00e9".encode()), shown(b"\xe9", (), "cp1252"),
+                           shown([256, 233])],
+                 ["A\\\\", "\u00e9", "\u00e9", "\u00e9", "\\F\\xE9"])
+
+    def test_at_a_terminal(self):
+        """Long work tells on a terminal how far it is, and only there."""
+        given = text(ecc200.write(b"123456")).encode() * 60_000
+        leader, follower = pty.openpty()
+        process = subprocess.Popen([*WORDS, "check"], stdin=subprocess.PIPE, stdout=subprocess.PIPE, stderr=follower,
+                                   env=environment())
+        output, _ = process.communicate(given, timeout=300)
+        os.close(follower)
+        said = b""
+        try:
+            while True:
+                said += os.read(leader, 65536)
+        except OSError:  # the end, as Linux tells it
+            os.close(leader)
+        self.holds("progress", re.search(rb"[\d,]+ symbols read, [\d,]+ a second", said) is not None
+                   and process.returncode == 0, repr(said[-200:]))
+        self.row("its answers", output.count(b"\n"), 60_000)
+        first = subprocess.Popen([*WORDS, "read"], stdin=subprocess.PIPE, stdout=subprocess.PIPE,
+                                 stderr=subprocess.PIPE, env=environment())
+        first.stdin.write(text(ecc200.write(b"123456")).encode())
+        first.stdin.flush()
+        self.row("an answer comes at once", first.stdout.readline(), b"123456\n")
+        first.stdout.close()
+        first.stdin.write(text(ecc200.write(b"123456")).encode() * 2)
+        first.stdin.close()
+        errors = first.stderr.read()
+        first.wait(timeout=60)
+        self.holds("an output that is closed", b"Traceback" not in errors and b"Exception" not in errors, repr(errors))
+
+    def test_completion(self):
+        words = [PYTHON, os.path.join(TOP, "tools", "completions"), "--check"]
+        self.row("what is packaged for shells", run(words, env=environment()), (0, "", ""))
+        if not self.wanted_module("argcomplete", "python3-argcomplete", "completion by the shell"):
+            return
+        for line, wanted in (("co", ["compare"]), ("j", ["join"]), ("s", ["sizes"]), ("write --shape r", ["rectangle"]),
+                             ("write --form s", ["shorter", "smallest"]),
+                             ("write --size 8x1", ["8x120", "8x144", "8x18"])):
+            line = f"ecc200 {line}"
+            told = {**environment(), "_ARGCOMPLETE": "1", "COMP_LINE": line, "COMP_POINT": str(len(line)),
+                    "_ARGCOMPLETE_IFS": "\n"}
+            with tempfile.NamedTemporaryFile() as file:
+                told["_ARGCOMPLETE_STDOUT_FILENAME"] = file.name
+                done = subprocess.run([PYTHON, os.path.join(PACKAGE, "bin", "ecc200")], env=told,
+                                      stdout=subprocess.PIPE, stderr=subprocess.PIPE, timeout=60)
+                self.row(f"completion of {line}", (done.returncode, sorted(file.read().decode().split())), (0, wanted))

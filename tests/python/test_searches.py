@@ -1,0 +1,293 @@
+"""Searches of pictures: what ends one early is said, what the sampler read is what is said, and what is found and not
+read is listed with the reason."""
+import copy
+import json
+import math
+import os
+import pickle
+import re
+
+from tests.python.common import PackageCase
+from tests.python.test_batches import made
+from tests.python.test_surface import ecc, hurt, text
+from tests.support import needs
+
+import ecc200
+from ecc200 import core
+
+LONG = 600_000  # milliseconds, which no search here takes
+
+
+def sheet(folder, count, *more):
+    """A sheet of this many labels, and what they say."""
+    messages = [f"SN-{number:05}" for number in range(count)]
+    name = f"sheet-{count}.png"
+    ecc("write", "--sheet", "-o", name, *more, given="\n".join(messages), folder=folder)
+    return name, messages
+
+
+def gap(folder, *more):
+    """How many modules stand between two symbols on a sheet."""
+    ecc("write", "--sheet", "-o", "two.svg", *more, "A", "B", folder=folder)
+    with open(os.path.join(folder, "two.svg"), encoding="ascii") as file:
+        lefts = [float(left) for left in re.findall(r"translate\(([0-9.]+) ", file.read())]
+    return (lefts[1] - lefts[0]) / 0.5 - len(ecc200.write(b"A"))
+
+
+def pixels(rows, scale, dark=30, light=200, quiet=3):
+    """A symbol as rows of luminances."""
+    wide = [bytes(quiet) + bytes(row) + bytes(quiet) for row in rows]
+    wide = [bytes(len(wide[0]))] * quiet + wide + [bytes(len(wide[0]))] * quiet
+    return [[dark if module else light for module in row for _ in range(scale)] for row in wide for _ in range(scale)]
+
+
+def of_rows(folder, name, rows):
+    """A picture of these luminances, as a file."""
+    from PIL import Image
+    picture = Image.frombytes("L", (len(rows[0]), len(rows)), b"".join(map(bytes, rows)))
+    picture.save(os.path.join(folder, name))
+    return name
+
+
+def frayed(message, count):
+    """A symbol with so many wrong modules in its top border."""
+    rows = [bytearray(row) for row in ecc200.write(message)]
+    for column in range(3, 3 + count):
+        rows[0][column] ^= 1
+    return rows
+
+
+def in_glare(message):
+    """The luminances of a symbol with a spot in its middle that is as light as can be."""
+    rows = pixels(ecc200.write(message), 5)
+    middle = len(rows) / 2
+    return [[255 if math.hypot(x - middle, y - middle) < 0.2 * len(rows) else level for x, level in enumerate(row)]
+            for y, row in enumerate(rows)]
+
+
+def beside_one_another(folder, name, symbols):
+    """A picture of several symbols."""
+    parts = [pixels(rows, 8, 0, 255, 6) for rows in symbols]
+    return of_rows(folder, name, [[level for part in parts for level in part[y]] for y in range(len(parts[0]))])
+
+
+@needs.library
+class Searches(PackageCase):
+    def is_possible(self, what):
+        """Whether pictures can be searched here."""
+        return bool(self.wanted_module("PIL.Image", "Pillow", what)) and self.has_sampler(what)
+
+    def test_early(self):
+        """A search that ends early says so, by a status of its own, a line and JSON; and no other does."""
+        if not self.is_possible("searches that end early"):
+            return
+        here = made(self.room, "early")
+        name, messages = sheet(here, 12)
+        rows = [("all", ("--all", ), 0, 12, None), ("more than there are", ("--most", "13"), 0, 12, None),
+                ("the first", (), 3, 1, ["there are more symbols than the one that is read", "--all"]),
+                ("one", ("--most", "1"), 0, 1, None),
+                ("some", ("--most", "5"), 3, 5, [f"ecc200: {name}: the search ended with 5 symbols", "--most"]),
+                ("as many as there are", ("--most", "12"), 3, 12, ["the search ended with 12 symbols"])]
+        for case, words, status, count, parts in rows:
+            got = ecc("read", "--time", str(LONG), *words, name, folder=here)
+            self.says(case, (got[0], "", got[2]), status, "", parts)
+            read = got[1].split()
+            self.holds(f"{case}, what is read", len(set(read)) == len(read) == count and set(read) <= set(messages),
+                       read)
+            self.holds(f"{case}, lines of errors", got[2].count("\n") == (status > 0), got[2])
+            told = [json.loads(line) for line in ecc("read", "--json", "--time", str(LONG), *words, name,
+                                                     folder=here)[1].splitlines()]
+            self.row(f"{case}, complete in JSON", {line["complete"] for line in told}, {status == 0})
+            self.row(f"{case}, a line of its own", ["ended" in line for line in told],
+                     [False] * count + [True] * (status > 0))
+        for command in ("check", "explain", "normal"):
+            got = ecc(command, "--most", "2", "--time", str(LONG), name, folder=here)
+            self.holds(f"{command}, some", got[0] == 3 and "the search ended with 2 symbols" in got[2], str(got))
+        got = ecc("normal", "--most", "2", "--time", str(LONG), name, "-o", "normal.svg", folder=here)
+        self.row("files of a search that ended early", (got[0], sorted(it for it in os.listdir(here) if "normal" in
+                                                                       it)), (3, ["normal-1.svg", "normal-2.svg"]))
+
+    def test_out_of_time(self):
+        """The end of the time is said, whether something was found or not, and on which page."""
+        if not self.is_possible("searches whose time is over"):
+            return
+        from PIL import Image
+        here = made(self.room, "time")
+        noise = Image.effect_noise((3000, 3000), 90)
+        noise.save(os.path.join(here, "noise.png"))
+        got = ecc("read", "--time", "1", "noise.png", folder=here)
+        self.says("nothing within the time", got, 3, "", ["no Data Matrix symbol was found", "after its 1 ms",
+                                                          "--time"])
+        self.row("in one line", got[2].count("\n"), 1)
+        told = json.loads(ecc("read", "--json", "--time", "1", "noise.png", folder=here)[1])
+        self.row("in JSON", (told["complete"], "refused" in told), (False, True))
+        for _ in range(2):
+            got = ecc("read", "noise.png", folder=here)
+            self.says("the usual work", got, 3, "", ["noise.png", "ended after its usual work", "--time"])
+        self.row("the usual work in Python", (ecc200.decode(noise), ecc200.decode(noise).ended), ([], core.End.WORK))
+        Image.new("L", (60, 60), 255).save(os.path.join(here, "white.png"))
+        self.says("nothing in all of a picture", ecc("read", "white.png", folder=here), 1, "",
+                  ["no Data Matrix symbol"])
+        told = json.loads(ecc("read", "--json", "white.png", folder=here)[1])
+        self.row("it is complete in JSON", told.get("complete", True), True)
+        ecc200.encode(b"one", quiet=4).save(os.path.join(here, "one.png"))
+        with Image.open(os.path.join(here, "one.png")) as one:
+            one.convert("L").save(os.path.join(here, "pages.tif"), save_all=True, append_images=[noise.copy()])
+        got = ecc("read", "--time", "200", "pages.tif", folder=here)
+        self.says("a page whose time is over", got, 3, "one\n",
+                  ["pages.tif: page 2: the search ended after its 200 ms"])
+        with Image.open(os.path.join(here, "one.png")) as one:
+            noise.paste(one.convert("L").resize((600, 600), Image.NEAREST), (100, 100))
+        noise.save(os.path.join(here, "beside.png"))
+        status, _, errors = ecc("compare", "--time", "300", "beside.png", "one.png", folder=here)
+        self.holds("compare may have missed one", status >= 2 and ("the search ended after its 300 ms" in errors
+                                                                  or "no Data Matrix" in errors), errors)
+
+    def test_by_python(self):
+        """The lists of decode and find say why the search ended."""
+        self.row("a grid is complete", (ecc200.decode(ecc200.write(b"A")).complete, ecc200.decode([b"\1"]).complete),
+                 (True, True))
+        if not self.is_possible("searches by Python that end early"):
+            return
+        here = made(self.room, "python")
+        path, messages = sheet(here, 70)
+        path = os.path.join(here, path)
+        for call in (ecc200.decode, ecc200.find):
+            for name, more, count, ended in [("all", {"most": 100}, 70, core.End.WHOLE),
+                                             ("usual", {}, 64, core.End.ROOM), ("some", {"most": 3}, 3, core.End.ROOM)]:
+                got = call(path, milliseconds=LONG, **more)
+                self.row(f"{call.__name__}, {name}", (len(got), got.ended, got.complete),
+                         (count, ended, ended == core.End.WHOLE))
+                for kind, other in (("a copy", copy.copy(got)), ("pickled", pickle.loads(pickle.dumps(got)))):
+                    self.row(f"{call.__name__}, {name}, {kind}", (other == got, other.ended), (True, ended))
+            self.row(f"{call.__name__}, no time", call(path, milliseconds=1, most=100).ended, core.End.TIME)
+        from PIL import Image
+        with Image.open(path) as first:
+            grey = first.convert("L")
+        array = memoryview(grey.tobytes()).cast("B", (grey.height, grey.width))
+        for call in (ecc200.decode, ecc200.find):
+            got = call(array, most=3, milliseconds=LONG)
+            self.row(f"{call.__name__}, some of an array", (len(got), got.ended), (3, core.End.ROOM))
+        pages = [grey.crop((0, 0, 1200, 400)), Image.new("L", (90, 90), 255)]
+        for name, order in (("first", pages), ("last", pages[::-1])):
+            order[0].save(os.path.join(here, "pages.tif"), save_all=True, append_images=order[1:])
+            for call in (ecc200.decode, ecc200.find):
+                got = call(os.path.join(here, "pages.tif"), most=2, milliseconds=LONG)
+                self.row(f"{call.__name__}, the page that has more is {name}", (len(got), got.ended), (2,
+                                                                                                       core.End.ROOM))
+        texts = [found.text for found in ecc200.decode(path, most=100, milliseconds=LONG)]
+        self.row("what is read", sorted(texts), messages)
+        self.holds("they are lists", isinstance(ecc200.decode(path, most=1), list))
+
+    def test_sheets(self):
+        """Of sheets as they are drawn by default each label is found, and all in reading order."""
+        here = made(self.room, "sheets")
+        gaps = [gap(here, *words) for words in ((), ("--quiet-zone", "1"), ("--quiet-zone", "2"))]
+        self.row("modules between symbols", gaps, [8, 2, 4])
+        if not self.is_possible("sheets of labels"):
+            return
+        for count in (10, 50, 100, 200, 400):
+            name, messages = sheet(here, count)
+            status, read, errors = ecc("read", "--all", "--time", str(LONG), name, folder=here)
+            self.row(f"{count} labels", (status, len(read.split()), errors), (0, count, ""))
+            self.row(f"what {count} labels say", read.split(), messages)
+
+    def test_handed_on(self):
+        """What the sampler read is what is said, with the border limit and the doubtful modules by which it was
+        read."""
+        if not self.is_possible("readings of pictures"):
+            return
+        here, message = made(self.room, "handed"), b"M" * 62
+        border = of_rows(here, "border.png", pixels(frayed(message, 16), 6))
+        glare = of_rows(here, "glare.png", in_glare(message))
+        for name in (border, glare):
+            found, = ecc200.find(os.path.join(here, name), most=1, milliseconds=20_000)
+            self.row(f"found, {name}", found.answer.data, message)
+            usual = found.answer.border_faults <= ecc200.usual_limit(*found.answer.size) and not found.doubtful
+            self.row(f"not as a grid by itself, {name}", usual, False)
+            again = ecc200.read(found.rows, found.border_limit, doubtful=found.doubtful)
+            self.row(f"read says the same, {name}", again._replace(corners=found.answer.corners), found.answer)
+            self.row(f"decode, {name}", [got.data for got in ecc200.decode(os.path.join(here, name), most=1)],
+                     [message])
+            words = ("--time", "20000", name)
+            self.says(f"read, {name}", ecc("read", *words, folder=here), output=message.decode() + "\n")
+            told = json.loads(ecc("read", "--json", *words, folder=here)[1])
+            doubtful = found.doubtful and ["".join(map(str, row)) for row in found.doubtful]
+            got = told["border_limit"], told["border_faults"], told["corrected"], told["erased"], told.get("doubtful")
+            answer = found.answer
+            self.row(f"in JSON, {name}", got, (found.border_limit, answer.border_faults, list(answer.corrected),
+                                               list(answer.erased), doubtful))
+            self.says(f"normal, {name}", ecc("normal", *words, folder=here), output=text(ecc200.write(message)))
+            self.row(f"check, {name}", ecc("check", *words, folder=here)[0], 0)
+            explained = ecc("explain", *words, folder=here)
+            self.holds(f"explain, {name}", explained[0] == 0 and f"It says {message.decode()}" in explained[1]
+                       and "not read" not in explained[1], explained)
+            self.row(f"compare, {name}", ecc("compare", "--most", "1", *words, name, folder=here)[0], 0)
+        blot = os.path.join(here, "blot.txt")
+        with open(blot, "w", encoding="ascii") as file:
+            file.write(text([bytes(column == 5 for column in range(len(frayed(message, 0)))) for _ in frayed(message,
+                                                                                                             0)]))
+        self.says("with doubtful modules of the caller's", ecc("read", "--doubtful", blot, "--time", "20000", border,
+                                                              folder=here), output=message.decode() + "\n")
+        got = ecc("read", "--border", "2", "--time", "20000", border, folder=here)
+        self.says("another limit is asked for", got, 1, "", ["modules of its border have the wrong colour"])
+
+    def test_unread(self):
+        """What is found and not read is listed with the reason and the place, if that is asked for."""
+        damaged = [bytes(row) for row in hurt(4)]
+        refused = ecc200.decode(damaged, unread=True)
+        self.row("decode of a grid that isn't read", (ecc200.decode(damaged), [each.code for each in refused]),
+                 ([], [ecc200.Code.BLOCK]))
+        grids = text(ecc200.write(b"A")) + text(damaged)
+        self.row("of two grids", [isinstance(each, ecc200.Reading) for each in ecc200.decode(grids, unread=True)],
+                 [True, False])
+        if not self.is_possible("symbols that are found and not read"):
+            return
+        here = made(self.room, "unread")
+        name = beside_one_another(here, "three.png", [ecc200.write(b"123456"), damaged, ecc200.write(b"A")])
+        path, words = os.path.join(here, name), ("--time", "20000", name)
+        self.row("as without it", sorted(ecc("read", "--all", *words, folder=here)[1].split()), ["123456", "A"])
+        status, read, errors = ecc("read", "--all", "--unread", *words, folder=here)
+        self.row("what is read", (status, sorted(read.split())), (1, ["123456", "A"]))
+        middle = 8 * (22 + 11)
+        self.holds("the reason and the place", errors.count("\n") == 1 and f"symbol 3, at {middle}, {8 * 11}: block 1"
+                   in errors, errors)
+        got = ecc("read", "--all", "--unread", "--json", *words, folder=here)
+        told = [json.loads(line) for line in got[1].splitlines()]
+        self.row("in JSON", ["refused" in line for line in told], [False, False, True])
+        self.row("its reason there", (told[2]["code"], told[2]["block"], told[2]["complete"]), ("BLOCK", 1, True))
+        for call in (ecc200.find, ecc200.decode):
+            counts = [len(call(path, milliseconds=20_000, **more)) for more in ({}, {"unread": True})]
+            self.row(f"{call.__name__} without it, and with it", counts, [2, 3])
+        found = ecc200.find(path, milliseconds=20_000, unread=True)
+        self.row("the rows of what isn't read", (found[2].answer.code, found[2].rows), (ecc200.Code.BLOCK, damaged))
+        several = beside_one_another(here, "several.png", [damaged, ecc200.write(b"123456"), damaged, damaged])
+        got = ecc("read", "--all", "--unread", "--time", "20000", several, folder=here)
+        self.row("several that aren't read", (got[:2], got[2].count("block 1")), ((1, "123456\n"), 3))
+        got = ecc("read", "--all", "--time", "20000", several, folder=here)
+        self.says("without --unread", got, output="123456\n")
+        alone = beside_one_another(here, "alone.png", [damaged])
+        self.row("decode says why nothing is read", [each.code for each in ecc200.decode(os.path.join(here, alone),
+                                                                                       unread=True)],
+                 [ecc200.Code.BLOCK])
+        self.row("and is empty where that isn't asked", ecc200.decode(os.path.join(here, alone)), [])
+
+    def test_unsure(self):
+        """What leaves too few corrections isn't read, and says what it may be."""
+        if not self.is_possible("symbols that leave few corrections"):
+            return
+        here = made(self.room, "unsure")
+        name = beside_one_another(here, "one.png", [hurt(1)])
+        found = ecc200.find(os.path.join(here, name), milliseconds=20_000, margin=2, unread=True)
+        self.row("how many", len(found), 1)
+        why = found[0].answer
+        self.row("it is a refusal", (isinstance(why, ecc200.Unsure), isinstance(why, ecc200.Refused),
+                                     isinstance(why, ecc200.Reading)), (True, True, False))
+        self.row("what it may say", (why.reading.data, why.code, why.place), (b"123456", ecc200.Code.BLOCK, 0))
+        self.row("in words", str(why), "block 1 leaves 3 check codewords, too few to be sure that it says b'123456'")
+        other = pickle.loads(pickle.dumps(why))
+        self.row("pickled", (str(other), other.reading), (str(why), why.reading))
+        self.row("without unread", ecc200.find(os.path.join(here, name), milliseconds=20_000, margin=2), [])
+        for words in ((), ("--unread", )):
+            self.says(f"by the command {words}", ecc("read", "--margin", "2", *words, name, folder=here), 1, "",
+                      ["it may say 123456, but its blocks leave fewer than 2 corrections"])

@@ -1,0 +1,64 @@
+"""What only a second sight of a picture shows: faint symbols, small dots, and drawings with a pixel or two a module."""
+import json
+
+from tests.sampler.pictures import grid_of, pgm, pixels_of, run
+
+DARK, LIGHT = 20, 230
+
+
+def told(sampler, rows, *words):
+    """What is said of a picture: its symbols, and the status."""
+    done = run([sampler, "--json", *words], pgm(rows))
+    return [json.loads(line) for line in done.stdout.splitlines()], done.returncode
+
+
+def messages(sampler, rows, *words):
+    said, status = told(sampler, rows, *words)
+    return [one["message"] for one in said], status
+
+
+def faint(message, pixels):
+    """A symbol that is eight levels of 255 darker than its ground."""
+    return pixels_of(grid_of(message), pixels, 3, LIGHT - 8, LIGHT)
+
+
+def bound(grid, module, across):
+    """A symbol whose dark modules are drawn as `module`, between bars above and below, as zint binds it."""
+    side, blank = len(module), [[LIGHT] * len(module)] * len(module)
+    rows = [[level for dark in row for level in (module if dark else blank)[line]] + [LIGHT] * across
+            for row in grid for line in range(side)]
+    bar = [[DARK] * len(rows[0])] * (2 * side)
+    return bar + rows + bar
+
+
+class Again:
+    def test_shown_faintly(self):
+        """Faint symbols are read, also beside one that is clear, which is told once."""
+        for pixels, message in ((4, "FAINT"), (6, "FAINTER"), (9, "FAINTEST")):
+            said = messages(self.sampler, faint(message, pixels))
+            self.row(f"{message}, {pixels} pixels a module", said, ([message], 0))
+        clear, other = pixels_of(grid_of("CLEAR1"), 5), faint("FAINT2", 5)
+        self.row("beside a clear one", messages(self.sampler, [one + two for one, two in zip(clear, other)], "--all"),
+                 (["CLEAR1", "FAINT2"], 0))
+
+    def test_bound_dots(self):
+        """Dots as zint draws them at its smallest, with binding bars: of three pixels and of one."""
+        cross = [[LIGHT, DARK, LIGHT], [DARK, DARK + 9, DARK], [LIGHT, DARK, LIGHT]]
+        point = [[LIGHT, LIGHT], [LIGHT, DARK]]
+        for name, module in (("three pixels", cross), ("a pixel", point)):
+            for message in ("AB", "12345678", "Hello world 123"):
+                said = messages(self.sampler, bound(grid_of(message), module, 1))
+                self.row(f"dots of {name}: {message}", said, ([message], 0))
+
+    def test_one_pixel(self):
+        """A pixel a module is enough for a drawing, with a quiet zone or without, and the corners are the picture's."""
+        for quiet in (0, 1, 4):
+            for message in ("ABC123", "Hello world 123", "X" * 60):
+                grid = grid_of(message)
+                said, status = told(self.sampler, pixels_of(grid, 1, quiet))
+                first, last = quiet, quiet + len(grid)
+                corners = [[first, first], [last, first], [last, last], [first, last]]
+                near = [max(abs(a - b) for a, b in zip(got, wanted)) < 0.6
+                        for one in said for got, wanted in zip(one["corners"], corners)]
+                self.row(f"{message} with {quiet} pixels around", ([one["message"] for one in said], near, status),
+                         ([message], [True] * 4, 0))

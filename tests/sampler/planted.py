@@ -1,0 +1,50 @@
+"""Plants bugs in copies of the sampler, each of which is built: with each, the case that it names has to fail."""
+import os
+import shutil
+import unittest
+from contextlib import nullcontext as ready
+
+from tests.bugs import bugs_of
+from tests.sampler.test_sampler import Sampler
+from tests.support import commands, places
+
+__all__ = ["AT_ONCE", "bugs", "found_by", "ready", "sources"]
+AT_ONCE = 1
+
+
+class Spoilt(Sampler):
+    """The cases over a sampler that is built with a bug."""
+
+    @classmethod
+    def setUpClass(cls):
+        cls.lacking, cls.room = None, cls.folder_of_class()
+
+
+def bugs():
+    return bugs_of("sampler")
+
+
+def sources(bug):
+    """The text of a bug's file, by its name."""
+    file = bug.where.split()[0]
+    return {file: places.text_of("sampler", file)}
+
+
+def found_by(bug, folder):
+    """What fails first in a bug's case, over a sampler that is built with it."""
+    file, case = bug.where.split()
+    sampler = os.path.join(folder, "sampler")
+    shutil.copytree(places.path("sampler"), sampler, ignore=shutil.ignore_patterns("out"))
+    for name in ("library", "packaging", "tools"):
+        os.symlink(places.path(name), os.path.join(folder, name))
+    with open(os.path.join(sampler, file), "w", encoding="utf-8") as out:
+        out.write(bug.planted(sources(bug))[file])
+    Spoilt.sources, Spoilt.plain = sampler, os.path.join(sampler, "out")
+    Spoilt.sampler = Spoilt.careful = os.path.join(Spoilt.plain, "dm_sample")
+    env = commands.environment(ECC200_FOLDER=places.BUILT)
+    done = commands.run([os.path.join(sampler, "build"), Spoilt.plain], env=env, timeout=600)
+    assert done.status == 0, done.errors.decode()
+    result = unittest.TestResult()
+    unittest.TestSuite([Spoilt(f"test_{case}")]).run(result)
+    assert not result.errors, result.errors[0][1]
+    return result.failures[0][1].splitlines()[-1] if result.failures else None

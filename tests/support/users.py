@@ -1,0 +1,20 @@
+"""`make check`: the tests of what users have, without the toolchain, in three minutes of processor time at most."""
+import importlib
+
+PYTHON = ("module", "sizes", "texts", "elements", "drawings", "surface", "messages", "comparing", "batches", "labels",
+          "pages", "whole", "wanted", "quick")
+SAMPLER = ("options", "usage", "errors", "unread", "early", "formats", "corners", "letters", "outside", "torn",
+           "dots", "sheets", "every_size", "a_label")
+# Subjects, classes and cases.
+CASES = ["documents", "library.test_callers.Answers.test_c", "library.test_callers.Answers.test_python",
+         "library.test_calls", "library.test_files", "library.test_compiled",
+         *(f"python.test_{name}" for name in PYTHON),
+         *(f"sampler.test_sampler.Sampler.test_{name}" for name in SAMPLER)]
+ROUNDS = 1_000
+UNPROVED = ("Nothing was proved here. What was tested is made of compiled/, which library/build made of the proved "
+            "source; `make test` proves that, with the toolchain.")
+
+
+def prepare():
+    """Fewer hostile rounds than the gate takes."""
+    importlib.import_module("tests.library.test_calls").ROUNDS = ROUNDS
