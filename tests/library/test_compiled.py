@@ -39,13 +39,6 @@ class Compiled(Case):
             told = re.findall(rb"\n\t\.(?:file|ident)\b|/(?:home|root|tmp|work)/", text)
             self.row(triple, told, [])
 
-    @needs.toolchain
-    def test_each_is_what_the_proved_source_makes(self):
-        status, told = commands.said([places.path("library", "build"), "--texts"], timeout=7200)
-        self.assertEqual(status, 0, told)
-        told = unlike(COMPILED, places.path("library", "out", "texts"))
-        self.row("not what was made, so that `make compiled` is to be run", told, [])
-
     def test_a_byte_is_enough(self):
         made = os.path.join(self.folder(), "made")
         shutil.copytree(COMPILED, made)
@@ -58,3 +51,12 @@ class Compiled(Case):
                     file.write(other)
                 self.row(triple, unlike(COMPILED, made), [triple])
             shutil.copy(os.path.join(COMPILED, f"{triple}.s"), made)
+
+
+@needs.toolchain
+class Made(Case):
+    def test_each_is_what_the_proved_source_makes(self):
+        status, told = commands.said([places.path("library", "build"), "--texts"], timeout=7200)
+        self.assertEqual(status, 0, told)
+        told = unlike(COMPILED, places.path("library", "out", "texts"))
+        self.row("not what was made, so that `make compiled` is to be run", told, [])

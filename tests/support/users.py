@@ -7,7 +7,7 @@ SAMPLER = ("options", "usage", "errors", "unread", "early", "formats", "corners"
            "dots", "sheets", "every_size", "a_label")
 # Subjects, classes and cases.
 CASES = ["documents", "library.test_callers.Answers.test_c", "library.test_callers.Answers.test_python",
-         "library.test_calls", "library.test_files", "library.test_compiled",
+         "library.test_calls", "library.test_files", "library.test_compiled.Compiled",
          *(f"python.test_{name}" for name in PYTHON),
          *(f"sampler.test_sampler.Sampler.test_{name}" for name in SAMPLER)]
 ROUNDS = 1_000
