@@ -2,9 +2,10 @@
 tests/ (`program`, `program.test_answers.Answers`, `tests/program/test_answers.py`). Each part that needs something that
 isn't installed or built is left out, and named at the end.
 
-    python3 -m tests [--proofs | --users] [-k WORD ..] [SUBJECT ..]
+    python3 -m tests [--proofs | --users] [-j COUNT] [-k WORD ..] [SUBJECT ..]
 
-Where proofs are asked for and the toolchain is missing, the status is 3 in place of 0.
+Subjects run side by side (tests/support/lanes.py). Where proofs are asked for and the toolchain is missing, the status
+is 3 in place of 0.
 """
 import argparse
 import os
@@ -15,7 +16,7 @@ import subprocess
 import sys
 import unittest
 
-from tests.support import places, users
+from tests.support import lanes, places, users
 from tests.support.tally import Tally, times
 
 PROOFS = places.path("tests", "proofs")
@@ -76,11 +77,15 @@ def main():
     words = argparse.ArgumentParser(prog="python3 -m tests", **how)
     words.add_argument("--proofs", action="store_true", help="begin with tests/proofs, and count what it does")
     words.add_argument("--users", action="store_true", help="run what tests/support/users.py names")
+    words.add_argument("-j", metavar="COUNT", type=int, default=len(os.sched_getaffinity(0)),
+                       help="run so many subjects at a time; as many as there are processors, if nothing is said")
+    words.add_argument("--lane", metavar="FILE", type=int, help=argparse.SUPPRESS)  # that takes what becomes of a lane
     words.add_argument("-k", metavar="WORD", action="append", default=[], help="run cases whose names have this word")
     words.add_argument("names", metavar="SUBJECT", nargs="*", help="a folder, module, class or case of tests/")
     given = words.parse_args()
     end_in_order(os.getpid())
-    tally = Tally(lambda line: print(line, flush=True))
+    is_lane = given.lane is not None
+    tally = lanes.Lane(given.lane) if is_lane else Tally(lambda line: print(line, flush=True))
     is_unproved = given.proofs and not shutil.which("rt")
     if is_unproved:
         print("Nothing will be proved: the Rattle toolchain (rt) isn't on the path.", flush=True)
@@ -90,11 +95,12 @@ def main():
     try:
         # (some modules build the library when they are loaded, which takes what is proved then)
         is_proved = not given.proofs or prove(tally)
-        cases = found(given.names or (users.CASES if given.users else []), given.k)
+        names = sys.stdin.read().split() if is_lane else given.names or (users.CASES if given.users else [])
+        cases = found(names, given.k)
         if not cases.countTestCases():
             print(f"no case has {' or '.join(given.k) or 'this'} in its name", file=sys.stderr)
         if is_proved:
-            cases.run(tally)
+            lanes.run(cases, tally, 1 if is_lane else given.j, ["--users"] * given.users)
         else:
             tally.leave_out(cases, "the proofs failed")
     except KeyboardInterrupt:

@@ -82,6 +82,35 @@ class Busy(Case):
 '''
 
 
+# A case that waits until the case of another subject has begun.
+MEETING = '''
+import os
+import time
+from tests.support.case import Case
+
+
+class Meeting(Case):
+    def test_both_have_begun(self):
+        open("{own}", "w").close()
+        until = time.monotonic() + 60
+        while not os.path.exists("{other}") and time.monotonic() < until:
+            time.sleep(0.01)
+        self.row("the other", os.path.exists("{other}"), True)
+        self.row("a row that is wrong", "{own}", "first")
+'''
+
+# A case whose process ends.
+LOST = '''
+import os
+from tests.support.case import Case
+
+
+class Lost(Case):
+    def test_ending(self):
+        os._exit(7)
+'''
+
+
 class Runner(Case):
     @classmethod
     def setUpClass(cls):
@@ -111,6 +140,12 @@ class Runner(Case):
                                      env=commands.environment(**more))
         return status, said.splitlines()
 
+    def subject(self, name, text):
+        """Adds a subject, until the case ends."""
+        self.write(f"tests/{name}/__init__.py", "")
+        self.write(f"tests/{name}/test_{name}.py", text)
+        self.addCleanup(shutil.rmtree, os.path.join(self.top, "tests", name))
+
     def proofs(self, script):
         """Puts a script in the place of tests/proofs, and of the toolchain, which isn't asked for more."""
         for name, text in (("tests/proofs", script), ("bin/rt", "exit 1")):
@@ -135,9 +170,7 @@ class Runner(Case):
         self.assertGreaterEqual(float(told[1]), 0.3)
 
     def test_the_processor_time_of_a_class_is_told_with_that_of_its_children(self):
-        self.write("tests/busy/__init__.py", "")
-        self.write("tests/busy/test_busy.py", BUSY)
-        self.addCleanup(shutil.rmtree, os.path.join(self.top, "tests", "busy"))
+        self.subject("busy", BUSY)
         said = "\n".join(self.ran("busy")[1])
         of_class = re.search(r"busy.test_busy.Busy: 1 passed, [\d.]+ s, of a processor ([\d.]+) s", said)
         of_all = re.search(r"(?m)^all of it: of a processor (\d+) s$", said)
@@ -154,17 +187,42 @@ class Runner(Case):
     def test_a_word_that_no_case_has_is_a_failure(self):
         self.assertEqual(self.ran("-k", "nosuch")[0], 1)
 
+    def test_subjects_run_side_by_side_and_are_told_in_their_order(self):
+        self.subject("first", MEETING.format(own="first", other="second"))
+        self.subject("second", MEETING.format(own="second", other="first"))
+        status, said = self.ran("-j", "2", "second", "first", "sample.test_sample.Cases.test_without_rows")
+        self.row("the last line", (status, said[-1]), (1, "4 passed, 1 failed, 0 skipped"))
+        told = [re.sub(" passed.*", "", line) for line in said[:-2]]
+        self.row("in order", told, [
+            "FAILED tests.second.test_second.Meeting.test_both_have_begun: a row that is wrong: 'second', and not "
+            "'first'", "second.test_second.Meeting: 1", "first.test_first.Meeting: 2", "sample.test_sample.Cases: 1"])
+
+    def test_side_by_side_the_same_is_counted(self):
+        self.subject("busy", BUSY)
+        wanted = "7 passed, 4 failed, 2 skipped"
+        for count in ("1", "2"):
+            said = self.ran("-j", count)[1]
+            self.row(f"{count} at a time", said[-1], wanted)
+            self.row(f"{count} at a time, left out", "left out, since nothing is installed: sample.test_sample.Cases "
+                     "(2)" in said, True)
+
+    def test_a_subject_whose_process_is_lost_has_failed(self):
+        self.subject("lost", LOST)
+        status, said = self.ran("-j", "2", "lost", "sample.test_sample.Prepared")
+        self.assertEqual((status, said[0], said[-1]), (1, "FAILED lost: its process ended with 7",
+                                                       "1 passed, 1 failed, 0 skipped"))
+
     def test_a_signal_ends_a_run_in_order(self):
-        self.write("tests/slow/__init__.py", "")
-        self.write("tests/slow/test_slow.py", SLOW)
-        self.addCleanup(shutil.rmtree, os.path.join(self.top, "tests", "slow"))
-        run = self.process([sys.executable, "-m", "tests", "slow"], cwd=self.top, stdout=subprocess.PIPE, text=True)
-        room = run.stdout.readline().strip()
-        self.assertTrue(os.path.isdir(room))
-        run.terminate()
-        said = run.communicate(timeout=60)[0].splitlines()
-        wanted = 1, "broken off by a signal", "0 passed, 1 failed, 0 skipped", False
-        self.assertEqual((run.returncode, said[0], said[-1], os.path.exists(room)), wanted)
+        self.subject("slow", SLOW)
+        for subjects in (["slow"], ["slow", "sample.test_sample.Prepared"]):
+            run = self.process([sys.executable, "-m", "tests", "-j", "2", *subjects], cwd=self.top,
+                               stdout=subprocess.PIPE, text=True)
+            room = run.stdout.readline().strip()
+            self.assertTrue(os.path.isdir(room))
+            run.terminate()
+            said = run.communicate(timeout=60)[0].splitlines()
+            wanted = 1, "broken off by a signal", "0 passed, 1 failed, 0 skipped", False
+            self.row(str(subjects), (run.returncode, said[0], said[-1], os.path.exists(room)), wanted)
 
     def test_proofs_are_counted(self):
         found = self.proofs("echo '7 passed, 0 failed'")

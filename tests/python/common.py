@@ -6,13 +6,15 @@ import subprocess
 from unittest import mock
 
 from tests import corpus
-from tests.support import package, places
+from tests.support import needs, package, places
 from tests.support.case import Rows
 
 package.imported()
 TOP, SHARED = places.TOP, places.SHARED
 SAMPLER = os.environ.get("ECC200_SAMPLE_LIBRARY") or places.path("sampler", "out", "libecc200_sample.so")
 PACKAGE = package.tree()
+if not os.path.isfile(SAMPLER) and not places.OTHER_LIBRARY:
+    needs.made("sampler")
 PYTHON = "/usr/bin/python3"  # Debian's, for which numpy, Pillow and mypy are installed
 
 # Each of some hundreds of interpreters would compile the package anew otherwise.

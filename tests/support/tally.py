@@ -37,6 +37,15 @@ class Tally(unittest.TestResult):
             else:
                 self.left_out[reason].append(name_of(case))
 
+    def take(self, said, passed, failed, left_out):
+        """Tells and counts what became of cases that were run elsewhere."""
+        for line in said:
+            self.say(line)
+        self.passed += passed
+        self.failed += failed
+        for reason, names in left_out.items():
+            self.left_out[reason] += names
+
     def counts(self):
         """What is counted so far: passed, failed, left out."""
         return self.passed, self.failed, self.skips

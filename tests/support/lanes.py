@@ -1,0 +1,116 @@
+"""Runs cases side by side. Those of a subject are a lane: one after another, in a process of its own. So many lanes run
+at a time as there are processors, and what becomes of each is told in the order in which they stand."""
+import json
+import os
+import queue
+import subprocess
+import sys
+import unittest
+from concurrent.futures import ThreadPoolExecutor
+
+from tests.support import places
+from tests.support.tally import Tally
+
+# Subjects of which each class is a lane, and those that are in the lane of another, which builds the same files.
+APART, TOGETHER = {"edits"}, {"packages": "page"}
+# Lanes that take longest, which begin first.
+LONGEST = ("page", "edits.dm_words", "edits.dm_symbol")
+
+
+def cases_of(suite):
+    """Gives the cases of a suite, one by one."""
+    for it in suite:
+        yield from cases_of(it) if isinstance(it, unittest.TestSuite) else [it]
+
+
+def lane_of(case):
+    """Gives the lane of a case, or None for what stands for a module that can't be loaded or is left out."""
+    top, subject, *_, kind, _ = case.id().split(".")
+    if top != "tests":
+        return None
+    return f"{subject}.{kind}" if subject in APART else TOGETHER.get(subject, subject)
+
+
+def lanes_of(suite):
+    """Gives the cases of each lane, in the order in which they stand."""
+    lanes = {}
+    for case in cases_of(suite):
+        lanes.setdefault(lane_of(case), []).append(case)
+    return lanes
+
+
+def run(suite, tally, count, words):
+    """Runs a suite in so many lanes at a time, or here if it has but one lane. The words are those of a run that also
+    hold in a lane."""
+    lanes = lanes_of(suite)
+    if count < 2 or len(lanes) < 2:
+        suite.run(tally)
+        return
+    unittest.TestSuite(lanes.pop(None, ())).run(tally)
+    tally.end_class()
+    Lanes(lanes, words).run(tally, count)
+
+
+class Lanes:
+    """Lanes that run side by side."""
+
+    def __init__(self, lanes, words):
+        self.names = {name: [case.id() for case in cases] for name, cases in lanes.items()}
+        self.reports = {name: queue.SimpleQueue() for name in lanes}
+        self.words, self.processes = words, []
+
+    def run(self, tally, count):
+        with ThreadPoolExecutor(count) as pool:
+            try:
+                for name in sorted(self.names, key=lambda it: LONGEST.index(it) if it in LONGEST else len(LONGEST)):
+                    pool.submit(self.run_lane, name)
+                for name, reports in self.reports.items():
+                    for report in iter(reports.get, None):
+                        tally.take(*report)
+            except KeyboardInterrupt:
+                pool.shutdown(wait=False, cancel_futures=True)
+                for process in self.processes:
+                    process.terminate()
+                raise
+
+    def run_lane(self, name):
+        """Runs a lane in a process of its own, which reports what becomes of each class."""
+        reading, writing = os.pipe()
+        words = [sys.executable, "-m", "tests", *self.words, "--lane", str(writing)]
+        how = {"stdin": subprocess.PIPE, "pass_fds": [writing], "cwd": places.TOP, "start_new_session": True,
+               "env": {**os.environ, "PYTHONDONTWRITEBYTECODE": "1"}}
+        tell = self.reports[name].put
+        try:
+            with subprocess.Popen(words, **how) as process, open(reading, encoding="utf-8") as reports:
+                self.processes.append(process)
+                os.close(writing)
+                process.stdin.write("\n".join(self.names[name]).encode())
+                process.stdin.close()
+                for report in reports:
+                    tell(json.loads(report))
+            if process.returncode:
+                tell(([f"FAILED {name}: its process ended with {process.returncode}"], 0, 1, {}))
+        except OSError as why:
+            tell(([f"FAILED {name}: {why}"], 0, 1, {}))
+        tell(None)
+
+
+class Lane(Tally):
+    """Counts the cases of one lane, and reports each class to the run that has started it."""
+
+    def __init__(self, reports):
+        self.said = []
+        super().__init__(self.said.append)
+        self.reports = open(reports, "w", encoding="utf-8")
+
+    def end_class(self):
+        super().end_class()
+        print(json.dumps([self.said, self.passed, self.failed, self.left_out]), file=self.reports, flush=True)
+        self.said.clear()
+        self.passed = self.failed = 0
+        self.left_out.clear()
+
+    def end(self):
+        """Ends the lane, whose status says only that it came to its end."""
+        self.end_class()
+        return 0
