@@ -1,13 +1,12 @@
 """Bugs that are planted, one at a time, in a copy of what is tested: with each, its test has to fail. They stand in
 tests/SUBJECT/bugs.txt:
 
-    a mark is passed over | core.py texts.read
-    - pieces = [(_charset(number, data[start:end])
-    + pieces = [(_charset(None, data[start:end])
+    a mark is passed over | core.py texts.read | pieces = [(_charset(⟦number⇒None⟧, data[start:end])
 
-A line has a name and, in words of the subject, where the bug is and what finds it; below it stand pairs of a text that
-occurs exactly once and what it is replaced by, with ⏎ for the end of a line. A bug without the first replaces the same
-as the one above it."""
+A line has a name and, in words of the subject, where the bug is and what finds it. Behind it, or below it in lines that
+begin with =, stand texts that occur exactly once, in which ⟦what is there⇒what comes in its place⟧ is changed, with ⏎
+for the end of a line. Within the brackets a text may go on in the next line."""
+import re
 from typing import NamedTuple
 
 from tests.support import places
@@ -47,13 +46,24 @@ class Bug(NamedTuple):
 
 def bugs_of(subject):
     """Gives the bugs of a subject."""
-    bugs, right = [], None
+    bugs, begun, right = [], "", None  # (pairs of lines with - and + say it too)
     for line in places.text_of("tests", subject, "bugs.txt").splitlines():
-        kind, text = line[:1], line[2:].replace("⏎", "\n")
-        if kind == "-":
-            right = text
-        elif kind == "+":
-            bugs[-1].changes.append((right, text))
-        elif kind != "#":
-            bugs.append(Bug(*line.split(" | "), []))
+        line = begun + line
+        begun = line if line.count("⟦") > line.count("⟧") else ""
+        if begun or line.startswith("#"):
+            continue
+        if line[:2] == "- ":
+            right = line[2:].replace("⏎", "\n")
+        elif line[:2] == "+ ":
+            bugs[-1].changes.append((right, line[2:].replace("⏎", "\n")))
+        elif line.startswith("= "):
+            bugs[-1].changes.append(change(line[2:]))
+        else:
+            name, where, *texts = line.split(" | ", 2)
+            bugs.append(Bug(name, where, [change(text) for text in texts]))
     return bugs
+
+
+def change(text):
+    """Gives a right text and a wrong one."""
+    return [re.sub("⟦(.*?)⇒(.*?)⟧", part, text, flags=re.S).replace("⏎", "\n") for part in (r"\1", r"\2")]
