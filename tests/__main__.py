@@ -97,6 +97,8 @@ def main():
         is_proved = not given.proofs or prove(tally)
         names = sys.stdin.read().split() if is_lane else given.names or (users.CASES if given.users else [])
         cases = found(names, given.k)
+        if given.users and not is_lane:
+            cases = unittest.TestSuite(it for it in lanes.cases_of(cases) if it.id().split(".")[-1] not in users.DEAR)
         if not cases.countTestCases():
             print(f"no case has {' or '.join(given.k) or 'this'} in its name", file=sys.stderr)
         if is_proved:

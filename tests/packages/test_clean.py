@@ -7,9 +7,8 @@ import re
 import subprocess
 import unittest
 
-from tests.support import commands, needs, places
+from tests.support import commands, needs, places, work
 from tests.support.case import Case
-from tests.support.tally import times
 
 WANTED = re.search(r"`apt install (gcc [^`]*)`", places.text_of("README.md"))[1].split()
 PATH = "/usr/sbin:/usr/bin:/sbin:/bin"
@@ -19,8 +18,8 @@ USES = ["cd /tmp", "ecc200 read /m/out/first/label.png",
         "python3 -c 'import ecc200; print(ecc200.decode(\"/m/out/first/label.png\")[0].text)'",
         "cc -std=c11 -Wall -Wextra -Werror ~/.local/share/doc/libecc200-dev/examples/example.c -I ~/.local/include "
         "-L ~/.local/lib -lecc200 -o example", "./example | tail -n 1"]
-# Seconds of processor time: a minute and three, of which a busy machine counts up to twice as many.
-MOST_TO_BUILD, MOST_TO_CHECK = 120, 360
+# Pieces of work, of which a minute and three of an idle machine are some 600 and 1,800.
+MOST_TO_BUILD, MOST_TO_CHECK = 1_000, 3_000
 
 
 @contextlib.contextmanager
@@ -54,23 +53,23 @@ class Clean(Case):
         subprocess.run(["git", "clone", "--quiet", "--bare", places.TOP, f"{cls.root}/source.git"], check=True)
 
     def done(self, words):
-        """Status, output, and seconds of processor time of a command of the shell in the root."""
-        before = times()[1]
+        """Status, output, and the work of a command of the shell in the root."""
         inside = ["chroot", self.root, "/usr/bin/env", "-i", f"PATH={PATH}", "HOME=/root", "/bin/sh", "-c", words]
-        status, told = commands.said(inside, timeout=3600)
-        return status, told, times()[1] - before
+        with work.measured() as took:
+            status, told = commands.said(inside, timeout=3600)
+        return status, told, took
 
     def test_a_label_is_read_and_what_was_built_is_tested(self):
-        status, told, seconds = self.done("git clone --quiet /source.git m && make -C m")
+        status, told, took = self.done("git clone --quiet /source.git m && make -C m")
         self.assertEqual((status, LABEL in told, "isn't read" in told), (0, True, True), told[-3000:])
-        self.row("the time to build", seconds < MOST_TO_BUILD, True)
-        status, told, seconds = self.done("m/out/bin/ecc200 read m/out/first/label.png")
+        self.sound("the work to build", None if took.pieces < MOST_TO_BUILD else str(took))
+        status, told, _ = self.done("m/out/bin/ecc200 read m/out/first/label.png")
         self.row("the command as it lies there", (status, told), (0, LABEL))
-        status, told, seconds = self.done("cd m && make check")
+        status, told, took = self.done("cd m && make check")
         counts = re.search(r"^Nothing was proved here.*\n(\d+) passed, 0 failed, \d+ skipped\n\Z", told, re.M)
         failed = "\n".join(re.findall("^FAILED.*", told, re.M))
         self.assertEqual((status, bool(counts)), (0, True), f"{failed}\n{told[-1000:]}")
-        self.row("the time to check", seconds < MOST_TO_CHECK, True)
+        self.sound("the work to check", None if took.pieces < MOST_TO_CHECK else str(took))
         status, told, _ = self.done("make -C m install PREFIX=$HOME/.local")
         self.row("installed in a home", (status, told.count("\n    export ")), (0, 3))
         lines = re.findall(r"^    (export .*)$", told, re.M)

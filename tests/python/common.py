@@ -1,7 +1,6 @@
 """What the tests of the Python package have in common."""
 import contextlib
 import os
-import shutil
 import subprocess
 from unittest import mock
 
@@ -35,9 +34,6 @@ class PackageCase(Rows):
         cls.room = cls.folder_of_class()
         os.chmod(cls.room, 0o755)
 
-    def holds(self, name, whether, said=""):
-        self.sound(name, None if whether else said or "it doesn't hold")
-
     def raises(self, name, kind, part, call):
         """That a call raises this kind of exception, whose words have this part."""
         with self.subTest(name):
@@ -57,10 +53,6 @@ class PackageCase(Rows):
             return __import__(name)
         except ImportError:
             return self.leave_out(f"{what} ({package} isn't installed)")
-
-    def has(self, program, what):
-        """Whether a program is installed; if it isn't, what needs it is left out."""
-        return bool(shutil.which(program)) or self.leave_out(f"{what} ({program} isn't installed)")
 
     def has_sampler(self, what):
         """Whether the sampler's library is built; if it isn't, what needs it is left out."""

@@ -1,5 +1,6 @@
 """The case with which tests are written. Rows of a table are subtests, so that each failure names its row; temporary
 folders and processes are gone when the case ends."""
+import shutil
 import tempfile
 import unittest
 
@@ -76,7 +77,14 @@ class Rows(Case):
         self.counted += 1
         return super().subTest(*name, **more)
 
+    def holds(self, name, whether, said=""):
+        self.sound(name, None if whether else said or "it doesn't hold")
+
     def leave_out(self, what):
         """Leaves out what something isn't installed for."""
         with self.subTest(what):
             self.skipTest(what)
+
+    def has(self, program, what):
+        """Whether a program is installed; if it isn't, what needs it is left out."""
+        return bool(shutil.which(program)) or self.leave_out(f"{what} ({program} isn't installed)")

@@ -3,13 +3,16 @@ import importlib
 
 PYTHON = ("module", "sizes", "texts", "elements", "drawings", "surface", "messages", "comparing", "batches", "labels",
           "pages", "whole", "wanted", "quick")
-SAMPLER = ("options", "usage", "errors", "unread", "early", "formats", "corners", "letters", "outside", "torn",
-           "dots", "sheets", "every_size", "a_label")
+SAMPLER = ("options", "usage", "errors", "unread", "early", "formats", "corners", "letters", "torn", "dots",
+           "sheets", "every_size", "a_label")
 # Subjects, classes and cases.
 CASES = ["documents", "library.test_callers.Answers.test_c", "library.test_callers.Answers.test_python",
          "library.test_calls", "library.test_files", "library.test_compiled.Compiled",
          *(f"python.test_{name}" for name in PYTHON),
          *(f"sampler.test_sampler.Sampler.test_{name}" for name in SAMPLER)]
+# Cases of these that take longest, which the gate alone runs.
+DEAR = {f"test_{name}" for name in ("alike", "beside", "beside_zint", "by_threads", "first_symbols", "made_anew",
+                                    "no_picture", "round_trips", "side_by_side", "strange_grids")}
 ROUNDS = 1_000
 UNPROVED = ("Nothing was proved here. What was tested is made of compiled/, which library/build made of the proved "
             "source; `make test` proves that, with the toolchain.")
