@@ -1,4 +1,4 @@
-"""Reads the lists of docs/DEFINITIONS.md and what tools/clauses prints: what they say of functions, clauses and
+"""Reads docs/PROMISES.md and what tools/definitions and tools/clauses print: what they say of functions, clauses and
 definitions."""
 import collections
 import functools
@@ -7,8 +7,7 @@ import re
 from tests.documents.tree import QUOTED, crates, is_declared, modules, text
 from tests.support import commands, places
 
-DEFINITIONS = places.path("docs", "DEFINITIONS.md")
-CLAUSES = places.path("tools", "clauses")
+PROMISES = places.path("docs", "PROMISES.md")
 
 
 def items(path):
@@ -24,9 +23,8 @@ def items(path):
     return [item for item in found if item]
 
 
-LINK = r"\[((?:`[^`]+`(?:, )?)+)\]\(\.\./(crates/(\w+)/(src|specs)/[^)]+)\)"
-CALL = re.compile(LINK + r"((?: \*\w+\*(?: `[^`]+`(?:, `[^`]+`)*)?;?)+| those of `\w+`)")
-ITEM = re.compile(LINK + r" .*?((?:`[^`]+`(?:, |$))+)$")
+LINK = r"\[((?:`[^`]+`(?:, )?)+)\]\(\.\./(crates/(\w+)/src/[^)]+)\)"
+CALL = re.compile(LINK + r"((?: \*\w+\*(?: `[^`]+`(?:, `[^`]+`)*)?;?)+)")
 PROMISED = re.compile(r"\*(\w+)\*((?: `[^`]+`,?)*)")
 
 
@@ -35,25 +33,46 @@ class Promise(collections.namedtuple("Promise", "page crate file function clause
     it."""
 
 
-def promises_of_definitions():
-    """What docs/DEFINITIONS.md says of functions."""
-    for item in items(DEFINITIONS):
-        for found in CALL.finditer(item):
-            if found[4] == "src":
-                clauses = [("" if name == "clause" else name, QUOTED.findall(cited))
-                           for name, cited in PROMISED.findall(found[5])]
-                for function in QUOTED.findall(found[1]):
-                    yield Promise("docs/DEFINITIONS.md", found[3], places.path(found[2]), function, clauses)
+def promises_of_page():
+    """What docs/PROMISES.md says of functions."""
+    for item in items(PROMISES):
+        for names, path, crate, promised in CALL.findall(item):
+            clauses = [("" if name == "clause" else name, QUOTED.findall(cited))
+                       for name, cited in PROMISED.findall(promised)]
+            for function in QUOTED.findall(names):
+                yield Promise("docs/PROMISES.md", crate, places.path(path), function, clauses)
+
+
+def calls_without_a_promise():
+    """The links of docs/PROMISES.md to functions behind which no clause stands."""
+    for item in items(PROMISES):
+        yield from (names for names, *_ in re.findall(LINK, CALL.sub("", item)))
+
+
+def output_of(script):
+    status, output = commands.said([places.path("tools", script)])
+    if status:
+        raise AssertionError(output)
+    return output.splitlines()
+
+
+@functools.cache
+def listed():
+    """What tools/definitions prints: by what a line has before its colon, a file, a folder or a crate, the lines that
+    stand below, as one."""
+    found, last = collections.defaultdict(list), None
+    for line in output_of("definitions"):
+        if not line.startswith("    "):
+            last = line.partition(": ")[0]
+        found[last] += [line.strip()] if line.startswith("    ") else []
+    return {heading: " ".join(lines) for heading, lines in found.items()}
 
 
 @functools.cache
 def printed():
     """What tools/clauses prints: by file, line and name, the lines that stand below."""
-    status, output = commands.said([CLAUSES])
-    if status:
-        raise AssertionError(output)
     found, last = collections.defaultdict(list), None
-    for line in output.splitlines():
+    for line in output_of("clauses"):
         if line.startswith("    "):
             found[last].append(line.strip())
         else:

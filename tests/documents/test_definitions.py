@@ -1,26 +1,25 @@
-"""Compares docs/DEFINITIONS.md and what tools/clauses prints with the crates.
+"""Compares docs/PROMISES.md and what tools/definitions and tools/clauses print with the crates.
 
-The lists of the page are what `tools/definitions` makes. Besides, by a reading of the tree that shares nothing with
-these scripts: what they name is there (each definition in that file of specs/, each function in that file of src/ and,
-where a line is named, on that line, each clause in its contract, and what is named behind a clause is cited by it), and
-what is there is named: each definition of specs/, each file of specs/inner, each public function, each of its clauses,
-what each crate uses of those below it, and each lemma that a crate passes on to those above it. Whether the words are
-right is for readers to judge."""
+By a reading of the tree that shares nothing with these scripts, what they name is there: each definition in that file
+of specs/, each function in that file of src/ and, where a line is named, on that line, each clause in its contract, and
+what is named behind a clause is cited by it. And what is there is printed: each definition of specs/, each file of
+specs/inner, each public function, each of its clauses, what each crate uses of those below it, and each lemma that a
+crate passes on to those above it. Whether the words are right is for readers to judge."""
 import collections
 import glob
 import os
 import re
 
-from tests.documents.pages import (DEFINITIONS, ITEM, bodies, is_part, items, lemmas_of_clauses, printed,
-                                   promises_of_clauses, promises_of_definitions)
+from tests.documents.pages import (bodies, calls_without_a_promise, is_part, lemmas_of_clauses, listed, printed,
+                                   promises_of_clauses, promises_of_page)
 from tests.documents.tree import (QUOTED, clauses_of, crates, definitions, is_declared, modules, public_functions,
                                   sources, text)
-from tests.support import commands, places
+from tests.support import places
 from tests.support.case import Case
 
 
 def checks_of_promises():
-    for page, crate, file, function, clauses in [*promises_of_definitions(), *promises_of_clauses()]:
+    for page, crate, file, function, clauses in [*promises_of_page(), *promises_of_clauses()]:
         known = clauses_of(file, function) if os.path.exists(file) else None
         yield f"{page}: {crate}, {function} in {os.path.basename(file)}", known is not None
         for clause, cited in clauses:
@@ -30,6 +29,8 @@ def checks_of_promises():
                 own = name.split(".")[0].strip("◌")
                 is_cited = any(own in body for body in bodies(file, function, clause))
                 yield f"{which} cites {name}", is_cited and is_part(name)
+    for names in calls_without_a_promise():
+        yield f"docs/PROMISES.md, a clause behind {names}", False
 
 
 def checks_of_lines():
@@ -57,43 +58,38 @@ def checks_of_headline():
 
 
 def checks_of_definitions():
+    """tools/definitions prints each definition of specs/ below its file, and each file of an inner folder."""
     defined = set()
-    for item in items(DEFINITIONS):
-        found = ITEM.match(item)
-        if inner := re.match(r"Inner, in \[`inner`\]\(\.\./crates/(\w+)/specs/((?:\w+/)?inner)\): (.*)", item):
-            crate, folder, names = inner.groups()
-            for name in QUOTED.findall(names):
-                defined.add((crate, f"{folder}/{name}", name))
-                yield f"{crate}, specs, {folder}/{name}", f"{folder}/{name}" in modules(crate, are_inner=True)
-        elif found and found[4] == "specs":
-            crate, inside = found[3], found[2].split("/", 3)[-1].removesuffix(".antt")
-            source = modules(crate).get(inside)
-            is_there = os.path.basename(inside) == QUOTED.findall(found[1])[0] and source is not None
-            yield f"{crate}, specs, {inside}: {found[2]}", is_there
-            for name in QUOTED.findall(found[5]):
-                defined.add((crate, inside, name))
-                yield f"{crate}, specs, {inside}.{name}", source is not None and is_declared(name, source)
+    for heading, names in listed().items():
+        if found := re.fullmatch(r"crates/(\w+)/specs/(.+?)(\.antt)?", heading):
+            crate, inside, is_file = found.groups()
+            for name in names.split(", "):
+                at = inside if is_file else f"{inside}/{name}"
+                source = modules(crate, are_inner=not is_file).get(at)
+                defined.add((crate, at, name))
+                is_there = source is not None and (not is_file or is_declared(name, source))
+                yield f"tools/definitions, {crate}, {at}: {name}", is_there
     for crate in crates():
         for inside, source in modules(crate).items():
             for name in definitions(source):
-                yield f"docs/DEFINITIONS.md, {crate}, {inside}.{name}", (crate, inside, name) in defined
+                yield f"tools/definitions, definition {crate}, {inside}.{name}", (crate, inside, name) in defined
         for path in modules(crate, are_inner=True):
             is_listed = (crate, path, os.path.basename(path)) in defined
-            yield f"docs/DEFINITIONS.md, {crate}, {path} behind Inner", is_listed
+            yield f"tools/definitions, {crate}, inner file {path}", is_listed
 
 
 def checks_of_functions():
     """tools/clauses prints each public function with all of its clauses."""
-    listed = collections.defaultdict(set)
+    known = collections.defaultdict(set)
     for _, crate, _, function, clauses in promises_of_clauses():
         for name in (function.split("::")[-1], "::".join(function.split("::")[-2:])):
-            listed[crate, name] |= {None, *(clause for clause, _ in clauses)}
+            known[crate, name] |= {None, *(clause for clause, _ in clauses)}
     for crate in crates():
         for function, file in public_functions(crate):
-            yield f"tools/clauses, {crate}, {function}", (crate, function) in listed
+            yield f"tools/clauses, {crate}, {function}", (crate, function) in known
             for clause in clauses_of(file, function) or set():
                 name = f"tools/clauses, {crate}, {function}, clause {clause or 'without a name'}"
-                yield name, clause in listed[crate, function]
+                yield name, clause in known[crate, function]
 
 
 def home(crate, name):
@@ -108,14 +104,12 @@ def home(crate, name):
 
 
 def checks_of_uses():
-    """Behind each crate the page has exactly the functions and types of other crates that it imports and names once
-    more, or calls by the crate's name, with the crates that declare them."""
-    listed = collections.defaultdict(set)
-    for item in items(DEFINITIONS):
-        upper, _, rest = item.partition(": ")
-        if upper.strip("`") in crates():
-            for lower, names in re.findall(r"of `(\w+)` ((?:`\w+`(?:, )?)+)", rest):
-                listed[upper.strip("`")] |= {(name, lower) for name in QUOTED.findall(names)}
+    """tools/definitions prints of each crate exactly the functions and types of other crates that it imports and names
+    once more, or calls by the crate's name, with the crates that declare them."""
+    told = collections.defaultdict(set)
+    for upper in crates():
+        for lower, names in re.findall(r"of (\w+) (.*?)(?= of \w+ |$)", listed().get(upper, "")):
+            told[upper] |= {(name, lower) for name in names.split(", ")}
     for upper in crates():
         code = "\n".join(source for name, source in sources(upper).items() if name != "tests")
         imports = re.findall(rf"^(?:pub )?use (?!{upper}\b)({'|'.join(crates())})::([^;]*);", code, re.M)
@@ -128,16 +122,16 @@ def checks_of_uses():
         for lower, name in re.findall(rf"\b({'|'.join(crates())})::(?:[a-z]\w*::)*(\w+)\(", plain):
             named[name].add(home(lower, name))
         for name in named if any(True for _ in public_functions(upper)) else ():
-            yield f"docs/DEFINITIONS.md, {upper} uses {name}", any(name == there for there, _ in listed[upper])
-        for name, lower in sorted(listed[upper]):
-            yield f"docs/DEFINITIONS.md, {upper} uses {name} of {lower}", lower in named.get(name, ())
+            yield f"tools/definitions, {upper} uses {name}", any(name == there for there, _ in told[upper])
+        for name, lower in sorted(told[upper]):
+            yield f"tools/definitions, {upper} uses {name} of {lower}", lower in named.get(name, ())
 
 
 def checks_of_lemmas():
     """tools/clauses prints each lemma that a crate passes on to those above it, with the file that has it, and no
     other."""
-    listed = set(lemmas_of_clauses())
-    for path, name in sorted(listed):
+    known = set(lemmas_of_clauses())
+    for path, name in sorted(known):
         is_there = os.path.exists(places.path(path)) and name in text(places.path(path)).split()
         yield f"tools/clauses, {path}, {name}", is_there
     for crate in crates():
@@ -145,16 +139,13 @@ def checks_of_lemmas():
             for module, names in re.findall(r"use Rattle\.(\S+)\.\{(.*?)\}", text(exported), re.S):
                 for name in re.split(r",\s*", names):
                     path = f"crates/{module.replace('.', '/')}.antt"
-                    is_passed_on = module.endswith(".Exported") and any(name == other for _, other in listed)
-                    yield f"tools/clauses, lemma {module}.{name}", (path, name) in listed or is_passed_on
+                    is_passed_on = module.endswith(".Exported") and any(name == other for _, other in known)
+                    yield f"tools/clauses, lemma {module}.{name}", (path, name) in known or is_passed_on
 
 
 class Definitions(Case):
-    """What docs/DEFINITIONS.md and tools/clauses name is in the crates, and what is in the crates is named."""
-
-    def test_the_lists_are_those_that_tools_definitions_makes(self):
-        status, said = commands.said([places.path("tools", "definitions"), "--check"])
-        self.assertEqual(status, 0, said)
+    """What docs/PROMISES.md, tools/definitions and tools/clauses name is in the crates, and what is in the crates is
+    printed."""
 
     def test_each_definition(self):
         self.there(checks_of_definitions())
