@@ -33,5 +33,4 @@ class Bench(Case):
         gone = re.search(r"^Edits whose line is gone.*?\n\n", PAGE, re.S | re.M)[0]
         known = {os.path.basename(it).split(".")[0] for it in git("ls-tree", "-r", "--name-only", START)[1].split()
                  if "/must-fail/" in it}
-        code = {"take_one", "correct", "near", "fill", "None"}
-        self.row("edits that weren't there", [it for it in re.findall(r"`(\w+)`", gone) if it not in known | code], [])
+        self.row("edits that weren't there", [it for it in re.findall(r"`(\w+)`", gone) if it not in known], [])
