@@ -181,7 +181,8 @@ typedef struct ecc200_sample_quality {
     uint8_t contrast_grade, modulation_grade, unused_grade, axial_grade, grid_grade; /* of modulations and unused error
                                          correction the lowest of the blocks */
     char weakest[64];                 /* the weakest place in words: the longest run of damage on the border or in the
-                                         quiet zone, as "the left border, rows 3 to 6"; else the weakest codeword */
+                                         quiet zone, as "the left border, rows 3 to 6"; else the weakest codeword, or
+                                         "nothing is weak" where all have .5 or more and none was corrected */
     float modulations[ECC200_MOST_CODEWORDS]; /* of each codeword, that of its weakest module: how far its reflectance
                                          is from the middle, as a share of half the contrast */
 } ecc200_sample_quality;

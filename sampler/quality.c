@@ -167,13 +167,25 @@ static void say(char *text, const char *words, int number) {
     strcat(text, digit);
 }
 
-/* Names the place of a run, or else of the weakest codeword. */
+/* Whether each codeword has the best modulation, and none had to be corrected. */
+static bool is_sound(const ecc200_sample_quality *out) {
+    int block = 0;
+    while (block < out->blocks && out->unused[block] >= 1)
+        block++;
+    return block == out->blocks && out->readable[0] == out->codewords;
+}
+
+/* Names the place of a run, or else of the weakest codeword, if one is weak. */
 static void name_weakest(const struct measure *of, const struct run *run, ecc200_sample_quality *out) {
     static const char *const borders[SIDES] = {"the top border", "the right border", "the bottom border",
                                                "the left border"};
     static const char *const zones[SIDES] = {"the quiet zone above", "the quiet zone on the right",
                                              "the quiet zone below", "the quiet zone on the left"};
     bool is_across = run->side % 2 == 0;
+    if (run->count == 0 && is_sound(out)) {
+        strcat(out->weakest, "nothing is weak");
+        return;
+    }
     if (run->count == 0) {
         say(out->weakest, "codeword ", of->weakest_codeword + 1);
         say(out->weakest, ", at row ", of->weakest_module / of->mesh.extent.wide + 1);

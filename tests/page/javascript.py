@@ -125,7 +125,7 @@ def uses():
         "unread": [0, 22, BLOCK],
         "quality": {"contrast": 1, "modulation": 1, "axial": 0, "grid": 0, "unused": [1], "growth": [0, 0],
                     "border": [0] * 4, "quiet": [0] * 4, "readable": [8] * 4,
-                    "weakest": "codeword 2, at row 2, column 2", "modulations": 8, "unasked": None,
+                    "weakest": "nothing is weak", "modulations": 8, "unasked": None,
                     "grades": dict.fromkeys(("contrast", "modulation", "unused", "axial", "grid"), "A")},
     }.items():
         count.expect(name, near(came(name)), wanted)

@@ -19,7 +19,7 @@ LINES = """    print, of this picture, uncalibrated: no verifier's report
     print growth +0.00 across, +0.00 down
     damage of the border at the top, right, bottom, left 0.00, 0.00, 0.00, 0.00
     damage of the quiet zone there 0.00, 0.00, 0.00, 0.00
-    weakest place: codeword"""
+    weakest place: nothing is weak"""
 
 
 @needs.library

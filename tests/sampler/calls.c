@@ -47,7 +47,7 @@ static int try_measures(const uint8_t *pixels, size_t width, size_t height) {
     static ecc200_sample_quality quality;
     static ecc200_sample other;
     if (ecc200_sample_measure(pixels, width, height, 400, &symbols[0], &quality) != ECC200_SAMPLE_OK ||
-        quality.contrast_grade != 4 || quality.blocks != 1 || strncmp(quality.weakest, "codeword", 8) != 0)
+        quality.contrast_grade != 4 || quality.blocks != 1 || strcmp(quality.weakest, "nothing is weak") != 0)
         return 1;
     if (ecc200_sample_measure(pixels, width, height, width - 1, &symbols[0], &quality) != ECC200_SAMPLE_PICTURE ||
         ecc200_sample_measure(pixels, 0, height, 400, &symbols[0], &quality) != ECC200_SAMPLE_PICTURE ||

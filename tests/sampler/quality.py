@@ -116,6 +116,8 @@ class Quality:
             worst = max(abs(one - other) for one, other in zip(quality["modulations"], wanted, strict=True))
             self.near(f"modulations, blur {blur}", worst, 0, 0.05)
             self.near(f"the least, blur {blur}", quality["modulation"], min(wanted), 0.05)
+            self.row(f"what is weak, blur {blur}", quality["weakest"].split(" ")[0],
+                     "nothing" if min(quality["modulations"]) >= 0.5 else "codeword")
             self.row(f"how many are readable, blur {blur}", quality["readable"],
                      [sum(value >= level for value in quality["modulations"]) for level in (0.5, 0.4, 0.3, 0.2)])
             self.near(f"growth, blur {blur}", max(map(abs, quality["growth"])), 0, 0.03)
@@ -180,7 +182,7 @@ class Quality:
             quality = measured(self.sampler, drawn(torn, scale=6))
             self.row(f"the left border, {count}", quality["border"], [0, 0, 0, round(count / side, 4)])
             self.row(f"its words, {count}", quality["weakest"].split(",")[0],
-                     "the left border" if count else "codeword 2")
+                     "the left border" if count else "nothing is weak")
             border.append(quality["border"][3])
             spots = [(x, -1) for x in range(4, 4 + count)]
             quality = measured(self.sampler, drawn(grid, scale=6, spots=spots))
@@ -217,6 +219,8 @@ class Quality:
                 self.row(f"unused with {count} errors in {len(grid)} rows", quality["unused"], wanted)
                 grade = next(letter for letter, begin in zip("ABCDF", (0.62, 0.5, 0.37, 0.25, 0)) if wanted[0] >= begin)
                 self.row(f"its grade, {count} in {len(grid)} rows", quality["grades"]["unused"], grade)
+                self.row(f"what is weak, {count} in {len(grid)} rows", quality["weakest"].split(" ")[0],
+                         "codeword" if count else "nothing")
                 came.append(quality["unused"][0])
             self.rises(f"unused error correction of {len(grid)} rows", came, -1)
 
