@@ -1,7 +1,7 @@
 """Compares the other documents with the tree: each link leads to a file and a heading that are there, and so are the
 files that they name; names of functions and types in the pages about the tree are words of it; the passages of code in
-docs/NOTATION.md stand in the files to which it links; docs/MAP.md names what each crate stands on; and docs/GATE.md
-counts the edits and tests that there are. In these, and in all that people write, lines have at most 120 columns."""
+docs/NOTATION.md stand in the files to which it links; docs/MAP.md has a row for each crate; and docs/GATE.md counts the
+edits and tests that there are. In these, and in all that people write, lines have at most 120 columns."""
 import functools
 import glob
 import os
@@ -116,15 +116,13 @@ def checks_of_passages():
                                                                         for there in text(file).splitlines()]
 
 
-def checks_of_layers():
-    """docs/MAP.md has a row for each crate, with what it stands on by crates.txt."""
-    declared = re.finditer(r"^(\w+)[^:#\n]*:(.*)$", text(places.path("crates.txt")), re.M)
-    stands_on = {found[1]: found[2].split() for found in declared}
-    rows = dict(re.findall(r"^\| `(\w+)` \| [^|]* \| ([^|]*) \| [^|]* \|$", text(places.path("docs", "MAP.md")), re.M))
-    yield "docs/MAP.md, a row for each crate", sorted(rows) == sorted(stands_on)
-    for crate, below in stands_on.items():
-        told = set(QUOTED.findall(rows.get(crate, ""))) - {"Size"}
-        yield f"docs/MAP.md, what {crate} stands on", sorted(told) == sorted(below)
+def checks_of_crates():
+    """docs/MAP.md has a row for each crate of crates.txt, of at most 160 characters."""
+    page = text(places.path("docs", "MAP.md"))
+    rows = {found[1]: found[0] for found in re.finditer(r"^\| `(\w+)` \|.*$", page, re.M)}
+    yield "docs/MAP.md, a row for each crate", sorted(rows) == sorted(crates())
+    for crate, row in rows.items():
+        yield f"docs/MAP.md, at most 160 characters of {crate}", len(row) <= 160
 
 
 def checks_of_counts():
@@ -164,8 +162,8 @@ class Documents(Case):
     def test_passages_of_code_stand_in_their_files(self):
         self.there(checks_of_passages())
 
-    def test_what_each_crate_stands_on(self):
-        self.there(checks_of_layers())
+    def test_the_row_of_each_crate(self):
+        self.there(checks_of_crates())
 
     def test_counts_of_edits_and_tests(self):
         self.there(checks_of_counts())
