@@ -1,7 +1,8 @@
 """Compares the other documents with the tree: each link leads to a file and a heading that are there, and so are the
 files that they name; names of functions and types in the pages about the tree are words of it; the passages of code in
-docs/NOTATION.md stand in the files to which it links; docs/MAP.md has a row for each crate; and docs/GATE.md counts the
-edits and tests that there are. In these, and in all that people write, lines have at most 120 columns."""
+docs/NOTATION.md stand in the files to which it links; docs/MAP.md has a row for each crate; docs/GATE.md counts the
+edits and tests that there are; and pages are as short as they may be. In these, and in all that people write, lines
+have at most 120 columns."""
 import functools
 import glob
 import os
@@ -20,8 +21,12 @@ WRITTEN = (".py", ".c", ".h", ".cpp", ".rs", ".java", ".rt", ".antt", ".mjs", ".
            ".toml", ".in", ".1", ".3", "CMakeLists.txt", ".editorconfig", "command_line")
 
 
+# How many words a page has at most, these three as yet, and all pages together.
+MOST_WORDS, MOST_WORDS_OF, MOST_WORDS_IN_ALL = 2500, {"GATE.md": 4100, "PAGE.md": 5800, "PICTURES.md": 5900}, 38000
+
+
 def documents():
-    top = [places.path(name) for name in ("README.md", "CONTRIBUTING.md", "CHANGELOG.md")]
+    top = [places.path(name) for name in ("README.md", "CONTRIBUTING.md", "CHANGELOG.md", "SECURITY.md")]
     return top + sorted(glob.glob(places.path("docs", "*.md")))
 
 
@@ -83,6 +88,14 @@ def checks_of_width():
                 if len(line) > 120 and not (path.endswith(".md") and line.startswith("|"))]
         yield f"{os.path.relpath(path, places.TOP)}, lines of more than 120 columns: {wide[:1]}", not wide
     yield "README.md, at most 110 lines", len(text(places.path("README.md")).splitlines()) <= 110
+
+
+def checks_of_lengths():
+    counts = {path: len(text(path).split()) for path in [*documents(), places.path("library", "python", "README.md")]}
+    for path, count in counts.items():
+        most = MOST_WORDS_OF.get(os.path.basename(path), MOST_WORDS)
+        yield f"{os.path.relpath(path, places.TOP)}, {count} words, at most {most}", count <= most
+    yield f"all pages, {sum(counts.values())} words", sum(counts.values()) <= MOST_WORDS_IN_ALL
 
 
 def checks_of_files():
@@ -152,6 +165,9 @@ class Documents(Case):
 
     def test_lines_have_at_most_120_columns(self):
         self.there(checks_of_width())
+
+    def test_pages_are_short(self):
+        self.there(checks_of_lengths())
 
     def test_files_that_are_named_are_there(self):
         self.there(checks_of_files())
