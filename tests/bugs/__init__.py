@@ -58,9 +58,11 @@ def bugs_of(subject):
             bugs[-1].changes.append((right, line[2:].replace("⏎", "\n")))
         elif line.startswith("= "):
             bugs[-1].changes.append(change(line[2:]))
+            right = bugs[-1].changes[-1][0]
         else:
             name, where, *texts = line.split(" | ", 2)
             bugs.append(Bug(name, where, [change(text) for text in texts]))
+            right = bugs[-1].changes[-1][0] if texts else right
     return bugs
 
 

@@ -6,6 +6,7 @@
 #endif
 #include "system.h"
 #include <ecc200.h>
+#include <listed.h>
 #include <stdio.h>
 #include <stdlib.h>
 #include <string.h>
@@ -367,48 +368,10 @@ static void answer_items(void) {
         die(" written before the room");
 }
 
-static void answer_constants(void) {
-    NAMED(ABI), NAMED(MOST_ROWS), NAMED(MOST_COLUMNS), NAMED(MOST_MODULES), NAMED(MOST_ITEMS), NAMED(MOST_MARKS),
-        NAMED(MOST_CODEWORDS), NAMED(MOST_BLOCKS), NAMED(SIZE_COUNT);
-    NAMED(FNC1), NAMED(ANY_LIMIT), NAMED(BEYOND), NAMED(STACK);
-    NAMED(USUAL), NAMED(WIDE);
-    NAMED(ASCII), NAMED(SHORTER), NAMED(SMALLEST);
-    NAMED(SQUARE), NAMED(RECTANGLE), NAMED(EXTENDED), NAMED(ANY), NAMED(ONE);
-    NAMED(OK), NAMED(SHAPE), NAMED(SIZE), NAMED(BORDER), NAMED(BLOCK), NAMED(RESERVED), NAMED(LEFT_OUT),
-        NAMED(UPPER_SHIFT), NAMED(TRIPLET);
-    NAMED(VALUE), NAMED(LENGTH), NAMED(UNFINISHED), NAMED(TOO_LONG), NAMED(ITEM), NAMED(PROFILE);
-    NAMED(EXTENT), NAMED(CHOICE), NAMED(DOUBT), NAMED(DESIGNATOR), NAMED(APPEND), NAMED(MARK), NAMED(HEAD);
-    NAMED(NO_HEAD), NAMED(PART), NAMED(PROGRAMMING);
-    NAMED(NO_MODULE), NAMED(BIT), NAMED(BORDER_LIGHT), NAMED(BORDER_DARK), NAMED(FIXED_LIGHT), NAMED(FIXED_DARK);
-}
-
-/* where each member of a struct stands, and how many bytes it has */
-static void answer_layout(void) {
-    SIZED(fault), LAID(fault, code), LAID(fault, value), LAID(fault, place);
-    SIZED(head), LAID(head, kind), LAID(head, part), LAID(head, parts), LAID(head, file);
-    SIZED(mark), LAID(mark, number), LAID(mark, place);
-    SIZED(reading), LAID(reading, fault), LAID(reading, rows), LAID(reading, columns), LAID(reading, border_faults);
-    LAID(reading, block_count), LAID(reading, item_count), LAID(reading, mark_count), LAID(reading, identifier);
-    LAID(reading, dealing), LAID(reading, head), LAID(reading, corrected), LAID(reading, erased);
-    LAID(reading, left), LAID(reading, marks), LAID(reading, items);
-    SIZED(how), LAID(how, form), LAID(how, shape), LAID(how, rows), LAID(how, columns), LAID(how, extent);
-    LAID(how, head);
-    SIZED(symbol), LAID(symbol, fault), LAID(symbol, rows), LAID(symbol, columns), LAID(symbol, modules);
-    SIZED(inspection), LAID(inspection, fault), LAID(inspection, rows), LAID(inspection, columns),
-        LAID(inspection, border_faults), LAID(inspection, block_count), LAID(inspection, codeword_count);
-    LAID(inspection, dealing), LAID(inspection, designator_count), LAID(inspection, designators);
-    LAID(inspection, corrected), LAID(inspection, erased), LAID(inspection, left), LAID(inspection, held),
-        LAID(inspection, mended);
-    SIZED(place), LAID(place, codeword), LAID(place, bit), LAID(place, kind);
-    SIZED(place_table), LAID(place_table, fault), LAID(place_table, rows), LAID(place_table, columns),
-        LAID(place_table, places);
-    SIZED(size), LAID(size, rows), LAID(size, columns), LAID(size, region_rows), LAID(size, region_columns);
-    LAID(size, regions_down), LAID(size, regions_across), LAID(size, mapping_rows), LAID(size, mapping_columns);
-    LAID(size, data_codewords), LAID(size, check_codewords), LAID(size, blocks), LAID(size, limit),
-        LAID(size, extension);
-    SIZED(size_table), LAID(size_table, sizes);
-}
-
+/* the numbers, and where each member of a struct stands and how many bytes it has: of those that listed.h names, which
+ * tests/library/callers.py makes */
+static void answer_constants(void) { CONSTANTS; }
+static void answer_layout(void) { LAYOUT; }
 static void answer_compatible(void) { printf("%d", ecc200_abi() == ECC200_ABI); }
 static void answer_limit(void) {
     uint16_t rows = number(), columns = number();
@@ -418,30 +381,15 @@ static void answer_words(void) { printf("%s", ecc200_words(number())); }
 static void answer_code_words(void) { printf("%s", ecc200_code_words(number())); }
 static void answer_version(void) { printf("%s %s", ecc200_version(), ECC200_VERSION); }
 
-typedef struct {
+#define ANSWERED(name)                                                                                                 \
+    { #name, answer_##name }
+static const struct {
     const char *name;
     void (*answer)(void);
-} request;
-
-static const request requests[] = {
-    {"read", answer_read},
-    {"normal", answer_normal},
-    {"write", answer_write},
-    {"smallest", answer_smallest},
-    {"inspect", answer_inspect},
-    {"places", answer_places},
-    {"sizes", answer_sizes},
-    {"text", answer_text},
-    {"items", answer_items},
-    {"constants", answer_constants},
-    {"layout", answer_layout},
-    {"compatible", answer_compatible},
-    {"limit", answer_limit},
-    {"words", answer_words},
-    {"write_bytes", answer_write_bytes},
-    {"code_words", answer_code_words},
-    {"version", answer_version},
-};
+} requests[] = {ANSWERED(read),       ANSWERED(normal),     ANSWERED(write), ANSWERED(smallest), ANSWERED(inspect),
+                ANSWERED(places),     ANSWERED(sizes),      ANSWERED(text),  ANSWERED(items),    ANSWERED(constants),
+                ANSWERED(layout),     ANSWERED(compatible), ANSWERED(limit), ANSWERED(words),    ANSWERED(write_bytes),
+                ANSWERED(code_words), ANSWERED(version)};
 
 int main(void) {
     static char line[LINE];

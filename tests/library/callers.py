@@ -56,23 +56,22 @@ class Callers:
 
     def in_c_with(self, name, *flags):
         """C, compiled with these flags."""
-        requests = [*self.interface.calls(), *self.interface.of_the_header()]
-        words = [self.system.cc, "-std=c11", *WARNINGS, "-pedantic", *self.system.flags, f"-I{self.library}",
-                 os.path.join(HERE, "answers.c"), self.archive]
-        program, problem = self.compiled(f"answers{len(flags)}", [*words, *flags])
-        yield f"{name}: compiled", problem
-        if program:
-            yield from self.answered(name, program, requests)
+        return self.by_header(name, [self.system.cc, "-std=c11", "-pedantic", *flags, "-x", "c"])
 
     def in_cpp(self):
         """The same in C++."""
-        words = [self.system.cxx, "-std=c++17", "-O1", *WARNINGS, *self.system.flags, f"-I{self.library}", "-x", "c++",
-                 os.path.join(HERE, "answers.c")]
-        words += ["-x", "none", self.archive]
-        program, problem = self.compiled("answers_cpp", words)
-        yield "C++: compiled", problem
+        return self.by_header("C++", [self.system.cxx, "-std=c++17", "-O1", "-x", "c++"])
+
+    def by_header(self, name, compiler):
+        """All requests, by the header and these words of a compiler."""
+        with open(self.made("listed.h"), "w", encoding="ascii") as file:
+            file.write(self.interface.listed())
+        words = [*compiler, *WARNINGS, *self.system.flags, f"-I{self.library}", f"-I{self.work}",
+                 os.path.join(HERE, "answers.c"), "-x", "none", self.archive]
+        program, problem = self.compiled(f"answers{len(compiler)}", words)
+        yield f"{name}: compiled", problem
         if program:
-            yield from self.answered("C++", program, [*self.interface.calls(), *self.interface.of_the_header()])
+            yield from self.answered(name, program, [*self.interface.calls(), *self.interface.of_the_header()])
 
     def in_rust(self):
         """Every public function in Rust; and whether a library with another interface is told apart."""

@@ -69,10 +69,16 @@ class Interface:
     def __init__(self, version):
         self.version = version
 
+    def listed(self):
+        """The names of all that answers.c prints, for it to include."""
+        names = (f"NAMED({word.partition('=')[0]})" for word in self.shown_constants().split())
+        members = (f"LAID({name}, {it})" if it else f"SIZED({name})" for name, (_, places) in LAYOUT.items()
+                   for it in (None, *places))
+        return f"#define CONSTANTS {', '.join(names)}\n#define LAYOUT {', '.join(members)}\n"
+
     def shown_constants(self):
         """As answers.c prints them."""
-        every = {"ABI": self.abi, **CONSTANTS, **EXTENTS, **PROFILES, **FORMS, **SHAPES, **CODES, **HEAD_KINDS,
-                 **KINDS}
+        every = {"ABI": self.abi, **CONSTANTS, **EXTENTS, **PROFILES, **FORMS, **SHAPES, **CODES, **HEAD_KINDS, **KINDS}
         return "".join(f"{name}={value} " for name, value in every.items())
 
     @staticmethod

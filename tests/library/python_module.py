@@ -315,66 +315,41 @@ def doubts():
             yield f"{call.__name__} with {name}", call(rows(oblong), doubtful=given), call(rows(oblong))
 
 
-# What is written or asked for with numbers that the library can't be given, or with what isn't a number; of a refusal
-# its code, value and place, or its code and place where the number may be told as it is or as the largest.
-NUMBERS = [
-    ("-1", lambda: ecc200.write([-1]), ("ITEM", 0)),
-    ("65536", lambda: ecc200.write([65, 65536]), ("ITEM", 1)),
-    ("256 is FNC1", lambda: ecc200.write([256]) == ecc200.write([FNC1]), True),
-    ("257", lambda: ecc200.write([65, 257, -1]), ("ITEM", 257, 1)),
-    ("65535", lambda: ecc200.write([65535]), ("ITEM", 65535, 0)),
-    ("large", lambda: ecc200.write([65, 66, 10 ** 20]), ("ITEM", 2)),
-    ("late", lambda: ecc200.write([55] * 70_000 + [300]), ("ITEM", 300, 65535)),
-    ("late and negative", lambda: ecc200.write([55] * 70_000 + [-1]), ("ITEM", 65535)),
-    ("behind FNC1", lambda: ecc200.write([65, 300], gs1=True), ("ITEM", 300, 2)),
-    ("negative behind FNC1", lambda: ecc200.write([65, -300], gs1=True), ("ITEM", 2)),
-    ("a text", lambda: ecc200.write("A") == ecc200.write(b"A"), True),
-    ("letters", lambda: ecc200.write(["A"]), "TypeError"),
-    ("a fraction", lambda: ecc200.write([65.5]), "TypeError"),
-    ("None", lambda: ecc200.write(None), "TypeError"),
-    ("None in it", lambda: ecc200.write([None]), "TypeError"),
-    ("a number", lambda: ecc200.write(65), "TypeError"),
-    ("profile 2", lambda: ecc200.write(b"A", profile=2), ("PROFILE", 2, 0)),
-    ("profile -1", lambda: ecc200.write(b"A", profile=-1), ("PROFILE", 0)),
-    ("profile 65535", lambda: ecc200.write(b"A", profile=65535), ("PROFILE", 65535, 0)),
-    ("profile 65536", lambda: ecc200.write(b"A", profile=65536), ("PROFILE", 0)),
-    ("profile 65537", lambda: ecc200.write(b"A", profile=65537), ("PROFILE", 0)),
-    ("normal profile -1", lambda: ecc200.normal(WORKED, profile=-1), ("PROFILE", 0)),
-    ("profile -65535", lambda: ecc200.write(b"A", profile=-65535), ("PROFILE", 0)),
-    ("normal profile -65536", lambda: ecc200.normal(WORKED, profile=-65536), ("PROFILE", 0)),
-    ("places -65526", lambda: ecc200.places(-65526), ("SIZE", -65526, -65526)),
-    ("normal profile 2", lambda: ecc200.normal(WORKED, profile=2), ("PROFILE", 2, 0)),
-    ("normal profile 65536", lambda: ecc200.normal(WORKED, profile=65536), ("PROFILE", 0)),
-    ("places -1", lambda: ecc200.places(-1), ("SIZE", -1, -1)),
-    ("places 0", lambda: ecc200.places(0), ("SIZE", 0, 0)),
-    ("places 65546", lambda: ecc200.places(65546), ("SIZE", 65546, 65546)),
-    ("places 8 by 65554", lambda: ecc200.places(8, 65554), ("SIZE", 8, 65554)),
-    ("places 10^20", lambda: ecc200.places(10 ** 20), ("SIZE", 10 ** 20, 10 ** 20)),
-    ("shape 4", lambda: ecc200.write(b"A", shape=4), ("CHOICE", 4, 0)),
-    ("shape -1", lambda: ecc200.write(b"A", shape=-1), ("CHOICE", -1, 0)),
-    ("shape 65536", lambda: ecc200.write(b"A", shape=65536), ("CHOICE", 65536, 0)),
-    ("shape of a text", lambda: ecc200.write(b"A", shape="any"), "TypeError"),
-    ("a size of a text", lambda: ecc200.write(b"A", size="8x32"), "TypeError"),
-    ("a size of one number", lambda: ecc200.write(b"A", size=(8,)), "TypeError"),
-    ("a size and a shape", lambda: ecc200.write(b"A", size=(8, 32), shape=0), "TypeError"),
-    ("places ten", lambda: ecc200.places("ten"), "TypeError"),
-    ("limit of a text", lambda: ecc200.usual_limit("ten"), "TypeError"),
-    ("a limit that is a text", lambda: ecc200.read(WORKED, "2"), "TypeError"),
-    ("profile of a text", lambda: ecc200.write(b"A", profile="ascii"), "TypeError"),
-    ("too long", lambda: ecc200.write(b"A" * (MOST_DATA + 1)), ("TOO_LONG", 0, 0)),
-    ("too long, shorter", lambda: ecc200.write(b"\xff" * (MOST_DATA - 2), profile=1), ("TOO_LONG", 0, 0)),
-    ("longest", lambda: len(ecc200.write(b"7" * 2 * MOST_DATA)), LARGEST.rows),
-    *((f"size {named}", lambda named=named: ecc200.write(b"A", size=named), ("SIZE", *named)) for named in NO_SIZES),
-]
+# What calls are given: numbers that the library can't be given, or what is no number; of a refusal its code, value and
+# place, or its code and place where the number may be told as it is or as the largest.
+NUMBERS = {
+    ecc200.write: [
+        ([-1], {}, ("ITEM", 0)), ([65, 65536], {}, ("ITEM", 1)), ([65, 257, -1], {}, ("ITEM", 257, 1)),
+        ([65535], {}, ("ITEM", 65535, 0)), ([65, 66, 10 ** 20], {}, ("ITEM", 2)),
+        ([55] * 70_000 + [300], {}, ("ITEM", 300, 65535)), ([55] * 70_000 + [-1], {}, ("ITEM", 65535)),
+        ([65, 300], {"gs1": True}, ("ITEM", 300, 2)), ([65, -300], {"gs1": True}, ("ITEM", 2)),
+        *((given, {}, "TypeError") for given in (["A"], [65.5], None, [None], 65)),
+        *((b"A", {"profile": number}, ("PROFILE", number, 0)) for number in (2, 65535)),
+        *((b"A", {"profile": number}, ("PROFILE", 0)) for number in (-1, 65536, 65537, -65535)),
+        *((b"A", {"shape": number}, ("CHOICE", number, 0)) for number in (4, -1, 65536)),
+        *((b"A", how, "TypeError") for how in ({"profile": "ascii"}, {"shape": "any"}, {"size": "8x32"},
+                                               {"size": (8,)}, {"size": (8, 32), "shape": 0})),
+        (b"A" * (MOST_DATA + 1), {}, ("TOO_LONG", 0, 0)),
+        (b"\xff" * (MOST_DATA - 2), {"profile": 1}, ("TOO_LONG", 0, 0)),
+        *((b"A", {"size": named}, ("SIZE", *named)) for named in NO_SIZES)],
+    ecc200.normal: [(WORKED, {"profile": 2}, ("PROFILE", 2, 0)),
+                    *((WORKED, {"profile": number}, ("PROFILE", 0)) for number in (-1, -65536, 65536))],
+    ecc200.places: [*((number, {}, ("SIZE", number, number)) for number in (-65526, -1, 0, 65546, 10 ** 20)),
+                    (8, {"columns": 65554}, ("SIZE", 8, 65554)), ("ten", {}, "TypeError")],
+    ecc200.usual_limit: [("ten", {}, "TypeError")], ecc200.read: [(WORKED, {"border_limit": "2"}, "TypeError")],
+}
 
 
 def numbers():
     """Numbers of any size."""
-    for name, call, wanted in NUMBERS:
-        got = said_by(call)
+    for call, given, how, wanted in ((call, *row) for call, some in NUMBERS.items() for row in some):
+        got = said_by(lambda: call(given, **how))
         if isinstance(wanted, tuple) and isinstance(got, tuple):
             got = got[1::2] if len(wanted) == 2 else got[1:]
-        yield name, got, wanted
+        yield f"{call.__name__}, {str(given)[-40:]}, {how}", got, wanted
+    yield "256 is FNC1", ecc200.write([256]), ecc200.write([FNC1])
+    yield "a text", ecc200.write("A"), ecc200.write(b"A")
+    yield "the longest", len(ecc200.write(b"7" * 2 * MOST_DATA)), LARGEST.rows
     for extent in (2, -1, 65535, 65536, 65537, -65535, -65536):
         for call in (ecc200.read, ecc200.normal):
             got = said_by(lambda: call(WORKED, extent=extent))

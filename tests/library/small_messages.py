@@ -9,18 +9,17 @@ import tempfile
 
 from tests.library import small_cases
 from tests.library.callers import Callers
+from tests.library.interface import Interface
 from tests.support import needs, places
 
 
-class Every:
+class Every(Interface):
     """All of them, as an interface has requests."""
 
-    @staticmethod
-    def calls():
+    def calls(self):
         return [*small_cases.short(), *small_cases.with_marks()]
 
-    @staticmethod
-    def of_the_header():
+    def of_the_header(self):
         return []
 
 
@@ -29,7 +28,7 @@ def main():
         sys.exit(problem)
     passed = failed = 0
     with tempfile.TemporaryDirectory() as folder:
-        for name, problem in Callers(places.LIBRARY, places.BUILT, folder, Every).in_c_with("C", "-O2"):
+        for name, problem in Callers(places.LIBRARY, places.BUILT, folder, Every("")).in_c_with("C", "-O2"):
             passed, failed = passed + (problem is None), failed + (problem is not None)
             if problem is not None and failed < 20:
                 print(f"{name}: {problem[:1000]}", flush=True)

@@ -30,8 +30,7 @@ class Installed(Packed):
     @classmethod
     def made(cls, target, prefix, *settings):
         """What make says with neither compiler nor toolchain."""
-        return run([*cls.clean, "make", "-C", TOP, target, f"PREFIX={prefix}",
-                    *(settings or [f"LIBDIR={LIBRARIES}"])])
+        return run([*cls.clean, "make", "-C", TOP, target, f"PREFIX={prefix}", *(settings or [f"LIBDIR={LIBRARIES}"])])
 
     def program(self, name):
         return os.path.join(self.prefix, "bin", name)
@@ -94,6 +93,5 @@ class Installed(Packed):
         staged = self.room()
         self.row("make install", self.made("install", "rel", f"DESTDIR={staged}")[0], 0)
         text = "".join(read(it).decode() for it in glob.glob(f"{staged}/**/ecc200.pc", recursive=True))
-        self.row("the prefix in its .pc", re.findall("^prefix=.*", text, re.M),
-                 [f"prefix={os.path.join(TOP, 'rel')}"])
+        self.row("the prefix in its .pc", re.findall("^prefix=.*", text, re.M), [f"prefix={os.path.join(TOP, 'rel')}"])
         self.holds("nothing of it here", not os.path.exists(os.path.join(TOP, "rel")))

@@ -10,8 +10,7 @@ from tests.support.places import TOP
 SAMPLER = ["cc gcc", "png.h libpng-dev", "jpeglib.h libjpeg-dev"]
 FONT = "DejaVuSansMono.ttf fonts-dejavu-core"  # which is found without a path
 PAGE = ["wasm-opt binaryen", "clang clang", "wasm-ld lld", "wasm32-wasi/libc.a wasi-libc", "esbuild esbuild", FONT]
-WANTED = {"sampler": SAMPLER, "page": PAGE,
-          "wheel": ["setuptools python3-setuptools", "wheel python3-wheel"],
+WANTED = {"sampler": SAMPLER, "page": PAGE, "wheel": ["setuptools python3-setuptools", "wheel python3-wheel"],
           "deb": [*SAMPLER, "dpkg-buildpackage dpkg-dev", "dh debhelper", "dh_python3 dh-python"],
           "dist": [*SAMPLER, *PAGE]}
 LINE = re.compile(r"^make (\w+): (\S+) isn't installed \(Debian package (\S+)\)$", re.M)

@@ -5,79 +5,59 @@ from tests.program.samples import (GRID_123456, GRID_A, LARGEST, MOST_DATA, NO_B
 from tests.support import needs
 from tests.support.case import Case
 
-# Rows of these tables: name, words after the program's, standard input, status, standard output, standard error.
+# Rows of these tables: name, words after the program's, standard input, status, standard output.
 READ = [
-    ("two records", ["read"], TWO, 0, b"123456\nA\n", b""),
-    ("no input", ["read"], b"", 0, b"", b""),
-    ("a record without its last LF", ["read"], GRID_123456[:-1], 0, b"123456\n", b""),
-    ("a foreign character", ["read"], b"10x\n", 1, b"\\no 1 character\n", b""),
+    ("two records", "read", TWO, 0, b"123456\nA\n"),
+    ("no input", "read", b"", 0, b""),
+    ("a record without its last LF", "read", GRID_123456[:-1], 0, b"123456\n"),
+    ("a foreign character", "read", b"10x\n", 1, b"\\no 1 character\n"),
 ]
 BORDERS = [
-    ("a wrong bottom row", ["read", "--border", "2"], NO_BOTTOM_ROW, 1, b"\\no 5 border 10\n", b""),
-    ("a wrong bottom row that is accepted", ["read", "--border", "10"], NO_BOTTOM_ROW, 0, b"123456\n", b""),
-    ("a check", ["check", "--border=10"], NO_BOTTOM_ROW, 0, b"ok 10 border 10 corrected 0\n", b""),
-    ("a check by the usual limit", ["check"], ONE_WRONG, 0, b"ok 10 border 1 corrected 0\n", b""),
-    ("the largest limit", ["check", "--border", "65535"], TWO, 0, b"ok 10 border 0 corrected 0\n" * 2, b""),
-    ("one wrong module by the usual limit", ["read"], ONE_WRONG, 0, b"123456\n", b""),
-    ("one wrong module and the limit 0", ["read", "--border", "0"], ONE_WRONG, 1, b"\\no 5 border 1\n", b""),
-    ("ten wrong modules and the limit 256", ["read", "--border", "256"], NO_BOTTOM_ROW, 0, b"123456\n", b""),
-    ("ten wrong modules and the largest limit", ["read", "--border", "65535"], NO_BOTTOM_ROW, 0, b"123456\n", b""),
-    ("a limit and the end of options", ["read", "--border", "1", "--"], ONE_WRONG, 0, b"123456\n", b""),
+    ("a wrong bottom row", "read --border 2", NO_BOTTOM_ROW, 1, b"\\no 5 border 10\n"),
+    ("a wrong bottom row that is accepted", "read --border 10", NO_BOTTOM_ROW, 0, b"123456\n"),
+    ("a check", "check --border=10", NO_BOTTOM_ROW, 0, b"ok 10 border 10 corrected 0\n"),
+    ("a check by the usual limit", "check", ONE_WRONG, 0, b"ok 10 border 1 corrected 0\n"),
+    ("the largest limit", "check --border 65535", TWO, 0, b"ok 10 border 0 corrected 0\n" * 2),
+    ("one wrong module by the usual limit", "read", ONE_WRONG, 0, b"123456\n"),
+    ("one wrong module and the limit 0", "read --border 0", ONE_WRONG, 1, b"\\no 5 border 1\n"),
+    ("ten wrong modules and the limit 256", "read --border 256", NO_BOTTOM_ROW, 0, b"123456\n"),
+    ("ten wrong modules and the largest limit", "read --border 65535", NO_BOTTOM_ROW, 0, b"123456\n"),
+    ("a limit and the end of options", "read --border 1 --", ONE_WRONG, 0, b"123456\n"),
 ]
 NORMAL = [
-    ("normal grids", ["normal"], TWO, 0, GRID_123456 + b"\n" + GRID_A + b"\n", b""),
-    ("a normal grid of a wrong bottom row", ["normal"], NO_BOTTOM_ROW, 1, b"\\no 5 border 10\n\n", b""),
-    ("a normal grid of one that is accepted", ["normal", "--border", "10"], NO_BOTTOM_ROW, 0, GRID_123456 + b"\n", b""),
-    ("a refused normal grid", ["normal"], b"10\n1\n", 1, b"\\no 3 shape\n\n", b""),
-    ("normal grids that are shortest in ASCII", ["normal", "--border", "1", "--shorter"], TWO, 0,
-     GRID_123456 + b"\n" + GRID_A + b"\n", b""),
-    ("a normal grid of one wrong module by the usual limit", ["normal"], ONE_WRONG, 0, GRID_123456 + b"\n", b""),
-    ("a normal grid of one wrong module and the limit 0", ["normal", "--border", "0"], ONE_WRONG, 1,
-     b"\\no 5 border 1\n\n", b""),
-    ("all options and the end of options", ["normal", "--border", "1", "--shorter", "--"], ONE_WRONG, 0,
-     GRID_123456 + b"\n", b""),
+    ("normal grids", "normal", TWO, 0, GRID_123456 + b"\n" + GRID_A + b"\n"),
+    ("a normal grid of a wrong bottom row", "normal", NO_BOTTOM_ROW, 1, b"\\no 5 border 10\n\n"),
+    ("a normal grid of one that is accepted", "normal --border 10", NO_BOTTOM_ROW, 0, GRID_123456 + b"\n"),
+    ("a refused normal grid", "normal", b"10\n1\n", 1, b"\\no 3 shape\n\n"),
+    ("normal grids, shortest in ASCII", "normal --border 1 --shorter", TWO, 0, GRID_123456 + b"\n" + GRID_A + b"\n"),
+    ("a normal grid of one wrong module by the usual limit", "normal", ONE_WRONG, 0, GRID_123456 + b"\n"),
+    ("a normal grid of one wrong module and the limit 0", "normal --border 0", ONE_WRONG, 1, b"\\no 5 border 1\n\n"),
+    ("all options and the end of options", "normal --border 1 --shorter --", ONE_WRONG, 0, GRID_123456 + b"\n"),
 ]
 WRITTEN = [
-    ("a line", ["write"], b"123456\n", 0, GRID_123456 + b"\n", b""),
-    ("a line without LF", ["write"], b"A", 0, GRID_A + b"\n", b""),
-    ("a refused line and another", ["write"], b"\\q\nA\n", 1, b"\\no 15 escape 1\n\n" + GRID_A + b"\n", b""),
-    ("a line that is shortest in ASCII", ["write", "--shorter"], b"123456\n", 0, GRID_123456 + b"\n", b""),
+    ("a line", "write", b"123456\n", 0, GRID_123456 + b"\n"),
+    ("a line without LF", "write", b"A", 0, GRID_A + b"\n"),
+    ("a refused line and another", "write", b"\\q\nA\n", 1, b"\\no 15 escape 1\n\n" + GRID_A + b"\n"),
+    ("a line that is shortest in ASCII", "write --shorter", b"123456\n", 0, GRID_123456 + b"\n"),
 ]
-# Name, and words for which the program has no use.
-WRONG_WORDS = [
-    ("the flag for read", ["read", "--shorter"]),
-    ("the flag for check", ["check", "--shorter"]),
-    ("the flag for table", ["table", "--shorter"]),
-    ("the flag before the subcommand", ["--shorter", "write"]),
-    ("the flag with a value", ["write", "--shorter=true"]),
-    ("the flag twice", ["write", "--shorter", "--shorter"]),
-    ("no word", []),
-    ("an unknown word", ["scribble"]),
-    ("an abbreviated word", ["wri"]),
-    ("a word too many", ["write", "write"]),
-    ("a request for help", ["--help"]),
-    ("a short request for help", ["-h"]),
-    ("a word for help", ["help"]),
-    ("a subcommand's help", ["read", "--help"]),
-    ("a limit without its number", ["read", "--border"]),
-    ("a limit that is too large", ["read", "--border", "65536"]),
-    ("a limit that is no number", ["read", "--border", "ten"]),
-    ("two limits", ["read", "--border", "1", "--border", "2"]),
-    ("four words and one too many", ["read", "--border", "1", "2"]),
-    ("four words and two too many", ["read", "--border", "1", "2", "3"]),
-    ("four words and many too many", ["read", "--border", "1"] + ["read"] * 60),
-    ("a limit for write", ["write", "--border", "1"]),
-    ("a limit for table", ["table", "--border", "1"]),
-    ("a limit before the subcommand", ["--border", "1", "read"]),
-    ("four words and an empty one", ["read", "--border", "1", ""]),
-    ("five words", ["normal", "--border", "1", "--shorter", "1"]),
-    ("six words", ["normal", "--border", "1", "--shorter", "1", "2"]),
-    ("a word after the end of options", ["normal", "--border", "1", "--shorter", "--", "1"]),
-    ("the end of options before the subcommand", ["--", "read"]),
-    ("an empty word", ["read", ""]),
-    ("a word that isn't UTF-8", [b"\xff"]),
-    ("a second word that isn't UTF-8", ["read", b"\xff"]),
-]
+# Words for which the program has no use, as a text or, if one is empty or no text, one by one.
+WRONG_WORDS = {"the flag for read": "read --shorter", "the flag for check": "check --shorter",
+               "the flag for table": "table --shorter", "the flag before the subcommand": "--shorter write",
+               "the flag with a value": "write --shorter=true", "the flag twice": "write --shorter --shorter",
+               "no word": "", "an unknown word": "scribble", "an abbreviated word": "wri",
+               "a word too many": "write write", "a request for help": "--help", "a short request for help": "-h",
+               "a word for help": "help", "a subcommand's help": "read --help",
+               "a limit without its number": "read --border", "a limit that is too large": "read --border 65536",
+               "a limit that is no number": "read --border ten", "two limits": "read --border 1 --border 2",
+               "four words and one too many": "read --border 1 2", "four words and two too many": "read --border 1 2 3",
+               "four words and many too many": "read --border 1" + " read" * 60,
+               "a limit for write": "write --border 1", "a limit for table": "table --border 1",
+               "a limit before the subcommand": "--border 1 read",
+               "four words and an empty one": ["read", "--border", "1", ""],
+               "five words": "normal --border 1 --shorter 1", "six words": "normal --border 1 --shorter 1 2",
+               "a word after the end of options": "normal --border 1 --shorter -- 1",
+               "the end of options before the subcommand": "-- read", "an empty word": ["read", ""],
+               "a word that isn't UTF-8": [b"\xff"], "a second word that isn't UTF-8": ["read", b"\xff"]}
 # Name, message line, and the sides of its grids with --shorter and without it; None if no size holds it.
 PROFILES = [
     ("three bytes", rb"\x80\x80\x80", 12, 14),
@@ -97,7 +77,8 @@ PROFILES = [
 class Answers(Case):
     def answers(self, table):
         """Runs the program for each row of a table."""
-        self.rows((name, ran(words, given), tuple(wanted)) for name, words, given, *wanted in table)
+        self.rows((name, ran(words.split(), given), (status, output, b""))
+                  for name, words, given, status, output in table)
 
     def test_records_are_read(self):
         self.answers(READ)
@@ -115,7 +96,8 @@ class Answers(Case):
         self.rows([("the table", ran(["table"], b"1\n"), (0, TABLE, b""))])
 
     def test_wrong_words_are_answered_by_the_usage(self):
-        self.rows((name, ran(words), (2, b"", USAGE)) for name, words in WRONG_WORDS)
+        for name, words in WRONG_WORDS.items():
+            self.row(name, ran(words.split() if isinstance(words, str) else words), (2, b"", USAGE))
 
 
 @needs.program

@@ -15,6 +15,7 @@ PACKAGE = package.tree()
 if not os.path.isfile(SAMPLER) and not places.OTHER_LIBRARY:
     needs.made("sampler")
 PYTHON = "/usr/bin/python3"  # Debian's, for which numpy, Pillow and mypy are installed
+WORDS = [PYTHON, "-m", "ecc200"]
 
 # Each of some hundreds of interpreters would compile the package anew otherwise.
 subprocess.run([PYTHON, "-m", "compileall", "-q", PACKAGE], check=True)
@@ -25,6 +26,27 @@ def libraries():
     return {"ECC200_LIBRARY": SHARED, **({"ECC200_SAMPLE_LIBRARY": SAMPLER} if os.path.isfile(SAMPLER) else {})}
 
 
+def run(words, given=b"", **more):
+    """Status, output and errors of a command."""
+    done = subprocess.run(words, input=given, stdout=subprocess.PIPE, stderr=subprocess.PIPE, timeout=600, **more)
+    return done.returncode, done.stdout.decode(errors="replace"), done.stderr.decode(errors="replace")
+
+
+def clean(**more):
+    """An environment with the least in it."""
+    return {"PATH": "/usr/bin:/bin", "PYTHONDONTWRITEBYTECODE": "1", "LC_ALL": "C.UTF-8", **more}
+
+
+def environment():
+    return clean(PYTHONPATH=PACKAGE, **libraries())
+
+
+def ecc(words="", *more, given=b"", folder=None):
+    """Status, output and errors of the command with the words of a text, and with more words."""
+    given = given.encode() if isinstance(given, str) else given
+    return run([*WORDS, *words.split(), *more], given, env=environment(), cwd=folder)
+
+
 class PackageCase(Rows):
     """The cases of a module, in the environment in which the package finds its libraries, with a folder for all."""
 
@@ -33,6 +55,15 @@ class PackageCase(Rows):
         cls.enterClassContext(mock.patch.dict(os.environ, libraries()))
         cls.room = cls.folder_of_class()
         os.chmod(cls.room, 0o755)
+
+    def made(self, name):
+        """Makes a folder, in which `self.ecc` then runs the command."""
+        self.here = os.path.join(self.room, name)
+        os.mkdir(self.here)
+        return self.here
+
+    def ecc(self, words, *more, given=b""):
+        return ecc(words, *more, given=given, folder=self.here)
 
     def raises(self, name, kind, part, call):
         """That a call raises this kind of exception, whose words have this part."""
@@ -57,17 +88,6 @@ class PackageCase(Rows):
     def has_sampler(self, what):
         """Whether the sampler's library is built; if it isn't, what needs it is left out."""
         return os.path.isfile(SAMPLER) or self.leave_out(f"{what} (the library ecc200_sample isn't built)")
-
-
-def run(words, given=b"", **more):
-    """Status, output and errors of a command."""
-    done = subprocess.run(words, input=given, stdout=subprocess.PIPE, stderr=subprocess.PIPE, timeout=600, **more)
-    return done.returncode, done.stdout.decode(errors="replace"), done.stderr.decode(errors="replace")
-
-
-def clean(**more):
-    """An environment with the least in it."""
-    return {"PATH": "/usr/bin:/bin", "PYTHONDONTWRITEBYTECODE": "1", "LC_ALL": "C.UTF-8", **more}
 
 
 def marks():

@@ -8,8 +8,8 @@ import re
 import subprocess
 import tempfile
 
-from tests.python.common import PACKAGE, PYTHON, SAMPLER, TOP, PackageCase, marks, run
-from tests.python.test_surface import WORDS, ecc, edifact, environment, hurt, text
+from tests.python.common import PACKAGE, PYTHON, SAMPLER, TOP, WORDS, PackageCase, ecc, environment, marks, run
+from tests.python.test_surface import edifact, hurt, text
 from tests.support import needs
 
 import ecc200
@@ -35,7 +35,7 @@ class Comparing(PackageCase):
             if os.path.isfile(SAMPLER):
                 self.says(f"{name} pages", ecc("read", path), output="first\nthird\n")
         if os.path.isfile(SAMPLER):
-            told = [json.loads(line) for line in ecc("read", "--json", path)[1].splitlines()]
+            told = [json.loads(line) for line in ecc("read --json", path)[1].splitlines()]
             self.row("pages in JSON", [(one["symbol"], one["page"]) for one in told], [(1, 1), (2, 2)])
         turned, exif = first.transpose(pillow.Image.ROTATE_90), pillow.Image.Exif()
         exif[274] = 6  # shown turned by a quarter, clockwise
@@ -91,10 +91,10 @@ class Comparing(PackageCase):
         status, output, errors = ecc("explain", given=text(hurt(5)))
         self.holds("explain beyond correction", status == 1 and "beyond correction" in output
                    and "block 1 of its 1" in errors, output + errors)
-        words = json.loads(ecc("explain", "--json", given=text(ecc200.write(b"12")))[1])["codewords"]
+        words = json.loads(ecc("explain --json", given=text(ecc200.write(b"12")))[1])["codewords"]
         first = {"place": 1, "value": 142, "held": 142, "encodation": "ASCII", "meaning": "the digits 12"}
         self.row("explain --json", (words[0], len(words)), (first, 8))
-        status, output, _ = ecc("explain", "--usual", given=edifact())
+        status, output, _ = ecc("explain --usual", given=edifact())
         self.holds("explain --usual", status == 1 and "what can't be read begins here" in output, output)
 
     def test_spellings(self):

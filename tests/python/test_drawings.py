@@ -360,8 +360,7 @@ class Drawings(PackageCase):
         self.holds("the sampler by the file alone", one.has_sampler())
         rows, colours = ecc200.write(b"Mitsubadoor"), numpy.stack([array] * 3, axis=2)
         for name, given, is_inverted in [("upright", array, False), ("inverted", 255 - array, True),
-                                         ("colours", colours, False),
-                                         ("turned colours", numpy.rot90(colours), False),
+                                         ("colours", colours, False), ("turned colours", numpy.rot90(colours), False),
                                          ("transparent", numpy.insert(colours, 3, 255, axis=2), False),
                                          ("Pillow's", image.fromarray(array), False),
                                          ("a buffer", memoryview(array), False),

@@ -79,8 +79,7 @@ class Elements(PackageCase):
         self.row("as text again", gs1.text(gs1.split(reading.data)), WORKED)
         turned = gs1.parse("(10)ABC123(21)X(01)09521234543213(37)12(17)251231")
         self.row("FNC1 behind variable lengths", gs1.items(turned),
-                 [256, *b"10ABC123", 256, *b"21X", 256, *b"0109521234543213", *b"3712", 256,
-                  *b"17251231"])
+                 [256, *b"10ABC123", 256, *b"21X", 256, *b"0109521234543213", *b"3712", 256, *b"17251231"])
         self.row("FNC1 behind a fixed length that scanners don't know",
                  gs1.message(gs1.parse("(402)12345678901234560(10)A")), b"40212345678901234560\x1d10A")
         self.row("a needless separator", gs1.split(b"0109521234543213\x1d10A\x1d"),

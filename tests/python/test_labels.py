@@ -7,10 +7,9 @@ import struct
 import subprocess
 import termios
 
-from tests.python.common import SAMPLER, PackageCase, run
-from tests.python.test_batches import made, symbols
+from tests.python.common import SAMPLER, WORDS, PackageCase, ecc, environment, run
+from tests.python.test_batches import symbols
 from tests.python.test_drawings import pixels
-from tests.python.test_surface import WORDS, ecc, environment
 from tests.support import needs, work
 
 import ecc200
@@ -39,12 +38,10 @@ def lines_of(name):
 class Labels(PackageCase):
     def test_captions(self):
         """The text below a symbol: GS1 data with its brackets, and other text with the letters that were given."""
-        here = made(self.room, "captions")
+        here = self.made("captions")
         for kind in ("svg", "pdf", "png"):
-            self.says(f"GS1 in {kind}", ecc("write", "--gs1", GS1, "--caption", "-o", f"gs1.{kind}", folder=here),
-                      output="")
-            self.says(f"text in {kind}", ecc("write", "a<b & \"c\" (d\\", "--caption", "-o", f"text.{kind}",
-                                             folder=here), output="")
+            self.says(f"GS1 in {kind}", self.ecc("write --gs1", GS1, "--caption", "-o", f"gs1.{kind}"), output="")
+            self.says(f"text in {kind}", self.ecc("write --caption -o", f"text.{kind}", "a<b & \"c\" (d\\"), output="")
         drawn = open(os.path.join(here, "gs1.svg")).read()
         self.row("its lines, elements whole", re.findall(">([^<]+)</text>", drawn),
                  ["(01)09521234543213", "(17)251231(10)ABC123"])
@@ -54,21 +51,18 @@ class Labels(PackageCase):
             self.row("in PDF", lines_of(os.path.join(here, "gs1.pdf")), ["(01)09521234543213", "(17)251231(10)ABC123"])
             self.row("letters of PDF", lines_of(os.path.join(here, "text.pdf")), ["a<b", "&", '"c"', "(d\\"])
         if self.wanted_module("PIL.Image", "Pillow", "labels with captions that are read") and os.path.isfile(SAMPLER):
-            self.says("a label is read", ecc("read", "gs1.png", folder=here), output=GS1 + "\n")
-            self.says("a label of text is read", ecc("read", "text.png", folder=here), output='a<b & "c" (d\\\\\n')
-        self.says("a letter that a PNG hasn't", ecc("write", "\u65e5", "--caption", "-o", "a.png", folder=here),
+            self.says("a label is read", self.ecc("read gs1.png"), output=GS1 + "\n")
+            self.says("a label of text is read", self.ecc("read text.png"), output='a<b & "c" (d\\\\\n')
+        self.says("a letter that a PNG hasn't", self.ecc("write", "\u65e5", "--caption", "-o", "a.png"),
                   errors=["symbol 1", "'\u65e5'", ".svg"])
         for letters in ("Gr\u00f6\u00dfe 5 \u20ac", "\u00c5ngstr\u00f6m na\u00efve fa\u00e7ade \u0160koda", "e\u0301"):
-            self.says(f"letters that a PNG has, {letters}", ecc("write", letters, "--caption", "-o", "a.png",
-                                                                folder=here), output="")
-        self.says("a letter that a PDF hasn't", ecc("write", "\u65e5", "--caption", "-o", "a.pdf", folder=here),
+            self.says(f"letters that a PNG has, {letters}", self.ecc("write --caption -o a.png", letters), output="")
+        self.says("a letter that a PDF hasn't", self.ecc("write", "\u65e5", "--caption", "-o", "a.pdf"),
                   errors=["'\u65e5'"])
-        self.says("a letter that an SVG has", ecc("write", "\u65e5", "--caption", "-o", "a.svg", folder=here),
-                  output="")
-        self.says("a grid has none", ecc("write", "A", "--caption", "-o", "a.txt", folder=here), 2, "", ["--caption"])
-        grid = ecc("write", "--gs1", GS1)[1]
-        self.says("normal with a caption", ecc("normal", "--caption", "-o", "normal.svg", given=grid, folder=here),
-                  output="")
+        self.says("a letter that an SVG has", self.ecc("write", "\u65e5", "--caption", "-o", "a.svg"), output="")
+        self.says("a grid has none", self.ecc("write A --caption -o a.txt"), 2, "", ["--caption"])
+        grid = ecc("write --gs1", GS1)[1]
+        self.says("normal with a caption", self.ecc("normal --caption -o normal.svg", given=grid), output="")
         with open(os.path.join(here, "normal.svg")) as normal, open(os.path.join(here, "gs1.svg")) as gs1:
             self.row("is the same label", normal.read(), gs1.read())
 
@@ -105,10 +99,9 @@ class Labels(PackageCase):
 
     def test_captions_on_sheets(self):
         """Each symbol on a sheet has its caption below it, and nothing overlaps."""
-        here = made(self.room, "sheets")
+        here = self.made("sheets")
         messages = [f"SN-{number:04}" for number in range(40)]
-        self.says("a sheet with captions",
-                  ecc("write", "--sheet", "--caption", "-o", "sheet.pdf", given="\n".join(messages), folder=here),
+        self.says("a sheet with captions", self.ecc("write --sheet --caption -o sheet.pdf", given="\n".join(messages)),
                   output="")
         if self.has("pdftotext", "captions of sheets"):
             self.row("all captions", sorted(lines_of(os.path.join(here, "sheet.pdf"))), messages)
@@ -125,49 +118,46 @@ class Labels(PackageCase):
                    "nothing overlaps", apart
                    and all(box[0] >= 10 - 1e-6 and box[2] <= 200 + 1e-6 and box[3] <= 287 + 1e-6 for box in boxes))
         if self.wanted_module("PIL.Image", "Pillow", "sheets with captions that are read") and os.path.isfile(SAMPLER):
-            ecc("write", "--sheet", "100x60", "--caption", "-o", "sheet.png", given="\n".join(messages[:12]),
-                folder=here)
-            status, output, _ = ecc("read", "--all", "--time", "20000", "sheet.png", folder=here)
+            self.ecc("write --sheet 100x60 --caption -o sheet.png", given="\n".join(messages[:12]))
+            status, output, _ = self.ecc("read --all --time 20000 sheet.png")
             self.row("a sheet with captions is read", (status, sorted(output.split())), (0, messages[:12]))
-            first = ecc("read", "--time", "20000", "sheet.png", folder=here)
+            first = self.ecc("read --time 20000 sheet.png")
             self.holds("by default the first alone", first[0] == 3 and first[1].strip() in messages
                        and first[1].count("\n") == 1, str(first))
-            self.row("--most 3",
-                     ecc("read", "--most", "3", "--time", "20000", "sheet.png", folder=here)[1].count("\n"), 3)
-            got = ecc("compare", "--time", "5000", "sheet.png", "sheet.png", folder=here)
+            self.row("--most 3", self.ecc("read --most 3 --time 20000 sheet.png")[1].count("\n"), 3)
+            got = self.ecc("compare --time 5000 sheet.png sheet.png")
             self.holds("compare doesn't choose one", got[0] >= 2 and "there must be one symbol" in got[2], str(got))
 
     def test_names(self):
         """Files that are named by their messages."""
-        here = made(self.room, "names")
-        got = ecc("write", "-o", "lot-{}.svg", "--", "A/1", "../etc", "A:1", "A 1", "caf\u00e9", "", "x" * 300, "-rf",
-                  folder=here)
+        here = self.made("names")
+        got = self.ecc("write -o", "lot-{}.svg", "--", "A/1", "../etc", "A:1", "A 1", "caf\u00e9", "", "x" * 300, "-rf")
         self.says("names from messages", got, output="")
         self.row("they are safe, and each has its own", sorted(os.listdir(here)),
                  sorted(["lot-A_1.svg", "lot-etc.svg", "lot-A_1-3.svg", "lot-A_1-4.svg", "lot-caf\u00e9.svg",
                          "lot-empty.svg", f"lot-{'x' * 150}.svg", "lot-rf.svg"]))
-        self.says("grids in files of their own", ecc("write", "-o", "{}.txt", "A", "B", folder=here), output="")
+        self.says("grids in files of their own", self.ecc("write -o", "{}.txt", "A", "B"), output="")
         self.row("one grid each", [open(os.path.join(here, f"{name}.txt")).read() for name in "AB"],
                  [symbols(b"A"), symbols(b"B")])
-        self.says("GS1", ecc("write", "--gs1", "-o", "{}.svg", GS1, folder=here), output="")
+        self.says("GS1", self.ecc("write --gs1 -o", "{}.svg", GS1), output="")
         self.holds("its name", os.path.isfile(os.path.join(here, "01_09521234543213_17_251231_10_ABC123.svg")),
                    str(os.listdir(here)))
         os.mkdir(os.path.join(here, "in the way.svg"))
-        got = ecc("write", "-o", "{} the way.svg", "on", "in", "by", folder=here)
+        got = self.ecc("write -o", "{} the way.svg", "on", "in", "by")
         self.says("a file that can't be written", got, 2, "", ["ecc200: in the way.svg: Is a directory"])
         self.row("the others are", [name for name in sorted(os.listdir(here)) if "way" in name],
                  ["by the way.svg", "in the way.svg", "on the way.svg"])
-        self.says("a sheet can't be named so", ecc("write", "-o", "{}.pdf", "--sheet", "--", "A", folder=here), 2, "",
+        self.says("a sheet can't be named so", self.ecc("write -o", "{}.pdf", "--sheet", "--", "A"), 2, "",
                   ["a sheet has several"])
-        self.says("an end in capitals", ecc("write", "-o", "LABEL.PNG", "A", folder=here), output="")
+        self.says("an end in capitals", self.ecc("write -o LABEL.PNG A"), output="")
         self.row("is a PNG", open(os.path.join(here, "LABEL.PNG"), "rb").read(4), b"\x89PNG")
-        self.says("a name without an end", ecc("write", "-o", "label", "--format", "pdf", "A", folder=here), output="")
+        self.says("a name without an end", self.ecc("write -o label --format pdf A"), output="")
         self.row("is what was asked for", open(os.path.join(here, "label"), "rb").read(5), b"%PDF-")
-        self.says("--sheet without -o", ecc("write", "--sheet", "--", "A", folder=here), 2, "", ["-o FILE"])
+        self.says("--sheet without -o", self.ecc("write --sheet -- A"), 2, "", ["-o FILE"])
 
     def test_output(self):
         """Pictures on standard output."""
-        here = made(self.room, "output")
+        here = self.made("output")
 
         def out(*words):
             done = subprocess.run([*WORDS, "write", *words], stdout=subprocess.PIPE, stderr=subprocess.PIPE,
@@ -175,7 +165,7 @@ class Labels(PackageCase):
             return done.returncode, done.stdout
 
         for kind in ("png", "svg", "pdf"):
-            ecc("write", "A", "-o", f"a.{kind}", folder=here)
+            self.ecc("write A -o", f"a.{kind}")
             with open(os.path.join(here, f"a.{kind}"), "rb") as file:
                 data = file.read()
             self.row(f"--format {kind}",
@@ -184,8 +174,8 @@ class Labels(PackageCase):
         self.row("no file of that name", os.path.exists(os.path.join(here, "-")), False)
         status, pages = out("A", "B", "C", "--format", "pdf")
         self.row("a page for each symbol", (status, pages.count(b"/Type /Page ")), (0, 3))
-        self.says("two pictures in one stream", ecc("write", "A", "B", "--format", "png"), 2, "", ["2 pictures"])
-        status, shown, _ = ecc("write", "A", "--format", "blocks", "--caption", "--quiet-zone", "1")
+        self.says("two pictures in one stream", ecc("write A B --format png"), 2, "", ["2 pictures"])
+        status, shown, _ = ecc("write A --format blocks --caption --quiet-zone 1")
         self.row("half blocks into a pipe", (of_blocks(shown.split("\n")[:6], 1), shown.split("\n")[6:]),
                  (symbols(b"A"), ["A", "", ""]))
         narrow = run([*WORDS, "write", "A", "--format", "blocks"], env={**environment(), "PYTHONIOENCODING": "latin-1"})
@@ -223,23 +213,16 @@ class Labels(PackageCase):
 
     def test_sizes(self):
         """A module that a PNG can't have is said in dots; what can't be drawn is refused."""
-        here = made(self.room, "sizes")
+        self.made("sizes")
         for words, said in [(("--module", "0.3mm", "--dpi", "203"), "2 dots, 0.25 mm"),
                             (("--module", "0.1mm", "--dpi", "100"), "1 dot, 0.254 mm"), ((), ""),
                             (("--dpi", "72"), "1 dot, 0.353 mm"), (("--module", "2", "--dpi", "203"), ""),
                             (("--module", "0.25mm", "--dpi", "203"), "")]:
-            self.says(f"a PNG, {words}", ecc("write", "A", "-o", "a.png", *words, folder=here), output="",
+            self.says(f"a PNG, {words}", self.ecc("write A -o a.png", *words), output="",
                       errors=[said] if said else None)
-            self.says(f"an SVG, {words}", ecc("write", "A", "-o", "a.svg", *words, folder=here), output="")
-        for name, more in (("quiet", {
-                "quiet": -3
-        }), ("module", {
-                "module": -1
-        }), ("module 0", {
-                "module": 0.0
-        }), ("module nan", {
-                "module": float("nan")
-        })):
+            self.says(f"an SVG, {words}", self.ecc("write A -o a.svg", *words), output="")
+        for name, more in (("quiet", {"quiet": -3}), ("module", {"module": -1}), ("module 0", {"module": 0.0}),
+                           ("module nan", {"module": float("nan")})):
             self.raises(f"encode, {name}", ValueError, "unlike", lambda more=more: ecc200.encode(b"A", **more))
             self.raises(f"a page, {name}", ValueError, "unlike",
                         lambda more=more: drawing.alone(ecc200.write(b"A"), **{"module": 1.0, "quiet": 1, **more}))
@@ -254,12 +237,12 @@ class Labels(PackageCase):
         what = "the time of many pictures"
         if not self.wanted_module("PIL.Image", "Pillow", what) or not self.has_sampler(what):
             return
-        here = made(self.room, "first")
-        ecc("write", "-o", "label.png", given="\n".join(f"number {count}" for count in range(100)), folder=here)
+        self.made("first")
+        self.ecc("write -o label.png", given="\n".join(f"number {count}" for count in range(100)))
         pieces = {}
         for words in ((), ("--all", )):
             with work.measured() as took:
-                status, read, _ = ecc("read", "-r", "--no-filename", *words, folder=here)
+                status, read, _ = self.ecc("read -r --no-filename", *words)
             pieces[words] = took.pieces
             self.row(f"many pictures {words}", (status, read.split("\n")[:2], read.count("\n")),
                      (0, ["number 0", "number 1"], 100))

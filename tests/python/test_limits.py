@@ -8,9 +8,9 @@ import struct
 import warnings
 from unittest import mock
 
-from tests.python.common import PackageCase
-from tests.python.test_batches import made, saved, shell, symbols
-from tests.python.test_surface import ecc, text
+from tests.python.common import PackageCase, ecc
+from tests.python.test_batches import saved, shell, symbols
+from tests.python.test_surface import text
 from tests.support import needs
 
 import ecc200
@@ -68,7 +68,7 @@ class Limits(PackageCase):
         """Each file is answered or named, whatever the others are, and each page that can be opened."""
         if not self.is_possible("damaged pictures"):
             return
-        here = made(self.room, "damaged")
+        here = self.made("damaged")
         names = ["first.png", "next.tif", "three.tif", "last.png"]
         for name, message in (("first.png", b"1"), ("next.tif", b"2"), ("last.png", b"4")):
             picture_of(message).save(os.path.join(here, name))
@@ -78,7 +78,7 @@ class Limits(PackageCase):
             file.truncate(os.path.getsize(file.name) - 50)
         output = "first.png:1\nnext.tif:2\nthree.tif:3\nlast.png:4\n"
         for jobs in ("1", "3"):
-            got = ecc("read", "--jobs", jobs, *names, folder=here)
+            got = self.ecc("read --jobs", jobs, *names)
             self.says(f"damaged pages, {jobs} at a time", got, 2, output,
                       ["ecc200: next.tif: page 2 of the picture can't be opened", "ecc200: three.tif: page 2 of"])
             self.row("each is named once", got[2].count("\n"), 2)
@@ -92,7 +92,7 @@ class Limits(PackageCase):
         if not self.is_possible("little memory"):
             return
         from PIL import Image
-        here = made(self.room, "memory")
+        here = self.made("memory")
         picture_of(b"small").save(os.path.join(here, "a.png"))
         Image.new("RGBA", (5000, 5000)).save(os.path.join(here, "large.png"), compress_level=1)
         picture_of(b"last").save(os.path.join(here, "z.png"))
@@ -115,7 +115,7 @@ class Limits(PackageCase):
             return
         from concurrent.futures import ThreadPoolExecutor
         from ecc200 import reporting, sources
-        here = made(self.room, "exhausted")
+        here = self.made("exhausted")
         names = [os.path.join(here, f"{number}.png") for number in range(3)]
         for number, name in enumerate(names):
             picture_of(b"%d" % number).save(name)
@@ -146,7 +146,7 @@ class Limits(PackageCase):
 
     def test_endless(self):
         """Input without an end has a bound."""
-        here = made(self.room, "endless")
+        here = self.made("endless")
         rows = [("a row of a grid", f"{ENDLESS.format('1')} | $E read", 2, "more than 4096 characters"),
                 ("a row of doubtful modules", f"$E read --doubtful <({ENDLESS.format('1')}) label.txt", 2,
                  "more than 4096 characters"),
@@ -212,11 +212,11 @@ class Limits(PackageCase):
         self.raises("other characters in lists", core.Refused, "unlike '2", lambda: core.read([["2"], ["1"]]))
         self.raises("half a module of quiet zone", TypeError, "quiet zone", lambda: ecc200.encode(b"A", quiet=1.5))
         for words in (("--sheet", "9" * 400 + "x5"), ("--sheet", "0x5"), ("--module", "9" * 400)):
-            got = ecc("write", "A", "-o", "a.svg", *words)
+            got = ecc("write A -o a.svg", *words)
             self.says(f"{words[0]} {words[1][:9]}", got, 2, "", ["ecc200: "])
             self.holds("no traceback", "Traceback" not in got[2] and got[2].count("\n") == 1, got[2])
         for words in (("--dpi", "9" * 5000), ("--size", "9" * 5000 + "x8"), ("--quiet-zone", "9" * 5000)):
-            self.says(f"{words[0]} with 5000 digits", ecc("write", "A", *words), 2, "", ["wanted, "])
+            self.says(f"{words[0]} with 5000 digits", ecc("write A", *words), 2, "", ["wanted, "])
 
     def test_arrays(self):
         """Arrays in which pixels are modules, and of any numbers, are read."""

@@ -7,9 +7,9 @@ import re
 
 from tests import corpus
 from tests.library import model
-from tests.python.common import PackageCase, run
+from tests.python.common import PackageCase, ecc, run
 from tests.python.test_sizes import outcome
-from tests.python.test_surface import ecc, text
+from tests.python.test_surface import text
 from tests.support import needs
 
 import ecc200
@@ -34,7 +34,7 @@ def put(folder, name, content):
 
 def escapes(*words, given=b""):
     """What the symbols say, spelled, that `ecc200 write` makes of these words."""
-    return ecc("read", "--escapes", given=ecc("write", *words, given=given)[1])[1]
+    return ecc("read --escapes", given=ecc("write", *words, given=given)[1])[1]
 
 
 def all_texts():
@@ -75,9 +75,9 @@ class Messages(PackageCase):
         file = put(self.room, "sizes.txt", corpus.grids(records))
         lines = [mark.said for mark in records]
         self.row("there are 99", len(records), 99)
-        status, output, errors = ecc("read", "--escapes", file)
+        status, output, errors = ecc("read --escapes", file)
         self.row("read --escapes", (status, errors, output.splitlines()), (0, "", lines))
-        status, output, errors = ecc("read", "--json", file)
+        status, output, errors = ecc("read --json", file)
         told = [json.loads(line) for line in output.splitlines()]
         self.row("read --json", (status, errors, [one["message"] for one in told]), (0, "", lines))
         for mark, one in zip(records, told):
@@ -93,12 +93,12 @@ class Messages(PackageCase):
         self.row("normal", (status, errors.count("longer than"), output),
                  (1, len(normals) - len(kept), "".join(text(rows) if isinstance(rows, list) else "\\no\n\n"
                                                        for rows in normals)))
-        self.row("normal grids are read", ecc("read", "--escapes", given=output)[1].splitlines(),
+        self.row("normal grids are read", ecc("read --escapes", given=output)[1].splitlines(),
                  [line if isinstance(rows, list) else "\\no" for line, rows in zip(lines, normals)])
-        status, output, errors = ecc("write", "--escapes", given="\n".join(lines))
+        status, output, errors = ecc("write --escapes", given="\n".join(lines))
         self.row("write --escapes", (status, errors), (0, ""))
-        self.row("what is written is read", ecc("read", "--escapes", given=output)[1].splitlines(), lines)
-        status, output, errors = ecc("write", "--escapes", "--form", "ascii", given="\n".join(lines))
+        self.row("what is written is read", ecc("read --escapes", given=output)[1].splitlines(), lines)
+        status, output, errors = ecc("write --escapes --form ascii", given="\n".join(lines))
         self.row("the normal form is the normal grid", output, "".join(map(text, kept)))
         self.row("check", [line.split(",")[0] for line in ecc("check", file)[1].splitlines()],
                  [f"{mark.rows}x{mark.columns}" for mark in records])
@@ -106,7 +106,7 @@ class Messages(PackageCase):
         identifiers = re.findall("^Its symbology identifier is (.*)$", output, re.M)
         self.row("explain", (status, errors, identifiers), (0, "", [one["identifier"] for one in told]))
         strange = [said for said in lines if re.match(r"\\[EAP]", said)]
-        status, output, errors = ecc("read", "--usual", "--escapes", file)
+        status, output, errors = ecc("read --usual --escapes", file)
         self.row("--usual refuses ECI and heads", (status, [said for said in output.splitlines() if said in strange],
                                                    errors.count("leave out --usual") >= len(strange) > 15),
                  (1, [], True))
@@ -122,7 +122,7 @@ class Messages(PackageCase):
             for more in ((), ("--usual",)) if words == ("--basic",) else ((),):
                 self.says(f"read {more} of {words}", ecc("read", *more, given=output),
                           output="".join(one.replace("\\", "\\\\") + "\n" for one in some))
-            told = [json.loads(line) for line in ecc("read", "--json", given=output)[1].splitlines()]
+            told = [json.loads(line) for line in ecc("read --json", given=output)[1].splitlines()]
             self.row(f"JSON of {words}", [one["text"] for one in told], some)
         for words, kept in areas.items():
             if words != ("--shape", "any") and words != ("--basic",) and words != ("--charset", "utf-8"):
@@ -135,7 +135,7 @@ class Messages(PackageCase):
         if not self.has("ZXingReader", "texts read by zxing-cpp"):
             return
         some = all_texts()
-        ecc("write", "-o", "text.png", "--module", "5", given="\n".join(some), folder=self.room)
+        ecc("write -o text.png --module 5", given="\n".join(some), folder=self.room)
         for number, one in enumerate(some, 1):
             _, output, _ = run(["ZXingReader", "-format", "DataMatrix", f"text-{number:03}.png"], cwd=self.room)
             found = re.search(r'^Text: +"(.*)"$', output, re.M)
@@ -145,7 +145,7 @@ class Messages(PackageCase):
             (("--programming", "SETUP"), "Reader Initialisation/Programming"),
             (("--eci", "26", "--gs1", "(10)A"), "Content:    GS1"),
         ]:
-            ecc("write", "-o", "head.png", "--module", "5", *words, folder=self.room)
+            ecc("write -o head.png --module 5", *words, folder=self.room)
             output = run(["ZXingReader", "-format", "DataMatrix", "head.png"], cwd=self.room)[1]
             self.holds(f"{words} by zxing-cpp", told in output.splitlines(), output)
 
@@ -219,7 +219,7 @@ class Messages(PackageCase):
         ]:
             grid = text(ecc200.write(items, marks=marks))
             self.says(f"read {words} of {items!r}, {marks}", ecc("read", *words, given=grid), output=wanted + "\n")
-        told = json.loads(ecc("read", "--json", given=text(ecc200.write(b"\xe9", marks=[(0, 26)])))[1])
+        told = json.loads(ecc("read --json", given=text(ecc200.write(b"\xe9", marks=[(0, 26)])))[1])
         self.row("JSON of what is no text", (told["text"], told["charset"], told["hex"], told["message"]),
                  (None, "utf-8", "e9", r"\E{26}\xE9"))
 
@@ -230,45 +230,45 @@ class Messages(PackageCase):
             for words, form in FORMS.items():
                 self.says(f"write {words} {message!r}", ecc("write", *words, "--hex", message.hex()),
                           output=text(ecc200.write(message, form=form)))
-            basic = ecc("write", "--basic", "--hex", message.hex())[1]
+            basic = ecc("write --basic --hex", message.hex())[1]
             self.row(f"--basic {message!r}", basic, text(ecc200.write(message, form=Form.SMALLEST,
                                                                       extent=Extent.USUAL)))
-            self.row(f"it is read with --usual, {message!r}", ecc("read", "--usual", "--hex", given=basic)[1],
+            self.row(f"it is read with --usual, {message!r}", ecc("read --usual --hex", given=basic)[1],
                      message.hex() + "\n")
-        self.row("--shorter is --form shorter", ecc("write", "--shorter", "--hex", "80" * 9),
-                 ecc("write", "--form", "shorter", "--hex", "80" * 9))
+        self.row("--shorter is --form shorter", ecc("write --shorter --hex", "80" * 9),
+                 ecc("write --form shorter --hex", "80" * 9))
         largest = max(ecc200.sizes(), key=lambda size: size.data_codewords)
         fits = [b"7" * 3116, b"A" * 2335, b"\xff" * 1556]
         for message in fits:
             longer = message + message[:1]
-            self.says(f"{len(message)} of {message[:1]}", ecc("write", "--bytes", "-", given=message)[:1] + ("", ""))
-            self.says(f"{len(longer)} of {message[:1]}", ecc("write", "--bytes", "-", given=longer), 1, "",
+            self.says(f"{len(message)} of {message[:1]}", ecc("write --bytes -", given=message)[:1] + ("", ""))
+            self.says(f"{len(longer)} of {message[:1]}", ecc("write --bytes -", given=longer), 1, "",
                       ["3116 digits, 2335 capitals, or 1556 bytes of any kind"])
         self.row("the largest size", largest.data_codewords, 1558)
 
     def test_heads(self):
         """Parts of what several symbols say, and reader programming, are written, and told by each subcommand."""
-        made = ecc("write", "--append", "2/4:001002", "one", "two", "three")[1]
+        made = ecc("write --append 2/4:001002 one two three")[1]
         self.says("parts that follow one another", ecc("read", given=made),
                   output="\\A{2/4:001002}one\n\\A{3/4:001002}two\n\\A{4/4:001002}three\n")
-        self.says("more messages than parts", ecc("write", "--append", "4/4", "one", "two"), 1,
+        self.says("more messages than parts", ecc("write --append 4/4 one two"), 1,
                   text(ecc200.write(b"one", head=(4, 4, 1, 1), form=Form.SMALLEST)),
                   ["message 2: it would be part 5, and there are 4"])
         part = put(self.room, "part", text(ecc200.write(b"0109521234543213", True, head=(2, 4, 1, 2))))
         setup = put(self.room, "setup", text(ecc200.write(b"A\xe9", head="programming")))
-        self.says("read", ecc("read", "--no-filename", part, setup),
+        self.says("read", ecc("read --no-filename", part, setup),
                   output="\\A{2/4:001002}(01)09521234543213\n\\PA\u00e9\n")
-        self.says("read --escapes", ecc("read", "--escapes", "--no-filename", part, setup),
+        self.says("read --escapes", ecc("read --escapes --no-filename", part, setup),
                   output="\\A{2/4:001002}\\F0109521234543213\n\\PA\\xE9\n")
-        self.says("read --hex", ecc("read", "--hex", "--no-filename", part, setup), 0,
+        self.says("read --hex", ecc("read --hex --no-filename", part, setup), 0,
                   "30313039353231323334353433323133\n" "41e9\n",
                   ["part, symbol 1: it is part 2 of 4 of the file 001002 (structured append)\n",
                    "setup, symbol 1: it is an instruction to the reader (reader programming)\n"])
-        first, second = (json.loads(line) for line in ecc("read", "--json", part, setup)[1].splitlines())
+        first, second = (json.loads(line) for line in ecc("read --json", part, setup)[1].splitlines())
         self.row("read --json", (first["head"], first["identifier"], first["elements"][0]["title"], second["head"]),
                  ([2, 4, 1, 2], "]d2", "GTIN", "programming"))
         whole = put(self.room, "whole", text(ecc200.write(b"A\xe9")))
-        self.row("a whole message in JSON", json.loads(ecc("read", "--json", whole)[1])["head"], None)
+        self.row("a whole message in JSON", json.loads(ecc("read --json", whole)[1])["head"], None)
         got = ecc("compare", whole, setup)
         self.row("compare", (got[0], got[1].splitlines()[1:]),
                  (1, [f"{setup}: \\PA\u00e9 (12x12, 0 codewords corrected)",
@@ -288,53 +288,53 @@ class Messages(PackageCase):
     def test_joined(self):
         """Parts are put together, wherever they are found; what is missing, twice there or of another file is said."""
         some = "20 \u00b0C, ", "\u65e5\u672c\u8a9e, ", "caf\u00e9"
-        for number, grid in enumerate(grids(ecc("write", "--append", "1/3:001002", *some)[1]), 1):
+        for number, grid in enumerate(grids(ecc("write --append 1/3:001002", *some)[1]), 1):
             put(self.room, str(number), text(grid))
         whole = "".join(some) + "\n"
-        self.says("parts in order", ecc("join", "1", "2", "3", folder=self.room), output=whole)
-        self.says("in another order, one twice", ecc("join", "3", "1", "2", "1", folder=self.room), output=whole)
-        self.says("--escapes", ecc("join", "--escapes", "1", "2", "3", folder=self.room),
+        self.says("parts in order", ecc("join 1 2 3", folder=self.room), output=whole)
+        self.says("in another order, one twice", ecc("join 3 1 2 1", folder=self.room), output=whole)
+        self.says("--escapes", ecc("join --escapes 1 2 3", folder=self.room),
                   output=r"\E{3}20 \xB0C, \E{20}\x93\xFA\x96{\x8C\xEA, \E{3}caf\xE9" + "\n")
-        told = json.loads(ecc("join", "--json", "3", "1", "2", folder=self.room)[1])
+        told = json.loads(ecc("join --json 3 1 2", folder=self.room)[1])
         self.row("--json", (told["text"], told["parts"], told["strange"], told["marks"]),
                  ("".join(some), [{"file": str(number), "symbol": 1, "part": number} for number in (1, 2, 3)], [],
                   [[0, 3], [7, 20], [15, 3]]))
-        self.says("one is missing", ecc("join", "1", "3", folder=self.room), 1, "",
+        self.says("one is missing", ecc("join 1 3", folder=self.room), 1, "",
                   ["ecc200: part 2 of 3 of the file 001002 is missing\n"])
-        told = json.loads(ecc("join", "--json", "3", folder=self.room)[1])
+        told = json.loads(ecc("join --json 3", folder=self.room)[1])
         self.row("missing in JSON", (told["missing"], told["doubled"], told["strange"], "2 of 3" in told["refused"]),
                  ([1, 2], [], [], True))
-        put(self.room, "other 2", ecc("write", "--append", "2/3:001002", "other")[1])
-        self.says("two contents", ecc("join", "1", "2", "3", "other 2", folder=self.room), 1, "",
+        put(self.room, "other 2", ecc("write --append 2/3:001002 other")[1])
+        self.says("two contents", ecc("join 1 2 3", "other 2", folder=self.room), 1, "",
                   ["part 2 of 3 of the file 001002 is there more than once", ": 2, symbol 1; other 2, symbol 1\n"])
-        put(self.room, "other file", ecc("write", "--append", "2/3:009009", "other")[1])
-        got = ecc("join", "1", "2", "3", "other 2", "other file", folder=self.room)
+        put(self.room, "other file", ecc("write --append 2/3:009009 other")[1])
+        got = ecc("join 1 2 3", "other 2", "other file", folder=self.room)
         self.says("two contents beside another file", got, 1, "", [": 2, symbol 1; other 2, symbol 1\n", "file 009009"])
         self.row("two contents in JSON",
-                 json.loads(ecc("join", "--json", "1", "2", "3", "other 2", folder=self.room)[1])["doubled"], [2])
-        put(self.room, "none", ecc("write", "none")[1])
-        got = ecc("join", "1", "other file", "none", "2", "3", folder=self.room)
+                 json.loads(ecc("join --json 1 2 3", "other 2", folder=self.room)[1])["doubled"], [2])
+        put(self.room, "none", ecc("write none")[1])
+        got = ecc("join 1", "other file", "none", "2", "3", folder=self.room)
         self.says("parts of another file, and no parts", got, 1, whole,
                   ["other file, symbol 1: it is part 2 of 3 of the file 009009",
                    "none, symbol 1: it is a whole message"])
-        told = json.loads(ecc("join", "--json", "1", "none", "2", "3", folder=self.room)[1])
+        told = json.loads(ecc("join --json 1 none 2 3", folder=self.room)[1])
         self.row("the same in JSON", (told["text"], told["strange"]), ("".join(some), [{"file": "none", "symbol": 1}]))
-        self.says("no part", ecc("join", "none", folder=self.room), 1, "",
+        self.says("no part", ecc("join none", folder=self.room), 1, "",
                   ["none, symbol 1: it is a whole message", "there is no part of a structured append"])
         self.says("nothing", ecc("join"), 1, "", ["there is no part of a structured append"])
-        self.says("--charset", ecc("join", "--charset", "cp437", "1", "3", "other 2", folder=self.room),
+        self.says("--charset", ecc("join --charset cp437 1 3", "other 2", folder=self.room),
                   output="20 \u2591C, othercaf\u0398\n")
-        self.says("no such charset", ecc("join", "--charset", "x", "1", folder=self.room), 2, "", ["no charset 'x'"])
+        self.says("no such charset", ecc("join --charset x 1", folder=self.room), 2, "", ["no charset 'x'"])
         lost = put(self.room, "lost", text([bytes(10)] * 10))
         self.says("one isn't read", ecc("join", lost, "1", "2", "3", folder=self.room), 1, whole,
                   ["lost, symbol 1: 27 of"])
-        self.says("--usual", ecc("join", "--usual", "1", "2", "3", folder=self.room), 1, "", ["leave out --usual"])
-        elements = ecc("write", "--append", "1/2", "--gs1", "(10)A")[1] + ecc("write", "--append", "2/2", "B")[1]
+        self.says("--usual", ecc("join --usual 1 2 3", folder=self.room), 1, "", ["leave out --usual"])
+        elements = ecc("write --append 1/2 --gs1", "(10)A")[1] + ecc("write --append 2/2 B")[1]
         self.says("GS1 data", ecc("join", given=elements), output="(10)AB\n")
-        self.says("--hex", ecc("join", "--hex", given=elements), output="31304142\n")
+        self.says("--hex", ecc("join --hex", given=elements), output="31304142\n")
         if self.wanted_module("PIL.Image", "Pillow", "parts in a picture") and self.has_sampler("parts in a picture"):
-            ecc("write", "--append", "1/3:001002", "--sheet", "100x60", "-o", "sheet.png", *some, folder=self.room)
-            self.row("parts in a picture", ecc("join", "--most", "3", "sheet.png", folder=self.room)[1], whole)
+            ecc("write --append 1/3:001002 --sheet 100x60 -o sheet.png", *some, folder=self.room)
+            self.row("parts in a picture", ecc("join --most 3 sheet.png", folder=self.room)[1], whole)
 
     def test_compared(self):
         """What is the same, and what differs in marks, bytes and identifiers."""
@@ -378,11 +378,11 @@ class Messages(PackageCase):
                                                                                          parts), str(got))
         for message, name in [(b"ABC.DEF-GHI/JKL+MNO*123", "EDIFACT"), (b"\xff" * 30, "Base 256"),
                               (b"ABCDEFGHIJKL" * 5, "C40"), (b"abcdefghijkl" * 5, "Text")]:
-            words = json.loads(ecc("explain", "--json", given=text(ecc200.write(message, form=Form.SMALLEST)))[1])
+            words = json.loads(ecc("explain --json", given=text(ecc200.write(message, form=Form.SMALLEST)))[1])
             self.holds(f"{name} is named", name in {word["encodation"] for word in words["codewords"]}, str(words))
-        words = json.loads(ecc("explain", "--json", given=text(ecc200.write(b"A", size=(12, 12))))[1])["codewords"]
+        words = json.loads(ecc("explain --json", given=text(ecc200.write(b"A", size=(12, 12))))[1])["codewords"]
         self.row("pads stand in ASCII", [word["encodation"] for word in words], ["ASCII"] * 5 + [""] * 7)
-        told = json.loads(ecc("explain", "--json", given=text(ecc200.write(b"A", marks=[(0, 26)])))[1])
+        told = json.loads(ecc("explain --json", given=text(ecc200.write(b"A", marks=[(0, 26)])))[1])
         self.row("explain --json", (told["identifier"], told["marks"], told["head"], told["dealing"]),
                  ("]d4", [[0, 26]], None, 0))
 
@@ -405,7 +405,7 @@ class Messages(PackageCase):
         other = text(dealt_anew(rows))
         words = "check codewords dealt into blocks from the first one, as libdmtx deals them"
         self.says("read", ecc("read", given=other), output="Mitsubadoor\n")
-        self.row("its JSON", json.loads(ecc("read", "--json", given=other)[1])["dealing"], 1)
+        self.row("its JSON", json.loads(ecc("read --json", given=other)[1])["dealing"], 1)
         self.holds("check", ecc("check", given=other)[1].endswith(f" (at most 31), {words}\n"))
         self.holds("check of the usual one", words not in ecc("check", given=text(rows))[1])
         got = ecc("explain", given=other)

@@ -47,9 +47,8 @@ def numpy_forms(numpy, lines):
     wide = numpy.zeros((2 * len(lines), 3 * len(lines)), dtype=numpy.uint8)
     wide[::2, ::3] = grid
     return {"uint8": grid, "bool": grid.astype(bool), "int64": grid.astype(numpy.int64) * -7,
-            "float": grid.astype(float) / 2, "steps": wide[::2, ::3],
-            "fortran": numpy.asfortranarray(grid), "flat": grid.ravel(), "rows of": list(grid),
-            "flat bool": grid.ravel().astype(bool)}
+            "float": grid.astype(float) / 2, "steps": wide[::2, ::3], "fortran": numpy.asfortranarray(grid),
+            "flat": grid.ravel(), "rows of": list(grid), "flat bool": grid.ravel().astype(bool)}
 
 
 def pictures(image, lines):
@@ -132,15 +131,14 @@ class Module(PackageCase):
         for name, grid, given in [("no rows", [], (0, 0)), ("no bytes", b"", (0, 0)), ("no text", "", (0, 0)),
                                   ("an empty row", [b""], (1, 0)), ("many empty rows", [b""] * 70_000, (70_000, 0)),
                                   ("one module", [b"\1"], (1, 1)), ("one row", [bytes(65_535)], (1, 65_535)),
-                                  ("one row too long", [bytes(65_536)], (1, 65_536)), ("one column", [b"\1"] * 65_536,
-                                                                                       (65_536, 1)), ("a short text",
-                                                                                                      ["1" * 10] * 9,
-                                                                                                      (9, 10)),
+                                  ("one row too long", [bytes(65_536)], (1, 65_536)),
+                                  ("one column", [b"\1"] * 65_536, (65_536, 1)),
+                                  ("a short text", ["1" * 10] * 9, (9, 10)),
                                   ("an oblong view", memoryview(bytes(200)).cast("B", (10, 20)), (10, 20)),
-                                  ("a rectangle that lies down", [bytes(8)] * 32, (32, 8)), ("a square of 11",
-                                                                                             bytes(121), (11, 11)),
-                                  ("rows of another size", [bytes(18)] * 10, (10, 18)), ("a larger square", [bytes(146)]
-                                                                                         * 146, (146, 146))]:
+                                  ("a rectangle that lies down", [bytes(8)] * 32, (32, 8)),
+                                  ("a square of 11", bytes(121), (11, 11)),
+                                  ("rows of another size", [bytes(18)] * 10, (10, 18)),
+                                  ("a larger square", [bytes(146)] * 146, (146, 146))]:
             for call in (ecc200.read, ecc200.normal, ecc200.inspect):
                 self.row(f"{call.__name__} of {name}", refusal(call, grid), (size, *given))
         if os.sysconf("SC_PHYS_PAGES") > 1 << 22:
@@ -163,8 +161,7 @@ class Module(PackageCase):
     def test_messages(self):
         rows = ecc200.write(b"caf\xe9")
         for name, message in [("a bytearray", bytearray(b"caf\xe9")), ("a view", memoryview(b"caf\xe9")),
-                              ("items", [99, 97, 102, 233]),
-                              ("an iterator", iter(b"caf\xe9")),
+                              ("items", [99, 97, 102, 233]), ("an iterator", iter(b"caf\xe9")),
                               ("a tuple", (99, 97, 102, 233)), ("an array", array.array("B", b"caf\xe9"))]:
             self.row(f"a message as {name}", ecc200.write(message), rows)
         self.row("text with its charset", ecc200.write("caf\u00e9", charset="latin-1"), rows)
@@ -227,9 +224,8 @@ class Module(PackageCase):
                                 dtype=numpy.uint8)
             block[7] = 0
             wanted = [answer([bytes(row) for row in grid]) for grid in block]
-            for name, some in (("bytes", block), ("booleans", block.astype(bool)), ("numbers",
-                                                                                    block.astype(numpy.int32)),
-                               ("steps", numpy.repeat(block, 2, 0)[::2])):
+            for name, some in (("bytes", block), ("booleans", block.astype(bool)),
+                               ("numbers", block.astype(numpy.int32)), ("steps", numpy.repeat(block, 2, 0)[::2])):
                 self.row(f"an array of three dimensions of {name}", told(ecc200.read_many(some)), wanted)
 
     def test_shown(self):
@@ -242,8 +238,7 @@ class Module(PackageCase):
             bits = sorted((place.codeword, place.bit) for row in places for place in row if place.kind ==
                           ecc200.Kind.BIT)
             self.row(f"the bits of {named}", bits,
-                     [(word, bit) for word in range(size.data_codewords + size.check_codewords)
-                      for bit in range(1, 9)])
+                     [(word, bit) for word in range(size.data_codewords + size.check_codewords) for bit in range(1, 9)])
             self.row(f"the kinds of {named}", {type(place.kind) for row in places for place in row}, {ecc200.Kind})
             rows = ecc200.write(b"A" * size.data_codewords, size=named)
             self.row(f"the codewords of {named}", ecc200.inspect(rows).held[:size.data_codewords],

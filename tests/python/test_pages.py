@@ -2,8 +2,8 @@
 import io
 import os
 
-from tests.python.common import SAMPLER, PackageCase, run
-from tests.python.test_surface import WORDS, ecc, environment, hurt
+from tests.python.common import SAMPLER, WORDS, PackageCase, ecc, environment, run
+from tests.python.test_surface import hurt
 from tests.support import needs
 
 import ecc200

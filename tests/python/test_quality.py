@@ -3,8 +3,7 @@ drawn."""
 import json
 import os
 
-from tests.python.common import PackageCase
-from tests.python.test_surface import ecc
+from tests.python.common import PackageCase, ecc
 from tests.support import needs
 
 import ecc200
@@ -56,12 +55,12 @@ class Quality(PackageCase):
     def test_command(self):
         """By the command: below the message, and in JSON; and what has no print."""
         path = self.marked()
-        status, output, errors = ecc("read", "--quality", path)
+        status, output, errors = ecc("read --quality", path)
         self.holds("below the message", (status, errors) == (0, "") and output.startswith(f"123456\n{LINES}"), output)
-        told = json.loads(ecc("read", "--quality", "--json", path)[1])
+        told = json.loads(ecc("read --quality --json", path)[1])
         self.row("as JSON", told["quality"], rounded(ecc200.find(path, quality=True)[0].quality))
-        self.row("JSON without it", "quality" in json.loads(ecc("read", "--json", path)[1]), False)
+        self.row("JSON without it", "quality" in json.loads(ecc("read --json", path)[1]), False)
         grid = str(ecc200.encode(b"123456"))
-        self.says("of a grid", ecc("read", "--quality", given=grid), 0, "123456\n", ["symbol 1: it is a grid"])
+        self.says("of a grid", ecc("read --quality", given=grid), 0, "123456\n", ["symbol 1: it is a grid"])
         for other in ("--csv", "--raw"):
-            self.says(f"with {other}", ecc("read", "--quality", other, path), 2, "", [f"it doesn't go with {other}"])
+            self.says(f"with {other}", ecc("read --quality", other, path), 2, "", [f"it doesn't go with {other}"])

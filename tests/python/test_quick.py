@@ -5,8 +5,7 @@ import os
 import random
 from unittest import mock
 
-from tests.python.common import PYTHON, PackageCase, run
-from tests.python.test_surface import WORDS, ecc, environment
+from tests.python.common import PYTHON, WORDS, PackageCase, ecc, environment, run
 from tests.support import needs, work
 
 import ecc200
@@ -90,7 +89,7 @@ class Quick(PackageCase):
             symbol.png()
             symbol.page()
         self.row("lines that are made", packed.call_count, len(symbol.rows) + 2)
-        ecc("write", "-o", "lot.png", given="\n".join(map(str, range(30))), folder=self.room)
+        ecc("write -o lot.png", given="\n".join(map(str, range(30))), folder=self.room)
         for number in (1, 17, 30):
             ecc("write", str(number - 1), "-o", "one.png", folder=self.room)
             one, lot = (open(os.path.join(self.room, name), "rb").read() for name in ("one.png",

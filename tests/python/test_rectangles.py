@@ -5,12 +5,12 @@ import json
 import os
 import re
 
-from tests.python.common import PYTHON, PackageCase, run
-from tests.python.test_batches import made, saved
+from tests.python.common import PYTHON, WORDS, PackageCase, ecc, environment, run
+from tests.python.test_batches import saved
 from tests.python.test_drawings import pixels
 from tests.python.test_labels import of_blocks
 from tests.python.test_sizes import KINDS, SIZES, changed, filling, marked
-from tests.python.test_surface import WORDS, ecc, environment, text, turned
+from tests.python.test_surface import text, turned
 from tests.support import needs
 
 import ecc200
@@ -36,16 +36,16 @@ def cells_of(size, bit=1):
 class Rectangles(PackageCase):
     def test_grids(self):
         """Each size through the subcommands, from text."""
-        here, messages = made(self.room, "grids"), [filling(size).decode() for size in SIZES]
+        here, messages = self.made("grids"), [filling(size).decode() for size in SIZES]
         drawn = [text(ecc200.write(message.encode(), size=size)) for message, size in zip(messages, SIZES)]
         for size, message, grid in zip(SIZES, messages, drawn):
-            self.says(f"write --size {named(size)}", ecc("write", "--form", "ascii", "--size", named(size), message),
+            self.says(f"write --size {named(size)}", ecc("write --form ascii --size", named(size), message),
                       output=grid)
         self.says("read", ecc("read", given="".join(drawn)), output="".join(f"{message}\n" for message in messages))
         wanted_lines = [f"{named((size.rows, size.columns))}, 0 border modules wrong, codewords corrected in each "
                         f"block: {', '.join(['0'] * size.blocks)} (at most {size.limit})" for size in ecc200.sizes()]
         self.row("check", ecc("check", given="".join(drawn))[1].splitlines(), wanted_lines)
-        told = [json.loads(line) for line in ecc("explain", "--json", given="".join(drawn))[1].splitlines()]
+        told = [json.loads(line) for line in ecc("explain --json", given="".join(drawn))[1].splitlines()]
         for size, message, one in zip(SIZES, messages, told):
             meanings = [word["meaning"] for word in one["codewords"]]
             self.row(f"explain {named(size)}", (one["rows"], one["columns"], meanings[:len(message)]),
@@ -53,7 +53,7 @@ class Rectangles(PackageCase):
         saved(here, "square.txt", text(ecc200.write(b"Mitsu")))
         for size in ((8, 18), (16, 48), (26, 64), (144, 144)):
             saved(here, "one.txt", text(ecc200.write(b"Mitsu", size=size)))
-            self.says(f"compare {named(size)}", ecc("compare", "one.txt", "square.txt", folder=here),
+            self.says(f"compare {named(size)}", self.ecc("compare one.txt square.txt"),
                       output=f"one.txt: Mitsu ({named(size)}, 0 codewords corrected)\nsquare.txt: Mitsu (12x12, 0 "
                       "codewords corrected)\nthe same\n")
 
@@ -63,10 +63,10 @@ class Rectangles(PackageCase):
         lines = [line.split() for line in output.splitlines()]
         self.row("sizes", (status, errors, [line[0] for line in lines[1:]]), (0, "", list(map(named, SIZES))))
         for shape in Shape:
-            got = {line.split()[0] for line in ecc("sizes", "--shape", shape.name.lower())[1].splitlines()[1:]}
+            got = {line.split()[0] for line in ecc("sizes --shape", shape.name.lower())[1].splitlines()[1:]}
             self.row(f"sizes of {shape.name}", got, {named((size.rows, size.columns)) for size in ecc200.sizes()
                                                      if KINDS[shape](size)})
-        told = [json.loads(line) for line in ecc("sizes", "--json")[1].splitlines()]
+        told = [json.loads(line) for line in ecc("sizes --json")[1].splitlines()]
         self.row("sizes in JSON", [ecc200.Size(**{name: line[name] for name in ecc200.Size._fields}) for line in told],
                  ecc200.sizes())
         for line in told:
@@ -81,32 +81,30 @@ class Rectangles(PackageCase):
 
     def test_chosen(self):
         """Shapes and sizes for messages of all kinds."""
-        here = made(self.room, "chosen")
+        here = self.made("chosen")
         for shape in Shape:
             for words, message, gs1 in ((["A1B2C3"], b"A1B2C3", False), (["--gs1", "(10)A(21)B"], b"10A\x1d21B", True)):
-                self.says(f"--shape {shape.name.lower()}, {words}", ecc("write", "--shape", shape.name.lower(), *words),
+                self.says(f"--shape {shape.name.lower()}, {words}", ecc("write --shape", shape.name.lower(), *words),
                           output=text(ecc200.write(message, gs1, shape=shape, form=Form.SMALLEST)))
                 self.says(f"--form ascii --shape {shape.name.lower()}, {words}",
-                          ecc("write", "--form", "ascii", "--shape", shape.name.lower(), *words),
+                          ecc("write --form ascii --shape", shape.name.lower(), *words),
                           output=text(ecc200.write(message, gs1, shape=shape)))
-        self.row("the usual shape", ecc("write", "A" * 20), ecc("write", "--shape", "square", "A" * 20))
-        self.says("--size with --hex", ecc("write", "--size", "12x26", "--hex", "00ff"),
+        self.row("the usual shape", ecc("write", "A" * 20), ecc("write --shape square", "A" * 20))
+        self.says("--size with --hex", ecc("write --size 12x26 --hex 00ff"),
                   output=text(ecc200.write(b"\0\xff", size=(12, 26), form=Form.SMALLEST)))
-        self.says("--size with --shorter", ecc("write", "--size", "12x26", "--shorter", "--hex", "80" * 9),
+        self.says("--size with --shorter", ecc("write --size 12x26 --shorter --hex", "80" * 9),
                   output=text(ecc200.write(b"\x80" * 9, profile=1, size=(12, 26))))
-        self.says("--size with --bytes", ecc("write", "--size", "8x18", "--bytes", "-", given=b"\xff\n"),
+        self.says("--size with --bytes", ecc("write --size 8x18 --bytes -", given=b"\xff\n"),
                   output=text(ecc200.write(b"\xff\n", size=(8, 18), form=Form.SMALLEST)))
         small = [text(ecc200.write(letter, size=(8, 18), form=Form.SMALLEST)) for letter in (b"A", b"C")]
-        self.says("lines, one too long", ecc("write", "--size", "8x18", given="A\nBBBBBBB\nC\n"), 1, "".join(small),
+        self.says("lines, one too long", ecc("write --size 8x18", given="A\nBBBBBBB\nC\n"), 1, "".join(small),
                   ["line 2: the message is longer than a symbol of 8x18 holds: 10 digits, 6 capitals, or 3 bytes"])
         for shape, part in (("rectangle", "any rectangle of ISO/IEC 16022 holds; --shape extended has larger ones: 98"),
                             ("extended", "any rectangle holds: 236 digits"), ("any", "any symbol holds: 3116 digits"),
                             ("square", "any symbol holds: 3116 digits")):
-            self.says(f"too long for --shape {shape}", ecc("write", "--shape", shape, given="7" * 4000), 1, "", [part])
-        self.holds("words of an unknown size say where all are", "'ecc200 sizes'" in ecc("write", "--size", "9x9",
-                                                                                         "A")[2])
-        self.says("files by message", ecc("write", "--shape", "rectangle", "-o", "{}.txt", "A", "B", folder=here),
-                  output="")
+            self.says(f"too long for --shape {shape}", ecc("write --shape", shape, given="7" * 4000), 1, "", [part])
+        self.holds("words of an unknown size say where all are", "'ecc200 sizes'" in ecc("write --size 9x9 A")[2])
+        self.says("files by message", self.ecc("write --shape rectangle -o", "{}.txt", "A", "B"), output="")
         self.row("one of them", open(os.path.join(here, "A.txt")).read(),
                  text(ecc200.write(b"A", shape=1, form=Form.SMALLEST)))
 
@@ -127,9 +125,9 @@ class Rectangles(PackageCase):
         border = sum(place.kind in (ecc200.Kind.BORDER_DARK, ecc200.Kind.BORDER_LIGHT)
                      for row in ecc200.places(*size) for place in row)
         self.row("modules of the border", border, 2 * 2 * (8 + 16 - 2))
-        self.says("--border is enough", ecc("read", "--border", "32", given=text([*rows[:-1], bytes(32)])),
+        self.says("--border is enough", ecc("read --border 32", given=text([*rows[:-1], bytes(32)])),
                   output="Rectangle1\n")
-        told = json.loads(ecc("read", "--json", given=text([bytes(32)] * 10))[1])
+        told = json.loads(ecc("read --json", given=text([bytes(32)] * 10))[1])
         self.row("no size in JSON", (told["code"], told["value"], told["place"]), ("SIZE", 10, 32))
 
     def test_otherwise(self):
@@ -151,39 +149,38 @@ class Rectangles(PackageCase):
                  "has a light margin"),
             ]:
                 self.says(f"{name}, {size}", ecc("read", given=text(grid)), 1, "\\no\n", [part, "--any-way"])
-                self.says(f"{name}, {size}, --any-way", ecc("read", "--any-way", given=text(grid)),
+                self.says(f"{name}, {size}, --any-way", ecc("read --any-way", given=text(grid)),
                           output=message.decode() + "\n")
 
     def test_doubtful(self):
         """Grids of doubtful modules in a file beside the symbols."""
-        here, size, message = made(self.room, "doubtful"), (8, 32), b"Rectangle1"
+        here, size, message = self.made("doubtful"), (8, 32), b"Rectangle1"
         rows, cells = ecc200.write(message, size=size), list(cells_of(size).values())
         damaged, marks = changed(rows, cells[:11]), marked(size, cells[:11])
         square, none = ecc200.write(b"123456"), [bytes(10)] * 10
         saved(here, "damaged.txt", text(square) + text(damaged))
         saved(here, "marks.txt", text(none) + text(marks))
-        self.says("without", ecc("read", "damaged.txt", folder=here), 1, "123456\n\\no\n",
-                  ["symbol 2: block 1", "--doubtful"])
+        self.says("without", self.ecc("read damaged.txt"), 1, "123456\n\\no\n", ["symbol 2: block 1", "--doubtful"])
         told = ["--doubtful", "marks.txt", "damaged.txt"]
-        self.says("read", ecc("read", *told, folder=here), output="123456\nRectangle1\n")
-        self.says("grids on standard input", ecc("read", "--doubtful", "marks.txt", given=text(square) + text(damaged),
-                                                 folder=here), output="123456\nRectangle1\n")
-        self.says("marks on standard input", ecc("read", "--doubtful", "-", "damaged.txt", given=text(none) +
-                                                 text(marks), folder=here), output="123456\nRectangle1\n")
-        self.says("check", ecc("check", *told, folder=here),
+        self.says("read", self.ecc("read", *told), output="123456\nRectangle1\n")
+        for name, words, grids in (("grids", "read --doubtful marks.txt", (square, damaged)),
+                                   ("marks", "read --doubtful - damaged.txt", (none, marks))):
+            got = self.ecc(words, given="".join(map(text, grids)))
+            self.says(f"{name} on standard input", got, output="123456\nRectangle1\n")
+        self.says("check", self.ecc("check", *told),
                   output="10x10, 0 border modules wrong, codewords corrected in each block: 0, erased: 0, check "
                   "codewords left: 5\n8x32, 0 border modules wrong, codewords corrected in each block: 0, erased: 11, "
                   "check codewords left: 0\n")
-        self.says("normal", ecc("normal", *told, folder=here), output=text(square) + text(ecc200.write(message)))
-        status, output, _ = ecc("explain", *told, folder=here)
+        self.says("normal", self.ecc("normal", *told), output=text(square) + text(ecc200.write(message)))
+        status, output, _ = self.ecc("explain", *told)
         self.holds("explain", status == 0 and "It says Rectangle1" in output and "corrected; the symbol has" in output,
                    output)
-        second = json.loads(ecc("read", "--json", *told, folder=here)[1].splitlines()[1])
+        second = json.loads(self.ecc("read --json", *told)[1].splitlines()[1])
         self.row("JSON", (second["corrected"], second["erased"], second["left"]), ([0], [11], [0]))
         more = marked(size, cells[:12])
         saved(here, "one.txt", text(damaged))
         saved(here, "more.txt", text(more))
-        self.says("more than can be restored", ecc("read", "--doubtful", "more.txt", "one.txt", folder=here), 1,
+        self.says("more than can be restored", self.ecc("read --doubtful more.txt one.txt"), 1,
                   "\\no\n", ["block 1 of its 1 can't be restored", "11 check codewords"])
         for name, files, status, part in [
             ("other rows", text(none), 1, "the grid of its doubtful modules hasn't 8 rows of 32 modules"),
@@ -193,21 +190,20 @@ class Rectangles(PackageCase):
             ("a picture", b"\x89PNG\r\n\x1a\nrubbish", 2, "neither a picture"),
         ]:
             saved(here, "marks.txt", files)
-            got = ecc("read", "--doubtful", "marks.txt", "one.txt", folder=here)
+            got = self.ecc("read --doubtful marks.txt one.txt")
             self.holds(name, got[0] == status and part in got[2], str(got))
         saved(here, "marks.txt", text(none))
-        self.says("too few", ecc("read", "--doubtful", "marks.txt", "damaged.txt", folder=here), 2, "123456\n",
+        self.says("too few", self.ecc("read --doubtful marks.txt damaged.txt"), 2, "123456\n",
                   ["--doubtful marks.txt: it has no grid for symbol 2 of damaged.txt"])
-        self.says("none there", ecc("read", "--doubtful", "nope.txt", "one.txt", folder=here), 2, "",
-                  ["nope.txt: No such"])
-        self.says("both on standard input", ecc("read", "--doubtful", "-", given=text(square)), 2, "",
+        self.says("none there", self.ecc("read --doubtful nope.txt one.txt"), 2, "", ["nope.txt: No such"])
+        self.says("both on standard input", ecc("read --doubtful -", given=text(square)), 2, "",
                   ["--doubtful -: standard input"])
-        self.says("with --any-way", ecc("read", "--any-way", "--doubtful", "more.txt", "one.txt", folder=here), 2, "",
+        self.says("with --any-way", self.ecc("read --any-way --doubtful more.txt one.txt"), 2, "",
                   ["don't go with --any-way"])
 
     def test_drawn(self):
         """A rectangle as PNG, SVG, PDF, blocks and an array, by its own rows and columns, and as others draw it."""
-        here = made(self.room, "drawn")
+        here = self.made("drawn")
         image = self.wanted_module("PIL.Image", "Pillow", "rectangles as others draw them")
         for size in ((8, 18), (8, 144), (26, 40), (144, 144)):
             rows = ecc200.write(b"Rect", size=size)
@@ -223,7 +219,7 @@ class Rectangles(PackageCase):
             array = symbol.__array_interface__
             self.row(f"an array of {size}", (array["shape"], len(array["data"])),
                      ((size[0] + 2, size[1] + 2), (size[0] + 2) * (size[1] + 2)))
-            status, shown, _ = ecc("write", "--form", "ascii", "--size", named(size), "--format", "blocks",
+            status, shown, _ = ecc("write --form ascii --size", named(size), "--format", "blocks",
                                    "--quiet-zone", "2", "Rect")
             self.row(f"blocks of {size}", (status, of_blocks(shown.split("\n")[:(size[0] + 4) // 2], 2)),
                      (0, text(rows)))
@@ -236,7 +232,7 @@ class Rectangles(PackageCase):
             for kind, words in {"pdf": ["pdftoppm", "-r", "508", "-png", "-singlefile", "a.pdf", "a"],
                                 "svg": ["rsvg-convert", "-d", "508", "-p", "508", "-o", "a.png", "a.svg"]}.items():
                 if self.has(words[0], f"{kind} as {words[0]} draws it"):
-                    ecc("write", "--size", named(size), "Rect", "-o", f"a.{kind}", folder=here)
+                    self.ecc("write --size", named(size), "Rect", "-o", f"a.{kind}")
                     run(words, cwd=here)
                     with image.Image.open(os.path.join(here, "a.png")) as picture:
                         small = picture.convert("L").resize((size[1] + 4, size[0] + 4), image.Image.BOX)
@@ -244,10 +240,10 @@ class Rectangles(PackageCase):
 
     def test_labels(self):
         """Captions below rectangles, and sheets that hold symbols of several shapes, on which nothing overlaps."""
-        here = made(self.room, "labels")
+        here = self.made("labels")
         words = ["--shape", "rectangle", "--gs1", GS1, "--caption"]
         for kind in ("svg", "pdf", "png"):
-            self.says(f"a caption in {kind}", ecc("write", *words, "-o", f"gs1.{kind}", folder=here), output="")
+            self.says(f"a caption in {kind}", self.ecc("write", *words, "-o", f"gs1.{kind}"), output="")
         with open(os.path.join(here, "gs1.svg")) as file:
             self.row("its lines", re.findall(">([^<]+)</text>", file.read()),
                      ["(01)09521234543213", "(17)251231(10)ABC123"])
@@ -266,28 +262,27 @@ class Rectangles(PackageCase):
         self.raises("a rectangle wider than a sheet", ValueError, "74.0 by 6.0 mm doesn't fit",
                     lambda: drawing.sheets([ecc200.write(b"A", size=(8, 144))], 0.5, 2, (90.0, 90.0)))
         lines = "".join(f"lot {number}\n" for number in range(12))
-        self.says("a sheet", ecc("write", "--shape", "rectangle", "--sheet", "100x60", "--caption", "-o", "sheet.png",
-                                 given=lines, folder=here), output="")
+        self.says("a sheet", self.ecc("write --shape rectangle --sheet 100x60 --caption -o sheet.png",
+                                 given=lines), output="")
 
     def test_found(self):
         """Rectangles and large squares in pictures, where the sampler finds them: by the package and by the command."""
         what = "rectangles in pictures"
         if not self.wanted_module("PIL.Image", "Pillow", what) or not self.has_sampler(what):
             return
-        here = made(self.room, "found")
+        here = self.made("found")
         for size in SIZES:
             path, data = os.path.join(here, f"{named(size)}.png"), filling(size)
             ecc200.encode(data, size=size, quiet=4).save(path)
             got = ecc200.decode(path, most=1)
             self.row(f"decode {named(size)}", [(reading.data, reading.size) for reading in got], [(data, size)])
-        lines = [json.loads(line) for line in ecc("read", "--json", "-r", here)[1].splitlines()]
+        lines = [json.loads(line) for line in ecc("read --json -r", here)[1].splitlines()]
         told = {line["file"]: (line.get("message"), line.get("rows"), line.get("columns")) for line in lines}
         self.row("read", told, {os.path.join(here, f"{named(size)}.png"): (filling(size).decode(), *size)
                                 for size in SIZES})
         lots = "".join(f"lot {number}\n" for number in range(12))
-        ecc("write", "--shape", "rectangle", "--sheet", "100x60", "--caption", "-o", "sheet.png", given=lots,
-            folder=here)
-        got = ecc("read", "--all", "--time", "20000", "sheet.png", folder=here)
+        self.ecc("write --shape rectangle --sheet 100x60 --caption -o sheet.png", given=lots)
+        got = self.ecc("read --all --time 20000 sheet.png")
         self.row("a sheet of rectangles", (got[0], sorted(got[1].splitlines())), (0, sorted(lots.splitlines())))
 
     def test_found_in_doubt(self):
@@ -296,7 +291,7 @@ class Rectangles(PackageCase):
         image = self.wanted_module("PIL.Image", "Pillow", what)
         if not image or not self.has_sampler(what):
             return
-        here, size, message, dots = made(self.room, "blot"), (16, 48), b"Mitsubadoor-0123456789-ABCDEFGH", 6
+        here, size, message, dots = self.made("blot"), (16, 48), b"Mitsubadoor-0123456789-ABCDEFGH", 6
         picture = image.Image.open(io.BytesIO(ecc200.encode(message, size=size, quiet=4).png())).convert("L")
         for column in range(31 * dots, 43 * dots):  # twelve by twelve modules, the corners left out
             for row in range(6 * dots, 18 * dots):
@@ -313,28 +308,28 @@ class Rectangles(PackageCase):
         self.row("they are those by which it was read", ecc200.read(symbol.rows, doubtful=symbol.doubtful),
                  symbol.answer._replace(corners=None))
         self.raises("without them it isn't read", ecc200.Refused, "BLOCK", lambda: ecc200.read(symbol.rows))
-        self.says("read", ecc("read", "blot.png", folder=here), output=message.decode() + "\n")
-        told = json.loads(ecc("read", "--json", "blot.png", folder=here)[1])
+        self.says("read", self.ecc("read blot.png"), output=message.decode() + "\n")
+        told = json.loads(self.ecc("read --json blot.png")[1])
         self.row("JSON", (told["erased"], told["left"]), (list(symbol.answer.erased), list(symbol.answer.left)))
-        got = ecc("check", "blot.png", folder=here)
+        got = self.ecc("check blot.png")
         counts = f"erased: {symbol.answer.erased[0]}, check codewords left: {symbol.answer.left[0]}\n"
         self.holds("check", counts in got[1], str(got))
-        self.says("normal", ecc("normal", "blot.png", folder=here), output=text(ecc200.write(message)))
-        got = ecc("explain", "blot.png", folder=here)
+        self.says("normal", self.ecc("normal blot.png"), output=text(ecc200.write(message)))
+        got = self.ecc("explain blot.png")
         self.holds("explain", got[0] == 0 and f"It says {message.decode()}" in got[1], str(got))
 
     def test_without_sampler(self):
         """Pictures of rectangles with a whole number of pixels a module are read without the sampler."""
         if not self.wanted_module("PIL.Image", "Pillow", "pictures of rectangles"):
             return
-        here = made(self.room, "without")
+        here = self.made("without")
         env = {**environment(), "ECC200_SAMPLE_LIBRARY": os.path.join(here, "none.so")}
         for size, dots in (((8, 18), 1), ((8, 120), 2), ((26, 48), 5), ((144, 144), 3)):
-            ecc("write", "--size", named(size), "Rect", "-o", "a.png", "--module", str(dots), folder=here)
+            self.ecc("write --size", named(size), "Rect", "-o", "a.png", "--module", str(dots))
             got = run([*WORDS, "read", "--json", "a.png"], env=env, cwd=here)
             told = json.loads(got[1])
             self.row(f"{named(size)}, {dots} dots a module", (got[0], told.get("message"), told.get("rows"),
                                                               told.get("columns")), (0, "Rect", *size))
         script = "import ecc200; print([(it.text, it.size) for it in ecc200.decode('small.png')])"
-        ecc("write", "--size", "8x32", "Rect", "-o", "small.png", "--module", "1", folder=here)
+        self.ecc("write --size 8x32 Rect -o small.png --module 1")
         self.row("decode", run([PYTHON, "-c", script], env=env, cwd=here), (0, "[('Rect', (8, 32))]\n", ""))

@@ -7,9 +7,8 @@ import os
 import pickle
 import re
 
-from tests.python.common import PackageCase
-from tests.python.test_batches import made
-from tests.python.test_surface import ecc, hurt, text
+from tests.python.common import PackageCase, ecc
+from tests.python.test_surface import hurt, text
 from tests.support import needs
 
 import ecc200
@@ -22,13 +21,13 @@ def sheet(folder, count, *more):
     """A sheet of this many labels, and what they say."""
     messages = [f"SN-{number:05}" for number in range(count)]
     name = f"sheet-{count}.png"
-    ecc("write", "--sheet", "-o", name, *more, given="\n".join(messages), folder=folder)
+    ecc("write --sheet -o", name, *more, given="\n".join(messages), folder=folder)
     return name, messages
 
 
 def gap(folder, *more):
     """How many modules stand between two symbols on a sheet."""
-    ecc("write", "--sheet", "-o", "two.svg", *more, "A", "B", folder=folder)
+    ecc("write --sheet -o two.svg", *more, "A", "B", folder=folder)
     with open(os.path.join(folder, "two.svg"), encoding="ascii") as file:
         lefts = [float(left) for left in re.findall(r"translate\(([0-9.]+) ", file.read())]
     return (lefts[1] - lefts[0]) / 0.5 - len(ecc200.write(b"A"))
@@ -81,7 +80,7 @@ class Searches(PackageCase):
         """A search that ends early says so, by a status of its own, a line and JSON; and no other does."""
         if not self.is_possible("searches that end early"):
             return
-        here = made(self.room, "early")
+        here = self.made("early")
         name, messages = sheet(here, 12)
         rows = [("all", ("--all", ), 0, 12, None), ("more than there are", ("--most", "13"), 0, 12, None),
                 ("the first", (), 3, 1, ["there are more symbols than the one that is read", "--all"]),
@@ -89,21 +88,21 @@ class Searches(PackageCase):
                 ("some", ("--most", "5"), 3, 5, [f"ecc200: {name}: the search ended with 5 symbols", "--most"]),
                 ("as many as there are", ("--most", "12"), 3, 12, ["the search ended with 12 symbols"])]
         for case, words, status, count, parts in rows:
-            got = ecc("read", "--time", str(LONG), *words, name, folder=here)
+            got = self.ecc("read --time", str(LONG), *words, name)
             self.says(case, (got[0], "", got[2]), status, "", parts)
             read = got[1].split()
             self.holds(f"{case}, what is read", len(set(read)) == len(read) == count and set(read) <= set(messages),
                        read)
             self.holds(f"{case}, lines of errors", got[2].count("\n") == (status > 0), got[2])
-            told = [json.loads(line) for line in ecc("read", "--json", "--time", str(LONG), *words, name,
-                                                     folder=here)[1].splitlines()]
+            told = self.ecc("read --json --time", str(LONG), *words, name)[1].splitlines()
+            told = [json.loads(line) for line in told]
             self.row(f"{case}, complete in JSON", {line["complete"] for line in told}, {status == 0})
             self.row(f"{case}, a line of its own", ["ended" in line for line in told],
                      [False] * count + [True] * (status > 0))
         for command in ("check", "explain", "normal"):
-            got = ecc(command, "--most", "2", "--time", str(LONG), name, folder=here)
+            got = self.ecc(command, "--most", "2", "--time", str(LONG), name)
             self.holds(f"{command}, some", got[0] == 3 and "the search ended with 2 symbols" in got[2], str(got))
-        got = ecc("normal", "--most", "2", "--time", str(LONG), name, "-o", "normal.svg", folder=here)
+        got = self.ecc("normal --most 2 --time", str(LONG), name, "-o", "normal.svg")
         self.row("files of a search that ended early", (got[0], sorted(it for it in os.listdir(here) if "normal" in
                                                                        it)), (3, ["normal-1.svg", "normal-2.svg"]))
 
@@ -112,34 +111,33 @@ class Searches(PackageCase):
         if not self.is_possible("searches whose time is over"):
             return
         from PIL import Image
-        here = made(self.room, "time")
+        here = self.made("time")
         noise = Image.effect_noise((3000, 3000), 90)
         noise.save(os.path.join(here, "noise.png"))
-        got = ecc("read", "--time", "1", "noise.png", folder=here)
+        got = self.ecc("read --time 1 noise.png")
         self.says("nothing within the time", got, 3, "", ["no Data Matrix symbol was found", "after its 1 ms",
                                                           "--time"])
         self.row("in one line", got[2].count("\n"), 1)
-        told = json.loads(ecc("read", "--json", "--time", "1", "noise.png", folder=here)[1])
+        told = json.loads(self.ecc("read --json --time 1 noise.png")[1])
         self.row("in JSON", (told["complete"], "refused" in told), (False, True))
         for _ in range(2):
-            got = ecc("read", "noise.png", folder=here)
+            got = self.ecc("read noise.png")
             self.says("the usual work", got, 3, "", ["noise.png", "ended after its usual work", "--time"])
         self.row("the usual work in Python", (ecc200.decode(noise), ecc200.decode(noise).ended), ([], core.End.WORK))
         Image.new("L", (60, 60), 255).save(os.path.join(here, "white.png"))
-        self.says("nothing in all of a picture", ecc("read", "white.png", folder=here), 1, "",
-                  ["no Data Matrix symbol"])
-        told = json.loads(ecc("read", "--json", "white.png", folder=here)[1])
+        self.says("nothing in all of a picture", self.ecc("read white.png"), 1, "", ["no Data Matrix symbol"])
+        told = json.loads(self.ecc("read --json white.png")[1])
         self.row("it is complete in JSON", told.get("complete", True), True)
         ecc200.encode(b"one", quiet=4).save(os.path.join(here, "one.png"))
         with Image.open(os.path.join(here, "one.png")) as one:
             one.convert("L").save(os.path.join(here, "pages.tif"), save_all=True, append_images=[noise.copy()])
-        got = ecc("read", "--time", "200", "pages.tif", folder=here)
+        got = self.ecc("read --time 200 pages.tif")
         self.says("a page whose time is over", got, 3, "one\n",
                   ["pages.tif: page 2: the search ended after its 200 ms"])
         with Image.open(os.path.join(here, "one.png")) as one:
             noise.paste(one.convert("L").resize((600, 600), Image.NEAREST), (100, 100))
         noise.save(os.path.join(here, "beside.png"))
-        status, _, errors = ecc("compare", "--time", "300", "beside.png", "one.png", folder=here)
+        status, _, errors = self.ecc("compare --time 300 beside.png one.png")
         self.holds("compare may have missed one", status >= 2 and ("the search ended after its 300 ms" in errors
                                                                   or "no Data Matrix" in errors), errors)
 
@@ -149,7 +147,7 @@ class Searches(PackageCase):
                  (True, True))
         if not self.is_possible("searches by Python that end early"):
             return
-        here = made(self.room, "python")
+        here = self.made("python")
         path, messages = sheet(here, 70)
         path = os.path.join(here, path)
         for call in (ecc200.decode, ecc200.find):
@@ -181,14 +179,14 @@ class Searches(PackageCase):
 
     def test_sheets(self):
         """Of sheets as they are drawn by default each label is found, and all in reading order."""
-        here = made(self.room, "sheets")
+        here = self.made("sheets")
         gaps = [gap(here, *words) for words in ((), ("--quiet-zone", "1"), ("--quiet-zone", "2"))]
         self.row("modules between symbols", gaps, [8, 2, 4])
         if not self.is_possible("sheets of labels"):
             return
         for count in (10, 50, 100, 200, 400):
             name, messages = sheet(here, count)
-            status, read, errors = ecc("read", "--all", "--time", str(LONG), name, folder=here)
+            status, read, errors = self.ecc("read --all --time", str(LONG), name)
             self.row(f"{count} labels", (status, len(read.split()), errors), (0, count, ""))
             self.row(f"what {count} labels say", read.split(), messages)
 
@@ -197,7 +195,7 @@ class Searches(PackageCase):
         read."""
         if not self.is_possible("readings of pictures"):
             return
-        here, message = made(self.room, "handed"), b"M" * 62
+        here, message = self.made("handed"), b"M" * 62
         border = of_rows(here, "border.png", pixels(frayed(message, 16), 6))
         glare = of_rows(here, "glare.png", in_glare(message))
         for name in (border, glare):
@@ -210,26 +208,26 @@ class Searches(PackageCase):
             self.row(f"decode, {name}", [got.data for got in ecc200.decode(os.path.join(here, name), most=1)],
                      [message])
             words = ("--time", "20000", name)
-            self.says(f"read, {name}", ecc("read", *words, folder=here), output=message.decode() + "\n")
-            told = json.loads(ecc("read", "--json", *words, folder=here)[1])
+            self.says(f"read, {name}", self.ecc("read", *words), output=message.decode() + "\n")
+            told = json.loads(self.ecc("read --json", *words)[1])
             doubtful = found.doubtful and ["".join(map(str, row)) for row in found.doubtful]
             got = told["border_limit"], told["border_faults"], told["corrected"], told["erased"], told.get("doubtful")
             answer = found.answer
             self.row(f"in JSON, {name}", got, (found.border_limit, answer.border_faults, list(answer.corrected),
                                                list(answer.erased), doubtful))
-            self.says(f"normal, {name}", ecc("normal", *words, folder=here), output=text(ecc200.write(message)))
-            self.row(f"check, {name}", ecc("check", *words, folder=here)[0], 0)
-            explained = ecc("explain", *words, folder=here)
+            self.says(f"normal, {name}", self.ecc("normal", *words), output=text(ecc200.write(message)))
+            self.row(f"check, {name}", self.ecc("check", *words)[0], 0)
+            explained = self.ecc("explain", *words)
             self.holds(f"explain, {name}", explained[0] == 0 and f"It says {message.decode()}" in explained[1]
                        and "not read" not in explained[1], explained)
-            self.row(f"compare, {name}", ecc("compare", "--most", "1", *words, name, folder=here)[0], 0)
+            self.row(f"compare, {name}", self.ecc("compare --most 1", *words, name)[0], 0)
         blot = os.path.join(here, "blot.txt")
         with open(blot, "w", encoding="ascii") as file:
             file.write(text([bytes(column == 5 for column in range(len(frayed(message, 0)))) for _ in frayed(message,
                                                                                                              0)]))
-        self.says("with doubtful modules of the caller's", ecc("read", "--doubtful", blot, "--time", "20000", border,
-                                                              folder=here), output=message.decode() + "\n")
-        got = ecc("read", "--border", "2", "--time", "20000", border, folder=here)
+        self.says("with doubtful modules of the caller's", self.ecc("read --time 20000 --doubtful", blot, border),
+                  output=message.decode() + "\n")
+        got = self.ecc("read --border 2 --time 20000", border)
         self.says("another limit is asked for", got, 1, "", ["modules of its border have the wrong colour"])
 
     def test_unread(self):
@@ -243,16 +241,16 @@ class Searches(PackageCase):
                  [True, False])
         if not self.is_possible("symbols that are found and not read"):
             return
-        here = made(self.room, "unread")
+        here = self.made("unread")
         name = beside_one_another(here, "three.png", [ecc200.write(b"123456"), damaged, ecc200.write(b"A")])
         path, words = os.path.join(here, name), ("--time", "20000", name)
-        self.row("as without it", sorted(ecc("read", "--all", *words, folder=here)[1].split()), ["123456", "A"])
-        status, read, errors = ecc("read", "--all", "--unread", *words, folder=here)
+        self.row("as without it", sorted(self.ecc("read --all", *words)[1].split()), ["123456", "A"])
+        status, read, errors = self.ecc("read --all --unread", *words)
         self.row("what is read", (status, sorted(read.split())), (1, ["123456", "A"]))
         middle = 8 * (22 + 11)
         self.holds("the reason and the place", errors.count("\n") == 1 and f"symbol 3, at {middle}, {8 * 11}: block 1"
                    in errors, errors)
-        got = ecc("read", "--all", "--unread", "--json", *words, folder=here)
+        got = self.ecc("read --all --unread --json", *words)
         told = [json.loads(line) for line in got[1].splitlines()]
         self.row("in JSON", ["refused" in line for line in told], [False, False, True])
         self.row("its reason there", (told[2]["code"], told[2]["block"], told[2]["complete"]), ("BLOCK", 1, True))
@@ -262,21 +260,20 @@ class Searches(PackageCase):
         found = ecc200.find(path, milliseconds=20_000, unread=True)
         self.row("the rows of what isn't read", (found[2].answer.code, found[2].rows), (ecc200.Code.BLOCK, damaged))
         several = beside_one_another(here, "several.png", [damaged, ecc200.write(b"123456"), damaged, damaged])
-        got = ecc("read", "--all", "--unread", "--time", "20000", several, folder=here)
+        got = self.ecc("read --all --unread --time 20000", several)
         self.row("several that aren't read", (got[:2], got[2].count("block 1")), ((1, "123456\n"), 3))
-        got = ecc("read", "--all", "--time", "20000", several, folder=here)
+        got = self.ecc("read --all --time 20000", several)
         self.says("without --unread", got, output="123456\n")
         alone = beside_one_another(here, "alone.png", [damaged])
-        self.row("decode says why nothing is read", [each.code for each in ecc200.decode(os.path.join(here, alone),
-                                                                                       unread=True)],
-                 [ecc200.Code.BLOCK])
+        self.row("decode says why nothing is read",
+                 [each.code for each in ecc200.decode(os.path.join(here, alone), unread=True)], [ecc200.Code.BLOCK])
         self.row("and is empty where that isn't asked", ecc200.decode(os.path.join(here, alone)), [])
 
     def test_unsure(self):
         """What leaves too few corrections isn't read, and says what it may be."""
         if not self.is_possible("symbols that leave few corrections"):
             return
-        here = made(self.room, "unsure")
+        here = self.made("unsure")
         name = beside_one_another(here, "one.png", [hurt(1)])
         found = ecc200.find(os.path.join(here, name), milliseconds=20_000, margin=2, unread=True)
         self.row("how many", len(found), 1)
@@ -289,5 +286,5 @@ class Searches(PackageCase):
         self.row("pickled", (str(other), other.reading), (str(why), why.reading))
         self.row("without unread", ecc200.find(os.path.join(here, name), milliseconds=20_000, margin=2), [])
         for words in ((), ("--unread", )):
-            self.says(f"by the command {words}", ecc("read", "--margin", "2", *words, name, folder=here), 1, "",
+            self.says(f"by the command {words}", self.ecc("read --margin 2", *words, name), 1, "",
                       ["it may say 123456, but its blocks leave fewer than 2 corrections"])

@@ -295,12 +295,10 @@ class Sizes(PackageCase):
         flat = b"".join(marks)
         lines = ["".join("01"[mark] for mark in row) for row in marks]
         given = {"lines": lines, "a text": "\n".join(lines), "flat bytes": flat, "a bytearray": bytearray(flat),
-                 "digits": "".join(lines).encode(), "numbers": [list(row) for row in marks], "booleans": [list(map(bool,
-                                                                                                                   row))
-                                                                                                          for row in
-                                                                                                          marks], "255":
-                 [row.replace(b"\1", b"\xff") for row in marks], "a tuple": tuple(marks), "a view":
-                 memoryview(flat).cast("B", size), "a symbol": ecc200.Symbol(marks)}
+                 "digits": "".join(lines).encode(), "numbers": [list(row) for row in marks],
+                 "booleans": [list(map(bool, row)) for row in marks],
+                 "255": [row.replace(b"\1", b"\xff") for row in marks], "a tuple": tuple(marks),
+                 "a view": memoryview(flat).cast("B", size), "a symbol": ecc200.Symbol(marks)}
         numpy, image = self.wanted_module("numpy", "numpy", "doubt in arrays"), self.wanted_module("PIL.Image",
                                                                                                    "Pillow",
                                                                                                    "doubt in pictures")

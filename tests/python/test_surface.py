@@ -3,21 +3,11 @@ import json
 import os
 
 from tests import corpus
-from tests.python.common import PACKAGE, PYTHON, SAMPLER, TOP, PackageCase, clean, libraries, marks, run
+from tests.python.common import SAMPLER, TOP, WORDS, PackageCase, ecc, environment, marks, run
 from tests.support import needs
 
 import ecc200
 from ecc200 import advice
-
-WORDS = [PYTHON, "-m", "ecc200"]
-
-
-def environment():
-    return clean(PYTHONPATH=PACKAGE, **libraries())
-
-
-def ecc(*words, given=b"", folder=None):
-    return run([*WORDS, *words], given.encode() if isinstance(given, str) else given, env=environment(), cwd=folder)
 
 
 def text(rows):
@@ -72,11 +62,10 @@ class Surface(PackageCase):
         for command in commands:
             status, output, _ = ecc(command, "--help")
             self.holds(f"{command} --help", status == 0 and "Status: 0" in output, output)
-        for words in ((), ("quite",), ("read", "--border", "x"), ("read", "--border", "70000"), ("write", "--gs1",
-                                                                                                 "--hex", "A"),
-                      ("compare", "a"), ("compare", "--doubtful", "a", "b", "c"), ("write", "--size", "9x9", "A"),
-                      ("write", "--size", "8", "A"), ("write", "--shape", "round", "A"), ("write", "--size", "8x18",
-                                                                                          "--shape", "any", "A"),
+        for words in ((), ("quite",), ("read", "--border", "x"), ("read", "--border", "70000"),
+                      ("write", "--gs1", "--hex", "A"), ("compare", "a"), ("compare", "--doubtful", "a", "b", "c"),
+                      ("write", "--size", "9x9", "A"), ("write", "--size", "8", "A"),
+                      ("write", "--shape", "round", "A"), ("write", "--size", "8x18", "--shape", "any", "A"),
                       ("sizes", "--shape", "round"), ("write", "--quiet-zone", "-1", "A")):
             status, _, errors = ecc(*words)
             self.holds(f"the words {words}", status == 2 and "usage: ecc200" in errors, f"{status}, {errors}")
@@ -86,17 +75,16 @@ class Surface(PackageCase):
         self.says("read", ecc("read", given=good), output="123456\n")
         self.says("read two", ecc("read", given=good + "\n\n" + other), output="123456\nA b\\\\\n")
         self.says("read nothing", ecc("read"), output="")
-        self.says("--hex", ecc("read", "--hex", given=other), output="4120625c\n")
+        self.says("--hex", ecc("read --hex", given=other), output="4120625c\n")
         self.says("Latin-1", ecc("read", given=text(ecc200.write(b"caf\xe9"))), output="caf\u00e9\n")
         self.says("UTF-8", ecc("read", given=text(ecc200.write("\u20ac".encode()))), output="\u20ac\n")
         narrow = run([*WORDS, "read"], text(ecc200.write("\u20ac".encode())).encode(),
                      env={**environment(), "PYTHONIOENCODING": "ascii"})
         self.says("an output that hasn't the character", narrow, output="\\u20ac\n")
-        self.says("a stated charset", ecc("read", "--charset", "cp437", given=text(ecc200.write(b"\x82"))),
-                  output="\u00e9\n")
-        self.says("no such charset", ecc("read", "--charset", "x", given=good), status=2, errors=["no charset 'x'"])
+        self.says("a stated charset", ecc("read --charset cp437", given=text(ecc200.write(b"\x82"))), output="\u00e9\n")
+        self.says("no such charset", ecc("read --charset x", given=good), status=2, errors=["no charset 'x'"])
         self.says("control characters", ecc("read", given=text(ecc200.write(b"A\n\x1b"))), output="A\\x0A\\x1B\n")
-        self.says("--escapes", ecc("read", "--escapes", given=text(ecc200.write([256, 65, 256, 233]))),
+        self.says("--escapes", ecc("read --escapes", given=text(ecc200.write([256, 65, 256, 233]))),
                   output="\\FA\\F\\xE9\n")
         element = text(ecc200.write(b"0109521234543213", gs1=True))
         self.says("GS1", ecc("read", given=element), output="(01)09521234543213\n")
@@ -104,8 +92,8 @@ class Surface(PackageCase):
                   output="\\F0109521234543214\n", errors=["check digit is 4"])
         unknown = text(ecc200.write(b"4327A", gs1=True))
         self.says("unknown GS1", ecc("read", given=unknown), output="\\F4327A\n", errors=["(4327) isn't"])
-        self.says("unknown GS1 passes", ecc("read", "--unknown", given=unknown), output="(4327)A\n")
-        status, output, _ = ecc("read", "--json", given=element + text([bytes(10)] * 10))
+        self.says("unknown GS1 passes", ecc("read --unknown", given=unknown), output="(4327)A\n")
+        status, output, _ = ecc("read --json", given=element + text([bytes(10)] * 10))
         first, second = map(json.loads, output.splitlines())
         self.row("--json", (status, first["elements"][0]["title"], first["rows"], first["columns"], first["symbol"]),
                  (1, "GTIN", 16, 16, 1))
@@ -114,21 +102,21 @@ class Surface(PackageCase):
                  (2, "BORDER", 27, False))
         self.says("check", ecc("check", given=good),
                   output="10x10, 0 border modules wrong, codewords corrected in each block: 0 (at most 2)\n")
-        self.row("check --json", json.loads(ecc("check", "--json", given=good)[1])["corrected"], [0])
+        self.row("check --json", json.loads(ecc("check --json", given=good)[1])["corrected"], [0])
         self.says("normal", ecc("normal", given=good + other), output=good + other)
         binary = text(ecc200.write(b"\x80" * 3))
-        self.says("normal --shorter", ecc("normal", "--shorter", given=binary),
+        self.says("normal --shorter", ecc("normal --shorter", given=binary),
                   output=text(ecc200.write(b"\x80" * 3, profile=1)))
         squares = corpus.marks("squares")
-        status, output, _ = ecc("read", "--escapes", "--usual", given=corpus.grids(squares))
+        status, output, _ = ecc("read --escapes --usual", given=corpus.grids(squares))
         self.row("marks of others, --usual", output.splitlines(),
                  ["\\no" if "usual" in mark.more else mark.said for mark in squares])
-        self.says("a file that isn't there", ecc("read", "none.txt"), status=2, errors=["none.txt: No such file"])
+        self.says("a file that isn't there", ecc("read none.txt"), status=2, errors=["none.txt: No such file"])
 
     def test_in_words(self):
         grid = edifact()
         self.says("EDIFACT", ecc("read", given=grid)[:2] + ("",))
-        self.says("EDIFACT, --usual", ecc("read", "--usual", given=grid), 1, "\\no\n", ["EDIFACT", "leave out --usual"])
+        self.says("EDIFACT, --usual", ecc("read --usual", given=grid), 1, "\\no\n", ["EDIFACT", "leave out --usual"])
         good = text(ecc200.write(b"123456"))
         for name, given, parts in [
             ("CR", good.replace("\n", "\r\n"), ["CR and LF", "tr -d"]),
@@ -163,20 +151,19 @@ class Surface(PackageCase):
         self.says("too long", ecc("write", "7" * (2 * ecc200.sizes()[-1].data_codewords + 1)), 1, "",
                   ["longer than any symbol"])
         self.says("damage within the limit", ecc("read", given=text(hurt(2))), output="123456\n")
-        self.says("--border", ecc("read", "--border", "9", given=text([*ecc200.write(b"123456")[:-1], bytes(10)])), 1,
+        self.says("--border", ecc("read --border 9", given=text([*ecc200.write(b"123456")[:-1], bytes(10)])), 1,
                   "\\no\n", ["10 of the 36"])
         for limit in ("10", "auto"):
             self.says(f"--border {limit} is enough",
-                      ecc("read", "--border", limit, given=text([*ecc200.write(b"123456")[:-1], bytes(10)])),
+                      ecc("read --border", limit, given=text([*ecc200.write(b"123456")[:-1], bytes(10)])),
                       output="123456\n")
         frayed = text([*hurt(1)[:-1], bytes(10)])
         checked = "10x10, 10 border modules wrong, codewords corrected in each block: 1 (at most 2)\n"
         for command, output in (("read", "123456\n"), ("normal", good), ("check", checked)):
             self.says(f"{command} --border auto", ecc(command, "--border", "auto", given=frayed), output=output)
-        self.holds("explain --border auto", "It says 123456" in ecc("explain", "--border", "auto", given=frayed)[1])
-        self.says("--border auto, and no correction left", ecc("read", "--border", "auto", given=text([*hurt(2)[:-1],
-                                                                                                       bytes(10)])), 1,
-                  "\\no\n", ["10 of the 36"])
+        self.holds("explain --border auto", "It says 123456" in ecc("explain --border auto", given=frayed)[1])
+        self.says("--border auto, and no correction left",
+                  ecc("read --border auto", given=text([*hurt(2)[:-1], bytes(10)])), 1, "\\no\n", ["10 of the 36"])
 
     def test_otherwise(self):
         """Grids that stand otherwise are named, and read with --any-way."""
@@ -200,37 +187,31 @@ class Surface(PackageCase):
                  "has 2 by 2 characters or pixels for each module and has a light margin and is mirrored"),
             ]:
                 self.says(f"{name}, {side}", ecc("read", given=text(grid)), 1, "\\no\n", [part, "--any-way"])
-                self.says(f"{name}, {side}, --any-way", ecc("read", "--any-way", given=text(grid)),
+                self.says(f"{name}, {side}, --any-way", ecc("read --any-way", given=text(grid)),
                           output=message.decode() + "\n")
-        self.says("nothing helps", ecc("read", "--any-way", given=text([bytes(10)] * 10)), 1, "\\no\n",
-                  ["27 of the 36"])
+        self.says("nothing helps", ecc("read --any-way", given=text([bytes(10)] * 10)), 1, "\\no\n", ["27 of the 36"])
 
     def test_writing(self):
-        self.says("write", ecc("write", "123456"), output=smallest(b"123456"))
+        self.says("write", ecc("write 123456"), output=smallest(b"123456"))
         self.says("write lines", ecc("write", given="123456\n0\nA\n"),
                   output=smallest(b"123456") + smallest(b"0") + smallest(b"A"))
-        self.says("write GS1", ecc("write", "--gs1", "(01)09521234543213(10)A(21)B"),
+        self.says("write GS1", ecc("write --gs1", "(01)09521234543213(10)A(21)B"),
                   output=smallest(b"010952123454321310A\x1d21B", gs1=True))
-        self.says("write faulty GS1", ecc("write", "--gs1", "(01)09521234543214"), 1, "",
+        self.says("write faulty GS1", ecc("write --gs1", "(01)09521234543214"), 1, "",
                   ["message 1: (01) GTIN: its check digit"])
-        self.says("write unknown GS1", ecc("write", "--gs1", "--unknown", "(4327)A"),
-                  output=smallest(b"4327A", gs1=True))
-        self.says("write --hex", ecc("write", "--hex", "00ff"), output=smallest(b"\0\xff"))
-        self.says("write wrong --hex", ecc("write", "--hex", "0f0"), 1, "", ["hexadecimal"])
-        self.says("write --escapes", ecc("write", "--escapes", "\\FA\\x80\\\\"),
-                  output=smallest([256, 65, 128, 92]))
-        self.says("write wrong --escapes", ecc("write", "--escapes", "\\q"), 1, "", ["'q'"])
-        self.says("write --shorter", ecc("write", "--shorter", "--hex", "80" * 3),
+        self.says("write unknown GS1", ecc("write --gs1 --unknown", "(4327)A"), output=smallest(b"4327A", gs1=True))
+        self.says("write --hex", ecc("write --hex 00ff"), output=smallest(b"\0\xff"))
+        self.says("write wrong --hex", ecc("write --hex 0f0"), 1, "", ["hexadecimal"])
+        self.says("write --escapes", ecc("write --escapes", "\\FA\\x80\\\\"), output=smallest([256, 65, 128, 92]))
+        self.says("write wrong --escapes", ecc("write --escapes", "\\q"), 1, "", ["'q'"])
+        self.says("write --shorter", ecc("write --shorter --hex", "80" * 3),
                   output=text(ecc200.write(b"\x80" * 3, profile=1)))
-        self.says("write Latin-1", ecc("write", "--charset", "iso-8859-1", "caf\u00e9"),
-                  output=smallest(b"caf\xe9"))
-        self.says("write UTF-8", ecc("write", "--charset", "utf-8", "caf\u00e9"),
-                  output=smallest("caf\u00e9".encode()))
-        self.says("write bytes", ecc("write", "--bytes", "-", given=b"\xff\n"), output=smallest(b"\xff\n"))
-        self.says("bytes and a message", ecc("write", "--bytes", os.devnull, "A"), 2, "",
+        self.says("write Latin-1", ecc("write --charset iso-8859-1", "caf\u00e9"), output=smallest(b"caf\xe9"))
+        self.says("write UTF-8", ecc("write --charset utf-8", "caf\u00e9"), output=smallest("caf\u00e9".encode()))
+        self.says("write bytes", ecc("write --bytes -", given=b"\xff\n"), output=smallest(b"\xff\n"))
+        self.says("bytes and a message", ecc("write --bytes", os.devnull, "A"), 2, "",
                   ["--bytes", "'A' would be another"])
-        self.says("one is refused", ecc("write", "--hex", "41", "x", "42"), 1,
-                  smallest(b"A") + smallest(b"B"), ["message 2"])
+        self.says("one is refused", ecc("write --hex 41 x 42"), 1, smallest(b"A") + smallest(b"B"), ["message 2"])
         for name, words, part in [("no width", ("--module", "x"), "--module x"),
                                   ("half a dot", ("--module", "1.5"), "whole number"),
                                   ("no kind", ("-o", "a.gif"), ".png, .svg"),
@@ -238,7 +219,7 @@ class Surface(PackageCase):
                                   ("a small sheet", ("--sheet", "30x20"), "doesn't fit"),
                                   ("no resolution", ("--dpi", "0"), "--dpi"),
                                   ("too many dots", ("--module", "1000mm", "--dpi", "100000"), "too large")]:
-            self.says(name, ecc("write", "A", "-o", "a.png", *words, folder=self.room), 2, "", [part])
+            self.says(name, ecc("write A -o a.png", *words, folder=self.room), 2, "", [part])
 
     def test_files(self):
         """Pictures that are written are as large as was asked for, and are read again."""
@@ -247,13 +228,13 @@ class Surface(PackageCase):
         pillow = self.wanted_module("PIL.Image", "Pillow", "pictures that the command writes and reads")
         for words, side in sizes.items():
             path = os.path.join(self.room, "label.png")
-            self.says(f"-o label.png {' '.join(words)}", ecc("write", "123456", "-o", path, *words), output="")
+            self.says(f"-o label.png {' '.join(words)}", ecc("write 123456 -o", path, *words), output="")
             if pillow:
                 self.row(f"its size, {words}", pillow.Image.open(path).size, (side, side))
                 self.says(f"read label.png {' '.join(words)}", ecc("read", path), output="123456\n")
         for scale in (1, 2, 7):
             path = os.path.join(self.room, f"small{scale}.png")
-            self.says(f"{scale} dots a module", ecc("write", "Mitsubadoor", "-o", path, "--module", str(scale),
+            self.says(f"{scale} dots a module", ecc("write Mitsubadoor -o", path, "--module", str(scale),
                                                     "--quiet-zone", str(scale % 3)),
                       output="")
             if pillow:
@@ -275,23 +256,22 @@ class Surface(PackageCase):
                        without[0] == 1 and "ecc200_sample isn't installed" in without[2], str(without))
         for kind, start in (("svg", b"<svg "), ("pdf", b"%PDF-"), ("txt", b"1010")):
             path = os.path.join(self.room, f"label.{kind}")
-            self.says(f"-o label.{kind}", ecc("write", "123456", "-o", path), output="")
+            self.says(f"-o label.{kind}", ecc("write 123456 -o", path), output="")
             with open(path, "rb") as file:
                 self.row(f"label.{kind}", file.read(len(start)), start)
         lines = "".join(f"line {number}\n" for number in range(12))
-        self.says("numbered files", ecc("write", "-o", os.path.join(self.room, "many.png"), given=lines), output="")
+        self.says("numbered files", ecc("write -o", os.path.join(self.room, "many.png"), given=lines), output="")
         names = [os.path.join(self.room, f"many-{number:02}.png") for number in range(1, 13)]
         if pillow:
             self.says("numbered files are read", ecc("read", *names),
                       output="".join(map("{}:{}".format, names, lines.splitlines(True))))
-        self.says("a sheet", ecc("write", "--sheet", "-o", os.path.join(self.room, "sheet.pdf"), given=lines),
-                  output="")
-        self.says("a sheet of labels", ecc("write", "--sheet", "100x50", "-o", os.path.join(self.room, "sheet.png"),
+        self.says("a sheet", ecc("write --sheet -o", os.path.join(self.room, "sheet.pdf"), given=lines), output="")
+        self.says("a sheet of labels", ecc("write --sheet 100x50 -o", os.path.join(self.room, "sheet.png"),
                                            given=lines), output="")
         self.row("its name", sorted(name for name in os.listdir(self.room) if name.startswith("sheet")),
                  ["sheet.pdf", "sheet.png"])
         if pillow and os.path.isfile(SAMPLER):
-            status, output, _ = ecc("read", "--all", "--time", "20000", os.path.join(self.room, "sheet.png"))
+            status, output, _ = ecc("read --all --time 20000", os.path.join(self.room, "sheet.png"))
             self.row("a sheet is read", (status, sorted(output.splitlines())), (0, sorted(lines.splitlines())))
         if pillow and self.has("zint", "a mark of zint from a PNG"):
             path = os.path.join(self.room, "zint.png")
@@ -310,12 +290,12 @@ class Surface(PackageCase):
                 path = os.path.join(self.room, "other.png")
                 run(["zint", "-b", "71", "--square", "-o", path, *words])
                 self.says(f"zint's {part}", ecc("read", path), output=said + "\n")
-                self.says(f"zint's {part}, --usual", ecc("read", "--usual", path), 1, "", [part])
+                self.says(f"zint's {part}, --usual", ecc("read --usual", path), 1, "", [part])
         with open(os.path.join(self.room, "broken.png"), "wb") as file:
             file.write(b"\x89PNG\r\n\x1a\nrubbish")
         self.says("a broken picture", ecc("read", os.path.join(self.room, "broken.png")), 2, "",
                   ["broken.png", "can't be opened" if pillow else "Pillow"])
-        self.says("a folder that isn't there", ecc("write", "A", "-o", os.path.join(self.room, "none", "a.png")), 2, "",
+        self.says("a folder that isn't there", ecc("write A -o", os.path.join(self.room, "none", "a.png")), 2, "",
                   ["there is no folder"])
 
     def test_named_alike(self):
@@ -329,7 +309,7 @@ class Surface(PackageCase):
         program = os.path.join(os.path.dirname(SAMPLER), "dm_sample")
         first = json.loads(run([program, "--json", "--time", "2000", path])[1])
         for option in ("--time", "--milliseconds"):
-            second = json.loads(ecc("read", "--json", option, "2000", path)[1])
+            second = json.loads(ecc("read --json", option, "2000", path)[1])
             for name in ("file", "rows", "columns", "inverted", "mirrored", "message", "corrected", "erased", "left",
                          "border_faults"):
                 self.row(f"{name}, with {option}", second[name], first[name])

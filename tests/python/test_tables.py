@@ -3,9 +3,9 @@ import csv
 import io
 import os
 
-from tests.python.common import PackageCase, run
-from tests.python.test_batches import made, saved, symbols
-from tests.python.test_surface import WORDS, ecc, environment, hurt, smallest, text
+from tests.python.common import WORDS, PackageCase, ecc, environment, run
+from tests.python.test_batches import saved, symbols
+from tests.python.test_surface import hurt, smallest, text
 from tests.support import needs, work
 
 import ecc200
@@ -34,20 +34,20 @@ def parsed(output):
 class Tables(PackageCase):
     def test_by_rows(self):
         """Rows are labels by their headings: each wrong one is named, and the others are written."""
-        here = made(self.room, "rows")
+        here = self.made("rows")
         saved(here, "lots.csv", LOTS)
-        got = ecc("write", "--csv", "lots.csv", "-o", "{}.svg", folder=here)
+        got = self.ecc("write --csv lots.csv -o", "{}.svg")
         self.says("files by a column", got, 1, "", [f"ecc200: lots.csv: {fault}" for fault in FAULTS])
         self.row("lines of errors, and files", (got[2].count("\n"), sorted(os.listdir(here))),
                  (len(FAULTS), ["a-1.svg", "a-2.svg", "c.svg", "lots.csv"]))
         drawn = open(os.path.join(here, "a-1.svg"), encoding="utf-8").read()
         self.holds("the text stands below", ">first<" in drawn and "(01)" not in drawn, drawn[-300:])
-        got = ecc("write", "--csv", "lots.csv", "-o", "b.svg", "--column", "file name=-", folder=here)
+        got = self.ecc("write --csv lots.csv -o b.svg --column", "file name=-")
         self.row("files by number", sorted(name for name in os.listdir(here) if name.startswith("b")),
                  ["b-1-1.svg", "b-1-2.svg", "b-3.svg"])
-        self.says("names without a place for them", ecc("write", "--csv", "lots.csv", "-o", "b.svg", folder=here), 2,
+        self.says("names without a place for them", self.ecc("write --csv lots.csv -o b.svg"), 2,
                   "", ["it names files", "{}"])
-        grids = ecc("write", "--csv", "lots.csv", "--column", "text=-", "--column", "file name=-", folder=here)[1]
+        grids = self.ecc("write --csv lots.csv --column text=- --column", "file name=-")[1]
         first = smallest(b"010952123454321310ABC\x1d1725123121" + b"1", gs1=True)
         other = text(ecc200.write(b"010952123454321310Y\x1d213", True, size=(24, 24), form=ecc200.Form.SMALLEST))
         self.row("as grids", grids, 2 * first + other)
@@ -55,21 +55,21 @@ class Tables(PackageCase):
             given = "message{0}qty\r\n\"a{0}\"\"b\"\"\r\nc\"{0}2\r\n\r\n caf\u00e9 {0}\r\n".format(separator)
             wanted = symbols(f"a{separator}\"b\"\r\nc".encode()) * 2 + symbols(b" caf\xe9 ")
             for data in (given.encode(), given.encode("utf-8-sig"), given.encode("utf-16")):
-                self.says(f"separated by {separator!r}", ecc("write", "--csv", "-", given=data), output=wanted)
-        got = ecc("write", "--csv", "-", "--gs1", given="message\n(10)A\nA\n")
+                self.says(f"separated by {separator!r}", ecc("write --csv -", given=data), output=wanted)
+        got = ecc("write --csv - --gs1", given="message\n(10)A\nA\n")
         self.says("--gs1", got, 1, smallest(b"10A", gs1=True), ["row 2: an identifier in brackets"])
-        got = ecc("write", "--csv", "-", given="message,kind\nA,b\n41,HEX\n\\x42,escapes\n\\x42,text\n(10)A,gs1\n")
+        got = ecc("write --csv -", given="message,kind\nA,b\n41,HEX\n\\x42,escapes\n\\x42,text\n(10)A,gs1\n")
         self.says("kinds", got, 1, symbols(b"A", b"B", b"\\x42") + smallest(b"10A", gs1=True),
                   ["row 1: 'b' is no kind of a message"])
-        self.says("a size of a row", ecc("write", "--csv", "-", given="message,size\n123456,10x10\n1234567,10x10\n"), 1,
+        self.says("a size of a row", ecc("write --csv -", given="message,size\n123456,10x10\n1234567,10x10\n"), 1,
                   symbols(b"123456"), ["row 2: the message is longer than a symbol of 10x10 holds"])
-        self.says("text like GS1 data", ecc("write", "--csv", "-", given="message\n(10)A\n"), 0, symbols(b"(10)A"),
+        self.says("text like GS1 data", ecc("write --csv -", given="message\n(10)A\n"), 0, symbols(b"(10)A"),
                   ["row 1 reads like GS1 data"])
-        self.says("an apostrophe of a spreadsheet", ecc("write", "--csv", "-", given="message\n'=1+1\n'a\n"), 0,
+        self.says("an apostrophe of a spreadsheet", ecc("write --csv -", given="message\n'=1+1\n'a\n"), 0,
                   symbols(b"=1+1", b"'a"), ["an apostrophe in front", "'=1+1"])
         if self.wanted_module("PIL.Image", "Pillow", "a sheet of rows") and self.has_sampler("a sheet of rows"):
-            ecc("write", "--csv", "lots.csv", "--column", "file name=-", "--sheet", "-o", "sheet.png", folder=here)
-            self.row("a sheet", ecc("read", "--all", "sheet.png", folder=here)[1].splitlines(),
+            self.ecc("write --csv lots.csv --column", "file name=-", "--sheet", "-o", "sheet.png")
+            self.row("a sheet", self.ecc("read --all sheet.png")[1].splitlines(),
                      ["(01)09521234543213(10)ABC(17)251231(21)1"] * 2 + ["(01)09521234543213(10)Y(21)3"])
 
     def test_headings(self):
@@ -98,20 +98,20 @@ class Tables(PackageCase):
             ("a message beside", "message\nA\n", ("B", ), ["--csv", "'B' would be another"]),
         ]:
             self.says(name, ecc("write", *words, "--csv", "-", given=given), 2, "", parts)
-        answered = ecc("write", "--csv", "-", "--column", "Art. no.=01", "--column", "colour=-",
+        answered = ecc("write --csv - --column", "Art. no.=01", "--column", "colour=-",
                        given="Art. no.,colour\n09521234543213,red\n")
         self.says("answered", answered, output=smallest(b"0109521234543213", gs1=True))
-        self.says("without an end", ecc("write", "--csv", "/dev/zero"), 2, "", ["more than 256 MiB"])
+        self.says("without an end", ecc("write --csv /dev/zero"), 2, "", ["more than 256 MiB"])
 
     def test_told(self):
         """What symbols say is a table, whatever they say."""
-        here = made(self.room, "told")
+        here = self.made("told")
         formula, lines = symbols(b"=1+1", b"-5", b"+a", b"@b"), symbols(b"a,\"b\"\nc")
         marked = text(ecc200.write(b"0109521234543213" + b"10A;B\x1d21=7", gs1=True))
         part = text(ecc200.write(b"1", head=(1, 2, 3, 4)))
         given = lines + formula + marked + text(hurt(5)) + symbols(b"\x80\xff\n") + part
         saved(here, "=a.txt", given)
-        status, output, errors = ecc("read", "--csv", "--elements", "01,Serial", "=a.txt", "none.txt", folder=here)
+        status, output, errors = self.ecc("read --csv --elements 01,Serial =a.txt none.txt")
         self.holds("its rows end with CR and LF", output.endswith("\r\n") and output.isascii()
                    and "\x1b" not in output, output)
         head, *rows = parsed(output)
@@ -126,32 +126,32 @@ class Tables(PackageCase):
         self.holds("what isn't read", rows[6][:2] == ["'=a.txt", "7"] and "scan it again" in rows[6][-1]
                    and rows[-1][:2] == ["none.txt", ""] and "No such file" in rows[-1][-1], str(rows))
         self.holds("errors", status == 2 and "apostrophe in front" in errors and errors.count("\n") == 3, errors)
-        marked = ecc("read", "--csv", "--bom", given=symbols("\u20ac".encode()))
+        marked = ecc("read --csv --bom", given=symbols("\u20ac".encode()))
         self.row("a mark in front", parsed(marked[1])[0][0], "\ufeffpicture")
         narrow = run([*WORDS, "read", "--csv"], symbols("\u20ac".encode()).encode(), env={**environment(),
                                                                                          "PYTHONIOENCODING": "latin-1"})
         self.holds("UTF-8 whatever the locale", "\u20ac" in marked[1] and "\u20ac" in narrow[1], narrow[1])
-        back = ecc("write", "--csv", "-", given=ecc("read", "--csv", given=given)[1])
+        back = ecc("write --csv -", given=ecc("read --csv", given=given)[1])
         self.row("written again", back[1], given.replace(text(hurt(5)), ""))
         for words in (("--elements", "01"), ("--bom", )):
             self.says(f"{words} alone", ecc("read", *words), 2, "", ["it needs --csv"])
-        self.says("no identifiers", ecc("read", "--csv", "--elements", "01,colour"), 2, "", ["unlike 'colour'"])
+        self.says("no identifiers", ecc("read --csv --elements 01,colour"), 2, "", ["unlike 'colour'"])
         what = "corners in a table"
         if not self.wanted_module("PIL.Image", "Pillow", what) or not self.has_sampler(what):
             return
-        ecc("write", "--sheet", "100x60", "-o", "sheet.png", given="A\nB\nC\n", folder=here)
-        rows = parsed(ecc("read", "--csv", "--all", "sheet.png", folder=here)[1])
+        self.ecc("write --sheet 100x60 -o sheet.png", given="A\nB\nC\n")
+        rows = parsed(self.ecc("read --csv --all sheet.png")[1])
         self.row("in reading order", [row[1:3] for row in rows[1:]], [["1", "A"], ["2", "B"], ["3", "C"]])
         self.holds("corners", rows[1][8].startswith("(") and rows[1][8].count(",") == 4, str(rows[1]))
-        rows = parsed(ecc("read", "--csv", "sheet.png", folder=here)[1])
+        rows = parsed(self.ecc("read --csv sheet.png")[1])
         self.holds("that there are more", len(rows) == 3 and "more symbols" in rows[2][-1], str(rows))
 
     def test_quick(self):
         """Five hundred rows with text take less than about a second of a processor, as PNG."""
-        here = made(self.room, "quick")
+        here = self.made("quick")
         rows = "".join(f"09521234543213,L,{it},label {it}\n" for it in range(500))
         saved(here, "many.csv", "gtin,lot,serial,text\n" + rows)
         with work.measured() as took:
-            self.says("many rows", ecc("write", "--csv", "many.csv", "-o", "label.png", folder=here), output="")
+            self.says("many rows", self.ecc("write --csv many.csv -o label.png"), output="")
         self.holds("the work", took.pieces < 10, str(took))
         self.row("files", len(os.listdir(here)), 501)

@@ -383,10 +383,8 @@ class Texts(PackageCase):
                                                                                                            254)))
         self.row("programming", ecc200.read(ecc200.encode(b"AB", head="programming")).head, "programming")
         for more, code in (({"extent": Extent.USUAL, "marks": [(0, 26)]}, Code.TOO_LONG), ({"form": 3}, Code.PROFILE),
-                           ({"profile": 2}, Code.PROFILE), ({"extent": 2}, Code.EXTENT), ({"marks": [(3, 1)]},
-                                                                                          Code.MARK), ({"head": (1, 1,
-                                                                                                                 1, 1)},
-                                                                                                       Code.HEAD)):
+                           ({"profile": 2}, Code.PROFILE), ({"extent": 2}, Code.EXTENT),
+                           ({"marks": [(3, 1)]}, Code.MARK), ({"head": (1, 1, 1, 1)}, Code.HEAD)):
             self.raises(f"refused: {more}", ecc200.Refused, code.name, lambda more=more: ecc200.encode(b"AB", **more))
 
     def test_elements(self):

@@ -5,9 +5,9 @@ import os
 import signal
 import subprocess
 
-from tests.python.common import PYTHON, PackageCase, run
+from tests.python.common import PYTHON, WORDS, PackageCase, ecc, environment, run
 from tests.python.test_batches import made, saved, symbols
-from tests.python.test_surface import WORDS, ecc, environment, hurt, text
+from tests.python.test_surface import hurt, text
 from tests.support import needs
 
 import ecc200
@@ -42,7 +42,7 @@ ecc200.files.replace("label.png", b"whole")
 class Told(PackageCase):
     def test_escapes(self):
         """Nothing that is scanned or named controls the terminal or begins a line."""
-        here = os.fsencode(made(self.room, "escapes"))
+        here = os.fsencode(self.made("escapes"))
         saved(here, HOSTILE, symbols(b"A").encode())
         latin = {"LC_ALL": "C", "PYTHONUTF8": "0", "PYTHONCOERCECLOCALE": "0"}
         for more in ({}, latin):
@@ -53,12 +53,10 @@ class Told(PackageCase):
         saved(here, name, symbols(b"A").encode())
         self.row("letters stay, whatever the locale", [raw("read", "-H", name, folder=here, **more)[1]
                                                        for more in ({}, latin)], [name + b":A\n"] * 2)
-        for words in (("read", b"--q\x1bc"), (b"q\x1bc", ), ("write", "-o", b"q\x1bc.x", "A"), ("write", "A", "--form",
-                                                                                            b"\x1bc"),
-                      ("compare", HOSTILE, b"q\x1bc"), ("explain", "-H", HOSTILE), ("check", "-H", HOSTILE),
-                      ("normal", b"q\x1bc"), ("join", HOSTILE), ("compare", HOSTILE, HOSTILE),
-                      ("read", "--csv", HOSTILE, b"q\x1bc"),
-                      ("read", "--charset", b"\x1b")):
+        for words in (("read", b"--q\x1bc"), (b"q\x1bc",), ("write", "-o", b"q\x1bc.x", "A"),
+                      ("write", "A", "--form", b"\x1bc"), ("compare", HOSTILE, b"q\x1bc"), ("explain", "-H", HOSTILE),
+                      ("check", "-H", HOSTILE), ("normal", b"q\x1bc"), ("join", HOSTILE), ("compare", HOSTILE, HOSTILE),
+                      ("read", "--csv", HOSTILE, b"q\x1bc"), ("read", "--charset", b"\x1b")):
             got = raw(*words, folder=here)
             self.holds(f"the words {words}", b"\x1b" not in got[1] + got[2] and b"\xc2\x9b" not in got[1] + got[2],
                        str(got))
@@ -89,22 +87,22 @@ class Told(PackageCase):
                        and part.rstrip() in first and rest[0].startswith("usage: ecc200"), errors)
             self.holds(f"usage of the command {words}", len(words) < 2 or f"usage: ecc200 {words[0]} " in errors,
                        errors)
-        self.says("a message that begins with -", ecc("write", "--", "-5x"), output=symbols(b"-5x"))
+        self.says("a message that begins with -", ecc("write -- -5x"), output=symbols(b"-5x"))
 
     def test_alike(self):
         """Text that reads like GS1 data, and isn't, is told apart, and asked about where it is written."""
-        marked, plain = ecc("write", "--gs1", ELEMENTS), ecc("write", ELEMENTS)
+        marked, plain = ecc("write --gs1", ELEMENTS), ecc("write", ELEMENTS)
         self.says("write --gs1", marked, output=None)
         self.says("write asks", plain, 0, None, ["ecc200: message 1 reads like GS1 data", "is --gs1 meant?"])
         self.says("GS1 data", ecc("read", given=marked[1]), output=ELEMENTS + "\n")
         self.says("what looks like it", ecc("read", given=plain[1]), 0, "\\x28" + ELEMENTS[1:] + "\n",
                   ["symbol 1: it reads like GS1 data, and isn't", "write --gs1"])
-        self.row("the line spells what was written", ecc("write", "--escapes", "\\x28" + ELEMENTS[1:])[1], plain[1])
+        self.row("the line spells what was written", ecc("write --escapes", "\\x28" + ELEMENTS[1:])[1], plain[1])
         for name, grid, part in (("GS1 data", marked[1], "(at most 7), GS1 data\n"), ("what looks like it", plain[1],
                                                                                     "reads like GS1 data and isn't")):
             got = ecc("check", given=grid)
             self.holds(f"check, {name}", got[0] == 0 and part in got[1] and not got[2], str(got))
-        self.row("JSON", [json.loads(line)["gs1"] for line in ecc("read", "--json", given=marked[1] + plain[1])[1]
+        self.row("JSON", [json.loads(line)["gs1"] for line in ecc("read --json", given=marked[1] + plain[1])[1]
                           .splitlines()], [True, False])
         lines = f"{ELEMENTS}\nA\n[01]09521234543214\n(17)999999\n"
         self.says("lines", ecc("write", given=lines), 0, None, ["ecc200: line 1 and 2 more read like GS1 data"])
@@ -116,26 +114,25 @@ class Told(PackageCase):
 
     def test_raw_bytes(self):
         """Any bytes come back as they went."""
-        here = made(self.room, "raw")
+        here = self.made("raw")
         for number, data in enumerate((b"C:\\new", b"a\r\nb\n\n", b"\xef\xbb\xbf", b"", b"\xff\0\x80\x1d\\F",
                                        bytes(range(256)), "\u20ac\n".encode())):
-            grid = ecc("write", "--raw", given=data)[1]
+            grid = ecc("write --raw", given=data)[1]
             for _ in range(2):
                 done = subprocess.run([*WORDS, "read", "--raw"], input=grid.encode(), env=environment(), timeout=60,
                                       capture_output=True)
                 self.row(f"bytes {number}", (done.returncode, done.stdout, done.stderr), (0, data, b""))
-                grid = ecc("write", "--raw", given=done.stdout)[1]
-        self.says("words", ecc("write", "--raw", "\u20ac\n", "A\n"), output=symbols("\u20ac\n".encode(), b"A\n"))
-        self.row("what write and read make of a backslash", ecc("read", "--raw", given=ecc("write", "C:\\new")[1])[1],
+                grid = ecc("write --raw", given=done.stdout)[1]
+        self.says("words", ecc("write --raw", "\u20ac\n", "A\n"), output=symbols("\u20ac\n".encode(), b"A\n"))
+        self.row("what write and read make of a backslash", ecc("read --raw", given=ecc("write", "C:\\new")[1])[1],
                  "C:\\new")
-        self.says("too many", ecc("write", "--raw", given=b"\xff" * 4000), 1, "",
+        self.says("too many", ecc("write --raw", given=b"\xff" * 4000), 1, "",
                   ["standard input: the message is longer"])
-        self.says("what isn't read", ecc("read", "--raw", "-H", given=text(hurt(5)) + symbols(b"A")), 1, "A",
-                  ["symbol 1"])
+        self.says("what isn't read", ecc("read --raw -H", given=text(hurt(5)) + symbols(b"A")), 1, "A", ["symbol 1"])
         for part, message in enumerate(("a\n", "b"), 1):
             saved(here, f"{part}.txt", text(ecc200.write(message.encode(), head=(part, 2, 1, 1))))
-        self.says("a part", ecc("read", "--raw", "1.txt", folder=here), 0, "a\n", ["it is part 1 of 2"])
-        self.says("joined", ecc("join", "--raw", "2.txt", "1.txt", folder=here), output="a\nb")
+        self.says("a part", self.ecc("read --raw 1.txt"), 0, "a\n", ["it is part 1 of 2"])
+        self.says("joined", self.ecc("join --raw 2.txt 1.txt"), output="a\nb")
         for command in ("read", "write"):
             words = " ".join(ecc(command, "--help")[1].split())
             self.holds(f"{command} --help names both", "--raw" in words and "--escapes" in words, words)
@@ -145,24 +142,23 @@ class Told(PackageCase):
         what = "sheets of which one symbol is read"
         if not self.has_sampler(what) or not self.wanted_module("PIL.Image", "Pillow", what):
             return
-        here = made(self.room, "others")
+        self.made("others")
         for count in (1, 6):
-            ecc("write", "--sheet", "100x60", "-o", f"{count}.png", given="".join(f"SN-{it}\n" for it in range(count)),
-                folder=here)
+            self.ecc("write --sheet 100x60 -o", f"{count}.png", given="".join(f"SN-{it}\n" for it in range(count)))
         for command in ("read", "check", "explain", "normal"):
-            got = ecc(command, "6.png", folder=here)
+            got = self.ecc(command, "6.png")
             self.holds(f"{command}, one of many", got[0] == 3 and "ecc200: 6.png: there are more symbols than the one "
                        "that is read: --all" in got[2] and got[2].count("\n") == 1, str(got))
-            self.holds(f"{command}, one alone", ecc(command, "1.png", folder=here)[0::2] == (0, ""))
-        self.says("read", ecc("read", "6.png", folder=here), 3, "SN-0\n", ["more symbols"])
-        told = [json.loads(line) for line in ecc("read", "--json", "6.png", folder=here)[1].splitlines()]
+            self.holds(f"{command}, one alone", self.ecc(command, "1.png")[0::2] == (0, ""))
+        self.says("read", self.ecc("read 6.png"), 3, "SN-0\n", ["more symbols"])
+        told = [json.loads(line) for line in self.ecc("read --json 6.png")[1].splitlines()]
         self.row("in JSON", ([line["complete"] for line in told], "ended" in told[-1]), ([False, False], True))
-        self.row("--most 1 asks for no other", ecc("read", "--most", "1", "6.png", folder=here)[0::2], (0, ""))
-        self.row("--all", (ecc("read", "--all", "6.png", folder=here)[1].count("\n")), 6)
+        self.row("--most 1 asks for no other", self.ecc("read --most 1 6.png")[0::2], (0, ""))
+        self.row("--all", (self.ecc("read --all 6.png")[1].count("\n")), 6)
 
     def test_folders(self):
         """A folder with nothing to be read is named, with what it has."""
-        here = made(self.room, "folders")
+        here = self.made("folders")
         for name in ("empty", "drawn", "mixed"):
             made(here, name)
         made(here, "empty/inner")
@@ -173,20 +169,18 @@ class Told(PackageCase):
         saved(here, "mixed/label.pdf", b"%PDF-1.4\n")
         none = "there are no pictures and no grids in it"
         for jobs in ("1", "2"):
-            self.says("an empty one", ecc("read", "-r", "--jobs", jobs, "empty", folder=here), 2, "",
-                      [f"ecc200: empty: {none}\n"])
-            self.says("one with PDFs", ecc("check", "-r", "--jobs", jobs, "drawn", "mixed", folder=here), 2, None,
+            self.says("an empty one", self.ecc("read -r --jobs", jobs, "empty"), 2, "", [f"ecc200: empty: {none}\n"])
+            self.says("one with PDFs", self.ecc("check -r --jobs", jobs, "drawn", "mixed"), 2, None,
                       [f"ecc200: drawn: {none}; 3 files of other kinds are passed over, 2 of them PDF or SVG",
                        "pdftoppm"])
-        self.says("where it runs", ecc("read", "-r", folder=os.path.join(here, "empty")), 2, "",
-                  [f"ecc200: .: {none}\n"])
-        self.says("one with a grid", ecc("read", "-r", "mixed", folder=here), output="mixed/label.txt:A\n")
-        told = [json.loads(line) for line in ecc("read", "-r", "--json", "empty", folder=here)[1].splitlines()]
+        self.says("where it runs", ecc("read -r", folder=os.path.join(here, "empty")), 2, "", [f"ecc200: .: {none}\n"])
+        self.says("one with a grid", self.ecc("read -r mixed"), output="mixed/label.txt:A\n")
+        told = [json.loads(line) for line in self.ecc("read -r --json empty")[1].splitlines()]
         self.row("in JSON", told, [{"file": "empty", "error": none}])
 
     def test_lines(self):
         """Of each grid of a text there is a line, also of one that isn't read, as dm_tool has it."""
-        here = made(self.room, "lines")
+        here = self.made("lines")
         given = symbols(b"A") + text(hurt(5)) + "10x\n\n10\n1\n\n" + symbols(b"\\no") + text([bytes(10)] * 10)
         for words in ((), ("--hex", ), ("--escapes", )):
             got = ecc("read", *words, given=given)
@@ -196,35 +190,34 @@ class Told(PackageCase):
         self.row("check", [line == "\\no" for line in got], [False, True, True, True, False, True])
         saved(here, "a.txt", given)
         saved(here, "b.txt", symbols(b"B"))
-        got = ecc("read", "a.txt", "b.txt", folder=here)
+        got = self.ecc("read a.txt b.txt")
         self.row("with names", got[1].splitlines()[1::5], ["a.txt:\\no", "b.txt:B"][:1] + ["b.txt:B"])
         normal = ecc("normal", given=given)
         self.row("normal, and read", ecc("read", given=normal[1])[1], ecc("read", given=given)[1])
-        self.says("none of it in a file", ecc("normal", "-o", "none.txt", given=text(hurt(5)), folder=here), 1, "",
-                  ["symbol 1"])
+        self.says("none of it in a file", self.ecc("normal -o none.txt", given=text(hurt(5))), 1, "", ["symbol 1"])
         self.holds("there is none", not os.path.exists(os.path.join(here, "none.txt")))
 
     def test_stale(self):
         """No file from before stands where a message is refused."""
-        here = made(self.room, "stale")
+        here = self.made("stale")
         for name in ("b-2.png", "b-4.png", "one.svg", "all.txt", "sheet.pdf", "keep.txt"):
             saved(here, name, "from before")
-        got = ecc("write", "--hex", "-o", "b.png", given="41\nx\n42\n", folder=here)
+        got = self.ecc("write --hex -o b.png", given="41\nx\n42\n")
         self.says("a line of many", got, 1, "", ["line 2: ",
                                                  "ecc200: b-2.png stood there from before, and is removed\n"])
         for words in (("-o", "one.svg"), ("-o", "all.txt"), ("--sheet", "-o", "sheet.pdf")):
-            self.says(f"all of them, {words}", ecc("write", "--hex", *words, "x", folder=here), 1, "", ["stood there"])
-        ecc("write", "--hex", "-o", "keep.txt", "x", "41", folder=here)
+            self.says(f"all of them, {words}", self.ecc("write --hex", *words, "x"), 1, "", ["stood there"])
+        self.ecc("write --hex -o keep.txt x 41")
         self.row("what is left", sorted(os.listdir(here)), ["b-1.png", "b-3.png", "b-4.png", "keep.txt"])
-        self.row("no line, and nothing is removed", (ecc("write", "-o", "keep.txt", given="", folder=here)[0],
+        self.row("no line, and nothing is removed", (self.ecc("write -o keep.txt", given="")[0],
                                                      os.path.exists(os.path.join(here, "keep.txt"))), (0, True))
-        self.says("a device", ecc("write", "--hex", "-o", "/dev/null", "--format", "png", "x"), 1, "", ["message 1"])
+        self.says("a device", ecc("write --hex -o /dev/null --format png x"), 1, "", ["message 1"])
 
     def test_stopped(self):
         """What ends the command while it writes a file leaves this one whole, and no other."""
         for name, number in (("SIGINT", signal.SIGINT), ("SIGTERM", signal.SIGTERM)):
             for how in ("default", "python"):
-                here = made(self.room, f"{name}-{how}")
+                here = self.made(f"{name}-{how}")
                 status, _, errors = run([PYTHON, "-c", STOPPED, how, name], env=environment(), cwd=here)
                 self.holds(f"{name}, {how}, ends it", status == -number or "KeyboardInterrupt" in errors, f"{status}")
                 self.row(f"{name}, {how}", {it: open(os.path.join(here, it), "rb").read() for it in os.listdir(here)},

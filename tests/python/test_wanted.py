@@ -2,9 +2,8 @@
 import json
 import os
 
-from tests.python.common import PackageCase
+from tests.python.common import PackageCase, ecc
 from tests.python.test_batches import saved, shell
-from tests.python.test_surface import ecc
 from tests.support import needs
 
 import ecc200
@@ -118,7 +117,7 @@ class Wanted(PackageCase):
 
     def test_by_command(self):
         """The command says what it wants in words of the user's."""
-        saved(self.room, "blocks.txt", ecc("write", "A", "--format", "blocks")[1])
+        saved(self.room, "blocks.txt", ecc("write A --format blocks")[1])
         for name, words, parts in [
             ("a message behind --sheet", ("write", "-o", "a.pdf", "--sheet", "123456"),
              ["--sheet 123456: a size in millimetres is wanted, as 210x297; if that is a message, put it before "
@@ -144,25 +143,24 @@ class Wanted(PackageCase):
         for text, part in (("414",
                             "each byte takes two hexadecimal digits side by side, as 41 for A, and it has 3: 414"),
                            ("4g", "it has 'g', which is no hexadecimal digit"), ("4 14 1", "side by side")):
-            self.says(f"--hex {text}", ecc("write", "--hex", text), 1, "", ["message 1: ", part])
-        self.says("a size with a zero in front", ecc("write", "--size", "08x32", "A"),
-                  output=ecc("write", "--size", "8x32", "A")[1])
-        self.says("--hex with blanks", ecc("write", "--hex", "41 42"), output=ecc("write", "AB")[1])
+            self.says(f"--hex {text}", ecc("write --hex", text), 1, "", ["message 1: ", part])
+        self.says("a size with a zero in front", ecc("write --size 08x32 A"), output=ecc("write --size 8x32 A")[1])
+        self.says("--hex with blanks", ecc("write --hex", "41 42"), output=ecc("write AB")[1])
         for command in ("read", "check", "normal", "compare", "explain", "write", "sizes"):
             groups = [line for line in ecc(command, "--help")[1].splitlines() if line.endswith(":") and line[0] != " "]
             self.row(f"groups of {command} --help", len(groups), len(set(groups)))
 
     def test_sizes_as_json(self):
         """A size is named as the options name it."""
-        status, output, _ = ecc("sizes", "--json")
+        status, output, _ = ecc("sizes --json")
         told = [json.loads(line) for line in output.splitlines()]
         self.row("how many", (status, len(told)), (0, 48))
         for shape in ("square", "rectangle", "extended"):
             size = next(each["size"] for each in told if each["shape"] == shape)
-            self.holds(f"--size {size}", ecc("write", "--size", size, "--", "7")[0] == 0)
-            named = [json.loads(line)["size"] for line in ecc("sizes", "--shape", shape, "--json")[1].splitlines()]
+            self.holds(f"--size {size}", ecc("write --size", size, "--", "7")[0] == 0)
+            named = [json.loads(line)["size"] for line in ecc("sizes --shape", shape, "--json")[1].splitlines()]
             wanted = ("rectangle", "extended") if shape == "extended" else (shape, )
             self.row(f"--shape {shape}", named, [each["size"] for each in told if each["shape"] in wanted])
         numbers = {name: told[0][name] for name in core.Size._fields}
         self.row("the numbers of the smallest", numbers, core.sizes()[0]._asdict())
-        self.holds("--help speaks of sizes", "JSON for each size" in " ".join(ecc("sizes", "--help")[1].split()))
+        self.holds("--help speaks of sizes", "JSON for each size" in " ".join(ecc("sizes --help")[1].split()))

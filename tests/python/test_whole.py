@@ -4,9 +4,8 @@ import os
 import re
 import stat
 
-from tests.python.common import PYTHON, PackageCase, run
-from tests.python.test_batches import made, saved, shell, symbols
-from tests.python.test_surface import ecc, environment
+from tests.python.common import PYTHON, PackageCase, ecc, environment, run
+from tests.python.test_batches import saved, shell, symbols
 from tests.support import needs
 
 import ecc200
@@ -62,7 +61,7 @@ class Whole(PackageCase):
 
     def test_replaced(self):
         """A file is as it was before until the new one is whole."""
-        here = made(self.room, "replaced")
+        here = self.made("replaced")
         before = saved(here, "label.png", b"as before")
         for name, wanted in (("label.png", b"as before"), ("none.png", None)):
             path = os.path.join(here, name)
@@ -78,7 +77,7 @@ class Whole(PackageCase):
                  (b"as before", ["label.png"]))
         os.chmod(before, 0o640)
         os.symlink("label.png", os.path.join(here, "link.png"))
-        self.says("by a link", ecc("write", "new", "-o", "link.png", folder=here), output="")
+        self.says("by a link", self.ecc("write new -o link.png"), output="")
         self.row("the link and the file's mode stay", (os.path.islink(os.path.join(here, "link.png")),
                                                        stat.S_IMODE(os.stat(before).st_mode)), (True, 0o640))
         self.row("the file is new", open(before, "rb").read(4), b"\x89PNG")
@@ -98,14 +97,14 @@ class Whole(PackageCase):
 
     def test_missing_folder(self):
         """An output folder that isn't there is one error, whatever the number of labels."""
-        here = made(self.room, "missing")
+        here = self.made("missing")
         lines = "\n".join(map(str, range(200)))
         for name in ("none/label.png", "none/{}.svg", "none/a.pdf", "none/all.txt"):
-            got = ecc("write", "-o", name, given=lines, folder=here)
+            got = self.ecc("write -o", name, given=lines)
             self.says(f"-o {name}", got, 2, "", [f"ecc200: {name}: there is no folder none"])
             self.row(f"lines that say so, {name}", got[2].count("\n"), 1)
         os.mkdir(os.path.join(here, "A"))
-        got = ecc("write", "-o", "{}/a.svg", "A", "B", folder=here)
+        got = self.ecc("write -o", "{}/a.svg", "A", "B")
         self.says("folders named by messages", got, 2, "", ["ecc200: B/a.svg: No such file or directory"])
         self.row("the others are written", os.listdir(os.path.join(here, "A")), ["a.svg"])
         got = run([PYTHON, "-c", REFUSED, "label.svg", "1", "2", "3"], env=environment(), cwd=here)
@@ -118,14 +117,14 @@ class Whole(PackageCase):
 
     def test_blank_lines(self):
         """Blank lines of a batch are named, and are symbols of nothing only where that is asked for."""
-        here = made(self.room, "blank")
+        here = self.made("blank")
         lines = "A\n\n \t\r\nB\n"
-        got = ecc("write", "-o", "lot.svg", given=lines, folder=here)
+        got = self.ecc("write -o lot.svg", given=lines)
         self.says("blank lines", got, 1, "", ["line 2: it is blank", "line 3: it is blank", "--blank"])
         self.row("files by line", sorted(os.listdir(here)), ["lot-1.svg", "lot-4.svg"])
         self.says("as grids", ecc("write", given="\nA\n"), 1, symbols(b"A"), ["line 1: it is blank"])
-        self.says("--blank", ecc("write", "--blank", given="A\n\n \n"), output=symbols(b"A", b"", b" "))
+        self.says("--blank", ecc("write --blank", given="A\n\n \n"), output=symbols(b"A", b"", b" "))
         self.says("a message of nothing", ecc("write", ""), output=symbols(b""))
-        self.says("--bytes of nothing", ecc("write", "--bytes", "/dev/null"), output=symbols(b""))
+        self.says("--bytes of nothing", ecc("write --bytes /dev/null"), output=symbols(b""))
         self.says("no lines", ecc("write", given=""), output="")
-        self.holds("--help says so", re.search("--blank +make symbols of blank lines", ecc("write", "--help")[1]))
+        self.holds("--help says so", re.search("--blank +make symbols of blank lines", ecc("write --help")[1]))

@@ -15,9 +15,8 @@ ZXING = "/usr/share/java/core.jar"
 # The Debian packages of what a command calls, and the program by which each is known to be there, where it has another
 # name.
 PACKAGES = {"zint": "zint", "dmtxwrite": "dmtx-utils", "dmtxread": "dmtx-utils", "iec16022": "iec16022",
-            "ZXingWriter": "zxing-cpp-tools",
-            "zxing": "libzxing-core-java default-jdk-headless", "pngtopnm": "netpbm", "pnmtopng": "netpbm",
-            "grid": "netpbm", "picture": "netpbm"}
+            "ZXingWriter": "zxing-cpp-tools", "zxing": "libzxing-core-java default-jdk-headless", "pngtopnm": "netpbm",
+            "pnmtopng": "netpbm", "grid": "netpbm", "picture": "netpbm"}
 TOOLS = {"grid": "pnmcrop", "picture": "pnmpad"}
 
 # Calls that make one grid of a text by each encoder, as far as it is tried here.

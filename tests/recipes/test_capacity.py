@@ -21,8 +21,7 @@ class Capacity(Shell):
     def test_the_largest_symbol_and_one_more(self):
         most = max(self.codewords.values())
         for item, count, flag in (("7", 2 * most, ""), ("A", most, ""), (r"\xFF", most // 2, ""), (r"\F", most, ""),
-                                  (r"\xFF", most - 3, "--shorter"),
-                                  ("A", most, "--shorter")):
+                                  (r"\xFF", most - 3, "--shorter"), ("A", most, "--shorter")):
             for more, is_whole in ((0, True), (1, False)):
                 self.row(f"{count + more} of {item} {flag}", self.written(item, count + more, flag) != TOO_LONG,
                          is_whole)

@@ -6,8 +6,7 @@ from tests.support import needs
 NO_PICTURES = ["grid < none", "grid < cut.pnm", "grid < light.pnm", "grid < g.png", "grid < nosuch",
                "pngtopnm nosuch | grid", "echo text | grid"]
 NO_GRIDS = ["dm_tool write < none | picture", "dm_tool read < none | picture", "echo '\\no 3 shape' | picture",
-            "cat g <(echo) h | picture",
-            "picture < none", "picture < g.pnm", "head -n 9 g | picture"]
+            "cat g <(echo) h | picture", "picture < none", "picture < g.pnm", "head -n 9 g | picture"]
 
 
 @needs.program

@@ -7,8 +7,7 @@ import sys
 import tempfile
 
 from tests.scale.faults import (ALONE, AROUND, FAULTS, WORDS, Faults, hit, in_parts, limited, machines, made_fake,
-                                missing_text, planted, to_output,
-                                without)
+                                missing_text, planted, to_output, without)
 from tests.scale.runs import MESSAGES, PATH, Scale, environment, put, ran
 from tests.support import commands, needs
 

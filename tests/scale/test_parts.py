@@ -13,26 +13,22 @@ PIPES = ["cat TEXT | dm_parts WORDS", "cat TEXT | dm_parts WORDS /dev/stdin",
          "mkfifo pipe; cat TEXT > pipe & dm_parts WORDS pipe",
          "cat TEXT | dm_parts WORDS -- /dev/fd/0", "(dm_parts WORDS < TEXT) <&-", "dm_parts WORDS TEXT <&-"]
 
-WRONG_WORDS = [
-    "", "scribble", "table", "--help-me", "--jobs", "--jobs 0 read", "--jobs x read", "--block 1.5M read",
-               "--block 0 read", "--ssh", "--ssh= read",
-    "--ssh -x read", "--output", "--output= read", "--output a/ read", "read a b", "read -- a b", "read ''", "read -x",
-               "read --shorter",
-    "check --shorter", "write --border 1", "read --border", "read --border x", "read --border 65536",
-               "read --border 1 --border 1",
-    "normal --shorter --shorter", "read --jobs 1"]
+WRONG_WORDS = ["", "scribble", "table", "--help-me", "--jobs", "--jobs 0 read", "--jobs x read", "--block 1.5M read",
+               "--block 0 read", "--ssh", "--ssh= read", "--ssh -x read", "--output", "--output= read",
+               "--output a/ read", "read a b", "read -- a b", "read ''", "read -x", "read --shorter", "check --shorter",
+               "write --border 1", "read --border", "read --border x", "read --border 65536",
+               "read --border 1 --border 1", "normal --shorter --shorter", "read --jobs 1"]
 
 # Where answers are put, with the status, and what is there afterwards under the name `old`, which had other answers
 # before.
-OUTPUTS = [
-    ("--output old read text", 1, "new"), ("--output old read none", 0, "empty"),
-           ("--output old read nosuch", 3, "old"),
-    ("--output old read .", 3, "old"), ("--output . read text", 3, "old"), ("--output nosuch/old read text", 3, "old"),
-    ("--output /dev/null read text", 3, "old"), ("--output=./old read < text", 1, "new"),
-           ("--output old read <&-", 3, "old"),
-    ("--output old --block 1 read text", 1, "new"), ("--output -x read text; s=$?; mv -- -x old; (exit $s)", 1, "new"),
-    ("--output 'a b' read text; s=$?; mv 'a b' old; (exit $s)", 1, "new"), ("--output link read text", 1, "old"),
-    ("--output text read text; s=$?; mv text old; (exit $s)", 1, "new")]
+OUTPUTS = [("--output old read text", 1, "new"), ("--output old read none", 0, "empty"),
+           ("--output old read nosuch", 3, "old"), ("--output old read .", 3, "old"),
+           ("--output . read text", 3, "old"), ("--output nosuch/old read text", 3, "old"),
+           ("--output /dev/null read text", 3, "old"), ("--output=./old read < text", 1, "new"),
+           ("--output old read <&-", 3, "old"), ("--output old --block 1 read text", 1, "new"),
+           ("--output -x read text; s=$?; mv -- -x old; (exit $s)", 1, "new"),
+           ("--output 'a b' read text; s=$?; mv 'a b' old; (exit $s)", 1, "new"), ("--output link read text", 1, "old"),
+           ("--output text read text; s=$?; mv text old; (exit $s)", 1, "new")]
 
 
 @needs.program
