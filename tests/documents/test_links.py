@@ -8,6 +8,7 @@ import glob
 import os
 import re
 
+from tests.documents.pages import items
 from tests.documents.tree import QUOTED, crates, text
 from tests.support import places
 from tests.support.case import Case
@@ -96,6 +97,8 @@ def checks_of_lengths():
         most = MOST_WORDS_OF.get(os.path.basename(path), MOST_WORDS)
         yield f"{os.path.relpath(path, places.TOP)}, {count} words, at most {most}", count <= most
     yield f"all pages, {sum(counts.values())} words", sum(counts.values()) <= MOST_WORDS_IN_ALL
+    for choice in items(places.path("docs", "DECISIONS.md")):
+        yield f"docs/DECISIONS.md, at most 60 words: {choice:.40}", len(choice.split()) <= 60
 
 
 def checks_of_files():
