@@ -11,6 +11,9 @@ from tests.packages.common import QUICKLY, TOP, VERSION, Packed, broken_links, c
 from tests.support import commands
 from tests.support.glibc import many_linux
 
+# Packages that are the same for each processor.
+FOR_ALL = {"ecc200", "python3-ecc200"}
+
 
 def code_of(target, library, made):
     """The code of a shared library, which stays when it is stripped."""
@@ -73,7 +76,8 @@ class OtherSystems(Packed):
             wanted = {it for it in package.debian_packages() if it != "dm-tool" and (has_finder or it != "dm-sample")}
             self.row(f"the packages for {target.triple}", {os.path.basename(it).split("_")[0] for it in files}, wanted)
             for file in files:
-                name, architecture = os.path.basename(file), "all" if "python3-ecc200" in file else target.debian
+                name = os.path.basename(file)
+                architecture = "all" if name.split("_")[0] in FOR_ALL else target.debian
                 self.row(f"the architecture of {name}", run(["dpkg-deb", "--field", file, "Architecture"]),
                          (0, f"{architecture}\n"))
                 self.works(f"unpacking {name}", ["dpkg-deb", "--extract", file, root])
