@@ -23,12 +23,12 @@ WRITTEN = (".py", ".c", ".h", ".cpp", ".rs", ".java", ".rt", ".antt", ".mjs", ".
 
 
 # How many words a page has at most, these three as yet, and all pages together.
-MOST_WORDS, MOST_WORDS_OF, MOST_WORDS_IN_ALL = 2500, {"GATE.md": 4100, "PAGE.md": 5800, "PICTURES.md": 5900}, 38000
+MOST_WORDS, MOST_WORDS_OF, MOST_WORDS_IN_ALL = 2500, {"GATE.md": 4100, "PAGE.md": 5800, "PICTURES.md": 5900}, 41000
 
 
 def documents():
     top = [places.path(name) for name in ("README.md", "CONTRIBUTING.md", "CHANGELOG.md", "SECURITY.md")]
-    return top + sorted(glob.glob(places.path("docs", "*.md")))
+    return [*top, *(path for folder in ("docs", "crates/*") for path in sorted(glob.glob(places.path(folder, "*.md"))))]
 
 
 def anchors(path):
@@ -133,12 +133,14 @@ def checks_of_passages():
 
 
 def checks_of_crates():
-    """docs/MAP.md has a row for each crate of crates.txt, of at most 160 characters."""
+    """docs/MAP.md has a row for each crate of crates.txt, of at most 160 characters, and each crate a short page."""
     page = text(places.path("docs", "MAP.md"))
     rows = {found[1]: found[0] for found in re.finditer(r"^\| `(\w+)` \|.*$", page, re.M)}
     yield "docs/MAP.md, a row for each crate", sorted(rows) == sorted(crates())
     for crate, row in rows.items():
         yield f"docs/MAP.md, at most 160 characters of {crate}", len(row) <= 160
+        page = places.path("crates", crate, "README.md")
+        yield f"crates/{crate}/README.md, at most 60 lines", os.path.exists(page) and len(text(page).splitlines()) <= 60
 
 
 def checks_of_counts():
