@@ -101,67 +101,52 @@ static int threads_agree(size_t kib) {
     return wrong == 0;
 }
 
-static void *do_nothing(void *at) { return at; }
-static void read_largest(size_t marked) {
-    ecc200_read(largest.modules, ECC200_MOST_MODULES, largest.doubtful, marked, ECC200_MOST_ROWS, ECC200_MOST_COLUMNS,
-                ECC200_ANY_LIMIT, ECC200_WIDE, &largest.reading);
-}
-static void *do_read(void *at) { return read_largest(0), at; }
-static void *do_read_doubtful(void *at) { return read_largest(ECC200_MOST_MODULES), at; }
-static void *do_inspect(void *at) {
-    return ecc200_inspect(largest.modules, ECC200_MOST_MODULES, largest.doubtful, ECC200_MOST_MODULES, ECC200_MOST_ROWS,
-                          ECC200_MOST_COLUMNS, &largest.inspection),
-           at;
-}
-static void normal_of_largest(uint16_t profile) {
-    ecc200_normal(largest.modules, ECC200_MOST_MODULES, largest.doubtful, ECC200_MOST_MODULES, ECC200_MOST_ROWS,
-                  ECC200_MOST_COLUMNS, ECC200_ANY_LIMIT, ECC200_WIDE, profile, &largest.normal);
-}
 static const ecc200_how in_ascii = {.form = ECC200_ASCII, .shape = ECC200_ANY};
 static const ecc200_how shorter = {.form = ECC200_SHORTER, .shape = ECC200_SQUARE};
 static const ecc200_how smallest = {.form = ECC200_SMALLEST, .shape = ECC200_ANY, .extent = ECC200_WIDE};
 static ecc200_mark marks[ECC200_MOST_MARKS];
-static void *do_normal(void *at) { return normal_of_largest(ECC200_ASCII), at; }
-static void *do_normal_shorter(void *at) { return normal_of_largest(ECC200_SHORTER), at; }
-static void *do_write(void *at) { return ecc200_write(items, 2 * most_data, NULL, 0, &in_ascii, &largest.normal), at; }
-static void *do_write_shorter(void *at) {
-    return ecc200_write(items, most_data - 3, NULL, 0, &shorter, &largest.normal), at;
+
+static void read_of(example *e, size_t doubtful) {
+    ecc200_read(e->modules, ECC200_MOST_MODULES, e->doubtful, doubtful, ECC200_MOST_ROWS, ECC200_MOST_COLUMNS,
+                ECC200_ANY_LIMIT, ECC200_WIDE, &e->reading);
 }
-static void *do_write_smallest(void *at) {
-    return ecc200_write(items, most_data - 3, NULL, 0, &smallest, &largest.normal), at;
+static void inspect(example *e) {
+    ecc200_inspect(e->modules, ECC200_MOST_MODULES, e->doubtful, ECC200_MOST_MODULES, ECC200_MOST_ROWS,
+                   ECC200_MOST_COLUMNS, &e->inspection);
 }
-static void *do_write_smallest_digits(void *at) {
-    return ecc200_write(items, 2 * most_data, NULL, 0, &smallest, &largest.normal), at;
+static void normal_of(example *e, uint16_t profile) {
+    ecc200_normal(e->modules, ECC200_MOST_MODULES, e->doubtful, ECC200_MOST_MODULES, ECC200_MOST_ROWS,
+                  ECC200_MOST_COLUMNS, ECC200_ANY_LIMIT, ECC200_WIDE, profile, &e->normal);
 }
-static void *do_write_marks(void *at) {
-    return ecc200_write(items, 0, marks, ECC200_MOST_MARKS, &in_ascii, &largest.normal), at;
-}
-static void *do_write_smallest_marks(void *at) {
-    return ecc200_write(items, 9, marks, ECC200_MOST_MARKS - 9, &smallest, &largest.normal), at;
-}
-static void *do_write_bytes(void *at) { return ecc200_write_bytes(many, most_data - 3, &shorter, &largest.normal), at; }
-static void *do_read_marks(void *at) {
-    return ecc200_read(marked.modules, ECC200_MOST_MODULES, marked.doubtful, ECC200_MOST_MODULES, ECC200_MOST_ROWS,
-                       ECC200_MOST_COLUMNS, ECC200_ANY_LIMIT, ECC200_WIDE, &marked.reading),
-           at;
-}
-static void *do_inspect_marks(void *at) {
-    return ecc200_inspect(marked.modules, ECC200_MOST_MODULES, marked.doubtful, ECC200_MOST_MODULES, ECC200_MOST_ROWS,
-                          ECC200_MOST_COLUMNS, &marked.inspection),
-           at;
-}
-static void *do_normal_marks(void *at) {
-    return ecc200_normal(marked.modules, ECC200_MOST_MODULES, marked.doubtful, ECC200_MOST_MODULES, ECC200_MOST_ROWS,
-                         ECC200_MOST_COLUMNS, ECC200_ANY_LIMIT, ECC200_WIDE, ECC200_SHORTER, &marked.normal),
-           at;
-}
-static void *do_places(void *at) {
-    static ecc200_place_table table;
-    return ecc200_places(ECC200_MOST_ROWS, ECC200_MOST_COLUMNS, &table), at;
-}
-static void *do_sizes(void *at) {
-    static ecc200_size_table table;
-    return ecc200_sizes(&table), at;
+
+/* makes the call with a number, or none, and gives its name, or NULL if there is no such call; in the first two the
+ * items are digits, of which twice as many fit */
+static NOT_INLINE const char *make_call(int number) {
+    static ecc200_place_table places;
+    static ecc200_size_table sizes;
+    ecc200_symbol *out = &largest.normal;
+    size_t few = most_data - 3, most = ECC200_MOST_MARKS;
+    switch (number) {
+    case -1: return "";
+    case 0: return ecc200_write(items, 2 * most_data, NULL, 0, &in_ascii, out), "ecc200_write";
+    case 1: return ecc200_write(items, 2 * most_data, NULL, 0, &smallest, out), "ecc200_write, smallest, digits";
+    case 2: return ecc200_write(items, few, NULL, 0, &shorter, out), "ecc200_write, shorter";
+    case 3: return ecc200_write(items, few, NULL, 0, &smallest, out), "ecc200_write, smallest";
+    case 4: return ecc200_write(items, 0, marks, most, &in_ascii, out), "ecc200_write, marks";
+    case 5: return ecc200_write(items, 9, marks, most - 9, &smallest, out), "ecc200_write, smallest, marks";
+    case 6: return ecc200_write_bytes(many, few, &shorter, out), "ecc200_write_bytes";
+    case 7: return read_of(&largest, 0), "ecc200_read";
+    case 8: return read_of(&largest, ECC200_MOST_MODULES), "ecc200_read, doubtful modules";
+    case 9: return read_of(&marked, ECC200_MOST_MODULES), "ecc200_read, marks";
+    case 10: return inspect(&largest), "ecc200_inspect";
+    case 11: return inspect(&marked), "ecc200_inspect, marks";
+    case 12: return normal_of(&largest, ECC200_ASCII), "ecc200_normal";
+    case 13: return normal_of(&largest, ECC200_SHORTER), "ecc200_normal, shorter";
+    case 14: return normal_of(&marked, ECC200_SHORTER), "ecc200_normal, marks";
+    case 15: return ecc200_places(ECC200_MOST_ROWS, ECC200_MOST_COLUMNS, &places), "ecc200_places";
+    case 16: return ecc200_sizes(&sizes), "ecc200_sizes";
+    default: return NULL;
+    }
 }
 
 /* Fills the stack below its caller's frame with a pattern, or tells how many bytes of that are something else. */
@@ -175,9 +160,9 @@ static NOT_INLINE size_t below(int fills) {
     return STACK - low;
 }
 
-/* how many bytes of the stack a call overwrites */
-static size_t touched(void *(*call)(void *)) {
-    below(1), call(NULL);
+/* how many bytes of the stack a call overwrites, and its name */
+static size_t touched(int number, const char **name) {
+    below(1), *name = make_call(number);
     return below(0);
 }
 
@@ -206,34 +191,14 @@ int main(int argc, char **argv) {
         int at = rand() % ECC200_MOST_MODULES;
         largest.modules[at] ^= 1, largest.doubtful[at] = turns % 2;
     }
-    static const struct {
-        const char *name;
-        void *(*call)(void *);
-    } calls[] = {
-        {"ecc200_read", do_read},
-        {"ecc200_read, doubtful modules", do_read_doubtful},
-        {"ecc200_read, marks", do_read_marks},
-        {"ecc200_inspect", do_inspect},
-        {"ecc200_inspect, marks", do_inspect_marks},
-        {"ecc200_normal", do_normal},
-        {"ecc200_normal, shorter", do_normal_shorter},
-        {"ecc200_normal, marks", do_normal_marks},
-        {"ecc200_write", do_write},
-        {"ecc200_write, shorter", do_write_shorter},
-        {"ecc200_write, smallest", do_write_smallest},
-        {"ecc200_write, smallest, digits", do_write_smallest_digits},
-        {"ecc200_write, marks", do_write_marks},
-        {"ecc200_write, smallest, marks", do_write_smallest_marks},
-        {"ecc200_write_bytes", do_write_bytes},
-        {"ecc200_places", do_places},
-        {"ecc200_sizes", do_sizes},
-    };
-    size_t alone = touched(do_nothing);
-    for (size_t i = 0; i < sizeof calls / sizeof *calls; i++) {
+    const char *name;
+    size_t alone = touched(-1, &name);
+    for (int number = 0; name; number++) {
         for (size_t k = 0; k < ECC200_MOST_ITEMS; k++)
-            items[k] =
-                calls[i].call == do_write || calls[i].call == do_write_smallest_digits ? (uint16_t)('0' + k % 10) : 255;
-        printf("%s %zu\n", calls[i].name, touched(calls[i].call) - alone);
+            items[k] = number < 2 ? (uint16_t)('0' + k % 10) : 255;
+        size_t all = touched(number, &name);
+        if (name)
+            printf("%s %zu\n", name, all - alone);
     }
     return 0;
 }

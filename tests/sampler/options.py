@@ -149,15 +149,13 @@ class Options:
         with open(good, "wb") as file:
             file.write(pgm(pixels_of(grid)))
         cases = {b"": "an empty file", b"hello": "neither PNG, JPEG nor PNM", b"P7\n": "neither", b"P5": "neither",
-                 b"P5 ": "a faulty header",
-                 b"P5 x 2 255\n": "a faulty header", b"P5 2 2 0\n....": "a faulty header",
-                 b"P5 2 2 70000\n....": "a faulty header",
-                 b"P5 2 2 255\n...": "cut short", b"P2 2 2 255\n1 2 3": "cut short",
-                 b"P2 2 2 255\n1 2 3 x": "a faulty sample",
-                 b"P2 2 2 9\n1 2 3 10": "a faulty sample",
-                 b"P1 2 2\n012 1": "a faulty sample", b"P1 2 2\n0112": "a faulty sample", b"P1 2 2\n011 ": "cut short",
-                 b"P5 0 5 255\n": "without pixels", b"P4 40000 1\n" + bytes(5000): "more than 32767",
-                 b"\x89PNG\r\n\x1a\n": "PNG: ", b"\x89PNG\r\n\x1a\n" + b"junk" * 9: "PNG: ", b"\xff\xd8\xff": "JPEG: ",
+                 b"P5 ": "a faulty header", b"P5 x 2 255\n": "a faulty header", b"P5 2 2 0\n....": "a faulty header",
+                 b"P5 2 2 70000\n....": "a faulty header", b"P5 2 2 255\n...": "cut short",
+                 b"P2 2 2 255\n1 2 3": "cut short", b"P2 2 2 255\n1 2 3 x": "a faulty sample",
+                 b"P2 2 2 9\n1 2 3 10": "a faulty sample", b"P1 2 2\n012 1": "a faulty sample",
+                 b"P1 2 2\n0112": "a faulty sample", b"P1 2 2\n011 ": "cut short", b"P5 0 5 255\n": "without pixels",
+                 b"P4 40000 1\n" + bytes(5000): "more than 32767", b"\x89PNG\r\n\x1a\n": "PNG: ",
+                 b"\x89PNG\r\n\x1a\n" + b"junk" * 9: "PNG: ", b"\xff\xd8\xff": "JPEG: ",
                  b"\xff\xd8\xff\xe0" + b"junk" * 9: "JPEG: "}
         for text, wanted in cases.items():
             bad = os.path.join(self.room, "bad")

@@ -67,8 +67,7 @@ def by_pixels(rows, grid):
     """Of each codeword the modulation, by the pixels of its modules within a round aperture of 0.8 modules."""
     ecc200 = package.imported()
     places, middle = ecc200.places(len(grid), len(grid[0])), (SCALE - 1) / 2
-    aperture = [(x, y) for x in range(SCALE) for y in range(SCALE)
-                if math.hypot(x - middle, y - middle) <= 0.4 * SCALE]
+    aperture = [(x, y) for x in range(SCALE) for y in range(SCALE) if math.hypot(x - middle, y - middle) <= 0.4 * SCALE]
 
     def level(column, row):
         left, top = (column + QUIET) * SCALE, (row + QUIET) * SCALE

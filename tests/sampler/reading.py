@@ -4,8 +4,7 @@ import json
 import math
 import os
 
-from tests.sampler.pictures import (CAREFUL, PYTHON, grid_of, message_of, pgm, pixels_of, record, run,
-                                    sizes, turned)
+from tests.sampler.pictures import (CAREFUL, PYTHON, grid_of, message_of, pgm, pixels_of, record, run, sizes, turned)
 from tests.support import places
 from tests.support.places import PROGRAM
 
@@ -35,8 +34,7 @@ def the_set(case, folder, words):
     symbols = right = 0
     for picture in index:
         more = ["--all"] if len(picture["messages"]) > 1 else []
-        said = run([*words, "--json", "--time=30000", *more,
-                    os.path.join(made, picture["file"])]).stdout.decode()
+        said = run([*words, "--json", "--time=30000", *more, os.path.join(made, picture["file"])]).stdout.decode()
         messages = {json.loads(line)["message"] for line in said.splitlines()}
         case.row(f"{picture['file']}: wrong messages", messages - set(picture["messages"]), set())
         symbols, right = symbols + len(picture["messages"]), right + len(messages)
