@@ -77,8 +77,9 @@ def main():
     words = argparse.ArgumentParser(prog="python3 -m tests", **how)
     words.add_argument("--proofs", action="store_true", help="begin with tests/proofs, and count what it does")
     words.add_argument("--users", action="store_true", help="run what tests/support/users.py names")
-    words.add_argument("-j", metavar="COUNT", type=int, default=len(os.sched_getaffinity(0)),
-                       help="run so many subjects at a time; as many as there are processors, if nothing is said")
+    words.add_argument("-j", metavar="COUNT", type=int,
+                       default=int(os.environ.get("RT_JOBS") or len(os.sched_getaffinity(0))),
+                       help="run so many subjects at a time; by default RT_JOBS, or as many as there are processors")
     words.add_argument("--lane", metavar="FILE", type=int, help=argparse.SUPPRESS)  # that takes what becomes of a lane
     words.add_argument("-k", metavar="WORD", action="append", default=[], help="run cases whose names have this word")
     words.add_argument("names", metavar="SUBJECT", nargs="*", help="a folder, module, class or case of tests/")
