@@ -3,15 +3,12 @@ use Rattle.std.proofs.Common.{◌≡◌, ◌⊎◌, ◌↔◌, ◌≤◌, ℕ, z
 use Rattle.std.proofs.Common.{IsSome}
 use Rattle.std.proofs.Common.{Result, Ok, Err, IsErr, ◌<◌, inl, inr, refl, sym, ap, subst, ◌∙◌, arith}
 use Rattle.std.proofs.lemmas.Bool.{false≢true}
-use Rattle.dm_words.specs.declared.extent.Extent.{Extent}
-use Rattle.dm_words.specs.declared.extent.Extent.TheVariants.{Usual, Wide}
+use Rattle.dm_words.specs.declared.extent.Extent.TheVariants.{Usual}
 use Rattle.dm_words.specs.declared.item.Item.{Item}
 use Rattle.dm_words.specs.declared.fault.TooLong.{TooLong}
 use Rattle.dm_words.specs.declared.profile.Profile.{Profile}
-use Rattle.dm_words.specs.Macros.{macro_text}
 use Rattle.dm_words.specs.Messages.{IsMessage}
 use Rattle.dm_words.specs.NormalForm.{normal_form}
-use Rattle.dm_words.specs.Spells.{Spells}
 use Rattle.dm_layout.specs.declared.symbols.size.SizeChoice.TheVariants.{Square}
 use Rattle.dm_layout.specs.symbols.Sizes.{SizeEntry, block_check}
 use Rattle.dm_layout.specs.symbols.Symbols.{SymbolView, IsSymbol}
@@ -24,10 +21,8 @@ use Rattle.dm_symbol.specs.declared.normalising.NormalFault.{NormalFault}
 use Rattle.dm_symbol.specs.declared.normalising.NormalFault.TheVariants as fault
 use Rattle.dm_symbol.specs.declared.symbol.reading.BlockReading.{BlockReading}
 use Rattle.dm_symbol.specs.NormalGrid.{IsNormalGrid, FitsSomeSize, IsWritten}
-use Rattle.dm_symbol.specs.declared.symbol.dealing.Dealing.TheVariants.{Standard}
 use Rattle.dm_symbol.specs.NormalSymbol.{IsNormalSymbol}
 use Rattle.dm_symbol.specs.Reading.{Reads, ReadResult, reading_of}
-use Rattle.dm_symbol.specs.Laws.{ReadsMacro}
 use Rattle.dm_symbol.specs.NormalOutcomes.{IsNormalOrFault}
 use Rattle.dm_symbol.specs.Normal.{HasNormal, HasNoNormal, NormalResult, IsNormalised}
 use Rattle.dm_symbol.specs.SymbolLaws.{nothing_wrong}
@@ -35,9 +30,7 @@ use Rattle.dm_symbol.proofs.Grids.{no_fault, one_given, one_message, read_is_mes
 use Rattle.dm_symbol.proofs.Grids.{reads_by_result, same_grid}
 use Rattle.dm_symbol.proofs.NormalOutcomes.{AreApart, one_normalised, is_normal_given}
 use Rattle.dm_symbol.proofs.SquareSizes.{row_for_these, row_holds, same_smallest, some_smallest}
-use Rattle.dm_symbol.proofs.SymbolDoubt.{faults_by_none}
 use Rattle.dm_symbol.proofs.SymbolNormals.{written_is_there, written_reads, written_result, written_tells}
-use Rattle.dm_symbol.proofs.SymbolReadings.{reads_symbol_wide}
 use Rattle.dm_symbol.proofs.WrittenWords.{some_is, words_written_once}
 
 -- ---- normal grids
@@ -132,11 +125,11 @@ none_is_written p m (Err e) is none = record {
 -- ---- normal grids are read
 
 -- A normal grid is read as its message for every limit.
-pub normal_reads : (extent : Extent) (p : Profile) (m : List Item) (grid : GridView) (limit : ℕ) → IsMessage m
-    → IsNormalGrid p m grid → Reads extent grid limit m
-normal_reads extent p m grid limit h n = record {
+pub normal_reads : (p : Profile) (m : List Item) (grid : GridView) (limit : ℕ) → IsMessage m
+    → IsNormalGrid p m grid → Reads grid limit m
+normal_reads p m grid limit h n = record {
   is_grid = n.is_grid;
-  read = written_reads extent Square p m (symbol_modules grid) limit h n.normal;
+  read = written_reads Usual Square p m (symbol_modules grid) limit h n.normal;
 }
 
 -- Of blocks in which nothing is wrong it is told that nothing is corrected.
@@ -145,19 +138,19 @@ none_corrected k zero = refl
 none_corrected k (suc n) = ap (λ xs. 0 ∷ xs) (none_corrected k n)
 
 -- A normal grid has one result: nothing is corrected in it.
-pub normal_is_read : (extent : Extent) (p : Profile) (m : List Item) (grid : GridView) (limit : ℕ)
+pub normal_is_read : (p : Profile) (m : List Item) (grid : GridView) (limit : ℕ)
     (result : Result Reading ReadFault) → IsMessage m → IsNormalGrid p m grid
-    → ReadResult extent grid limit result ↔ (result ≡ Ok (reading_of m (replicate grid.size.blocks 0) 0))
-normal_is_read extent p m grid limit result h n =
-    let right : ReadResult extent grid limit (Ok (reading_of m (replicate grid.size.blocks 0) 0)) = record {
+    → ReadResult grid limit result ↔ (result ≡ Ok (reading_of m (replicate grid.size.blocks 0) 0))
+normal_is_read p m grid limit result h n =
+    let right : ReadResult grid limit (Ok (reading_of m (replicate grid.size.blocks 0) 0)) = record {
       is_grid = n.is_grid;
       of_symbol = _;
-      read = written_result extent Square p m (symbol_modules grid) limit h n.normal;
+      read = written_result Usual Square p m (symbol_modules grid) limit h n.normal;
       same = ap (λ xs. Ok (reading_of m xs 0))
           (none_corrected (block_check (symbol_size grid.size)) grid.size.blocks);
     } in (
-      λ a. one_given extent grid limit _ _ a right,
-      λ e. subst (λ a. ReadResult extent grid limit a) (sym e) right,
+      λ a. one_given grid limit _ _ a right,
+      λ e. subst (λ a. ReadResult grid limit a) (sym e) right,
     )
 
 -- ---- normalising
@@ -166,22 +159,22 @@ normal_is_read extent p m grid limit result h n =
 err_is : (a b : ReadFault) → ◌≡◌ {A = Result Reading ReadFault} (Err a) (Err b) → a ≡ b
 err_is a b e = cc
 
-module _ (extent : Extent) (p : Profile) (grid : GridView) (limit : ℕ) where
+module _ (p : Profile) (grid : GridView) (limit : ℕ) where
   -- This has the grid as its normal grid.
   abbrev has : GridView → Type 0
-  has = HasNormal extent p grid limit
+  has = HasNormal p grid limit
 
   -- It has none.
   abbrev has_none : Type 0
-  has_none = HasNoNormal extent p grid limit
+  has_none = HasNoNormal p grid limit
 
   -- It is refused when it is read.
   abbrev refused : ReadFault → Type 0
-  refused why = ReadResult extent grid limit (Err why)
+  refused why = ReadResult grid limit (Err why)
 
   -- A grid that is read as a message has no other.
-  one_read : (m n : List Item) → Reads extent grid limit m → Reads extent grid limit n → m ≡ n
-  one_read m n a b = one_message extent extent grid limit limit m n a b
+  one_read : (m n : List Item) → Reads grid limit m → Reads grid limit n → m ≡ n
+  one_read m n a b = one_message grid limit limit m n a b
 
   -- A grid has one normal grid, or none, or is refused when it is read.
   apart : AreApart has has_none refused
@@ -191,28 +184,28 @@ module _ (extent : Extent) (p : Profile) (grid : GridView) (limit : ℕ) where
         ho.normal_grid;
     some_or_none = λ n h none. none.too_long (subst (FitsSomeSize p)
         (one_read h.message none.message h.read none.read) (normal_grid_fits p h.message n h.normal_grid));
-    has_or_refused = λ n why h a. no_fault extent grid limit h.message why h.read a;
-    none_or_refused = λ why h a. no_fault extent grid limit h.message why h.read a;
-    one_refused = λ why other a b. err_is why other (one_given extent grid limit (Err why) (Err other) a b);
+    has_or_refused = λ n why h a. no_fault grid limit h.message why h.read a;
+    none_or_refused = λ why h a. no_fault grid limit h.message why h.read a;
+    one_refused = λ why other a b. err_is why other (one_given grid limit (Err why) (Err other) a b);
   }
 
   -- A grid has at most one result of normalising.
-  pub one_normal_result : (a b : Result GridView NormalFault) → NormalResult extent p grid limit a
-      → NormalResult extent p grid limit b → a ≡ b
+  pub one_normal_result : (a b : Result GridView NormalFault) → NormalResult p grid limit a
+      → NormalResult p grid limit b → a ≡ b
   one_normal_result a b = one_normalised has has_none refused apart a b
 
   -- The result defined for a grid is what normalising it gives.
-  pub is_normalised : (result : Result GridView NormalFault) → NormalResult extent p grid limit result
-      → IsNormalised extent p grid limit result
+  pub is_normalised : (result : Result GridView NormalFault) → NormalResult p grid limit result
+      → IsNormalised p grid limit result
   is_normalised result a = is_normal_given has has_none refused apart result a
 
   -- A grid that is read has a result of normalising.
-  normal_of_read : (m : List Item) → Reads extent grid limit m
-      → (result : Result GridView NormalFault) × NormalResult extent p grid limit result
+  normal_of_read : (m : List Item) → Reads grid limit m
+      → (result : Result GridView NormalFault) × NormalResult p grid limit result
   normal_of_read m r =
       elim (fits_or_not (row_for_words (length (normal_form p m)))) [
         | inl fits ↦
-            let normal = normal_grid_is_there p m (read_is_message extent grid limit m r) fits in
+            let normal = normal_grid_is_there p m (read_is_message grid limit m r) fits in
             let h : has normal.0 = record { message = m; read = r; normal_grid = normal.1 } in
             (Ok normal.0, IsNormalOrFault.normal normal.0 h refl)
         | inr none ↦
@@ -221,100 +214,60 @@ module _ (extent : Extent) (p : Profile) (grid : GridView) (limit : ℕ) where
 
   -- Each grid has a result of normalising.
   pub normal_result_is_there : IsGrid grid
-      → (result : Result GridView NormalFault) × NormalResult extent p grid limit result
+      → (result : Result GridView NormalFault) × NormalResult p grid limit result
   normal_result_is_there g =
-      let some = read_result_is_there extent grid limit g in
+      let some = read_result_is_there grid limit g in
       by some.0 some.1
     where
-      by : (r : Result Reading ReadFault) → ReadResult extent grid limit r
-          → (result : Result GridView NormalFault) × NormalResult extent p grid limit result
-      by (Ok reading) a = normal_of_read reading.message (reads_by_result extent grid limit reading a)
+      by : (r : Result Reading ReadFault) → ReadResult grid limit r
+          → (result : Result GridView NormalFault) × NormalResult p grid limit result
+      by (Ok reading) a = normal_of_read reading.message (reads_by_result grid limit reading a)
       by (Err why) a = (Err (fault.Read why), IsNormalOrFault.fault why a refl)
 
 -- Two grids that are read as the same message have the same results of normalising.
-result_moves : (extent other : Extent) (p : Profile) (g h : GridView) (k l : ℕ) (m : List Item)
-    (result : Result GridView NormalFault) → Reads extent g k m → Reads other h l m
-    → NormalResult extent p g k result → NormalResult other p h l result
-result_moves extent other p g h k l m result rg rh (IsNormalOrFault.normal n a e) =
-    let same = one_message extent extent g k k a.message m a.read rg in
+result_moves : (p : Profile) (g h : GridView) (k l : ℕ) (m : List Item)
+    (result : Result GridView NormalFault) → Reads g k m → Reads h l m
+    → NormalResult p g k result → NormalResult p h l result
+result_moves p g h k l m result rg rh (IsNormalOrFault.normal n a e) =
+    let same = one_message g k k a.message m a.read rg in
     IsNormalOrFault.normal n
     (record { message = m; read = rh; normal_grid = subst (λ x. IsNormalGrid p x n) same a.normal_grid }) e
-result_moves extent other p g h k l m result rg rh (IsNormalOrFault.too_long a e) =
-    let same = one_message extent extent g k k a.message m a.read rg in
+result_moves p g h k l m result rg rh (IsNormalOrFault.too_long a e) =
+    let same = one_message g k k a.message m a.read rg in
     IsNormalOrFault.too_long
     (record { message = m; read = rh; too_long = subst (λ x. FitsSomeSize p x → ⊥) same a.too_long }) e
-result_moves extent other p g h k l m result rg rh (IsNormalOrFault.fault why a e) =
-    absurd (no_fault extent g k m why rg a)
+result_moves p g h k l m result rg rh (IsNormalOrFault.fault why a e) =
+    absurd (no_fault g k m why rg a)
 
 -- The last of two profiles decides.
-pub last_profile_decides : (extent again : Extent) (p q : Profile) (grid normal : GridView) (limit other : ℕ)
-    (result : Result GridView NormalFault) → HasNormal extent p grid limit normal
-    → NormalResult again q normal other result ↔ NormalResult extent q grid limit result
-last_profile_decides extent again p q grid normal limit other result h =
-    let reads = normal_reads again p h.message normal other (read_is_message extent grid limit h.message h.read)
+pub last_profile_decides : (p q : Profile) (grid normal : GridView) (limit other : ℕ)
+    (result : Result GridView NormalFault) → HasNormal p grid limit normal
+    → NormalResult q normal other result ↔ NormalResult q grid limit result
+last_profile_decides p q grid normal limit other result h =
+    let reads = normal_reads p h.message normal other (read_is_message grid limit h.message h.read)
     h.normal_grid in (
-      result_moves again extent q normal grid other limit h.message result reads h.read,
-      result_moves extent again q grid normal limit other h.message result h.read reads,
+      result_moves q normal grid other limit h.message result reads h.read,
+      result_moves q grid normal limit other h.message result h.read reads,
     )
 
 -- The result of normalising for a normal grid is the grid itself.
-pub twice_is_once : (extent again : Extent) (p : Profile) (grid normal : GridView) (limit other : ℕ)
-    (result : Result GridView NormalFault) → HasNormal extent p grid limit normal
-    → NormalResult again p normal other result ↔ (result ≡ Ok normal)
-twice_is_once extent again p grid normal limit other result h =
-    let once : NormalResult extent p grid limit (Ok normal) = IsNormalOrFault.normal normal h refl in
-    let decides = last_profile_decides extent again p p grid normal limit other in (
-      λ a. one_normal_result extent p grid limit result (Ok normal) ((decides result h).0 a) once,
-      λ e. (decides result h).1 (subst (NormalResult extent p grid limit) (sym e) once),
+pub twice_is_once : (p : Profile) (grid normal : GridView) (limit other : ℕ)
+    (result : Result GridView NormalFault) → HasNormal p grid limit normal
+    → NormalResult p normal other result ↔ (result ≡ Ok normal)
+twice_is_once p grid normal limit other result h =
+    let once : NormalResult p grid limit (Ok normal) = IsNormalOrFault.normal normal h refl in
+    let decides = last_profile_decides p p grid normal limit other in (
+      λ a. one_normal_result p grid limit result (Ok normal) ((decides result h).0 a) once,
+      λ e. (decides result h).1 (subst (NormalResult p grid limit) (sym e) once),
     )
 
 -- Two grids that are read have equal normal grids exactly where their messages are equal.
-pub equal_normals : (extent other : Extent) (p : Profile) (g h a b : GridView) (i j k l : ℕ) (m n : List Item)
-    → Reads extent g i m → Reads other h j n
-    → HasNormal extent p g k a → HasNormal other p h l b → (a ≡ b) ↔ (m ≡ n)
-equal_normals extent other p g h a b i j k l m n hm hn ha hb =
+pub equal_normals : (p : Profile) (g h a b : GridView) (i j k l : ℕ) (m n : List Item)
+    → Reads g i m → Reads h j n
+    → HasNormal p g k a → HasNormal p h l b → (a ≡ b) ↔ (m ≡ n)
+equal_normals p g h a b i j k l m n hm hn ha hb =
     let na : IsNormalGrid p m a =
-    subst (λ x. IsNormalGrid p x a) (one_message extent extent g k i ha.message m ha.read hm) ha.normal_grid in
+    subst (λ x. IsNormalGrid p x a) (one_message g k i ha.message m ha.read hm) ha.normal_grid in
     let nb : IsNormalGrid p n b =
-    subst (λ x. IsNormalGrid p x b) (one_message other other h l j hb.message n hb.read hn) hb.normal_grid in
-    normal_grids_tell p m n a b (read_is_message extent g i m hm) (read_is_message other h j n hn) na nb
-
--- What is normalised in the extent `Usual` has the same normal grid in `Wide`.
-pub wide_normalises_the_usual : (p : Profile) (grid normal : GridView) (limit : ℕ)
-    → NormalResult Usual p grid limit (Ok normal) → NormalResult Wide p grid limit (Ok normal)
-wide_normalises_the_usual p grid normal limit a =
-    let h = ((is_normalised Usual p grid limit (Ok normal) a).normal normal).0 refl in
-    IsNormalOrFault.normal normal (record {
-      message = h.message;
-      read = record {
-        is_grid = h.read.is_grid;
-        read = reads_symbol_wide (symbol_modules grid) None Usual limit h.message h.read.read;
-      };
-      normal_grid = h.normal_grid;
-    }) refl
-
--- ---- macros
-
--- A grid whose first data codeword is a macro is read as the macro's text.
-macro_reads : (grid : GridView) (limit digit : ℕ) (text : List Item) → ReadsMacro grid limit digit text
-    → Reads Wide grid limit (macro_text digit text)
-macro_reads grid limit digit text r = record {
-  is_grid = r.is_grid;
-  read = record {
-    border = subst (λ n. n ≤ limit) (faults_by_none (symbol_modules grid)) r.border;
-    dealing = Standard;
-    words = r.words;
-    codewords = r.codewords;
-    restored = record { tried = tt; by = r.restored };
-    spelled = Spells.by_macro r.framed.word digit r.framed.more text refl r.framed.is_macro r.framed.whole
-        r.framed.spelled refl;
-  };
-}
-
--- A grid whose first data codeword is a macro and one that spells the macro's text out have equal normal grids.
-pub macro_is_its_text : (extent : Extent) (p : Profile) (g h a b : GridView) (i j k l digit : ℕ) (text : List Item)
-    → ReadsMacro g i digit text
-    → Reads extent h j (macro_text digit text) → HasNormal Wide p g k a → HasNormal extent p h l b → a ≡ b
-macro_is_its_text extent p g h a b i j k l digit text rg rh ha hb =
-    let message = macro_text digit text in
-    (equal_normals Wide extent p g h a b i j k l message message (macro_reads g i digit text rg) rh ha hb).1 refl
+    subst (λ x. IsNormalGrid p x b) (one_message h l j hb.message n hb.read hn) hb.normal_grid in
+    normal_grids_tell p m n a b (read_is_message g i m hm) (read_is_message h j n hn) na nb

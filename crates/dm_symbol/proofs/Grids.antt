@@ -1,12 +1,11 @@
--- Grids are read as their symbols are, with no module doubtful.
+-- Grids are read as their symbols are in the usual extent, with no module doubtful.
 use Rattle.std.proofs.Common.{◌≡◌, ◌↔◌, ℕ, zero, suc, ◌+◌, ◌-◌, ◌*◌, ◌<◌, ◌≤◌, Bool, List, [], ◌∷◌, length, map, None}
 use Rattle.std.proofs.Common.{Result, Ok, Err, inl, inr, refl, sym, ap, subst, ◌∙◌, arith}
 use Rattle.std.specs.List.{range_with_len}
 use Rattle.std.proofs.lemmas.List.{length-take}
-use Rattle.dm_words.specs.declared.extent.Extent.{Extent}
-use Rattle.dm_words.specs.declared.extent.Extent.TheVariants.{Usual, Wide}
+use Rattle.dm_words.specs.declared.extent.Extent.TheVariants.{Usual}
 use Rattle.dm_words.specs.declared.item.Item.{Item}
-use Rattle.dm_words.specs.Messages.{IsMessage, most_spelled}
+use Rattle.dm_words.specs.Messages.{IsMessage}
 use Rattle.dm_words.specs.Spells.{Spells}
 use Rattle.dm_words.specs.Refused.{Refused}
 use Rattle.dm_words.proofs.Exported.{spelled_is_few}
@@ -30,7 +29,6 @@ use Rattle.dm_symbol.specs.SymbolReading.{block_reading, symbol_reading_of}
 use Rattle.dm_symbol.specs.SymbolLaws.{AreModulesOf, none_erased, symbol_result}
 use Rattle.dm_symbol.proofs.Below.{one_result}
 use Rattle.dm_symbol.proofs.SymbolDoubt.{erased_by_none, faults_by_none}
-use Rattle.dm_symbol.proofs.SymbolNormals.{wide_reads_the_usual_symbol}
 use Rattle.dm_symbol.proofs.SymbolOutcomes.{Outcome, IsOutcome, some_outcome}
 use Rattle.dm_symbol.proofs.SymbolOutcomes.Outcome.{Border, Block, Words, Says}
 use Rattle.dm_symbol.proofs.SymbolReadings.{one_symbol_message, one_symbol_result, reads_symbol_by_result}
@@ -59,77 +57,67 @@ are_modules grid modules am =
     ∙ ap (λ (xs : List (List Bool)). let m : SymbolView = record { size = modules.size; rows = xs } in m) (sym am.cells)
 
 -- A grid is read as the modules with its cells are.
-pub grid_and_modules : (extent : Extent) (grid : GridView) (modules : SymbolView) (limit : ℕ) (m : List Item)
+pub grid_and_modules : (grid : GridView) (modules : SymbolView) (limit : ℕ) (m : List Item)
     → AreModulesOf grid modules
-    → Reads extent grid limit m ↔ ReadsSymbol extent modules None limit m
-grid_and_modules extent grid modules limit m am =
+    → Reads grid limit m ↔ ReadsSymbol Usual modules None limit m
+grid_and_modules grid modules limit m am =
     let same = are_modules grid modules am in (
-      λ r. subst (λ x. ReadsSymbol extent x None limit m) same r.read,
-      λ r. record { is_grid = am.is_grid; read = subst (λ x. ReadsSymbol extent x None limit m) (sym same) r },
+      λ r. subst (λ x. ReadsSymbol Usual x None limit m) same r.read,
+      λ r. record { is_grid = am.is_grid; read = subst (λ x. ReadsSymbol Usual x None limit m) (sym same) r },
     )
 
 -- ---- messages
 
--- A grid is read as at most one message, whatever the extents.
-pub one_message : (extent other : Extent) (grid : GridView) (k l : ℕ) (m n : List Item) → Reads extent grid k m
-    → Reads other grid l n → m ≡ n
-one_message extent other grid k l m n a b =
-    one_symbol_message (symbol_modules grid) None extent other k l m n a.read b.read
+-- A grid is read as at most one message.
+pub one_message : (grid : GridView) (k l : ℕ) (m n : List Item) → Reads grid k m → Reads grid l n → m ≡ n
+one_message grid k l m n a b =
+    one_symbol_message (symbol_modules grid) None Usual Usual k l m n a.read b.read
 
 -- What is read is a message.
-pub read_is_message : (extent : Extent) (grid : GridView) (limit : ℕ) (m : List Item) → Reads extent grid limit m
+pub read_is_message : (grid : GridView) (limit : ℕ) (m : List Item) → Reads grid limit m
     → IsMessage m
-read_is_message extent grid limit m r = symbol_message (symbol_modules grid) None extent limit m r.read
+read_is_message grid limit m r = symbol_message (symbol_modules grid) None Usual limit m r.read
 
--- More codewords spell no fewer items.
-more_spelled : (extent : Extent) (few many : ℕ) → few ≤ many → most_spelled extent few ≤ most_spelled extent many
-more_spelled Usual few many le = omega (arith, le)
-more_spelled Wide zero many le = omega arith
-more_spelled Wide (suc few) zero le = absurd (omega (arith, le))
-more_spelled Wide (suc few) (suc many) le = omega (arith, le)
-
--- The data codewords of the grid's size can spell as many items as are read.
-pub few_items_are_read : (extent : Extent) (grid : GridView) (limit : ℕ) (m : List Item) → Reads extent grid limit m
-    → length m ≤ most_spelled extent grid.size.data_count
-few_items_are_read extent grid limit m r =
+-- A grid is read as at most two items for each data codeword of its size.
+pub few_items_are_read : (grid : GridView) (limit : ℕ) (m : List Item) → Reads grid limit m
+    → length m ≤ 2 * grid.size.data_count
+few_items_are_read grid limit m r =
     let words = first_data (symbol_size grid.size) r.read.codewords in
-    let few = spelled_is_few extent words m r.read.spelled in
-    let taken : length words ≤ grid.size.data_count =
-    omega (arith, length-take grid.size.data_count r.read.codewords) in
-    omega (arith, few, more_spelled extent (length words) grid.size.data_count taken)
+    omega (
+      arith,
+      spelled_is_few Usual words m r.read.spelled,
+      length-take grid.size.data_count r.read.codewords,
+    )
 
--- So can those of the largest size.
-pub no_more_items_are_read : (extent : Extent) (grid : GridView) (limit : ℕ) (m : List Item) → Reads extent grid limit m
-    → length m ≤ most_spelled extent most_grid_data
-no_more_items_are_read extent grid limit m r = omega (
-  arith,
-  few_items_are_read extent grid limit m r,
-  more_spelled extent grid.size.data_count most_grid_data (row_facts grid.size r.is_grid.row).data_fits,
-)
+-- So it is as at most two for each of the largest size.
+pub no_more_items_are_read : (grid : GridView) (limit : ℕ) (m : List Item) → Reads grid limit m
+    → length m ≤ 2 * most_grid_data
+no_more_items_are_read grid limit m r =
+    omega (arith, few_items_are_read grid limit m r, (row_facts grid.size r.is_grid.row).data_fits)
 
 -- ---- results
 
 -- A grid has at most one result for a limit.
-pub one_given : (extent : Extent) (grid : GridView) (limit : ℕ) (a b : Result Reading ReadFault)
-    → ReadResult extent grid limit a → ReadResult extent grid limit b → a ≡ b
-one_given extent grid limit a b h k =
+pub one_given : (grid : GridView) (limit : ℕ) (a b : Result Reading ReadFault)
+    → ReadResult grid limit a → ReadResult grid limit b → a ≡ b
+one_given grid limit a b h k =
     h.same
-    ∙ ap grid_result (one_symbol_result (symbol_modules grid) None extent limit h.of_symbol k.of_symbol h.read k.read)
+    ∙ ap grid_result (one_symbol_result (symbol_modules grid) None Usual limit h.of_symbol k.of_symbol h.read k.read)
     ∙ sym k.same
 
 -- Each symbol has a result.
-symbol_result_is_there : (extent : Extent) (modules : SymbolView) (limit : ℕ) → IsSymbol modules
-    → (result : Result ReadingView ReadFault) × SymbolReadResult extent modules None limit result
-symbol_result_is_there extent modules limit h =
-    let some = some_outcome (Spells extent) (Refused extent) extent modules None limit (λ words bytes.
-    elim (one_result extent words bytes) [
+symbol_result_is_there : (modules : SymbolView) (limit : ℕ) → IsSymbol modules
+    → (result : Result ReadingView ReadFault) × SymbolReadResult Usual modules None limit result
+symbol_result_is_there modules limit h =
+    let some = some_outcome (Spells Usual) (Refused Usual) Usual modules None limit (λ words bytes.
+    elim (one_result Usual words bytes) [
       | inl s ↦ inl (s.message, s.spells)
       | inr r ↦ inr (r.why, r.refused)
     ]) h in
     of_outcome some.0 some.1
   where
-    of_outcome : (a : Outcome (List Item) _) → IsOutcome (Spells extent) (Refused extent) extent modules None limit a
-        → (result : Result ReadingView ReadFault) × SymbolReadResult extent modules None limit result
+    of_outcome : (a : Outcome (List Item) _) → IsOutcome (Spells Usual) (Refused Usual) Usual modules None limit a
+        → (result : Result ReadingView ReadFault) × SymbolReadResult Usual modules None limit result
     of_outcome (Border count) (more, e) = (_, SymbolReadResult.border more refl)
     of_outcome (Block index) (words, few, lost) = (_, SymbolReadResult.block words index few lost refl)
     of_outcome (Words why) (dealing, words, codewords, few, restored, refused) =
@@ -138,28 +126,28 @@ symbol_result_is_there extent modules limit h =
         (_, SymbolReadResult.message dealing words codewords m few restored spelled refl)
 
 -- Each grid has a result.
-pub read_result_is_there : (extent : Extent) (grid : GridView) (limit : ℕ) → IsGrid grid
-    → (result : Result Reading ReadFault) × ReadResult extent grid limit result
-read_result_is_there extent grid limit g =
-    let some = symbol_result_is_there extent (symbol_modules grid) limit (is_modules grid g) in
+pub read_result_is_there : (grid : GridView) (limit : ℕ) → IsGrid grid
+    → (result : Result Reading ReadFault) × ReadResult grid limit result
+read_result_is_there grid limit g =
+    let some = symbol_result_is_there (symbol_modules grid) limit (is_modules grid g) in
     (grid_result some.0, record { is_grid = g; of_symbol = some.0; read = some.1; same = refl })
 
 -- A grid that is read has no fault of reading.
-pub no_fault : (extent : Extent) (grid : GridView) (limit : ℕ) (m : List Item) (why : ReadFault)
-    → Reads extent grid limit m → ReadResult extent grid limit (Err why) → ⊥
-no_fault extent grid limit m why r a = by a.of_symbol a.same
-    (symbol_read_by_result (symbol_modules grid) None extent limit a.of_symbol m a.read r.read)
+pub no_fault : (grid : GridView) (limit : ℕ) (m : List Item) (why : ReadFault)
+    → Reads grid limit m → ReadResult grid limit (Err why) → ⊥
+no_fault grid limit m why r a = by a.of_symbol a.same
+    (symbol_read_by_result (symbol_modules grid) None Usual limit a.of_symbol m a.read r.read)
   where
     by : (o : Result ReadingView ReadFault) → Err why ≡ grid_result o → IsSymbolReadAs o m → ⊥
     by (Ok reading) e is = cc
     by (Err other) e is = is
 
 -- Where the result is a reading, the grid is read as its message.
-pub reads_by_result : (extent : Extent) (grid : GridView) (limit : ℕ) (reading : Reading)
-    → ReadResult extent grid limit (Ok reading) → Reads extent grid limit reading.message
-reads_by_result extent grid limit reading a = record {
+pub reads_by_result : (grid : GridView) (limit : ℕ) (reading : Reading)
+    → ReadResult grid limit (Ok reading) → Reads grid limit reading.message
+reads_by_result grid limit reading a = record {
   is_grid = a.is_grid;
-  read = reads_symbol_by_result (symbol_modules grid) None extent limit a.of_symbol reading.message a.read
+  read = reads_symbol_by_result (symbol_modules grid) None Usual limit a.of_symbol reading.message a.read
       (by a.of_symbol a.same);
 }
   where
@@ -168,25 +156,10 @@ reads_by_result extent grid limit reading a = record {
         symbol.blocks) symbol.border_faults = cc in sym (ap (λ (r : Reading). r.message) same)
     by (Err why) e = cc
 
--- What is read in the extent `Usual` is read in `Wide` with the same result.
-pub wide_reads_the_usual : (grid : GridView) (limit : ℕ) (reading : Reading)
-    → ReadResult Usual grid limit (Ok reading) → ReadResult Wide grid limit (Ok reading)
-wide_reads_the_usual grid limit reading a = moved a.of_symbol a.read a.same
-  where
-    moved : (r : Result ReadingView ReadFault) → SymbolReadResult Usual (symbol_modules grid) None limit r
-        → Ok reading ≡ grid_result r → ReadResult Wide grid limit (Ok reading)
-    moved (Ok symbol) read same = record {
-      is_grid = a.is_grid;
-      of_symbol = Ok symbol;
-      read = wide_reads_the_usual_symbol (symbol_modules grid) None limit symbol read;
-      same = same;
-    }
-    moved (Err why) read same = cc
-
 -- What reading the symbol gives is what reading the grid gives.
-pub is_read : (extent : Extent) (grid : GridView) (limit : ℕ) (result : Result ReadingView ReadFault) → IsGrid grid
-    → IsSymbolRead extent (symbol_modules grid) None limit result → IsRead extent grid limit (grid_result result)
-is_read extent grid limit result g h = record {
+pub is_read : (grid : GridView) (limit : ℕ) (result : Result ReadingView ReadFault) → IsGrid grid
+    → IsSymbolRead Usual (symbol_modules grid) None limit result → IsRead grid limit (grid_result result)
+is_read grid limit result g h = record {
   result_is = record { is_grid = g; of_symbol = result; read = h.result_is; same = refl };
   message = λ m. (
     λ is. record { is_grid = g; read = (h.message m).0 (symbol_as result m is) },
@@ -238,18 +211,18 @@ one_way grid g two = omega (arith, two.0, side_fits grid.size.side grid.size g.r
 
 -- The result for a symbol of which no module is doubtful, and whose size is dealt in one way, is made of what is told
 -- of it as a grid.
-made_of_told : (extent : Extent) (modules : SymbolView) (limit : ℕ) (result : Result ReadingView ReadFault)
-    → (IsDealtTwoWays modules.size → ⊥) → SymbolReadResult extent modules None limit result
+made_of_told : (modules : SymbolView) (limit : ℕ) (result : Result ReadingView ReadFault)
+    → (IsDealtTwoWays modules.size → ⊥) → SymbolReadResult Usual modules None limit result
     → symbol_result (block_check modules.size) (grid_result result) ≡ result
-made_of_told extent modules limit result one (SymbolReadResult.border more e) =
+made_of_told modules limit result one (SymbolReadResult.border more e) =
     subst (λ r. symbol_result (block_check modules.size) (grid_result r) ≡ r) (sym e) refl
-made_of_told extent modules limit result one (SymbolReadResult.block words index few lost e) =
+made_of_told modules limit result one (SymbolReadResult.block words index few lost e) =
     subst (λ r. symbol_result (block_check modules.size) (grid_result r) ≡ r) (sym e) refl
-made_of_told extent modules limit result one (SymbolReadResult.words dealing words codewords why few h refused e) =
+made_of_told modules limit result one (SymbolReadResult.words dealing words codewords why few h refused e) =
     subst (λ r. symbol_result (block_check modules.size) (grid_result r) ≡ r) (sym e) refl
-made_of_told extent modules limit result one (SymbolReadResult.message Restarted words codewords m few h spelled e) =
+made_of_told modules limit result one (SymbolReadResult.message Restarted words codewords m few h spelled e) =
     absurd (one h.tried.1)
-made_of_told extent modules limit result one (SymbolReadResult.message Standard words codewords m few h spelled e) =
+made_of_told modules limit result one (SymbolReadResult.message Standard words codewords m few h spelled e) =
     let k = block_check modules.size in
     subst (λ r. symbol_result k (grid_result r) ≡ r) (sym e) (ap (λ rs. Ok (reading_with m rs)) (all_made k
     (λ b. block_reading k (erased_in modules.size None b) (block_in modules.size words b)
@@ -262,12 +235,12 @@ made_of_told extent modules limit result one (SymbolReadResult.message Standard 
         symbol_reading_of message Standard blocks (sure_fault_count modules None)
 
 -- The result for a grid is that of its symbol.
-pub result_of_symbol : (extent : Extent) (grid : GridView) (limit : ℕ) (result : Result Reading ReadFault)
-    → IsGrid grid → ReadResult extent grid limit result
-    → SymbolReadResult extent (symbol_modules grid) None limit
+pub result_of_symbol : (grid : GridView) (limit : ℕ) (result : Result Reading ReadFault)
+    → IsGrid grid → ReadResult grid limit result
+    → SymbolReadResult Usual (symbol_modules grid) None limit
     (symbol_result (block_check (symbol_size grid.size)) result)
-result_of_symbol extent grid limit result g h =
+result_of_symbol grid limit result g h =
     let k = block_check (symbol_size grid.size) in
-    subst (SymbolReadResult extent (symbol_modules grid) None limit)
-    (sym (ap (symbol_result k) h.same ∙ made_of_told extent (symbol_modules grid) limit h.of_symbol (one_way grid g)
+    subst (SymbolReadResult Usual (symbol_modules grid) None limit)
+    (sym (ap (symbol_result k) h.same ∙ made_of_told (symbol_modules grid) limit h.of_symbol (one_way grid g)
     h.read)) h.read

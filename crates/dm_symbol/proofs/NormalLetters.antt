@@ -1,10 +1,15 @@
 -- The normal symbols of the letters that symbols are read as.
-use Rattle.std.proofs.Common.{◌≡◌, ◌↔◌, ℕ, length, Option, None, Result, Ok, Err, inl, inr, refl, sym, ap, subst}
+use Rattle.std.proofs.Common.{◌≡◌, ◌↔◌, ℕ, List, length, Option, None, Result, Ok, Err, inl, inr, refl, sym, ap, subst}
 use Rattle.std.proofs.Common.{◌∙◌}
 use Rattle.dm_words.specs.declared.extent.Extent.{Extent}
+use Rattle.dm_words.specs.declared.extent.Extent.TheVariants.{Wide}
+use Rattle.dm_words.specs.declared.item.Item.{Item}
 use Rattle.dm_words.specs.declared.profile.Profile.{Profile}
 use Rattle.dm_words.specs.Letters.{LetterView}
-use Rattle.dm_words.specs.LetterExtents.{IsSaidIn}
+use Rattle.dm_words.specs.LetterExtents.{as_letter, IsSaidIn}
+use Rattle.dm_words.specs.Macros.{macro_text}
+use Rattle.dm_words.specs.Spells.{Spells}
+use Rattle.dm_words.proofs.Exported.{spelled_said}
 use Rattle.dm_words.specs.LetterForm.{letter_form}
 use Rattle.dm_layout.specs.declared.symbols.size.SizeChoice.TheVariants.{Square}
 use Rattle.dm_layout.specs.symbols.Sizes.{entry_for}
@@ -12,6 +17,8 @@ use Rattle.dm_layout.specs.symbols.Symbols.{SymbolView, IsSymbol}
 use Rattle.dm_symbol.specs.declared.letters.LetterReadFault.{LetterReadFault}
 use Rattle.dm_symbol.specs.declared.letters.LetterNormalFault.{LetterNormalFault}
 use Rattle.dm_symbol.specs.declared.letters.LetterNormalFault.TheVariants.{Read, TooLong}
+use Rattle.dm_symbol.specs.SymbolBlocks.{first_data}
+use Rattle.dm_symbol.specs.LetterLaws.{ReadsMacro}
 use Rattle.dm_symbol.specs.LetterReading.{LetterReadingView, ReadsLetter, LetterReadResult}
 use Rattle.dm_symbol.specs.NormalLetter.{IsNormalOfLetter}
 use Rattle.dm_symbol.specs.LetterNormal.{HasNormalLetter, HasNoNormalLetter, NormalLetterResult, IsLetterNormalised}
@@ -125,6 +132,33 @@ equal_normal_letters extent other p g h a b d e k l i j x y hx hy ha hb =
     written_symbols_tell_letters Square p x y a b (read_letter_right g d extent k x hx).0
     (read_letter_right h e other l y hy).0 (normal_of_read extent p g d a i k x ha hx)
     (normal_of_read other p h e b j l y hb hy)
+
+-- ---- macros
+
+-- A symbol whose first data codeword is a macro is read as the macro's text.
+macro_reads : (modules : SymbolView) (doubtful : Option SymbolView) (limit digit : ℕ) (text : List Item)
+    → ReadsMacro modules doubtful limit digit text
+    → ReadsLetter Wide modules doubtful limit (as_letter (macro_text digit text))
+macro_reads modules doubtful limit digit text r = record {
+  border = r.border;
+  dealing = r.dealing;
+  words = r.words;
+  codewords = r.codewords;
+  restored = r.restored;
+  said = spelled_said Wide (first_data modules.size r.codewords) (macro_text digit text)
+      (Spells.by_macro r.framed.word digit r.framed.more text refl r.framed.is_macro r.framed.whole r.framed.spelled
+      refl);
+}
+
+-- A symbol whose first data codeword is a macro and one that spells the macro's text out have equal normal symbols.
+pub macro_is_its_text : (extent : Extent) (p : Profile) (g h a b : SymbolView) (d e : Option SymbolView)
+    (k l i j digit : ℕ) (text : List Item) → ReadsMacro g d k digit text
+    → ReadsLetter extent h e l (as_letter (macro_text digit text))
+    → HasNormalLetter Wide p g d i a → HasNormalLetter extent p h e j b → a ≡ b
+macro_is_its_text extent p g h a b d e k l i j digit text rg rh ha hb =
+    let letter = as_letter (macro_text digit text) in
+    (equal_normal_letters Wide extent p g h a b d e k l i j letter letter (macro_reads g d k digit text rg) rh ha
+    hb).1 refl
 
 -- ---- what a result of normalising says
 

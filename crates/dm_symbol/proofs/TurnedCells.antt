@@ -8,6 +8,7 @@ use Rattle.std.proofs.lemmas.Bool.{cases_Bool, cases_eq, cases_lt, eqb-true, eqb
 use Rattle.std.proofs.lemmas.Nat.{same_from_place, mul-add-lt}
 use Rattle.std.proofs.lemmas.Nat.Bits.{bit_at_lowest, bit_at-suc}
 use Rattle.dm_words.specs.declared.extent.Extent.{Extent}
+use Rattle.dm_words.specs.declared.extent.Extent.TheVariants.{Usual}
 use Rattle.dm_words.specs.declared.item.Item.{Item}
 use Rattle.dm_words.specs.declared.profile.Profile.{Profile}
 use Rattle.dm_code.specs.Codeword.{IsNear, distance, differing}
@@ -248,12 +249,12 @@ restored_plainly extent modules u c held of_size near = record {
 }
 
 -- A normal grid of which no more cells are turned over is read as its message.
-turned_reads : (extent : Extent) (p : Profile) (m : List Item) (normal : GridView) (others : List (List Bool))
+turned_reads : (p : Profile) (m : List Item) (normal : GridView) (others : List (List Bool))
     (limit : ℕ) → IsMessage m → IsNormalGrid p m normal
     → IsGrid (record { size = normal.size; rows = others })
     → turned_cells normal (record { size = normal.size; rows = others }) ≤ normal.size.limit
-    → normal.size.limit ≤ limit → Reads extent (record { size = normal.size; rows = others }) limit m
-turned_reads extent p m normal others limit h n is_grid few at_least =
+    → normal.size.limit ≤ limit → Reads (record { size = normal.size; rows = others }) limit m
+turned_reads p m normal others limit h n is_grid few at_least =
     let size = normal.size in
     let row = n.is_grid.row in
     let grid : GridView = record { size = size; rows = others } in
@@ -272,7 +273,7 @@ turned_reads extent p m normal others limit h n is_grid few at_least =
         dealing = Standard;
         words = some.0.list;
         codewords = words;
-        restored = restored_plainly extent (symbol_modules grid) some.0.list words (modules_hold grid _ held)
+        restored = restored_plainly Usual (symbol_modules grid) some.0.list words (modules_hold grid _ held)
             n.normal.laid.holds.codewords (λ b hb. record {
               codeword = n.normal.checked b hb;
               long = length_of_block (words_of size words) b laid.holds.codewords hb
@@ -284,20 +285,20 @@ turned_reads extent p m normal others limit h n is_grid few at_least =
                 half size row,
               );
             });
-        spelled = written_spells extent Square p m (symbol_modules normal) h n.normal;
+        spelled = written_spells Usual Square p m (symbol_modules normal) h n.normal;
       };
     }
 
 -- If no more cells of a normal grid are turned over than codewords can be corrected in a block, the grid that comes out
 -- is read as its message.
-pub turned_cells_are_read : (extent : Extent) (p : Profile) (m : List Item) (normal grid : GridView) (limit : ℕ)
+pub turned_cells_are_read : (p : Profile) (m : List Item) (normal grid : GridView) (limit : ℕ)
     → IsMessage m → IsNormalGrid p m normal → IsGrid grid
     → grid.size.side ≡ normal.size.side → turned_cells normal grid ≤ normal.size.limit → normal.size.limit ≤ limit
-    → Reads extent grid limit m
-turned_cells_are_read extent p m normal grid limit h n is_grid side few at_least =
+    → Reads grid limit m
+turned_cells_are_read p m normal grid limit h n is_grid side few at_least =
     let same : grid.size ≡ normal.size = same_row grid.size normal.size is_grid.row n.is_grid.row side in
     let whole : ◌≡◌ {A = GridView} grid (record { size = normal.size; rows = grid.rows }) =
     ap (λ (s : SizeRow). let g : GridView = record { size = s; rows = grid.rows } in g) same in
-    subst (λ g. Reads extent g limit m) (sym whole)
-    (turned_reads extent p m normal grid.rows limit h n (subst IsGrid whole is_grid)
+    subst (λ g. Reads g limit m) (sym whole)
+    (turned_reads p m normal grid.rows limit h n (subst IsGrid whole is_grid)
     (subst (λ g. turned_cells normal g ≤ normal.size.limit) whole few) at_least)

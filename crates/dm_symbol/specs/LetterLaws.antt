@@ -8,19 +8,23 @@ use Rattle.dm_words.specs.declared.letters.fault.LetterFault.TheVariants as word
 use Rattle.dm_words.specs.Letters.{LetterView, IsLetter}
 use Rattle.dm_words.specs.LetterExtents.{as_letter, IsSaidIn}
 use Rattle.dm_words.specs.LetterForm.{letter_form}
+use Rattle.dm_words.specs.Laws.{AreMacro}
+use Rattle.dm_words.specs.Macros.{macro_text}
 use Rattle.dm_words.specs.Pads.{padded}
 use Rattle.dm_words.specs.Smallest.{IsTaken}
 use Rattle.dm_layout.specs.declared.symbols.size.SizeChoice.{SizeChoice}
 use Rattle.dm_layout.specs.symbols.Sizes.{SizeEntry, block_check, most_data, most_rows, most_codewords}
 use Rattle.dm_layout.specs.symbols.Symbols.{SymbolView, IsSymbol}
+use Rattle.dm_symbol.specs.declared.symbol.dealing.Dealing.{Dealing}
 use Rattle.dm_symbol.specs.declared.symbol.dealing.Dealing.TheVariants.{Standard}
 use Rattle.dm_symbol.specs.declared.letters.LetterReadFault.{LetterReadFault}
 use Rattle.dm_symbol.specs.declared.letters.LetterReadFault.TheVariants as fault
 use Rattle.dm_symbol.specs.declared.letters.LetterNormalFault.{LetterNormalFault}
 use Rattle.dm_symbol.specs.declared.reading.ReadFault.{ReadFault}
 use Rattle.dm_symbol.specs.declared.reading.ReadFault.TheVariants as message_fault
-use Rattle.dm_symbol.specs.SymbolReading.{ReadingView}
-use Rattle.dm_symbol.specs.SymbolReading.{ReadsSymbol, SymbolReadResult}
+use Rattle.dm_symbol.specs.Doubt.{sure_fault_count}
+use Rattle.dm_symbol.specs.SymbolBlocks.{first_data}
+use Rattle.dm_symbol.specs.SymbolReading.{ReadingView, ReadsSymbol, SymbolReadResult, AreRestored}
 use Rattle.dm_symbol.specs.SymbolLaws.{AreLight, nothing_wrong}
 use Rattle.dm_symbol.specs.NormalSymbol.{IsWrittenIn}
 use Rattle.dm_symbol.specs.LetterReading.{LetterReadingView, ReadsLetter, LetterReadResult}
@@ -207,3 +211,25 @@ EqualNormalSymbolsMeanEqualLetters =
     → HasNormalLetter extent profile modules doubtful normal_limit normal
     → HasNormalLetter other_extent profile other other_doubtful other_normal_limit other_normal
     → (normal ≡ other_normal) ↔ (letter ≡ other_letter)
+
+-- The data codewords of the symbol, as they are restored, are the macro of this digit and, behind it, parts with the
+-- items of this text.
+pub record ReadsMacro (modules : SymbolView) (doubtful : Option SymbolView) (limit digit : ℕ) (text : List Item)
+    : Type 0 where
+  pub border : sure_fault_count modules doubtful ≤ limit
+  pub dealing : Dealing
+  pub words : List ℕ
+  pub codewords : List ℕ
+  pub restored : AreRestored Wide modules doubtful dealing words codewords
+  pub framed : AreMacro digit (first_data modules.size codewords) text
+
+-- A symbol whose first data codeword is a macro and one that spells the macro's header, text and trailer out, in
+-- whatever extent that is read, have equal normal symbols under one profile.
+abbrev pub AMacroIsItsText : Type 0
+AMacroIsItsText =
+    (extent : Extent) (profile : Profile) (modules other normal other_normal : SymbolView)
+    (doubtful other_doubtful : Option SymbolView) (limit other_limit normal_limit other_normal_limit digit : ℕ)
+    (text : List Item) → ReadsMacro modules doubtful limit digit text
+    → ReadsLetter extent other other_doubtful other_limit (as_letter (macro_text digit text))
+    → HasNormalLetter Wide profile modules doubtful normal_limit normal
+    → HasNormalLetter extent profile other other_doubtful other_normal_limit other_normal → normal ≡ other_normal

@@ -1,8 +1,8 @@
--- Which message a grid is read as, and how a grid that is not read is refused: as its symbol is with no module doubtful
--- (ISO/IEC 16022, decode algorithm).
+-- Which message a grid is read as, and how a grid that is not read is refused: as its symbol is in the usual extent
+-- with no module doubtful (ISO/IEC 16022, decode algorithm).
 use Rattle.std.specs.Prelude.{◌≡◌, ℕ, ◌/◌, ◌<◌, ◌↔◌, List, map, None, Result, Ok, Err, MatchResult}
 use Rattle.dm_words.specs.declared.item.Item.{Item}
-use Rattle.dm_words.specs.declared.extent.Extent.{Extent}
+use Rattle.dm_words.specs.declared.extent.Extent.TheVariants.{Usual}
 use Rattle.dm_layout.specs.Grid.{GridView, IsGrid, symbol_modules}
 use Rattle.dm_layout.specs.Border.{border_fault_count}
 use Rattle.dm_symbol.specs.declared.reading.Reading.{Reading}
@@ -14,13 +14,13 @@ use Rattle.dm_symbol.specs.SymbolReading.{ReadingView, ReadsSymbol, SymbolReadRe
 abbrev pub usual_limit : ℕ → ℕ
 usual_limit side = side / 4
 
--- The grid is read as the message in an extent if its symbol is, with no module doubtful: at most `limit` modules of
--- its borders have the wrong colour, and each block of the words that it holds differs from the same block of codewords
--- at no more places than half the number of its check codewords, rounded down; the data codewords of these spell the
--- message in that extent.
-pub record Reads (extent : Extent) (grid : GridView) (limit : ℕ) (message : List Item) : Type 0 where
+-- The grid is read as the message if its symbol is, in the usual extent and with no module doubtful: at most `limit`
+-- modules of its borders have the wrong colour, and each block of the words that it holds differs from the same block
+-- of codewords at no more places than half the number of its check codewords, rounded down; the data codewords of these
+-- spell the message.
+pub record Reads (grid : GridView) (limit : ℕ) (message : List Item) : Type 0 where
   pub is_grid : IsGrid grid
-  pub read : ReadsSymbol extent (symbol_modules grid) None limit message
+  pub read : ReadsSymbol Usual (symbol_modules grid) None limit message
 
 -- This is the reading with this message, these numbers of corrected codewords by block, and this number of border
 -- faults.
@@ -34,14 +34,14 @@ grid_result (Ok reading) =
     Ok (reading_of reading.message (map (λ block. block.corrected) reading.blocks) reading.border_faults)
 grid_result (Err why) = Err why
 
--- The result for a grid in an extent is that of its symbol with no module doubtful: the number of border faults, if it
--- is more than `limit`; the first block that no codeword is near; the fault with which the corrected data codewords are
--- refused; or the message that they spell, with the number of corrected codewords of each block and the number of
--- border faults.
-pub record ReadResult (extent : Extent) (grid : GridView) (limit : ℕ) (result : Result Reading ReadFault) : Type 0 where
+-- The result for a grid is that of its symbol in the usual extent with no module doubtful: the number of border faults,
+-- if it is more than `limit`; the first block that no codeword is near; the fault with which the corrected data
+-- codewords are refused; or the message that they spell, with the number of corrected codewords of each block and the
+-- number of border faults.
+pub record ReadResult (grid : GridView) (limit : ℕ) (result : Result Reading ReadFault) : Type 0 where
   pub is_grid : IsGrid grid
   pub of_symbol : Result ReadingView ReadFault
-  pub read : SymbolReadResult extent (symbol_modules grid) None limit of_symbol
+  pub read : SymbolReadResult Usual (symbol_modules grid) None limit of_symbol
   pub same : result ≡ grid_result of_symbol
 
 -- The result is a reading of this message.
@@ -50,8 +50,8 @@ IsReadAs result wanted = MatchResult result (λ reading. reading.message ≡ wan
 
 -- What reading a grid gives: the result defined above; a reading of a message exactly where the grid is read as that
 -- message; and a number of border faults exactly where these are more than `limit`, and this is their number.
-pub record IsRead (extent : Extent) (grid : GridView) (limit : ℕ) (result : Result Reading ReadFault) : Type 0 where
-  pub result_is : ReadResult extent grid limit result
-  pub message : (m : List Item) → IsReadAs result m ↔ Reads extent grid limit m
+pub record IsRead (grid : GridView) (limit : ℕ) (result : Result Reading ReadFault) : Type 0 where
+  pub result_is : ReadResult grid limit result
+  pub message : (m : List Item) → IsReadAs result m ↔ Reads grid limit m
   pub border : (count : ℕ)
       → (result ≡ Err (fault.Border count)) ↔ ((limit < border_fault_count grid) × (count ≡ border_fault_count grid))

@@ -187,11 +187,11 @@ pub record AreModulesOf (grid : GridView) (modules : SymbolView) : Type 0 where
   pub columns : modules.size.columns ≡ grid.size.side
   pub cells : modules.rows ≡ grid.rows
 
--- A grid is read as a message exactly where its modules are, with none of them doubtful.
+-- A grid is read as a message exactly where its modules are in the extent `Usual`, with none of them doubtful.
 abbrev pub GridsAreReadAsSymbols : Type 0
 GridsAreReadAsSymbols =
-    (extent : Extent) (grid : GridView) (modules : SymbolView) (limit : ℕ) (message : List Item)
-    → AreModulesOf grid modules → Reads extent grid limit message ↔ ReadsSymbol extent modules None limit message
+    (grid : GridView) (modules : SymbolView) (limit : ℕ) (message : List Item)
+    → AreModulesOf grid modules → Reads grid limit message ↔ ReadsSymbol Usual modules None limit message
 
 -- This is said of a block of k check codewords of which so many codewords were corrected, and none was erased.
 abbrev pub none_erased : ℕ → ℕ → BlockReading
@@ -204,12 +204,12 @@ symbol_result k (Ok reading) =
     Ok (symbol_reading_of reading.message Standard (map (none_erased k) reading.corrected.items) reading.border_faults)
 symbol_result k (Err why) = Err why
 
--- The result of reading a grid is that of reading the symbol with its cells, with none of its modules doubtful.
+-- The result of reading a grid is that of reading the symbol with its cells in the extent `Usual`, with none of its
+-- modules doubtful.
 abbrev pub GridsHaveTheResultsOfSymbols : Type 0
 GridsHaveTheResultsOfSymbols =
-    (extent : Extent) (grid : GridView) (limit : ℕ) (result : Result Reading ReadFault) → IsGrid grid
-    → ReadResult extent grid limit result
-    → SymbolReadResult extent (symbol_modules grid) None limit (symbol_result (squares.block_check grid.size) result)
+    (grid : GridView) (limit : ℕ) (result : Result Reading ReadFault) → IsGrid grid → ReadResult grid limit result
+    → SymbolReadResult Usual (symbol_modules grid) None limit (symbol_result (squares.block_check grid.size) result)
 
 -- The normal grid of a message is its normal symbol.
 abbrev pub NormalGridsAreNormalSymbols : Type 0

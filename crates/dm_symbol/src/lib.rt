@@ -19,11 +19,11 @@
 //! symbology identifier too. [`normal_letter_to()`] leaves the symbol of what a symbol says in the smallest square, and
 //! [`restore_symbol_to()`] does the first steps of reading alone.
 //!
-//! Squares of 10 to 104 rows may be given as a [`Grid`]. [`read()`] gives what a grid says, a [`Reading`]; [`write()`]
-//! the normal grid of a [`Message`]; and [`normal()`] the normal grid of what a grid says. These know no profile but
-//! [`Profile::Ascii`] and no extent but [`Extent::Usual`]; [`write_as()`] and [`normal_as()`] take any profile, and
-//! [`read_to()`], [`write_to()`] and [`normal_to()`] any profile and extent, with a [`Reading::new()`] and a
-//! [`light_grid()`] as targets. [`usual_limit()`] is the number of wrong border modules that is usually accepted.
+//! Squares of 10 to 104 rows may be given as a [`Grid`], which is read in [`Extent::Usual`]. [`read()`] gives what a
+//! grid says, a [`Reading`]; [`write()`] the normal grid of a [`Message`]; and [`normal()`] the normal grid of what a
+//! grid says. These know no profile but [`Profile::Ascii`]; [`write_as()`] and [`normal_as()`] take any, and
+//! [`read_to()`], [`write_to()`] and [`normal_to()`] leave their results in targets, a [`Reading::new()`] and a
+//! [`light_grid()`]. [`usual_limit()`] is the number of wrong border modules that is usually accepted.
 //!
 //! The types of the layers below are given on, among them [`GridFault`], [`Size`] with its [`table()`] of
 //! [`GRID_SIZE_COUNT`], [`Words`], [`Item`], [`WordFault`], and the limits [`LARGEST_SIDE`], [`MOST_GRID_BLOCKS`],

@@ -50,34 +50,28 @@ impl Reading {
     }
 }
 
-/// Gives what a grid says in the usual extent: what [`read_to`] leaves for [`Extent::Usual`].
+/// Gives what a grid says in the usual extent: what [`read_to`] leaves.
 pub fn read(grid: &Grid, border_limit: u16) -> Result<Reading, ReadFault>
-    ensures read { IsRead Extent.Usual grid.now border_limit result }
+    ensures read { IsRead grid.now border_limit result }
 {
     let mut reading = Reading::new();
-    match read_to(Extent::Usual, grid, border_limit, &mut reading) {
+    match read_to(grid, border_limit, &mut reading) {
         Ok(()) => Ok(reading),
         Err(fault) => Err(fault),
     }
 }
 
-/// Reads a grid in an extent (ISO/IEC 16022, decode algorithm): refuses it if more than `border_limit` modules of its
-/// borders have the wrong colour, corrects the blocks in order, each in up to half as many codewords as it has check
-/// codewords, and reads the data codewords, as far as the extent goes. The first of these steps that fails gives the
-/// fault. The fixed square isn't looked at, nor is what follows the first pad. The grid is taken to be upright. A grid
-/// with more damage may be near the codewords of another message, and is then read as that message. What is read at
-/// [`Extent::Usual`] is read at [`Extent::Wide`] as the same.
+/// Reads a grid in the usual extent (ISO/IEC 16022, decode algorithm): refuses it if more than `border_limit` modules
+/// of its borders have the wrong colour, corrects the blocks in order, each in up to half as many codewords as it has
+/// check codewords, and reads the data codewords, as far as that extent goes. The first of these steps that fails gives
+/// the fault. The fixed square isn't looked at, nor is what follows the first pad. The grid is taken to be upright. A
+/// grid with more damage may be near the codewords of another message, and is then read as that message.
 ///
 /// After `Ok`, `reading` holds what the grid says, whatever it held before. After `Border` it is as it was, and after
 /// another fault it holds some reading. One `Reading` serves any number of grids, and isn't cleared for the largest
 /// symbol; room for codewords is, for those of the largest one where the square has more than 98.
-pub fn read_to(
-    extent: Extent,
-    grid: &Grid,
-    border_limit: u16,
-    reading: &mut Reading,
-) -> Result<(), ReadFault>
-    ensures read { IsRead extent grid.now border_limit (outcome result reading.new) }
+pub fn read_to(grid: &Grid, border_limit: u16, reading: &mut Reading) -> Result<(), ReadFault>
+    ensures read { IsRead grid.now border_limit (outcome result reading.new) }
     ensures same { (count : ℕ) → result ≡ Err (ReadFault.Border count)
         → reading.new ≡ reading.old }
 {
@@ -85,22 +79,21 @@ pub fn read_to(
     let count = usize::from(size.data_count() + size.check_count());
     // To clear room for the largest square takes longer than much of the reading of a small one.
     if count <= FEW_CODEWORDS {
-        read_by::<FEW_CODEWORDS>(extent, grid, border_limit, reading)
+        read_by::<FEW_CODEWORDS>(grid, border_limit, reading)
     } else {
-        read_by::<MOST_GRID_CODEWORDS>(extent, grid, border_limit, reading)
+        read_by::<MOST_GRID_CODEWORDS>(grid, border_limit, reading)
     }
 }
 
 /// Does the same with room for so many codewords.
 fn read_by<const WORDS: usize>(
-    extent: Extent,
     grid: &Grid,
     border_limit: u16,
     reading: &mut Reading,
 ) -> Result<(), ReadFault>
     requires room { codeword_count grid.now.size ≤ WORDS }
     requires most { WORDS ≤ MOST_GRID_CODEWORDS }
-    ensures read { IsRead extent grid.now border_limit (outcome result reading.new) }
+    ensures read { IsRead grid.now border_limit (outcome result reading.new) }
     ensures same { (count : ℕ) → result ≡ Err (ReadFault.Border count)
         → reading.new ≡ reading.old }
 {
@@ -109,7 +102,7 @@ fn read_by<const WORDS: usize>(
     // By no other is a square of up to 104 rows read.
     let mut dealing = Dealing::Standard;
     let how = ReadOptions {
-        extent,
+        extent: Extent::Usual,
         border_limit,
         doubtful: None,
     };

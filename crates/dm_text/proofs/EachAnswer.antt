@@ -12,7 +12,6 @@ use Rattle.dm_symbol.specs.Messages.{IsMessage}
 use Rattle.dm_symbol.specs.NormalForm.{normal_form}
 use Rattle.dm_symbol.specs.Sizes.{SizeRow, row_for_words, row_with_side}
 use Rattle.dm_symbol.specs.Grid.{GridView, IsGrid}
-use Rattle.dm_symbol.specs.declared.Extent.TheVariants.{Usual}
 use Rattle.dm_symbol.proofs.Exported.{has_that_side, normal_grid_is_there, read_result_is_there, fits_or_not}
 use Rattle.dm_symbol.proofs.Exported.{normal_result_is_there}
 use Rattle.dm_text.specs.declared.record.RecordFault.TheVariants as fault
@@ -77,15 +76,15 @@ record_grid lines grid e = by_tests lines grid (has_foreign lines) (is_large lin
 record_answer : (task : Task) → AnswersRecords task → (r : RecordMeaning) →
     ((grid : GridView) → r ≡ Ok grid → IsGrid grid) → (answer : Answer) × IsRecordAnswer task r answer
 record_answer (Read border) of_grids (Ok grid) is =
-    let x = read_result_is_there Usual grid (border_limit_for border grid.size.side) (is grid refl) in
+    let x = read_result_is_there grid (border_limit_for border grid.size.side) (is grid refl) in
     (reading_answer x.0, (x.0, x.1, refl))
 record_answer (Read border) of_grids (Err why) is = (refusal_answer (record_refusal why), refl)
 record_answer (Check border) of_grids (Ok grid) is =
-    let x = read_result_is_there Usual grid (border_limit_for border grid.size.side) (is grid refl) in
+    let x = read_result_is_there grid (border_limit_for border grid.size.side) (is grid refl) in
     (checking_answer grid.size.side x.0, (x.0, x.1, refl))
 record_answer (Check border) of_grids (Err why) is = (refusal_answer (record_refusal why), refl)
 record_answer (Normal border profile) of_grids (Ok grid) is =
-    let x = normal_result_is_there Usual profile grid (border_limit_for border grid.size.side) (is grid refl) in
+    let x = normal_result_is_there profile grid (border_limit_for border grid.size.side) (is grid refl) in
     (normalising_answer x.0, (x.0, x.1, refl))
 record_answer (Normal border profile) of_grids (Err why) is = (refusal_in_place_of_grid (record_refusal why), refl)
 record_answer (Write profile) of_grids r is = absurd of_grids

@@ -2,7 +2,6 @@
 use Rattle.std.proofs.Common.{◌≡◌, ℕ, List, Option, Ok, Err, ap, sym, ◌∙◌}
 use Rattle.dm_symbol.specs.declared.Item.{Item}
 use Rattle.dm_symbol.specs.declared.Profile.{Profile}
-use Rattle.dm_symbol.specs.declared.Extent.TheVariants.{Usual}
 use Rattle.dm_symbol.proofs.Exported.{one_given, one_normal_result, normal_grid_fits, normal_grid_is_one}
 use Rattle.dm_text.specs.declared.task.Task.{Task}
 use Rattle.dm_text.specs.declared.task.Task.TheVariants.{Read, Check, Normal, Write, Table}
@@ -16,14 +15,14 @@ use Rattle.dm_text.specs.Answers.{normalising_answer, reading_answer, too_long}
 one_read_answer : (border : Option ℕ) (r : RecordMeaning) (a b : Answer) → IsReadAnswer border r a →
     IsReadAnswer border r b → a ≡ b
 one_read_answer border (Ok grid) a b (x, p, e) (y, q, f) =
-    e ∙ ap reading_answer (one_given Usual grid (border_limit_for border grid.size.side) x y p q) ∙ sym f
+    e ∙ ap reading_answer (one_given grid (border_limit_for border grid.size.side) x y p q) ∙ sym f
 one_read_answer border (Err why) a b e f = e ∙ sym f
 
 -- Where it is asked how damaged grids are, a record has only one answer.
 one_check_answer : (border : Option ℕ) (r : RecordMeaning) (a b : Answer) → IsCheckAnswer border r a →
     IsCheckAnswer border r b → a ≡ b
 one_check_answer border (Ok grid) a b (x, p, e) (y, q, f) =
-    e ∙ ap (checking_answer grid.size.side) (one_given Usual grid (border_limit_for border grid.size.side) x y p q)
+    e ∙ ap (checking_answer grid.size.side) (one_given grid (border_limit_for border grid.size.side) x y p q)
     ∙ sym f
 one_check_answer border (Err why) a b e f = e ∙ sym f
 
@@ -31,7 +30,7 @@ one_check_answer border (Err why) a b e f = e ∙ sym f
 one_normalising_answer : (border : Option ℕ) (profile : Profile) (r : RecordMeaning) (a b : Answer) →
     IsNormalAnswer border profile r a → IsNormalAnswer border profile r b → a ≡ b
 one_normalising_answer border profile (Ok grid) a b (x, p, e) (y, q, f) =
-    e ∙ ap normalising_answer (one_normal_result Usual profile grid (border_limit_for border grid.size.side) x y p q)
+    e ∙ ap normalising_answer (one_normal_result profile grid (border_limit_for border grid.size.side) x y p q)
     ∙ sym f
 one_normalising_answer border profile (Err why) a b e f = e ∙ sym f
 

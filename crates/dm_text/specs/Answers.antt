@@ -9,7 +9,6 @@ use Rattle.dm_symbol.specs.declared.ReadFault.{ReadFault}
 use Rattle.dm_symbol.specs.declared.NormalFault.{NormalFault}
 use Rattle.dm_symbol.specs.Sizes.{SizeRow, size_table}
 use Rattle.dm_symbol.specs.Grid.{GridView}
-use Rattle.dm_symbol.specs.declared.Extent.TheVariants.{Usual}
 use Rattle.dm_symbol.specs.Reading.{ReadResult, usual_limit}
 use Rattle.dm_symbol.specs.Normal.{NormalResult}
 use Rattle.dm_symbol.specs.NormalGrid.{IsNormalGrid, FitsSomeSize}
@@ -89,7 +88,7 @@ border_limit_for None side = usual_limit side
 -- Where messages are asked for, a record that is a grid is answered as reading it is, and any other by its refusal.
 abbrev pub IsReadAnswer : Option ℕ → RecordMeaning → Answer → Type 0
 IsReadAnswer border (Ok grid) answer =
-    (reading : Result Reading ReadFault) × ReadResult Usual grid (border_limit_for border grid.size.side) reading
+    (reading : Result Reading ReadFault) × ReadResult grid (border_limit_for border grid.size.side) reading
     × (answer ≡ reading_answer reading)
 IsReadAnswer border (Err why) answer = answer ≡ refusal_answer (record_refusal why)
 
@@ -97,7 +96,7 @@ IsReadAnswer border (Err why) answer = answer ≡ refusal_answer (record_refusal
 -- answered as checking it is, and any other by its refusal.
 abbrev pub IsCheckAnswer : Option ℕ → RecordMeaning → Answer → Type 0
 IsCheckAnswer border (Ok grid) answer =
-    (reading : Result Reading ReadFault) × ReadResult Usual grid (border_limit_for border grid.size.side) reading
+    (reading : Result Reading ReadFault) × ReadResult grid (border_limit_for border grid.size.side) reading
     × (answer ≡ checking_answer grid.size.side reading)
 IsCheckAnswer border (Err why) answer = answer ≡ refusal_answer (record_refusal why)
 
@@ -105,7 +104,7 @@ IsCheckAnswer border (Err why) answer = answer ≡ refusal_answer (record_refusa
 -- grid is answered as normalising it is, and any other by its refusal.
 abbrev pub IsNormalAnswer : Option ℕ → Profile → RecordMeaning → Answer → Type 0
 IsNormalAnswer border profile (Ok grid) answer =
-    (normal : Result GridView NormalFault) × NormalResult Usual profile grid (border_limit_for border grid.size.side)
+    (normal : Result GridView NormalFault) × NormalResult profile grid (border_limit_for border grid.size.side)
     normal × (answer ≡ normalising_answer normal)
 IsNormalAnswer border profile (Err why) answer = answer ≡ refusal_in_place_of_grid (record_refusal why)
 

@@ -24,8 +24,8 @@ use crate::task::RecordTask;
 use crate::text::LF;
 use arrayvec::ArrayVec;
 use dm_symbol::{
-    Extent, Grid, MOST_GRID_BLOCKS, Message, NormalFault, Profile, ReadFault, Reading, TooLong,
-    light_grid, normal_to, read_to, usual_limit, write_to,
+    Grid, MOST_GRID_BLOCKS, Message, NormalFault, Profile, ReadFault, Reading, TooLong, light_grid,
+    normal_to, read_to, usual_limit, write_to,
 };
 use std::marker::Model;
 
@@ -262,7 +262,7 @@ fn answer_read(
     match found {
         Ok(()) => {
             let limit = border_limit_for(border, &targets.grid);
-            match read_to(Extent::Usual, &targets.grid, limit, &mut targets.reading) {
+            match read_to(&targets.grid, limit, &mut targets.reading) {
                 Ok(()) => answers.add_message(&targets.reading.message),
                 Err(fault) => answers.refuse_reading(fault),
             }
@@ -286,7 +286,7 @@ fn answer_check(
     match found {
         Ok(()) => {
             let limit = border_limit_for(border, &targets.grid);
-            match read_to(Extent::Usual, &targets.grid, limit, &mut targets.reading) {
+            match read_to(&targets.grid, limit, &mut targets.reading) {
                 Ok(()) => answers.add_counts(targets.grid.size().side(), &targets.reading),
                 Err(fault) => answers.refuse_reading(fault),
             }
@@ -312,7 +312,6 @@ fn answer_normal(
         Ok(()) => {
             let limit = border_limit_for(border, &targets.grid);
             match normal_to(
-                Extent::Usual,
                 profile,
                 &targets.grid,
                 limit,

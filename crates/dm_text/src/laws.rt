@@ -3,7 +3,6 @@
 ghost use Rattle.std.specs.Prelude.{◌≡◌, ◌≤◌, ℕ, List, [], Ok, length};
 ghost use Rattle.std.specs.List.{concat};
 ghost use Rattle.dm_symbol.specs.declared.Item.{Item};
-ghost use Rattle.dm_symbol.specs.declared.Extent.TheVariants.{Usual};
 ghost use Rattle.dm_symbol.specs.Grid.{GridView};
 ghost use Rattle.dm_symbol.specs.Messages.{IsMessage, most_items};
 ghost use Rattle.dm_symbol.specs.Reading.{Reads};
@@ -20,13 +19,13 @@ ghost use Rattle.dm_text.specs.LineFeeds.{AreLinesFed, AreOfText, LineMeaning};
 
 pub mod cuts;
 
-/// The text of a message of at most `MOST_ITEMS` items is read as the message; so the text of what a grid is read as in
-/// the usual extent is read as that.
+/// The text of a message of at most `MOST_ITEMS` items is read as the message; so the text of what a grid is read as is
+/// read as that.
 pub fn text_is_read_back()
     ensures message { (message : List Item) → IsMessage message → length message ≤ most_items
         → IsLine (text_of message) (Ok message) }
     ensures read { (grid : GridView) (limit : ℕ) (message : List Item)
-        → Reads Usual grid limit message → IsLine (text_of message) (Ok message) }
+        → Reads grid limit message → IsLine (text_of message) (Ok message) }
 {}
 
 /// How a text is cut into pieces changes nothing for its message lines: pieces

@@ -148,14 +148,6 @@ pub(crate) fn normal_as(profile: Profile, grid: &Grid, limit: u16) -> Result<Gri
     dm_symbol::normal_as(profile, grid, limit)
 }
 
-pub(crate) fn read_as(extent: Extent, grid: &Grid, limit: u16) -> Result<Reading, ReadFault> {
-    let mut reading = Reading::new();
-    match dm_symbol::read_to(extent, grid, limit, &mut reading) {
-        Ok(()) => Ok(reading),
-        Err(fault) => Err(fault),
-    }
-}
-
 /// Puts a row of at most 128 modules, where there is such a row.
 pub(crate) fn put_row(symbol: &mut Symbol, row: u16, cells: u128) {
     if row < symbol.size().rows() {
@@ -288,18 +280,4 @@ pub(crate) fn read_doubtful(
         doubtful: Some(&doubtful),
     };
     read_symbol(&symbol_of(grid)?, how, reading)
-}
-
-pub(crate) fn normal_read_as(
-    extent: Extent,
-    profile: Profile,
-    grid: &Grid,
-    limit: u16,
-) -> Result<Grid, NormalFault> {
-    let mut reading = Reading::new();
-    let mut normal = light_grid();
-    match dm_symbol::normal_to(extent, profile, grid, limit, &mut reading, &mut normal) {
-        Ok(()) => Ok(normal),
-        Err(fault) => Err(fault),
-    }
 }

@@ -10,6 +10,7 @@ ghost use Rattle.dm_symbol.specs.LetterLaws.{WideReadsTheUsualLetter};
 ghost use Rattle.dm_symbol.specs.LetterLaws.{AWrittenLetterIsThere, WrittenLetterIsRead, WrittenSymbolsTellLetters};
 ghost use Rattle.dm_symbol.specs.LetterLaws.{RoomForEachServesLetters, MostRoomServesLetters};
 ghost use Rattle.dm_symbol.specs.LetterLaws.{NormalLetterTwiceIsOnce, EqualNormalSymbolsMeanEqualLetters};
+ghost use Rattle.dm_symbol.specs.LetterLaws.{AMacroIsItsText};
 ghost use Rattle.dm_symbol.specs.MessageLetters.{FaultTellsOfLetters, MessageTellsItsLetter};
 
 /// With the same doubtful modules, a symbol is read as at most one letter, whatever the extents and the limits; and
@@ -59,6 +60,12 @@ pub fn normal_letter_twice_is_once()
 /// letters are equal: where heads, items, and numbers and places of marks are.
 pub fn equal_normal_symbols_mean_equal_letters()
     ensures { EqualNormalSymbolsMeanEqualLetters }
+{}
+
+/// A symbol whose first data codeword is a macro and one that spells the macro's text out, in whatever extent that is
+/// read, have equal normal symbols under one profile.
+pub fn a_macro_is_its_text()
+    ensures { AMacroIsItsText }
 {}
 
 /// What is read as a message is read, in the same extent, as the letter with its items and without a head and marks.

@@ -2,7 +2,7 @@
 //! run.
 
 use super::*;
-use dm_symbol::{Extent, MESSAGE_ROOM, light_grid, normal_to, read_to};
+use dm_symbol::{Extent, LetterReading, MESSAGE_ROOM, Symbol, light_grid, normal_to, read_to};
 
 /// Sides, data codewords, the fault with which the usual extent refuses them, and the bytes that the wide extent reads.
 static ROWS: [(u16, &[u8], WordFault, &[u8]); 6] = [
@@ -39,43 +39,32 @@ static ROWS: [(u16, &[u8], WordFault, &[u8]); 6] = [
     (10, &[239, 87, 199], WordFault::Unfinished(2), b"a"),
 ];
 
-/// Whether reading in this extent leaves the same reading in a place.
-fn leaves(extent: Extent, grid: &Grid, reading: &Reading) -> bool {
-    let mut place = Reading::new();
-    read_to(extent, grid, 0, &mut place).is_ok() && place == *reading
+/// Whether the grid says these bytes and has this normal grid, in the usual extent, and leaves both in targets.
+fn says_usually(grid: &Grid, text: &[u8], normal: &Grid) -> bool {
+    let (mut reading, mut target) = (Reading::new(), light_grid());
+    read_to(grid, 0, &mut reading).is_ok()
+        && has_bytes(&reading.message, text)
+        && normal_to(Profile::Ascii, grid, 0, &mut reading, &mut target).is_ok()
+        && same(&target, normal)
 }
 
-/// Whether the grid says these bytes in an extent.
-fn says_in(extent: Extent, grid: &Grid, text: &[u8]) -> bool {
-    match read_as(extent, grid, 0) {
-        Ok(reading) => has_bytes(&reading.message, text) && leaves(extent, grid, &reading),
-        Err(_) => false,
-    }
+/// Whether the symbol of a grid says these bytes in the wide extent, without a head and marks, and has the symbol of
+/// this grid as its normal symbol.
+fn says_widely(grid: &Grid, text: &[u8], normal: &Grid) -> bool {
+    let (Some(symbol), Some(normal)) = (symbol_of(grid), symbol_of(normal)) else {
+        return false;
+    };
+    let mut reading = LetterReading::new();
+    read_letter(Extent::Wide, &symbol, &mut reading).is_ok()
+        && reading.letter.head().is_none()
+        && reading.letter.marks().is_empty()
+        && are_bytes(reading.letter.items(), text)
+        && normal_letter(&symbol) == Some(normal)
 }
 
-/// Whether this is left as the normal grid of the grid in an extent.
-fn leaves_normal(extent: Extent, grid: &Grid, expected: &Grid) -> bool {
-    let (mut reading, mut place) = (Reading::new(), light_grid());
-    let done = normal_to(extent, Profile::Ascii, grid, 0, &mut reading, &mut place);
-    done.is_ok() && same(&place, expected)
-}
-
-/// Whether this is the normal grid of the grid in an extent.
-fn becomes_in(extent: Extent, grid: &Grid, expected: &Grid) -> bool {
-    is_grid(&normal_read_as(extent, Profile::Ascii, grid, 0), expected)
-        && leaves_normal(extent, grid, expected)
-}
-
-/// Whether the grid says these bytes in an extent and has this normal grid.
-fn says_and_becomes(extent: Extent, grid: &Grid, text: &[u8], expected: &Grid) -> bool {
-    says_in(extent, grid, text) && becomes_in(extent, grid, expected)
-}
-
-/// Whether the usual extent refuses the grid with this fault, by each of its calls.
+/// Whether the grid is refused with this fault, by each of its calls.
 fn is_refused_usually(grid: &Grid, fault: ReadFault) -> bool {
-    is_refused(grid, 0, fault)
-        && is_fault(&read_as(Extent::Usual, grid, 0), &fault)
-        && has_no_normal_grid(grid, 0, NormalFault::Read(fault))
+    is_refused(grid, 0, fault) && has_no_normal_grid(grid, 0, NormalFault::Read(fault))
 }
 
 /// Whether the data codewords are read in the wide extent alone, and the symbol in which the same text is spelled out,
@@ -85,9 +74,9 @@ fn row_holds(side: u16, data_words: &[u8], fault: WordFault, text: &[u8]) -> boo
     match write(&of_bytes(text)) {
         Ok(spelled) => {
             is_refused_usually(&grid, ReadFault::Words(fault))
-                && says_and_becomes(Extent::Wide, &grid, text, &spelled)
-                && says_and_becomes(Extent::Wide, &spelled, text, &spelled)
-                && says_and_becomes(Extent::Usual, &spelled, text, &spelled)
+                && says_widely(&grid, text, &spelled)
+                && says_widely(&spelled, text, &spelled)
+                && says_usually(&spelled, text, &spelled)
         }
         Err(_) => false,
     }
@@ -110,24 +99,27 @@ fn fullest() -> Grid {
     completed_grid(LARGEST_SIDE as u16, &data_words)
 }
 
-/// The number of items that the grid says in the wide extent.
-fn item_count(grid: &Grid) -> usize {
-    match read_as(Extent::Wide, grid, 0) {
-        Ok(reading) => reading.message.items().len(),
-        Err(_) => 0,
+/// The rows of the normal symbol of what a symbol says, and 0 where there is none.
+fn normal_rows(symbol: &Symbol) -> u16 {
+    match normal_letter(symbol) {
+        Some(normal) => normal.size().rows(),
+        None => 0,
     }
 }
 
-/// No symbol says more items, and this message has no normal grid.
+/// Whether the symbol of the grid says as many items as there is room for, and its normal symbol is of 120 rows.
+fn says_most(grid: &Grid) -> bool {
+    let Some(symbol) = symbol_of(grid) else {
+        return false;
+    };
+    let mut reading = LetterReading::new();
+    read_letter(Extent::Wide, &symbol, &mut reading).is_ok()
+        && reading.letter.items().len() == MESSAGE_ROOM
+        && normal_rows(&symbol) == 120
+}
+
+/// No symbol of a grid's size says more items.
 #[test]
 fn the_longest_message_is_read(rt: HostRuntime) {
-    let grid = fullest();
-    holds(&rt, item_count(&grid) == MESSAGE_ROOM);
-    holds(
-        &rt,
-        is_fault(
-            &normal_read_as(Extent::Wide, Profile::Ascii, &grid, 0),
-            &NormalFault::TooLong,
-        ),
-    );
+    holds(&rt, says_most(&fullest()));
 }

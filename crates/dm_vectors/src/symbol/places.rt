@@ -1,7 +1,7 @@
 //! Results in places that held others.
 
 use super::*;
-use dm_symbol::{Extent, light_grid, normal_to, read_to, write_to};
+use dm_symbol::{light_grid, normal_to, read_to, write_to};
 
 /// Places for results, which hold whatever came last.
 #[derive(Drop)]
@@ -18,13 +18,12 @@ fn is_written_to(profile: Profile, message: &Message, grid: &mut Grid) -> bool {
 
 /// Whether the grid was read into its place.
 fn is_read_to(grid: &Grid, reading: &mut Reading) -> bool {
-    read_to(Extent::Usual, grid, 0, reading).is_ok()
+    read_to(grid, 0, reading).is_ok()
 }
 
 /// Normalises the grid in its place.
 fn normalise(profile: Profile, places: &mut Places) -> Result<(), NormalFault> {
     normal_to(
-        Extent::Usual,
         profile,
         &places.grid,
         0,
@@ -66,7 +65,7 @@ fn hold(places: &mut Places, count: usize) -> bool {
 fn are_refused(places: &mut Places) -> bool {
     let fault = ReadFault::Words(WordFault::Reserved(1));
     places.grid = grid_of(12, &[]);
-    read_to(Extent::Usual, &places.grid, 0, &mut places.reading) == Err(fault)
+    read_to(&places.grid, 0, &mut places.reading) == Err(fault)
         && normalise(Profile::Ascii, places) == Err(NormalFault::Read(fault))
 }
 

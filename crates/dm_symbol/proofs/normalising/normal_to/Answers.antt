@@ -6,7 +6,7 @@ use Rattle.dm_symbol.proofs.normalising.normal_to.Goals as goal
 
 pub returns-in-Err : goal.returns-in-Err
 returns-in-Err c = record {
-  normal = is_normalised c.args.extent c.args.profile c.args.grid.now c.args.border_limit _
+  normal = is_normalised c.args.profile c.args.grid.now c.args.border_limit _
       (IsNormalOrFault.fault c.in-Err.fault c.in-Err.ensures.read.result_is refl);
   reading_is = tt;
   reading_of_long = λ e. cc;
@@ -16,7 +16,7 @@ returns-in-Err c = record {
 pub returns-in-Ok-write_to : goal.returns-in-Ok-write_to
 returns-in-Ok-write_to c = record {
   normal =
-      is_normalised c.args.extent c.args.profile c.args.grid.now c.args.border_limit _
+      is_normalised c.args.profile c.args.grid.now c.args.border_limit _
       (IsNormalOrFault.normal c.write_to.new.grid
       (record {
         message = c.read_to.new.reading.message;
@@ -33,7 +33,7 @@ returns-in-Ok-write_to c = record {
 pub returns-in-Err-write_to : goal.returns-in-Err-write_to
 returns-in-Err-write_to c = record {
   normal =
-      is_normalised c.args.extent c.args.profile c.args.grid.now c.args.border_limit _
+      is_normalised c.args.profile c.args.grid.now c.args.border_limit _
       (IsNormalOrFault.too_long
       (record {
         message = c.read_to.new.reading.message;

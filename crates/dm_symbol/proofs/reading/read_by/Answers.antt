@@ -3,6 +3,7 @@ use Rattle.dm_layout.specs.symbols.Symbols.{SymbolView}
 use Rattle.dm_layout.specs.symbols.Sizes.{codeword_count}
 use Rattle.dm_layout.specs.Sizes.{symbol_size}
 use Rattle.dm_layout.proofs.Exported.{row_facts}
+use Rattle.dm_words.specs.declared.extent.Extent.TheVariants.{Usual}
 use Rattle.dm_words.specs.Messages.{most_spelled}
 use Rattle.dm_symbol.specs.declared.symbol.reading.BlockReading.{BlockReading}
 use Rattle.dm_symbol.specs.Reading.{IsRead, reading_of}
@@ -23,9 +24,9 @@ read_parts-requires g c =
     let size : m.size ≡ symbol_size s = ap (λ (n : SymbolView). n.size) c.as_symbol.ensures in
     let count : codeword_count m.size ≤ g.row.WORDS =
     let same = ap codeword_count size in omega (arith, same, c.requires.room) in
-    let items : most_spelled c.args.extent m.size.data_count ≤ 1639 =
-    subst (λ n. most_spelled c.args.extent n.data_count ≤ 1639) (sym size)
-    (room_for_grid c.args.extent s c.size.ensures.grid.row) in
+    let items : most_spelled Usual m.size.data_count ≤ 1639 =
+    subst (λ n. most_spelled Usual n.data_count ≤ 1639) (sym size)
+    (room_for_grid Usual s c.size.ensures.grid.row) in
     (search rules, (search rules, (search rules, (search rules, (tt, (count, items))))))
 
 pub corrected_in-reading-requires : goal.corrected_in-reading-requires
@@ -37,15 +38,13 @@ corrected_in-reading-requires g c =
 
 pub returns-in-Err-clause-read : goal.returns-in-Err-clause-read
 returns-in-Err-clause-read g c =
-    let e = c.args.extent in
     let limit = c.args.border_limit in
     let why = c.in-Err.fault in
-    is_read e c.args.grid.now limit (Err why) c.size.ensures.grid
-    (subst (λ s. IsSymbolRead e s None limit (Err why)) c.as_symbol.ensures c.in-Err.ensures.read)
+    is_read c.args.grid.now limit (Err why) c.size.ensures.grid
+    (subst (λ s. IsSymbolRead Usual s None limit (Err why)) c.as_symbol.ensures c.in-Err.ensures.read)
 
 pub returns-clause-read : goal.returns-clause-read
 returns-clause-read g c =
-    let e = c.args.extent in
     let grid = c.args.grid.now in
     let limit = c.args.border_limit in
     let message = c.read_parts.new.message in
@@ -54,7 +53,7 @@ returns-clause-read g c =
     let faults = c.read_parts.new.faults in
     let told : c.corrected_in-reading.result.items ≡ map (λ (b : BlockReading). b.corrected) blocks =
     c.corrected_in-reading.ensures ∙ ap (map (λ (b : BlockReading). b.corrected)) c.deref.ensures.0 in
-    subst (λ xs. IsRead e grid limit (Ok (reading_of message xs faults))) (sym told)
-    (is_read e grid limit (Ok (symbol_reading_of message dealing blocks faults)) c.size.ensures.grid
-    (subst (λ s. IsSymbolRead e s None limit (Ok (symbol_reading_of message dealing blocks faults))) c.as_symbol.ensures
-    c.in-Ok.ensures.read))
+    subst (λ xs. IsRead grid limit (Ok (reading_of message xs faults))) (sym told)
+    (is_read grid limit (Ok (symbol_reading_of message dealing blocks faults)) c.size.ensures.grid
+    (subst (λ s. IsSymbolRead Usual s None limit (Ok (symbol_reading_of message dealing blocks faults)))
+    c.as_symbol.ensures c.in-Ok.ensures.read))
