@@ -3,11 +3,11 @@ pub use Rattle.dm_layout.proofs.Exported.{cut_cell, sixteen_shown}
 pub use Rattle.dm_symbol.proofs.GridNormals.{fits_or_not, normal_grid_fits, normal_grid_is_one, normal_grid_is_there}
 pub use Rattle.dm_symbol.proofs.GridNormals.{normal_result_is_there, one_normal_result}
 pub use Rattle.dm_symbol.proofs.Grids.{no_more_items_are_read, one_given, read_is_message, read_result_is_there}
-pub use Rattle.dm_symbol.proofs.LightDoubt.{light_rows, read_alike, normal_alike, shown_alike}
+pub use Rattle.dm_symbol.proofs.Grids.{usual_fault}
+pub use Rattle.dm_symbol.proofs.LetterReadings.{read_letter_right, reads_letter_by_result}
+pub use Rattle.dm_symbol.proofs.LightDoubt.{light_rows, shown_alike}
 pub use Rattle.dm_symbol.proofs.LetterDoubt.{letter_read_alike, letter_normal_alike}
 pub use Rattle.dm_symbol.proofs.LetterReadSteps.{refused_letter_result, said_letter_result, restored_reads}
-pub use Rattle.dm_symbol.proofs.LetterMessages.{message_reads_letter, results_say_the_same}
-pub use Rattle.dm_symbol.proofs.MessageLetters.{message_tells_letter, fault_tells_of_letters}
 pub use Rattle.dm_symbol.proofs.NormalLetters.{one_normal_letter_result}
 pub use Rattle.dm_symbol.proofs.PlainSymbols.{smallest_is_plain, written_is_plain}
 pub use Rattle.dm_symbol.proofs.Rooms.{room_for_each, room_for_most, smallest_room_for_most}

@@ -1,5 +1,5 @@
 -- Normal grids are the grids of normal symbols, and what follows for normalising.
-use Rattle.std.proofs.Common.{◌≡◌, ◌⊎◌, ◌↔◌, ◌≤◌, ℕ, zero, suc, List, ◌∷◌, length, map, replicate, Option, Some, None}
+use Rattle.std.proofs.Common.{◌≡◌, ◌⊎◌, ◌↔◌, ℕ, zero, suc, List, ◌∷◌, length, map, replicate, Option, Some, None}
 use Rattle.std.proofs.Common.{IsSome}
 use Rattle.std.proofs.Common.{Result, Ok, Err, IsErr, ◌<◌, inl, inr, refl, sym, ap, subst, ◌∙◌, arith}
 use Rattle.std.proofs.lemmas.Bool.{false≢true}
@@ -7,7 +7,11 @@ use Rattle.dm_words.specs.declared.extent.Extent.TheVariants.{Usual}
 use Rattle.dm_words.specs.declared.item.Item.{Item}
 use Rattle.dm_words.specs.declared.fault.TooLong.{TooLong}
 use Rattle.dm_words.specs.declared.profile.Profile.{Profile}
+use Rattle.dm_words.specs.LetterExtents.{as_letter}
+use Rattle.dm_words.specs.LetterForm.{letter_form}
 use Rattle.dm_words.specs.Messages.{IsMessage}
+use Rattle.dm_words.specs.Pads.{padded}
+use Rattle.dm_words.proofs.Exported.{identifier_is_there, said_wide}
 use Rattle.dm_words.specs.NormalForm.{normal_form}
 use Rattle.dm_layout.specs.declared.symbols.size.SizeChoice.TheVariants.{Square}
 use Rattle.dm_layout.specs.symbols.Sizes.{SizeEntry, block_check}
@@ -21,16 +25,18 @@ use Rattle.dm_symbol.specs.declared.normalising.NormalFault.{NormalFault}
 use Rattle.dm_symbol.specs.declared.normalising.NormalFault.TheVariants as fault
 use Rattle.dm_symbol.specs.declared.symbol.reading.BlockReading.{BlockReading}
 use Rattle.dm_symbol.specs.NormalGrid.{IsNormalGrid, FitsSomeSize, IsWritten}
-use Rattle.dm_symbol.specs.NormalSymbol.{IsNormalSymbol}
+use Rattle.dm_symbol.specs.NormalLetter.{IsNormalOfLetter}
 use Rattle.dm_symbol.specs.Reading.{Reads, ReadResult, reading_of}
 use Rattle.dm_symbol.specs.NormalOutcomes.{IsNormalOrFault}
 use Rattle.dm_symbol.specs.Normal.{HasNormal, HasNoNormal, NormalResult, IsNormalised}
 use Rattle.dm_symbol.specs.SymbolLaws.{nothing_wrong}
 use Rattle.dm_symbol.proofs.Grids.{no_fault, one_given, one_message, read_is_message, read_result_is_there}
-use Rattle.dm_symbol.proofs.Grids.{reads_by_result, same_grid}
+use Rattle.dm_symbol.proofs.Grids.{items_are, reads_by_result, same_grid}
 use Rattle.dm_symbol.proofs.NormalOutcomes.{AreApart, one_normalised, is_normal_given}
 use Rattle.dm_symbol.proofs.SquareSizes.{row_for_these, row_holds, same_smallest, some_smallest}
-use Rattle.dm_symbol.proofs.SymbolNormals.{written_is_there, written_reads, written_result, written_tells}
+use Rattle.dm_symbol.proofs.PlainSymbols.{message_is_letter}
+use Rattle.dm_symbol.proofs.WrittenLetters.{clean_reading, form_says, written_letter_is_read, written_letter_is_there}
+use Rattle.dm_symbol.proofs.WrittenLetters.{written_letters_tell, written_reads_letter}
 use Rattle.dm_symbol.proofs.WrittenWords.{some_is, words_written_once}
 
 -- ---- normal grids
@@ -46,8 +52,8 @@ normal_grid_is_one p m g h n o =
 pub normal_grids_tell : (p : Profile) (m n : List Item) (g h : GridView) → IsMessage m → IsMessage n
     → IsNormalGrid p m g → IsNormalGrid p n h → (g ≡ h) ↔ (m ≡ n)
 normal_grids_tell p m n g h hm hn ng nh = (
-  λ e. written_tells Square Square p p m n (symbol_modules h) hm hn
-      (subst (λ x. IsNormalGrid p m x) e ng).normal nh.normal,
+  λ e. items_are m n (written_letters_tell Square Square p p (as_letter m) (as_letter n) (symbol_modules h)
+      (message_is_letter m hm) (message_is_letter n hn) (subst (λ x. IsNormalGrid p m x) e ng).normal nh.normal),
   λ e. normal_grid_is_one p n g h (subst (λ x. IsNormalGrid p x g) e ng) nh,
 )
 
@@ -73,7 +79,7 @@ too_long_fits_none p m long fits = by (row_for_words (length (normal_form p m)))
 
 -- A normal symbol of a size of the table of squares is that of a grid.
 pub grid_of_normal : (p : Profile) (m : List Item) (size : SizeRow) (modules : SymbolView)
-    → row_for_words (length (normal_form p m)) ≡ Some size → IsNormalSymbol p m modules
+    → row_for_words (length (normal_form p m)) ≡ Some size → IsNormalOfLetter p (as_letter m) modules
     → (grid : GridView) × IsNormalGrid p m grid
 grid_of_normal p m size modules e n =
     let count = length (normal_form p m) in
@@ -85,7 +91,7 @@ grid_of_normal p m size modules e n =
       grid,
       record {
         is_grid = record { row = row_for_these count size e; height = is.height; width = is.width };
-        normal = subst (IsNormalSymbol p m) whole n;
+        normal = subst (IsNormalOfLetter p (as_letter m)) whole n;
       },
     )
 
@@ -99,7 +105,7 @@ normal_grid_is_there p m h fits = of_size (row_for_words (length (normal_form p 
     of_size None e is = absurd (false≢true is)
     of_size (Some size) e is =
         let fit = subst IsSome (sym (same_smallest (length (normal_form p m)) size e)) refl in
-        let written = written_is_there Square p m h fit in
+        let written = written_letter_is_there Square p (as_letter m) (message_is_letter m h) fit in
         grid_of_normal p m size written.0 e written.1
 
 -- The normal grid is a right result of writing.
@@ -129,7 +135,8 @@ pub normal_reads : (p : Profile) (m : List Item) (grid : GridView) (limit : ℕ)
     → IsNormalGrid p m grid → Reads grid limit m
 normal_reads p m grid limit h n = record {
   is_grid = n.is_grid;
-  read = written_reads Usual Square p m (symbol_modules grid) limit h n.normal;
+  read = written_reads_letter Square p (as_letter m) (symbol_modules grid) n.normal (message_is_letter m h) Usual limit
+      refl;
 }
 
 -- Of blocks in which nothing is wrong it is told that nothing is corrected.
@@ -142,10 +149,17 @@ pub normal_is_read : (p : Profile) (m : List Item) (grid : GridView) (limit : �
     (result : Result Reading ReadFault) → IsMessage m → IsNormalGrid p m grid
     → ReadResult grid limit result ↔ (result ≡ Ok (reading_of m (replicate grid.size.blocks 0) 0))
 normal_is_read p m grid limit result h n =
+    let l = as_letter m in
+    let g = symbol_modules grid in
+    let is = message_is_letter m h in
+    let form = padded (letter_form p l) g.size.data_count in
+    let says = form_says Square p l g n.normal is Usual refl in
+    let number = identifier_is_there form l (said_wide Usual form l says) in
     let right : ReadResult grid limit (Ok (reading_of m (replicate grid.size.blocks 0) 0)) = record {
       is_grid = n.is_grid;
-      of_symbol = _;
-      read = written_result Usual Square p m (symbol_modules grid) limit h n.normal;
+      of_symbol = clean_reading Square p l g n.normal is number.0;
+      read = (written_letter_is_read Square p l g n.normal is number.0 number.1 Usual limit
+          (clean_reading Square p l g n.normal is number.0) refl).1 refl;
       same = ap (λ xs. Ok (reading_of m xs 0))
           (none_corrected (block_check (symbol_size grid.size)) grid.size.blocks);
     } in (
@@ -158,6 +172,14 @@ normal_is_read p m grid limit result h n =
 -- Two equal faults say the same.
 err_is : (a b : ReadFault) → ◌≡◌ {A = Result Reading ReadFault} (Err a) (Err b) → a ≡ b
 err_is a b e = cc
+
+-- Two equal faults of reading say the same.
+read_is : (a b : ReadFault) → fault.Read a ≡ fault.Read b → a ≡ b
+read_is a b e = cc
+
+-- A fault of reading isn't that the message is too long.
+read_no_too_long : (a : ReadFault) → fault.Read a ≡ fault.TooLong → ⊥
+read_no_too_long a e = cc
 
 module _ (p : Profile) (grid : GridView) (limit : ℕ) where
   -- This has the grid as its normal grid.
@@ -177,8 +199,10 @@ module _ (p : Profile) (grid : GridView) (limit : ℕ) where
   one_read m n a b = one_message grid limit limit m n a b
 
   -- A grid has one normal grid, or none, or is refused when it is read.
-  apart : AreApart has has_none refused
+  apart : AreApart fault.Read fault.TooLong has has_none refused
   apart = record {
+    same_read = λ why other e. read_is why other e;
+    read_no_long = λ why e. read_no_too_long why e;
     one = λ n o hn ho. normal_grid_is_one p ho.message n o
         (subst (λ m. IsNormalGrid p m n) (one_read hn.message ho.message hn.read ho.read) hn.normal_grid)
         ho.normal_grid;
@@ -192,12 +216,12 @@ module _ (p : Profile) (grid : GridView) (limit : ℕ) where
   -- A grid has at most one result of normalising.
   pub one_normal_result : (a b : Result GridView NormalFault) → NormalResult p grid limit a
       → NormalResult p grid limit b → a ≡ b
-  one_normal_result a b = one_normalised has has_none refused apart a b
+  one_normal_result a b = one_normalised fault.Read fault.TooLong has has_none refused apart a b
 
   -- The result defined for a grid is what normalising it gives.
   pub is_normalised : (result : Result GridView NormalFault) → NormalResult p grid limit result
       → IsNormalised p grid limit result
-  is_normalised result a = is_normal_given has has_none refused apart result a
+  is_normalised result a = is_normal_given fault.Read fault.TooLong has has_none refused apart result a
 
   -- A grid that is read has a result of normalising.
   normal_of_read : (m : List Item) → Reads grid limit m

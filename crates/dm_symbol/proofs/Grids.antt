@@ -1,38 +1,43 @@
 -- Grids are read as their symbols are in the usual extent, with no module doubtful.
-use Rattle.std.proofs.Common.{◌≡◌, ◌↔◌, ℕ, zero, suc, ◌+◌, ◌-◌, ◌*◌, ◌<◌, ◌≤◌, Bool, List, [], ◌∷◌, length, map, None}
-use Rattle.std.proofs.Common.{Result, Ok, Err, inl, inr, refl, sym, ap, subst, ◌∙◌, arith}
+use Rattle.std.proofs.Common.{◌≡◌, ◌↔◌, ℕ, ◌+◌, ◌-◌, ◌*◌, ◌<◌, ◌≤◌, Bool, List, [], ◌∷◌, length, map, Option, None}
+use Rattle.std.proofs.Common.{Result, Ok, Err, refl, sym, ap, subst, ◌∙◌, arith}
 use Rattle.std.specs.List.{range_with_len}
 use Rattle.std.proofs.lemmas.List.{length-take}
 use Rattle.dm_words.specs.declared.extent.Extent.TheVariants.{Usual}
 use Rattle.dm_words.specs.declared.item.Item.{Item}
+use Rattle.dm_words.specs.declared.fault.WordFault.{WordFault}
+use Rattle.dm_words.specs.declared.letters.fault.LetterFault.{LetterFault}
+use Rattle.dm_words.specs.declared.letters.fault.LetterFault.TheVariants as words_fault
+use Rattle.dm_words.specs.Letters.{LetterView}
+use Rattle.dm_words.specs.LetterExtents.{as_letter, RefusedIn}
 use Rattle.dm_words.specs.Messages.{IsMessage}
-use Rattle.dm_words.specs.Spells.{Spells}
-use Rattle.dm_words.specs.Refused.{Refused}
-use Rattle.dm_words.proofs.Exported.{spelled_is_few}
+use Rattle.dm_words.proofs.Exported.{spelled_is_few, usual_spells}
 use Rattle.dm_layout.specs.Sizes.{SizeRow, most_grid_data, symbol_size}
 use Rattle.dm_layout.specs.Grid.{GridView, IsGrid, symbol_modules}
+use Rattle.dm_layout.specs.Border.{border_fault_count}
 use Rattle.dm_layout.specs.symbols.Sizes.{SizeEntry, block_check}
-use Rattle.dm_layout.specs.symbols.Symbols.{SymbolView, IsSymbol}
+use Rattle.dm_layout.specs.symbols.Symbols.{SymbolView}
 use Rattle.dm_layout.proofs.Exported.{is_modules, is_size, row_facts, same_row, side_fits}
 use Rattle.dm_layout.proofs.symbols.Exported.{same_size}
 use Rattle.dm_symbol.specs.declared.reading.Reading.{Reading}
 use Rattle.dm_symbol.specs.declared.reading.ReadFault.{ReadFault}
 use Rattle.dm_symbol.specs.declared.reading.ReadFault.TheVariants as fault
+use Rattle.dm_symbol.specs.declared.letters.LetterReadFault.{LetterReadFault}
+use Rattle.dm_symbol.specs.declared.letters.LetterReadFault.TheVariants as letter
 use Rattle.dm_symbol.specs.declared.symbol.dealing.Dealing.TheVariants.{Standard, Restarted}
 use Rattle.dm_symbol.specs.declared.symbol.reading.BlockReading.{BlockReading}
 use Rattle.dm_symbol.specs.Doubt.{erased_in, sure_fault_count}
 use Rattle.dm_symbol.specs.Dealings.{IsDealtTwoWays}
-use Rattle.dm_symbol.specs.Reading.{Reads, ReadResult, IsRead, IsReadAs, grid_result, reading_of}
+use Rattle.dm_symbol.specs.Reading.{Reads, ReadResult, IsGridResult, IsRead, IsReadAs, letter_fault, reading_of}
 use Rattle.dm_symbol.specs.SymbolBlocks.{block_in, first_data}
-use Rattle.dm_symbol.specs.SymbolReading.{ReadingView, ReadsSymbol, SymbolReadResult, IsSymbolRead, IsSymbolReadAs}
-use Rattle.dm_symbol.specs.SymbolReading.{block_reading, symbol_reading_of}
-use Rattle.dm_symbol.specs.SymbolLaws.{AreModulesOf, none_erased, symbol_result}
-use Rattle.dm_symbol.proofs.Below.{one_result}
+use Rattle.dm_symbol.specs.SymbolReading.{block_reading}
+use Rattle.dm_symbol.specs.LetterReading.{LetterReadingView, ReadsLetter, LetterReadResult, letter_reading_of}
+use Rattle.dm_symbol.specs.SymbolLaws.{AreModulesOf, HasResultOfGrid, none_erased}
+use Rattle.dm_symbol.proofs.Dealings.{not_wide}
+use Rattle.dm_symbol.proofs.LetterReadings.{one_letter_result, one_symbol_letter, read_letter_right}
+use Rattle.dm_symbol.proofs.LetterReadings.{letter_no_fault, reads_letter_by_result, some_letter_result}
+use Rattle.dm_symbol.proofs.LetterReadSteps.{is_letter_read, letter_border_result}
 use Rattle.dm_symbol.proofs.SymbolDoubt.{erased_by_none, faults_by_none}
-use Rattle.dm_symbol.proofs.SymbolOutcomes.{Outcome, IsOutcome, some_outcome}
-use Rattle.dm_symbol.proofs.SymbolOutcomes.Outcome.{Border, Block, Words, Says}
-use Rattle.dm_symbol.proofs.SymbolReadings.{one_symbol_message, one_symbol_result, reads_symbol_by_result}
-use Rattle.dm_symbol.proofs.SymbolReadings.{symbol_message, symbol_read_by_result}
 
 -- ---- grids and symbols
 
@@ -58,25 +63,32 @@ are_modules grid modules am =
 
 -- A grid is read as the modules with its cells are.
 pub grid_and_modules : (grid : GridView) (modules : SymbolView) (limit : ℕ) (m : List Item)
-    → AreModulesOf grid modules
-    → Reads grid limit m ↔ ReadsSymbol Usual modules None limit m
+    → AreModulesOf grid modules → Reads grid limit m ↔ ReadsLetter Usual modules None limit (as_letter m)
 grid_and_modules grid modules limit m am =
     let same = are_modules grid modules am in (
-      λ r. subst (λ x. ReadsSymbol Usual x None limit m) same r.read,
-      λ r. record { is_grid = am.is_grid; read = subst (λ x. ReadsSymbol Usual x None limit m) (sym same) r },
+      λ r. subst (λ x. ReadsLetter Usual x None limit (as_letter m)) same r.read,
+      λ r. record {
+        is_grid = am.is_grid;
+        read = subst (λ x. ReadsLetter Usual x None limit (as_letter m)) (sym same) r;
+      },
     )
 
 -- ---- messages
 
+-- Letters without a head and marks that are equal have equal items.
+pub items_are : (m n : List Item) → as_letter m ≡ as_letter n → m ≡ n
+items_are m n e = ap (λ (l : LetterView). l.items) e
+
 -- A grid is read as at most one message.
 pub one_message : (grid : GridView) (k l : ℕ) (m n : List Item) → Reads grid k m → Reads grid l n → m ≡ n
 one_message grid k l m n a b =
-    one_symbol_message (symbol_modules grid) None Usual Usual k l m n a.read b.read
+    items_are m n
+    (one_symbol_letter (symbol_modules grid) None Usual Usual k l (as_letter m) (as_letter n) a.read b.read)
 
 -- What is read is a message.
-pub read_is_message : (grid : GridView) (limit : ℕ) (m : List Item) → Reads grid limit m
-    → IsMessage m
-read_is_message grid limit m r = symbol_message (symbol_modules grid) None Usual limit m r.read
+pub read_is_message : (grid : GridView) (limit : ℕ) (m : List Item) → Reads grid limit m → IsMessage m
+read_is_message grid limit m r =
+    (read_letter_right (symbol_modules grid) None Usual limit (as_letter m) r.read).0.items
 
 -- A grid is read as at most two items for each data codeword of its size.
 pub few_items_are_read : (grid : GridView) (limit : ℕ) (m : List Item) → Reads grid limit m
@@ -85,7 +97,7 @@ few_items_are_read grid limit m r =
     let words = first_data (symbol_size grid.size) r.read.codewords in
     omega (
       arith,
-      spelled_is_few Usual words m r.read.spelled,
+      spelled_is_few Usual words m (usual_spells words (as_letter m) r.read.said).1,
       length-take grid.size.data_count r.read.codewords,
     )
 
@@ -95,96 +107,161 @@ pub no_more_items_are_read : (grid : GridView) (limit : ℕ) (m : List Item) →
 no_more_items_are_read grid limit m r =
     omega (arith, few_items_are_read grid limit m r, (row_facts grid.size r.is_grid.row).data_fits)
 
+-- ---- faults
+
+-- A fault of reading a symbol as that of a grid; any other one is this one.
+grid_fault : ReadFault → LetterReadFault → ReadFault
+grid_fault other (letter.Border count) = fault.Border count
+grid_fault other (letter.Block index) = fault.Block index
+grid_fault other (letter.Words (words_fault.Word why)) = fault.Words why
+grid_fault other (letter.Words why) = other
+
+-- It takes a fault of a grid back.
+grid_fault_back : (f other : ReadFault) → grid_fault other (letter_fault f) ≡ f
+unfolding grid_fault
+grid_fault_back (fault.Border count) other = refl
+grid_fault_back (fault.Block index) other = refl
+grid_fault_back (fault.Words why) other = refl
+
+-- So equal faults of the symbol are equal ones of the grid.
+same_fault : (f g : ReadFault) → letter_fault f ≡ letter_fault g → f ≡ g
+same_fault f g e = sym (grid_fault_back f f) ∙ ap (grid_fault f) e ∙ grid_fault_back g f
+
+-- Data codewords that are refused in the usual extent are so with a fault of a message.
+usual_refused : (words : List ℕ) (why : LetterFault) → RefusedIn Usual words why
+    → (f : WordFault) × (why ≡ words_fault.Word f)
+usual_refused words why (RefusedIn.of_message f is refused e) = (f, e)
+usual_refused words why (RefusedIn.of_letter is refused) = absurd (not_wide is)
+
+-- Two equal faults say the same.
+err_is : (a b : LetterReadFault) → ◌≡◌ {A = Result LetterReadingView LetterReadFault} (Err a) (Err b) → a ≡ b
+err_is a b e = cc
+
+-- A fault isn't a reading.
+err_no_ok : (why : LetterReadFault) (reading : LetterReadingView)
+    → ◌≡◌ {A = Result LetterReadingView LetterReadFault} (Err why) (Ok reading) → ⊥
+err_no_ok why reading e = cc
+
+-- A symbol that is refused in the usual extent is so with a fault of a grid.
+pub usual_fault : (modules : SymbolView) (doubtful : Option SymbolView) (limit : ℕ) (why : LetterReadFault)
+    → LetterReadResult Usual modules doubtful limit (Err why) → (f : ReadFault) × (why ≡ letter_fault f)
+usual_fault modules doubtful limit why (LetterReadResult.border more e) =
+    (fault.Border (sure_fault_count modules doubtful), err_is why _ e)
+usual_fault modules doubtful limit why (LetterReadResult.block words index few lost e) =
+    (fault.Block index, err_is why _ e)
+usual_fault modules doubtful limit why (LetterReadResult.words d words codewords of_words few h refused e) =
+    let f = usual_refused (first_data modules.size codewords) of_words refused in
+    (fault.Words f.0, err_is why _ e ∙ ap (λ w. letter.Words w) f.1)
+usual_fault modules doubtful limit why (LetterReadResult.letter d words codewords l n few h said is e) =
+    absurd (err_no_ok why _ e)
+
 -- ---- results
 
--- A grid has at most one result for a limit.
-pub one_given : (grid : GridView) (limit : ℕ) (a b : Result Reading ReadFault)
-    → ReadResult grid limit a → ReadResult grid limit b → a ≡ b
-one_given grid limit a b h k =
-    h.same
-    ∙ ap grid_result (one_symbol_result (symbol_modules grid) None Usual limit h.of_symbol k.of_symbol h.read k.read)
-    ∙ sym k.same
+-- Of what reading a symbol gives, one result is told of its grid.
+one_told : (o : Result LetterReadingView LetterReadFault) (a b : Result Reading ReadFault) → IsGridResult o a
+    → IsGridResult o b → a ≡ b
+one_told (Ok reading) a b x y = x ∙ sym y
+one_told (Err why) a b (f, e, x) (g, h, y) = x ∙ ap (λ w. Err w) (same_fault f g (sym e ∙ h)) ∙ sym y
 
--- Each symbol has a result.
-symbol_result_is_there : (modules : SymbolView) (limit : ℕ) → IsSymbol modules
-    → (result : Result ReadingView ReadFault) × SymbolReadResult Usual modules None limit result
-symbol_result_is_there modules limit h =
-    let some = some_outcome (Spells Usual) (Refused Usual) Usual modules None limit (λ words bytes.
-    elim (one_result Usual words bytes) [
-      | inl s ↦ inl (s.message, s.spells)
-      | inr r ↦ inr (r.why, r.refused)
-    ]) h in
-    of_outcome some.0 some.1
-  where
-    of_outcome : (a : Outcome (List Item) _) → IsOutcome (Spells Usual) (Refused Usual) Usual modules None limit a
-        → (result : Result ReadingView ReadFault) × SymbolReadResult Usual modules None limit result
-    of_outcome (Border count) (more, e) = (_, SymbolReadResult.border more refl)
-    of_outcome (Block index) (words, few, lost) = (_, SymbolReadResult.block words index few lost refl)
-    of_outcome (Words why) (dealing, words, codewords, few, restored, refused) =
-        (_, SymbolReadResult.words dealing words codewords why few restored refused refl)
-    of_outcome (Says dealing words codewords m) (few, restored, spelled) =
-        (_, SymbolReadResult.message dealing words codewords m few restored spelled refl)
+-- A grid has at most one result for a limit.
+pub one_given : (grid : GridView) (limit : ℕ) (a b : Result Reading ReadFault) → ReadResult grid limit a
+    → ReadResult grid limit b → a ≡ b
+one_given grid limit a b h k =
+    let same = one_letter_result (symbol_modules grid) None Usual limit h.of_symbol k.of_symbol h.read k.read in
+    one_told k.of_symbol a b (subst (λ o. IsGridResult o a) same h.same) k.same
 
 -- Each grid has a result.
 pub read_result_is_there : (grid : GridView) (limit : ℕ) → IsGrid grid
     → (result : Result Reading ReadFault) × ReadResult grid limit result
 read_result_is_there grid limit g =
-    let some = symbol_result_is_there (symbol_modules grid) limit (is_modules grid g) in
-    (grid_result some.0, record { is_grid = g; of_symbol = some.0; read = some.1; same = refl })
+    let some = some_letter_result (symbol_modules grid) None Usual limit (is_modules grid g) in
+    told some.0 some.1
+  where
+    told : (o : Result LetterReadingView LetterReadFault) → LetterReadResult Usual (symbol_modules grid) None limit o
+        → (result : Result Reading ReadFault) × ReadResult grid limit result
+    told (Ok reading) read = (_, record { is_grid = g; of_symbol = Ok reading; read = read; same = refl })
+    told (Err why) read =
+        let f = usual_fault (symbol_modules grid) None limit why read in
+        (Err f.0, record { is_grid = g; of_symbol = Err why; read = read; same = (f.0, f.1, refl) })
 
 -- A grid that is read has no fault of reading.
-pub no_fault : (grid : GridView) (limit : ℕ) (m : List Item) (why : ReadFault)
-    → Reads grid limit m → ReadResult grid limit (Err why) → ⊥
-no_fault grid limit m why r a = by a.of_symbol a.same
-    (symbol_read_by_result (symbol_modules grid) None Usual limit a.of_symbol m a.read r.read)
+pub no_fault : (grid : GridView) (limit : ℕ) (m : List Item) (why : ReadFault) → Reads grid limit m
+    → ReadResult grid limit (Err why) → ⊥
+no_fault grid limit m why r a = by a.of_symbol a.read a.same
   where
-    by : (o : Result ReadingView ReadFault) → Err why ≡ grid_result o → IsSymbolReadAs o m → ⊥
-    by (Ok reading) e is = cc
-    by (Err other) e is = is
+    by : (o : Result LetterReadingView LetterReadFault) → LetterReadResult Usual (symbol_modules grid) None limit o
+        → IsGridResult o (Err why) → ⊥
+    by (Ok reading) read e = cc
+    by (Err other) read told = letter_no_fault (symbol_modules grid) None Usual limit (as_letter m) other r.read read
 
 -- Where the result is a reading, the grid is read as its message.
-pub reads_by_result : (grid : GridView) (limit : ℕ) (reading : Reading)
-    → ReadResult grid limit (Ok reading) → Reads grid limit reading.message
-reads_by_result grid limit reading a = record {
-  is_grid = a.is_grid;
-  read = reads_symbol_by_result (symbol_modules grid) None Usual limit a.of_symbol reading.message a.read
-      (by a.of_symbol a.same);
-}
+pub reads_by_result : (grid : GridView) (limit : ℕ) (reading : Reading) → ReadResult grid limit (Ok reading)
+    → Reads grid limit reading.message
+reads_by_result grid limit reading a = record { is_grid = a.is_grid; read = by a.of_symbol a.read a.same }
   where
-    by : (o : Result ReadingView ReadFault) → Ok reading ≡ grid_result o → IsSymbolReadAs o reading.message
-    by (Ok symbol) e = let same : reading ≡ reading_of symbol.message (map (λ (b : BlockReading). b.corrected)
-        symbol.blocks) symbol.border_faults = cc in sym (ap (λ (r : Reading). r.message) same)
-    by (Err why) e = cc
+    by : (o : Result LetterReadingView LetterReadFault) → LetterReadResult Usual (symbol_modules grid) None limit o
+        → IsGridResult o (Ok reading)
+        → ReadsLetter Usual (symbol_modules grid) None limit (as_letter reading.message)
+    by (Err why) read told = absurd (let e = told.2 in cc)
+    by (Ok symbol) read e =
+        let modules = symbol_modules grid in
+        let told : reading ≡ reading_of symbol.letter.items (map (λ (b : BlockReading). b.corrected) symbol.blocks)
+        symbol.border_faults = cc in
+        let r = reads_letter_by_result modules None Usual limit (Ok symbol) symbol.letter read refl in
+        let same : symbol.letter ≡ as_letter reading.message =
+        (read_letter_right modules None Usual limit symbol.letter r).1
+        ∙ ap as_letter (sym (ap (λ (x : Reading). x.message) told)) in
+        subst (ReadsLetter Usual modules None limit) same r
 
--- What reading the symbol gives is what reading the grid gives.
-pub is_read : (grid : GridView) (limit : ℕ) (result : Result ReadingView ReadFault) → IsGrid grid
-    → IsSymbolRead Usual (symbol_modules grid) None limit result → IsRead grid limit (grid_result result)
-is_read grid limit result g h = record {
-  result_is = record { is_grid = g; of_symbol = result; read = h.result_is; same = refl };
-  message = λ m. (
-    λ is. record { is_grid = g; read = (h.message m).0 (symbol_as result m is) },
-    λ r. grid_as result m ((h.message m).1 r.read),
-  );
+-- More border faults than the limit are a right result.
+border_told : (grid : GridView) (limit count : ℕ) → IsGrid grid
+    → (limit < border_fault_count grid) × (count ≡ border_fault_count grid)
+    → ReadResult grid limit (Err (fault.Border count))
+border_told grid limit count g over = record {
+  is_grid = g;
+  of_symbol = Err (letter.Border count);
+  read = letter_border_result Usual (symbol_modules grid) None limit count
+      (subst (λ n. (limit < n) × (count ≡ n)) (faults_by_none (symbol_modules grid)) over);
+  same = (fault.Border count, refl, refl);
+}
+
+-- A number of border faults is told where they are more than the limit, and is theirs.
+told_border : (grid : GridView) (limit count : ℕ) → ReadResult grid limit (Err (fault.Border count))
+    → (limit < border_fault_count grid) × (count ≡ border_fault_count grid)
+told_border grid limit count a = by a.of_symbol a.read a.same
+  where
+    by : (o : Result LetterReadingView LetterReadFault) → LetterReadResult Usual (symbol_modules grid) None limit o
+        → IsGridResult o (Err (fault.Border count))
+        → (limit < border_fault_count grid) × (count ≡ border_fault_count grid)
+    by (Ok reading) read e = absurd cc
+    by (Err why) read (f, of_symbol, e) =
+        let is : fault.Border count ≡ f = cc in
+        let border : why ≡ letter.Border count = of_symbol ∙ ap letter_fault (sym is) in
+        subst (λ n. (limit < n) × (count ≡ n)) (sym (faults_by_none (symbol_modules grid)))
+        (((is_letter_read Usual (symbol_modules grid) None limit (Err why) read).border count).0
+        (ap (λ w. Err w) border))
+
+-- The result defined for a grid is what reading it gives.
+pub is_read : (grid : GridView) (limit : ℕ) (result : Result Reading ReadFault) → ReadResult grid limit result
+    → IsRead grid limit result
+is_read grid limit result a = record {
+  result_is = a;
+  message = λ m. (reads result m a, as_read result m a);
   border = λ count. (
-    λ e. subst (λ n. (limit < n) × (count ≡ n)) (sym (faults_by_none (symbol_modules grid)))
-        ((h.border count).0 (border_of result count e)),
-    λ over. ap grid_result
-        ((h.border count).1 (subst (λ n. (limit < n) × (count ≡ n)) (faults_by_none (symbol_modules grid)) over)),
+    λ e. told_border grid limit count (subst (ReadResult grid limit) e a),
+    λ over. one_given grid limit result (Err (fault.Border count)) a (border_told grid limit count a.is_grid over),
   );
 }
   where
-    symbol_as : (r : Result ReadingView ReadFault) (m : List Item) → IsReadAs (grid_result r) m → IsSymbolReadAs r m
-    symbol_as (Ok reading) m is = is
-    symbol_as (Err why) m is = is
+    reads : (r : Result Reading ReadFault) (m : List Item) → ReadResult grid limit r → IsReadAs r m
+        → Reads grid limit m
+    reads (Ok reading) m h is = subst (Reads grid limit) is (reads_by_result grid limit reading h)
+    reads (Err why) m h is = absurd is
 
-    grid_as : (r : Result ReadingView ReadFault) (m : List Item) → IsSymbolReadAs r m → IsReadAs (grid_result r) m
-    grid_as (Ok reading) m is = is
-    grid_as (Err why) m is = is
-
-    border_of : (r : Result ReadingView ReadFault) (count : ℕ) → grid_result r ≡ Err (fault.Border count)
-        → r ≡ Err (fault.Border count)
-    border_of (Ok reading) count e = cc
-    border_of (Err why) count e = let same : why ≡ fault.Border count = cc in ap (λ x. Err x) same
+    as_read : (r : Result Reading ReadFault) (m : List Item) → ReadResult grid limit r → Reads grid limit m
+        → IsReadAs r m
+    as_read (Ok reading) m h r = one_message grid limit limit reading.message m (reads_by_result grid limit reading h) r
+    as_read (Err why) m h r = no_fault grid limit m why r h
 
 -- ---- what is said of blocks where no module is doubtful
 
@@ -209,38 +286,61 @@ all_made k said one (b ∷ bs) =
 one_way : (grid : GridView) → IsGrid grid → IsDealtTwoWays (symbol_size grid.size) → ⊥
 one_way grid g two = omega (arith, two.0, side_fits grid.size.side grid.size g.row)
 
--- The result for a symbol of which no module is doubtful, and whose size is dealt in one way, is made of what is told
--- of it as a grid.
-made_of_told : (modules : SymbolView) (limit : ℕ) (result : Result ReadingView ReadFault)
-    → (IsDealtTwoWays modules.size → ⊥) → SymbolReadResult Usual modules None limit result
-    → symbol_result (block_check modules.size) (grid_result result) ≡ result
-made_of_told modules limit result one (SymbolReadResult.border more e) =
-    subst (λ r. symbol_result (block_check modules.size) (grid_result r) ≡ r) (sym e) refl
-made_of_told modules limit result one (SymbolReadResult.block words index few lost e) =
-    subst (λ r. symbol_result (block_check modules.size) (grid_result r) ≡ r) (sym e) refl
-made_of_told modules limit result one (SymbolReadResult.words dealing words codewords why few h refused e) =
-    subst (λ r. symbol_result (block_check modules.size) (grid_result r) ≡ r) (sym e) refl
-made_of_told modules limit result one (SymbolReadResult.message Restarted words codewords m few h spelled e) =
+-- What is told of a grid's symbol, made of what is told of the grid.
+made_of : ℕ → LetterReadingView → LetterReadingView
+made_of k reading =
+    letter_reading_of (as_letter reading.letter.items) reading.identifier Standard
+    (map (none_erased k) (map (λ (b : BlockReading). b.corrected) reading.blocks)) reading.border_faults
+
+-- A reading of a symbol of which no module is doubtful, and whose size is dealt in one way, is so made.
+made_of_told : (modules : SymbolView) (limit : ℕ) (reading : LetterReadingView) → (IsDealtTwoWays modules.size → ⊥)
+    → LetterReadResult Usual modules None limit (Ok reading) → made_of (block_check modules.size) reading ≡ reading
+unfolding made_of
+made_of_told modules limit reading one (LetterReadResult.border more e) = absurd (err_no_ok _ reading (sym e))
+made_of_told modules limit reading one (LetterReadResult.block words index few lost e) =
+    absurd (err_no_ok _ reading (sym e))
+made_of_told modules limit reading one (LetterReadResult.words d words codewords why few h refused e) =
+    absurd (err_no_ok _ reading (sym e))
+made_of_told modules limit reading one (LetterReadResult.letter Restarted words codewords l n few h said is e) =
     absurd (one h.tried.1)
-made_of_told modules limit result one (SymbolReadResult.message Standard words codewords m few h spelled e) =
+made_of_told modules limit reading one (LetterReadResult.letter Standard words codewords l n few h said is e) =
     let k = block_check modules.size in
-    subst (λ r. symbol_result k (grid_result r) ≡ r) (sym e) (ap (λ rs. Ok (reading_with m rs)) (all_made k
+    let faults = sure_fault_count modules None in
+    let read : List BlockReading = map (λ b. block_reading k (erased_in modules.size None b)
+    (block_in modules.size words b) (block_in modules.size codewords b)) (range_with_len 0 modules.size.blocks) in
+    let same : reading ≡ letter_reading_of l n Standard read faults = cc in
+    let all : map (none_erased k) (map (λ (b : BlockReading). b.corrected) read) ≡ read = all_made k
     (λ b. block_reading k (erased_in modules.size None b) (block_in modules.size words b)
     (block_in modules.size codewords b))
     (λ b. none_erased_in k (erased_in modules.size None b) (block_in modules.size words b)
-    (block_in modules.size codewords b) (erased_by_none modules.size b)) (range_with_len 0 modules.size.blocks)))
-  where
-    reading_with : List Item → List BlockReading → ReadingView
-    reading_with message blocks =
-        symbol_reading_of message Standard blocks (sure_fault_count modules None)
+    (block_in modules.size codewords b) (erased_by_none modules.size b)) (range_with_len 0 modules.size.blocks) in
+    subst (λ r. made_of k r ≡ r) (sym same)
+    (ap (λ rs. letter_reading_of (as_letter l.items) n Standard rs faults) all
+    ∙ ap (λ x. letter_reading_of x n Standard read faults)
+    (sym (usual_spells (first_data modules.size codewords) l said).0))
 
--- The result for a grid is that of its symbol.
-pub result_of_symbol : (grid : GridView) (limit : ℕ) (result : Result Reading ReadFault)
-    → IsGrid grid → ReadResult grid limit result
-    → SymbolReadResult Usual (symbol_modules grid) None limit
-    (symbol_result (block_check (symbol_size grid.size)) result)
-result_of_symbol grid limit result g h =
-    let k = block_check (symbol_size grid.size) in
-    subst (SymbolReadResult Usual (symbol_modules grid) None limit)
-    (sym (ap (symbol_result k) h.same ∙ made_of_told (symbol_modules grid) limit h.of_symbol (one_way grid g)
-    h.read)) h.read
+-- The symbol of a grid has the grid's result.
+pub result_of_symbol : (grid : GridView) (limit : ℕ) (result : Result Reading ReadFault) → IsGrid grid
+    → ReadResult grid limit result → HasResultOfGrid grid limit result
+unfolding made_of
+result_of_symbol grid limit result g h = by result h.of_symbol h.read h.same
+  where
+    by : (r : Result Reading ReadFault) (o : Result LetterReadingView LetterReadFault)
+        → LetterReadResult Usual (symbol_modules grid) None limit o → IsGridResult o r → HasResultOfGrid grid limit r
+    by (Ok reading) (Ok symbol) read e =
+        let k = block_check (symbol_size grid.size) in
+        let told : reading ≡ reading_of symbol.letter.items (map (λ (b : BlockReading). b.corrected) symbol.blocks)
+        symbol.border_faults = cc in
+        let made = made_of_told (symbol_modules grid) limit symbol (one_way grid g) read in (
+          symbol.identifier,
+          subst (λ (r : Reading). LetterReadResult Usual (symbol_modules grid) None limit
+              (Ok (letter_reading_of (as_letter r.message) symbol.identifier Standard
+              (map (none_erased k) r.corrected.items) r.border_faults))) (sym told)
+              (subst (λ r. LetterReadResult Usual (symbol_modules grid) None limit (Ok r)) (sym made) read),
+        )
+    by (Ok reading) (Err why) read told = absurd (let e = told.2 in cc)
+    by (Err why) (Ok symbol) read e = absurd cc
+    by (Err why) (Err other) read (f, of_symbol, e) =
+        let is : why ≡ f = cc in
+        subst (λ w. LetterReadResult Usual (symbol_modules grid) None limit (Err w))
+        (of_symbol ∙ ap letter_fault (sym is)) read

@@ -12,6 +12,7 @@ use Rattle.dm_symbol.specs.SymbolReading.{readings_by}
 use Rattle.dm_symbol.specs.SymbolLaws.{AreLight}
 use Rattle.dm_symbol.specs.LetterReading.{LetterReadingView, ReadsLetter, LetterReadResult, letter_reading_of}
 use Rattle.dm_symbol.specs.LetterNormal.{NormalLetterResult}
+use Rattle.dm_symbol.specs.NormalOutcomes.{IsNormalOrFault}
 use Rattle.dm_symbol.proofs.LightDoubt.{faults_alike, few_alike, lost_alike, restored_alike, said_alike}
 
 module _ (doubtful : SymbolView) (light : AreLight doubtful) (modules : SymbolView) (extent : Extent)
@@ -54,15 +55,15 @@ module _ (doubtful : SymbolView) (light : AreLight doubtful) (modules : SymbolVi
   pub letter_normal_alike : (profile : Profile) (result : Result SymbolView LetterNormalFault)
       → NormalLetterResult extent profile modules None limit result
       → NormalLetterResult extent profile modules (Some doubtful) limit result
-  letter_normal_alike profile result (NormalLetterResult.normal symbol h e) =
-      NormalLetterResult.normal symbol
+  letter_normal_alike profile result (IsNormalOrFault.normal symbol h e) =
+      IsNormalOrFault.normal symbol
       (record {
         letter = h.letter;
         read = reads_letter_alike h.letter h.read;
         normal_symbol = h.normal_symbol;
       }) e
-  letter_normal_alike profile result (NormalLetterResult.too_long h e) =
-      NormalLetterResult.too_long
+  letter_normal_alike profile result (IsNormalOrFault.too_long h e) =
+      IsNormalOrFault.too_long
       (record { letter = h.letter; read = reads_letter_alike h.letter h.read; too_long = h.too_long }) e
-  letter_normal_alike profile result (NormalLetterResult.fault why h e) =
-      NormalLetterResult.fault why (letter_read_alike (Err why) h) e
+  letter_normal_alike profile result (IsNormalOrFault.fault why h e) =
+      IsNormalOrFault.fault why (letter_read_alike (Err why) h) e

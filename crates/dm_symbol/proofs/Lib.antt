@@ -11,19 +11,14 @@ mod SymbolSteps
 mod LightDoubt
 mod SymbolReadings
 mod Restoring
-mod SymbolReadSteps
 mod SymbolWriteSteps
 mod NormalOutcomes
-mod SymbolNormals
-mod SmallestSymbols
 mod SymbolCompletions
 mod Rooms
 mod SymbolOutcomes
 mod Restarts
 mod LetterReadings
 mod LetterReadSteps
-mod LetterMessages
-mod MessageLetters
 mod LetterDoubt
 mod WrittenWords
 mod WrittenLetters
@@ -32,6 +27,7 @@ mod PlainSymbols
 mod NormalLetters
 mod SquareSizes
 mod Grids
+mod GridReadSteps
 mod GridNormals
 mod TurnedCells
 pub mod Exported

@@ -1,6 +1,6 @@
 -- Doubtful modules that are all light change nothing.
 use Rattle.std.proofs.Common.{◌≡◌, ℕ, zero, suc, ◌+◌, ◌*◌, ◌<◌, ◌≤◌, Bool, false, not, cond, ◌&&◌, List, [], ◌∷◌}
-use Rattle.std.proofs.Common.{length, get_or, map, Option, Some, None, Result, Ok, Err, refl, sym, ap, subst, ◌∙◌}
+use Rattle.std.proofs.Common.{length, get_or, map, Option, Some, None, refl, sym, ap, subst, ◌∙◌}
 use Rattle.std.proofs.Common.{arith}
 use Rattle.std.specs.Prelude.{sum_by, count_by}
 use Rattle.std.specs.List.{range_with_len}
@@ -9,8 +9,6 @@ use Rattle.dm_place.specs.Border.{symbol_line}
 use Rattle.dm_place.specs.Placement.{place}
 use Rattle.dm_words.specs.declared.extent.Extent.{Extent}
 use Rattle.dm_words.specs.declared.extent.Extent.TheVariants.{Wide}
-use Rattle.dm_words.specs.declared.item.Item.{Item}
-use Rattle.dm_words.specs.declared.profile.Profile.{Profile}
 use Rattle.dm_layout.specs.symbols.Sizes.{SizeEntry, mapping_rows, mapping_columns, codeword_count}
 use Rattle.dm_layout.specs.symbols.Symbols.{SymbolView, rows_of}
 use Rattle.dm_layout.specs.symbols.Border.{is_fault}
@@ -18,15 +16,9 @@ use Rattle.dm_layout.specs.symbols.Blocks.{places_of_block}
 use Rattle.dm_symbol.specs.declared.symbol.dealing.Dealing.{Dealing}
 use Rattle.dm_symbol.specs.declared.symbol.dealing.Dealing.TheVariants.{Standard, Restarted}
 use Rattle.dm_symbol.specs.declared.symbol.inspection.SymbolInspectionIn.{SymbolInspectionIn}
-use Rattle.dm_symbol.specs.declared.reading.ReadFault.{ReadFault}
-use Rattle.dm_symbol.specs.declared.reading.ReadFault.TheVariants as fault
-use Rattle.dm_symbol.specs.declared.normalising.NormalFault.{NormalFault}
 use Rattle.dm_symbol.specs.Doubt.{is_doubtful, is_doubtful_bit, is_erased, erased_in, is_sure_fault, sure_fault_count}
 use Rattle.dm_symbol.specs.Dealings.{dealt, erased_by, restarted_place}
-use Rattle.dm_symbol.specs.SymbolReading.{ReadingView, IsTried, AreRestored, AreLost, IsFirstLost, ReadsSymbol}
-use Rattle.dm_symbol.specs.SymbolReading.{SymbolReadResult, readings_by, symbol_reading_of}
-use Rattle.dm_symbol.specs.NormalOutcomes.{IsNormalOrFault}
-use Rattle.dm_symbol.specs.SymbolNormal.{NormalSymbolResult}
+use Rattle.dm_symbol.specs.SymbolReading.{IsTried, AreRestored, AreLost, IsFirstLost, readings_by}
 use Rattle.dm_symbol.specs.SymbolInspection.{IsSymbolInspection}
 use Rattle.dm_symbol.specs.SymbolLaws.{AreLight}
 use Rattle.dm_symbol.proofs.SymbolDoubt.{erased_nowhere, same_any}
@@ -192,56 +184,7 @@ module _ (doubtful : SymbolView) (light : AreLight doubtful) where
         → sure_fault_count modules (Some doubtful) ≤ limit
     few_alike limit few = subst (λ n. n ≤ limit) faults_alike few
 
-    -- The symbol has the same result of reading.
-    pub read_alike : (extent : Extent) (limit : ℕ) (result : Result ReadingView ReadFault)
-        → SymbolReadResult extent modules None limit result
-        → SymbolReadResult extent modules (Some doubtful) limit result
-    read_alike extent limit result (SymbolReadResult.border more e) =
-        SymbolReadResult.border (subst (λ n. limit < n) faults_alike more)
-        (e ∙ ap (λ n. Err (fault.Border n)) faults_alike)
-    read_alike extent limit result (SymbolReadResult.block words b few lost e) =
-        SymbolReadResult.block words b (few_alike limit few) (lost_alike extent words b lost) e
-    read_alike extent limit result (SymbolReadResult.words d words codewords why few restored refused e) =
-        SymbolReadResult.words d words codewords why (few_alike limit few)
-        (restored_alike d extent words codewords restored) refused e
-    read_alike extent limit result (SymbolReadResult.message d words codewords message few restored spelled e) =
-        SymbolReadResult.message d words codewords message (few_alike limit few)
-        (restored_alike d extent words codewords restored) spelled
-        (e ∙ ap (λ xs. Ok (symbol_reading_of message d xs (sure_fault_count modules None)))
-        (said_alike d words codewords)
-        ∙ ap (λ n. Ok (symbol_reading_of message d
-        (readings_by d modules.size (Some doubtful) words codewords) n)) faults_alike)
-
-    -- It is read as the same message.
-    reads_alike : (extent : Extent) (limit : ℕ) (message : List Item) → ReadsSymbol extent modules None limit message
-        → ReadsSymbol extent modules (Some doubtful) limit message
-    reads_alike extent limit message h = record {
-      border = few_alike limit h.border;
-      dealing = h.dealing;
-      words = h.words;
-      codewords = h.codewords;
-      restored = restored_alike h.dealing extent h.words h.codewords h.restored;
-      spelled = h.spelled;
-    }
-
-    -- It has the same result of normalising.
-    pub normal_alike : (extent : Extent) (profile : Profile) (limit : ℕ) (result : Result SymbolView NormalFault)
-        → NormalSymbolResult extent profile modules None limit result
-        → NormalSymbolResult extent profile modules (Some doubtful) limit result
-    normal_alike extent profile limit result (IsNormalOrFault.normal symbol h e) =
-        IsNormalOrFault.normal symbol
-        (record {
-          message = h.message;
-          read = reads_alike extent limit h.message h.read;
-          normal_symbol = h.normal_symbol;
-        }) e
-    normal_alike extent profile limit result (IsNormalOrFault.too_long h e) =
-        IsNormalOrFault.too_long
-        (record { message = h.message; read = reads_alike extent limit h.message h.read; too_long = h.too_long }) e
-    normal_alike extent profile limit result (IsNormalOrFault.fault why h e) =
-        IsNormalOrFault.fault why (read_alike extent limit (Err why) h) e
-
-    -- It has the same inspection.
+    -- The symbol has the same inspection.
     pub shown_alike : {room : ℕ} (inspection : SymbolInspectionIn room) → IsSymbolInspection modules None inspection
         → IsSymbolInspection modules (Some doubtful) inspection
     shown_alike inspection h = record {

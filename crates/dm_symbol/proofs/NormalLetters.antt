@@ -1,6 +1,5 @@
 -- The normal symbols of the letters that symbols are read as.
-use Rattle.std.proofs.Common.{◌≡◌, ◌↔◌, ℕ, List, length, Option, None, Result, Ok, Err, inl, inr, refl, sym, ap, subst}
-use Rattle.std.proofs.Common.{◌∙◌}
+use Rattle.std.proofs.Common.{◌≡◌, ◌↔◌, ℕ, List, length, Option, None, Result, Ok, Err, inl, inr, refl, sym, subst}
 use Rattle.dm_words.specs.declared.extent.Extent.{Extent}
 use Rattle.dm_words.specs.declared.extent.Extent.TheVariants.{Wide}
 use Rattle.dm_words.specs.declared.item.Item.{Item}
@@ -21,7 +20,9 @@ use Rattle.dm_symbol.specs.SymbolBlocks.{first_data}
 use Rattle.dm_symbol.specs.LetterLaws.{ReadsMacro}
 use Rattle.dm_symbol.specs.LetterReading.{LetterReadingView, ReadsLetter, LetterReadResult}
 use Rattle.dm_symbol.specs.NormalLetter.{IsNormalOfLetter}
-use Rattle.dm_symbol.specs.LetterNormal.{HasNormalLetter, HasNoNormalLetter, NormalLetterResult, IsLetterNormalised}
+use Rattle.dm_symbol.specs.LetterNormal.{HasNormalLetter, HasNoNormalLetter, NormalLetterResult}
+use Rattle.dm_symbol.specs.NormalOutcomes.{IsNormalGiven, IsNormalOrFault}
+use Rattle.dm_symbol.proofs.NormalOutcomes.{AreApart, one_normalised, is_normal_given}
 use Rattle.dm_symbol.proofs.GridNormals.{fits_or_not}
 use Rattle.dm_symbol.proofs.LetterReadings.{one_symbol_letter, read_letter_right, one_letter_result, some_letter_result}
 use Rattle.dm_symbol.proofs.LetterReadings.{letter_or_fault, letter_no_fault}
@@ -31,6 +32,14 @@ use Rattle.dm_symbol.proofs.WrittenWords.{words_written_once, written_fit}
 -- Two equal errors say the same.
 err_is : (a b : LetterReadFault) → ◌≡◌ {A = Result LetterReadingView LetterReadFault} (Err a) (Err b) → a ≡ b
 err_is a b e = cc
+
+-- Two equal faults of reading say the same.
+read_is : (a b : LetterReadFault) → Read a ≡ Read b → a ≡ b
+read_is a b e = cc
+
+-- A fault of reading isn't that the letter is too long.
+read_no_too_long : (a : LetterReadFault) → Read a ≡ TooLong → ⊥
+read_no_too_long a e = cc
 
 module _ (extent : Extent) (p : Profile) (modules : SymbolView) (doubtful : Option SymbolView) where
   -- A normal symbol is that of the letter that the symbol is read as.
@@ -54,33 +63,42 @@ module _ (extent : Extent) (p : Profile) (modules : SymbolView) (doubtful : Opti
       none.too_long (written_fit Square (letter_form p none.letter) n (normal_of_read n k l none.letter h none.read))
 
   module _ (limit : ℕ) where
-    -- A symbol that is read has no fault of reading.
-    no_fault : (x : LetterView) (why : LetterReadFault) → ReadsLetter extent modules doubtful limit x
-        → LetterReadResult extent modules doubtful limit (Err why) → ⊥
-    no_fault x why r a = letter_no_fault modules doubtful extent limit x why r a
+    -- This has the symbol as its normal symbol.
+    abbrev has : SymbolView → Type 0
+    has = HasNormalLetter extent p modules doubtful limit
+
+    -- It has none.
+    abbrev has_none : Type 0
+    has_none = HasNoNormalLetter extent p modules doubtful limit
+
+    -- It is refused when it is read.
+    abbrev refused : LetterReadFault → Type 0
+    refused why = LetterReadResult extent modules doubtful limit (Err why)
+
+    -- A symbol has one normal symbol, or none, or is refused when it is read.
+    apart : AreApart Read TooLong has has_none refused
+    apart = record {
+      same_read = λ why other e. read_is why other e;
+      read_no_long = λ why e. read_no_too_long why e;
+      one = λ n o hn ho. one_normal_letter n o limit limit hn ho;
+      some_or_none = λ n h none. not_too_long n limit limit h none;
+      has_or_refused = λ n why h a. letter_no_fault modules doubtful extent limit h.letter why h.read a;
+      none_or_refused = λ why h a. letter_no_fault modules doubtful extent limit h.letter why h.read a;
+      one_refused = λ why other a b. err_is why other
+          (one_letter_result modules doubtful extent limit (Err why) (Err other) a b);
+    }
 
     -- A symbol has at most one result of normalising.
     pub one_normal_letter_result : (a b : Result SymbolView LetterNormalFault)
         → NormalLetterResult extent p modules doubtful limit a
         → NormalLetterResult extent p modules doubtful limit b → a ≡ b
-    one_normal_letter_result a b (NormalLetterResult.normal n h e) (NormalLetterResult.normal o k f) =
-        e ∙ ap (λ x. Ok x) (one_normal_letter n o limit limit h k) ∙ sym f
-    one_normal_letter_result a b (NormalLetterResult.normal n h e) (NormalLetterResult.too_long k f) =
-        absurd (not_too_long n limit limit h k)
-    one_normal_letter_result a b (NormalLetterResult.normal n h e) (NormalLetterResult.fault why k f) =
-        absurd (no_fault h.letter why h.read k)
-    one_normal_letter_result a b (NormalLetterResult.too_long h e) (NormalLetterResult.normal o k f) =
-        absurd (not_too_long o limit limit k h)
-    one_normal_letter_result a b (NormalLetterResult.too_long h e) (NormalLetterResult.too_long k f) = e ∙ sym f
-    one_normal_letter_result a b (NormalLetterResult.too_long h e) (NormalLetterResult.fault why k f) =
-        absurd (no_fault h.letter why h.read k)
-    one_normal_letter_result a b (NormalLetterResult.fault why h e) (NormalLetterResult.normal o k f) =
-        absurd (no_fault k.letter why k.read h)
-    one_normal_letter_result a b (NormalLetterResult.fault why h e) (NormalLetterResult.too_long k f) =
-        absurd (no_fault k.letter why k.read h)
-    one_normal_letter_result a b (NormalLetterResult.fault why h e) (NormalLetterResult.fault other k f) =
-        let same = one_letter_result modules doubtful extent limit (Err why) (Err other) h k in
-        e ∙ ap (λ x. Err (Read x)) (err_is why other same) ∙ sym f
+    one_normal_letter_result a b = one_normalised Read TooLong has has_none refused apart a b
+
+    -- The result defined for a symbol is what normalising it gives.
+    pub is_letter_normalised : (result : Result SymbolView LetterNormalFault)
+        → NormalLetterResult extent p modules doubtful limit result
+        → IsNormalGiven Read TooLong has has_none refused result
+    is_letter_normalised result a = is_normal_given Read TooLong has has_none refused apart result a
 
     -- A symbol has a result of normalising.
     pub some_normal_letter_result : IsSymbol modules
@@ -88,19 +106,19 @@ module _ (extent : Extent) (p : Profile) (modules : SymbolView) (doubtful : Opti
     some_normal_letter_result h =
         let read = some_letter_result modules doubtful extent limit h in
         elim (letter_or_fault modules doubtful extent limit read.0 read.1) [
-          | inr fault ↦ (Err (Read fault.0), NormalLetterResult.fault fault.0 fault.1 refl)
+          | inr fault ↦ (Err (Read fault.0), IsNormalOrFault.fault fault.0 fault.1 refl)
           | inl letter ↦
               let right = (read_letter_right modules doubtful extent limit letter.0 letter.1).0 in
               elim (fits_or_not (entry_for Square (length (letter_form p letter.0)))) [
                 | inl fits ↦
                     let written = written_letter_is_there Square p letter.0 right fits in (
                       Ok written.0,
-                      NormalLetterResult.normal written.0
+                      IsNormalOrFault.normal written.0
                           (record { letter = letter.0; read = letter.1; normal_symbol = written.1 }) refl,
                     )
                 | inr none ↦ (
                   Err TooLong,
-                  NormalLetterResult.too_long (record { letter = letter.0; read = letter.1; too_long = none }) refl,
+                  IsNormalOrFault.too_long (record { letter = letter.0; read = letter.1; too_long = none }) refl,
                 )
               ]
         ]
@@ -114,7 +132,7 @@ pub normal_letter_twice : (extent again : Extent) (p : Profile) (modules normal 
 normal_letter_twice extent again p modules normal doubtful limit other x result r n said =
     let right = (read_letter_right modules doubtful extent limit x r).0 in
     let itself : NormalLetterResult again p normal None other (Ok normal) =
-    NormalLetterResult.normal normal (record {
+    IsNormalOrFault.normal normal (record {
       letter = x;
       read = written_reads_letter Square p x normal n right again other said;
       normal_symbol = n;
@@ -159,69 +177,3 @@ macro_is_its_text extent p g h a b d e k l i j digit text rg rh ha hb =
     let letter = as_letter (macro_text digit text) in
     (equal_normal_letters Wide extent p g h a b d e k l i j letter letter (macro_reads g d k digit text rg) rh ha
     hb).1 refl
-
--- ---- what a result of normalising says
-
--- Equal results that are symbols have equal symbols.
-ok_is : (a b : SymbolView) → ◌≡◌ {A = Result SymbolView LetterNormalFault} (Ok a) (Ok b) → a ≡ b
-ok_is a b e = cc
-
--- A fault isn't a symbol.
-err_no_ok : (a : SymbolView) (f : LetterNormalFault)
-    → ◌≡◌ {A = Result SymbolView LetterNormalFault} (Err f) (Ok a) → ⊥
-err_no_ok a f e = cc
-
--- Two equal faults of reading say the same.
-read_is : (a b : LetterReadFault)
-    → ◌≡◌ {A = Result SymbolView LetterNormalFault} (Err (Read a)) (Err (Read b)) → a ≡ b
-read_is a b e = cc
-
--- A fault of reading isn't that the letter is too long.
-read_no_too_long : (a : LetterReadFault)
-    → ◌≡◌ {A = Result SymbolView LetterNormalFault} (Err (Read a)) (Err TooLong) → ⊥
-read_no_too_long a e = cc
-
-module _ (extent : Extent) (p : Profile) (modules : SymbolView) (doubtful : Option SymbolView) (limit : ℕ) where
-  -- A result is one of these.
-  abbrev Is : Result SymbolView LetterNormalFault → Type 0
-  Is = NormalLetterResult extent p modules doubtful limit
-
-  -- Another result is the same.
-  same : (a b : Result SymbolView LetterNormalFault) → Is a → Is b → a ≡ b
-  same = one_normal_letter_result extent p modules doubtful limit
-
-  -- The result is a normal symbol where the symbol has it.
-  normal_told : (result : Result SymbolView LetterNormalFault) (n : SymbolView) → Is result → result ≡ Ok n
-      → HasNormalLetter extent p modules doubtful limit n
-  normal_told result n (NormalLetterResult.normal o h e) f =
-      subst (HasNormalLetter extent p modules doubtful limit) (ok_is o n (sym e ∙ f)) h
-  normal_told result n (NormalLetterResult.too_long h e) f = absurd (err_no_ok n TooLong (sym e ∙ f))
-  normal_told result n (NormalLetterResult.fault why h e) f = absurd (err_no_ok n (Read why) (sym e ∙ f))
-
-  -- The result is that there is none where the symbol has none.
-  too_long_told : (result : Result SymbolView LetterNormalFault) → Is result → result ≡ Err TooLong
-      → HasNoNormalLetter extent p modules doubtful limit
-  too_long_told result (NormalLetterResult.normal o h e) f = absurd (err_no_ok o TooLong (sym f ∙ e))
-  too_long_told result (NormalLetterResult.too_long h e) f = h
-  too_long_told result (NormalLetterResult.fault why h e) f = absurd (read_no_too_long why (sym e ∙ f))
-
-  -- The result is a fault of reading where the symbol is refused with it.
-  fault_told : (result : Result SymbolView LetterNormalFault) (why : LetterReadFault) → Is result
-      → result ≡ Err (Read why) → LetterReadResult extent modules doubtful limit (Err why)
-  fault_told result why (NormalLetterResult.normal o h e) f = absurd (err_no_ok o (Read why) (sym f ∙ e))
-  fault_told result why (NormalLetterResult.too_long h e) f = absurd (read_no_too_long why (sym f ∙ e))
-  fault_told result why (NormalLetterResult.fault other h e) f =
-      subst (λ x. LetterReadResult extent modules doubtful limit (Err x)) (read_is other why (sym e ∙ f)) h
-
-  -- The result defined for a symbol is what normalising it gives.
-  pub is_letter_normalised : (result : Result SymbolView LetterNormalFault) → Is result
-      → IsLetterNormalised extent p modules doubtful limit result
-  is_letter_normalised result a = record {
-    result_is = a;
-    normal = λ n. (normal_told result n a, λ h. same result (Ok n) a (NormalLetterResult.normal n h refl));
-    too_long = (too_long_told result a, λ h. same result (Err TooLong) a (NormalLetterResult.too_long h refl));
-    fault = λ why. (
-      fault_told result why a,
-      λ h. same result (Err (Read why)) a (NormalLetterResult.fault why h refl),
-    );
-  }

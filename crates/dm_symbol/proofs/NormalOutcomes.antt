@@ -1,45 +1,41 @@
 -- There is one result of normalising, and each kind of result is given exactly where its condition holds, for grids as
 -- for symbols of any size.
 use Rattle.std.proofs.Common.{◌≡◌, Result, Ok, Err, refl, sym, ap, subst, ◌∙◌}
-use Rattle.dm_symbol.specs.declared.reading.ReadFault.{ReadFault}
-use Rattle.dm_symbol.specs.declared.normalising.NormalFault.{NormalFault}
-use Rattle.dm_symbol.specs.declared.normalising.NormalFault.TheVariants.{Read, TooLong}
 use Rattle.dm_symbol.specs.NormalOutcomes.{IsNormalOrFault, IsNormalGiven}
 
--- The conditions exclude each other, and hold of one thing each.
-pub record AreApart {N : Type 0} (has : N → Type 0) (has_none : Type 0) (refused : ReadFault → Type 0) : Type 0 where
+-- The conditions exclude each other, and hold of one thing each; and the faults tell which they are.
+pub record AreApart {N F E : Type 0} (read : F → E) (long : E) (has : N → Type 0) (has_none : Type 0)
+    (refused : F → Type 0) : Type 0 where
+  pub same_read : (why other : F) → read why ≡ read other → why ≡ other
+  pub read_no_long : (why : F) → read why ≡ long → ⊥
   pub one : (n o : N) → has n → has o → n ≡ o
   pub some_or_none : (n : N) → has n → has_none → ⊥
-  pub has_or_refused : (n : N) (why : ReadFault) → has n → refused why → ⊥
-  pub none_or_refused : (why : ReadFault) → has_none → refused why → ⊥
-  pub one_refused : (why other : ReadFault) → refused why → refused other → why ≡ other
+  pub has_or_refused : (n : N) (why : F) → has n → refused why → ⊥
+  pub none_or_refused : (why : F) → has_none → refused why → ⊥
+  pub one_refused : (why other : F) → refused why → refused other → why ≡ other
 
-module _ {N : Type 0} where
+module _ {N E : Type 0} where
   -- Equal results that are normal are equal ones.
-  ok_is : (a b : N) → ◌≡◌ {A = Result N NormalFault} (Ok a) (Ok b) → a ≡ b
+  ok_is : (a b : N) → ◌≡◌ {A = Result N E} (Ok a) (Ok b) → a ≡ b
   ok_is a b e = cc
 
+  -- Equal faults are equal results.
+  err_is : (a b : E) → ◌≡◌ {A = Result N E} (Err a) (Err b) → a ≡ b
+  err_is a b e = cc
+
   -- A fault isn't a normal one.
-  err_no_ok : (a : N) (f : NormalFault) → ◌≡◌ {A = Result N NormalFault} (Err f) (Ok a) → ⊥
+  err_no_ok : (a : N) (f : E) → ◌≡◌ {A = Result N E} (Err f) (Ok a) → ⊥
   err_no_ok a f e = cc
 
   -- A normal one isn't a fault.
-  ok_no_err : (a : N) (f : NormalFault) → ◌≡◌ {A = Result N NormalFault} (Ok a) (Err f) → ⊥
+  ok_no_err : (a : N) (f : E) → ◌≡◌ {A = Result N E} (Ok a) (Err f) → ⊥
   ok_no_err a f e = cc
 
-  -- Two equal faults of reading say the same.
-  read_is : (a b : ReadFault) → ◌≡◌ {A = Result N NormalFault} (Err (Read a)) (Err (Read b)) → a ≡ b
-  read_is a b e = cc
-
-  -- A fault of reading isn't that the message is too long.
-  read_no_too_long : (a : ReadFault) → ◌≡◌ {A = Result N NormalFault} (Err (Read a)) (Err TooLong) → ⊥
-  read_no_too_long a e = cc
-
-module _ {N : Type 0} (has : N → Type 0) (has_none : Type 0) (refused : ReadFault → Type 0)
-    (apart : AreApart has has_none refused) where
+module _ {N F E : Type 0} (read : F → E) (long : E) (has : N → Type 0) (has_none : Type 0) (refused : F → Type 0)
+    (apart : AreApart read long has has_none refused) where
   -- There is at most one result.
-  pub one_normalised : (a b : Result N NormalFault) → IsNormalOrFault has has_none refused a
-      → IsNormalOrFault has has_none refused b → a ≡ b
+  pub one_normalised : (a b : Result N E) → IsNormalOrFault read long has has_none refused a
+      → IsNormalOrFault read long has has_none refused b → a ≡ b
   one_normalised a b (IsNormalOrFault.normal n h e) (IsNormalOrFault.normal o k f) =
       e ∙ ap (λ x. Ok x) (apart.one n o h k) ∙ sym f
   one_normalised a b (IsNormalOrFault.normal n h e) (IsNormalOrFault.too_long k f) = absurd (apart.some_or_none n h k)
@@ -54,32 +50,35 @@ module _ {N : Type 0} (has : N → Type 0) (has_none : Type 0) (refused : ReadFa
   one_normalised a b (IsNormalOrFault.fault why h e) (IsNormalOrFault.too_long k f) =
       absurd (apart.none_or_refused why k h)
   one_normalised a b (IsNormalOrFault.fault why h e) (IsNormalOrFault.fault other k f) =
-      e ∙ ap (λ x. Err (Read x)) (apart.one_refused why other h k) ∙ sym f
+      e ∙ ap (λ x. Err (read x)) (apart.one_refused why other h k) ∙ sym f
 
   -- Where the result is a normal one, there is that one.
-  pub told_normal : (n : N) (result : Result N NormalFault) → IsNormalOrFault has has_none refused result
+  pub told_normal : (n : N) (result : Result N E) → IsNormalOrFault read long has has_none refused result
       → result ≡ Ok n → has n
   told_normal n result (IsNormalOrFault.normal o h e) f = subst has (ok_is o n (sym e ∙ f)) h
-  told_normal n result (IsNormalOrFault.too_long h e) f = absurd (err_no_ok n TooLong (sym e ∙ f))
-  told_normal n result (IsNormalOrFault.fault why h e) f = absurd (err_no_ok n (Read why) (sym e ∙ f))
+  told_normal n result (IsNormalOrFault.too_long h e) f = absurd (err_no_ok n long (sym e ∙ f))
+  told_normal n result (IsNormalOrFault.fault why h e) f = absurd (err_no_ok n (read why) (sym e ∙ f))
 
   -- Where the result is that there is none, there is none.
-  told_none : (result : Result N NormalFault) → IsNormalOrFault has has_none refused result → result ≡ Err TooLong
+  told_none : (result : Result N E) → IsNormalOrFault read long has has_none refused result → result ≡ Err long
       → has_none
-  told_none result (IsNormalOrFault.normal o h e) f = absurd (ok_no_err o TooLong (sym e ∙ f))
+  told_none result (IsNormalOrFault.normal o h e) f = absurd (ok_no_err o long (sym e ∙ f))
   told_none result (IsNormalOrFault.too_long h e) f = h
-  told_none result (IsNormalOrFault.fault why h e) f = absurd (read_no_too_long {N = N} why (sym e ∙ f))
+  told_none result (IsNormalOrFault.fault why h e) f =
+      absurd (apart.read_no_long why (err_is {N = N} (read why) long (sym e ∙ f)))
 
   -- Where the result is a fault of reading, it is that of reading.
-  told_fault : (why : ReadFault) (result : Result N NormalFault) → IsNormalOrFault has has_none refused result
-      → result ≡ Err (Read why) → refused why
-  told_fault why result (IsNormalOrFault.normal o h e) f = absurd (ok_no_err o (Read why) (sym e ∙ f))
-  told_fault why result (IsNormalOrFault.too_long h e) f = absurd (read_no_too_long {N = N} why (sym f ∙ e))
-  told_fault why result (IsNormalOrFault.fault other h e) f = subst refused (read_is {N = N} other why (sym e ∙ f)) h
+  told_fault : (why : F) (result : Result N E) → IsNormalOrFault read long has has_none refused result
+      → result ≡ Err (read why) → refused why
+  told_fault why result (IsNormalOrFault.normal o h e) f = absurd (ok_no_err o (read why) (sym e ∙ f))
+  told_fault why result (IsNormalOrFault.too_long h e) f =
+      absurd (apart.read_no_long why (err_is {N = N} (read why) long (sym f ∙ e)))
+  told_fault why result (IsNormalOrFault.fault other h e) f =
+      subst refused (apart.same_read other why (err_is {N = N} (read other) (read why) (sym e ∙ f))) h
 
   -- The result defined is what normalising gives.
-  pub is_normal_given : (result : Result N NormalFault) → IsNormalOrFault has has_none refused result
-      → IsNormalGiven has has_none refused result
+  pub is_normal_given : (result : Result N E) → IsNormalOrFault read long has has_none refused result
+      → IsNormalGiven read long has has_none refused result
   is_normal_given result a = record {
     result_is = a;
     normal = λ n. (
@@ -88,10 +87,10 @@ module _ {N : Type 0} (has : N → Type 0) (has_none : Type 0) (refused : ReadFa
     );
     too_long = (
       told_none result a,
-      λ h. one_normalised result (Err TooLong) a (IsNormalOrFault.too_long h refl),
+      λ h. one_normalised result (Err long) a (IsNormalOrFault.too_long h refl),
     );
     fault = λ why. (
       told_fault why result a,
-      λ h. one_normalised result (Err (Read why)) a (IsNormalOrFault.fault why h refl),
+      λ h. one_normalised result (Err (read why)) a (IsNormalOrFault.fault why h refl),
     );
   }

@@ -1,5 +1,5 @@
 -- Symbols that are written are plain.
-use Rattle.std.proofs.Common.{◌≡◌, ℕ, ◌≤◌, List, length, sym, subst, arith, Result, Ok, Err}
+use Rattle.std.proofs.Common.{◌≤◌, List, length, sym, subst, arith, Result, Ok, Err}
 use Rattle.std.specs.Prelude.{IfOk, OnOk}
 use Rattle.dm_layout.specs.declared.symbols.size.SizeChoice.{SizeChoice}
 use Rattle.dm_layout.specs.symbols.Symbols.{SymbolView}

@@ -13,7 +13,7 @@ use Rattle.dm_layout.specs.symbols.Sizes.{SizeEntry, size_table, entry_for, take
 use Rattle.dm_layout.specs.symbols.Sizes.{most_codewords}
 use Rattle.dm_layout.proofs.symbols.Exported.{found_passes, size_facts}
 use Rattle.dm_layout.specs.symbols.Sizes.{codeword_count}
-use Rattle.dm_symbol.specs.SmallestSymbol.{HasRoomForSmallest}
+use Rattle.dm_symbol.specs.SmallestLetterSymbol.{HasRoomForSmallest}
 use Rattle.dm_symbol.specs.WrittenWords.{HaveRoom, IsRoomFor}
 use Rattle.dm_symbol.proofs.SymbolCompletions.{chosen_stands}
 

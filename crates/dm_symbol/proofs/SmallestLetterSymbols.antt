@@ -18,8 +18,7 @@ use Rattle.dm_symbol.specs.SymbolReading.{block_readings}
 use Rattle.dm_symbol.specs.LetterReading.{LetterReadResult, letter_reading_of}
 use Rattle.dm_symbol.specs.SmallestLetterSymbol.{IsSmallestLetterSymbol, IsSmallestLetterWritten, NoneSays}
 use Rattle.dm_symbol.specs.SmallestLetterSymbol.{IsLetterReadWithNothingWrong, NoSmallerSays}
-use Rattle.dm_symbol.proofs.SymbolNormals.{laid_restored, no_sure_fault}
-use Rattle.dm_symbol.proofs.WrittenLetters.{nothing_is_wrong}
+use Rattle.dm_symbol.proofs.WrittenLetters.{laid_restored, no_sure_fault, nothing_is_wrong}
 
 -- The data codewords that a symbol is read by are as many as its size has.
 data_counted : (size : SizeEntry) (words : List ℕ) → AreOfSize size words

@@ -1,31 +1,20 @@
--- A symbol of any size is read as at most one message.
-use Rattle.std.proofs.Common.{◌≡◌, ℕ, ◌+◌, ◌*◌, ◌<◌, List, Option, Result, Ok, Err, inl}
-use Rattle.std.proofs.Common.{inr}
-use Rattle.std.proofs.Common.{refl, sym, ap, subst, ◌∙◌, arith}
+-- The words that a symbol of any size holds are restored to one list of codewords, or are lost by one block.
+use Rattle.std.proofs.Common.{◌≡◌, ℕ, ◌+◌, ◌*◌, ◌<◌, List, Option, inl, inr}
+use Rattle.std.proofs.Common.{refl, sym, subst, arith}
 use Rattle.std.specs.List.{All}
 use Rattle.std.proofs.lemmas.Bool.{cases_order}
 use Rattle.std.proofs.lemmas.List.Elements.{All-from_get_or, All-get_or, All-take}
 use Rattle.dm_words.specs.declared.extent.Extent.{Extent}
 use Rattle.dm_words.specs.declared.extent.Extent.TheVariants.{Wide}
-use Rattle.dm_words.specs.declared.item.Item.{Item}
-use Rattle.dm_words.specs.declared.fault.WordFault.{WordFault}
-use Rattle.dm_words.specs.Spells.{Spells}
-use Rattle.dm_words.specs.Refused.{Refused}
-use Rattle.dm_words.specs.Messages.{IsMessage}
 use Rattle.dm_layout.specs.symbols.Sizes.{SizeEntry, block_check, block_length}
 use Rattle.dm_layout.specs.symbols.Symbols.{SymbolView}
 use Rattle.dm_layout.proofs.symbols.Exported.{place_inside, same_by_blocks}
-use Rattle.dm_symbol.specs.declared.reading.ReadFault.{ReadFault}
-use Rattle.dm_symbol.specs.declared.reading.ReadFault.TheVariants as fault
 use Rattle.dm_symbol.specs.declared.symbol.dealing.Dealing.{Dealing}
 use Rattle.dm_symbol.specs.declared.symbol.dealing.Dealing.TheVariants.{Standard, Restarted}
-use Rattle.dm_symbol.specs.Doubt.{sure_fault_count, erased_in}
+use Rattle.dm_symbol.specs.Doubt.{erased_in}
 use Rattle.dm_symbol.specs.Dealings.{IsDealtTwoWays, dealt, erased_by}
 use Rattle.dm_symbol.specs.SymbolBlocks.{words_with, AreOfSize, AreHeldBy, AreBlocksNear, block_in, first_data}
-use Rattle.dm_symbol.specs.SymbolReading.{ReadingView, AreRestoredBy, IsTried, AreRestored, AreLost, IsFirstLost}
-use Rattle.dm_symbol.specs.SymbolReading.{ReadsSymbol, SymbolReadResult, IsSymbolReadAs}
-use Rattle.dm_symbol.specs.SymbolReading.{readings_by, symbol_reading_of}
-use Rattle.dm_symbol.proofs.Below.{one_result, one_spelled, spelled_is_message, spelled_wide}
+use Rattle.dm_symbol.specs.SymbolReading.{AreRestoredBy, IsTried, AreRestored, AreLost, IsFirstLost}
 use Rattle.dm_symbol.proofs.SymbolBelow.{block_places, block_lengths, block_facts, held_is_one, near_but_is_one}
 use Rattle.dm_symbol.proofs.Dealings.{dealt_of_size, erased_by_inside, not_restarted, same_dealt}
 
@@ -49,24 +38,6 @@ pub equal_blocks : (size : SizeEntry) (u v : List ℕ) → AreOfSize size u → 
     → ((b : ℕ) → b < size.blocks → block_in size u b ≡ block_in size v b) → u ≡ v
 equal_blocks size u v hu hv same = same_by_blocks (words_with size u) (words_with size v) hu hv refl same
 
--- Bytes are refused with at most one fault.
-one_refused : (extent : Extent) (words : List ℕ) (a b : WordFault) → All (λ w. w < 256) words
-    → Refused extent words a → Refused extent words b → a ≡ b
-one_refused extent words a b bytes ha hb =
-    elim (one_result extent words bytes) [
-      | inl s ↦ absurd (s.not_refused a ha)
-      | inr r ↦ r.only a ha ∙ sym (r.only b hb)
-    ]
-
--- Bytes that spell a message aren't refused.
-spelled_not_refused : (extent : Extent) (words : List ℕ) (m : List Item) (why : WordFault) → All (λ w. w < 256) words
-    → Spells extent words m → Refused extent words why → ⊥
-spelled_not_refused extent words m why bytes hm hw =
-    elim (one_result extent words bytes) [
-      | inl s ↦ s.not_refused why hw
-      | inr r ↦ r.not_spelled m hm
-    ]
-
 -- Only one block is the first to which no codeword is near.
 pub first_is_one : (size : SizeEntry) (erased : ℕ → List ℕ) (words : List ℕ) (a b : ℕ) → IsFirstLost size erased words a
     → IsFirstLost size erased words b → a ≡ b
@@ -76,11 +47,6 @@ first_is_one size erased words a b ha hb =
       | inr other ↦ elim other [ inl h ↦ absurd (ha.lost (hb.first a h)) | inr h ↦ absurd (hb.lost (ha.first b h)) ]
     ]
 
--- A reading isn't a fault.
-ok_no_fault : (reading : ReadingView) (why : ReadFault)
-    → ◌≡◌ {A = Result ReadingView ReadFault} (Ok reading) (Err why) → ⊥
-ok_no_fault reading why e = cc
-
 module _ (modules : SymbolView) (doubtful : Option SymbolView) where
   -- The erased places of a block.
   abbrev erased : ℕ → List ℕ
@@ -89,10 +55,6 @@ module _ (modules : SymbolView) (doubtful : Option SymbolView) where
   -- The symbol has this size.
   abbrev size : SizeEntry
   size = modules.size
-
-  -- The surely wrong modules of the borders.
-  abbrev faults : ℕ
-  faults = sure_fault_count modules doubtful
 
   -- What is restored by a dealing by which the size is dealt.
   two_ways : (d : Dealing) (extent : Extent) (u : List ℕ) → IsTried d extent modules doubtful u → d ≡ Restarted
@@ -156,35 +118,6 @@ module _ (modules : SymbolView) (doubtful : Option SymbolView) where
   restored_wide extent Standard u c h = record { tried = tt; by = h.by }
   restored_wide extent Restarted u c h = record { tried = (refl, h.tried.1, h.tried.2, h.tried.3); by = h.by }
 
-  -- What is read in some extent is read in `Wide`.
-  pub reads_symbol_wide : (extent : Extent) (limit : ℕ) (m : List Item) → ReadsSymbol extent modules doubtful limit m
-      → ReadsSymbol Wide modules doubtful limit m
-  reads_symbol_wide extent limit m r = record {
-    border = r.border;
-    dealing = r.dealing;
-    words = r.words;
-    codewords = r.codewords;
-    restored = restored_wide extent r.dealing r.words r.codewords r.restored;
-    spelled = spelled_wide extent (first_data modules.size r.codewords) m r.spelled;
-  }
-
-  -- A symbol is read as at most one message, whatever the extents.
-  pub one_symbol_message : (extent other : Extent) (k l : ℕ) (m n : List Item) → ReadsSymbol extent modules doubtful k m
-      → ReadsSymbol other modules doubtful l n → m ≡ n
-  one_symbol_message extent other k l m n hm hn =
-      let same : hm.codewords ≡ hn.codewords =
-      (restored_is_one extent other hm.dealing hn.dealing hm.words hm.codewords hn.words hn.codewords hm.restored
-      hn.restored).1 in
-      let words = first_data size hn.codewords in
-      one_spelled Wide words m n (data_are_bytes size hn.codewords hn.restored.by.of_size)
-      (spelled_wide extent words m (subst (λ c. Spells extent (first_data size c) m) same hm.spelled))
-      (spelled_wide other words n hn.spelled)
-
-  -- What is read is a message.
-  pub symbol_message : (extent : Extent) (limit : ℕ) (m : List Item) → ReadsSymbol extent modules doubtful limit m
-      → IsMessage m
-  symbol_message extent limit m h = spelled_is_message extent (first_data size h.codewords) m h.spelled
-
   -- Words that are restored aren't lost.
   pub none_lost : (extent : Extent) (d : Dealing) (v u c : List ℕ) (b : ℕ) → AreLost extent modules doubtful v b
       → AreRestored extent modules doubtful d u c → ⊥
@@ -207,99 +140,3 @@ module _ (modules : SymbolView) (doubtful : Option SymbolView) where
   lost_is_one extent other u v a b hu hv =
       let same : v ≡ u = held_is_one modules v u hv.words_held hu.words_held in
       first_is_one size erased u a b hu.first (subst (λ w. IsFirstLost size erased w b) same hv.first)
-
-  -- The data codewords don't spell a message if they are refused.
-  not_both : (extent : Extent) (d e : Dealing) (u c v f : List ℕ) (m : List Item) (why : WordFault)
-      → AreRestored extent modules doubtful d u c → AreRestored extent modules doubtful e v f
-      → Spells extent (first_data size c) m → Refused extent (first_data size f) why → ⊥
-  not_both extent d e u c v f m why hu hv spelled refused =
-      let same = (restored_is_one extent extent d e u c v f hu hv).1 in
-      spelled_not_refused extent (first_data size f) m why (data_are_bytes size f hv.by.of_size)
-      (subst (λ w. Spells extent (first_data size w) m) same spelled) refused
-
-  -- This is said of a symbol that is read.
-  abbrev said : List Item → Dealing → List ℕ → List ℕ → Result ReadingView ReadFault
-  said m d u c = Ok (symbol_reading_of m d (readings_by d size doubtful u c) faults)
-
-  -- A symbol has at most one result for a limit.
-  pub one_symbol_result : (extent : Extent) (limit : ℕ) (a b : Result ReadingView ReadFault)
-      → SymbolReadResult extent modules doubtful limit a → SymbolReadResult extent modules doubtful limit b → a ≡ b
-  one_symbol_result extent limit a b (SymbolReadResult.border h e) (SymbolReadResult.border k f) = e ∙ sym f
-  one_symbol_result extent limit a b (SymbolReadResult.border h e) (SymbolReadResult.block v y k lost f) =
-      absurd (omega (arith, h, k))
-  one_symbol_result extent limit a b (SymbolReadResult.border h e) (SymbolReadResult.words q v d w k hv r f) =
-      absurd (omega (arith, h, k))
-  one_symbol_result extent limit a b (SymbolReadResult.border h e) (SymbolReadResult.message q v d n k hv s f) =
-      absurd (omega (arith, h, k))
-  one_symbol_result extent limit a b (SymbolReadResult.block u x h lost e) (SymbolReadResult.border k f) =
-      absurd (omega (arith, h, k))
-  one_symbol_result extent limit a b (SymbolReadResult.block u x h lost e) (SymbolReadResult.block v y k other f) =
-      e ∙ ap (λ block. Err (fault.Block block)) (lost_is_one extent extent u v x y lost other) ∙ sym f
-  one_symbol_result extent limit a b (SymbolReadResult.block u x h lost e)
-      (SymbolReadResult.words q v d w k hv r f) =
-      absurd (none_lost extent q u v d x lost hv)
-  one_symbol_result extent limit a b (SymbolReadResult.block u x h lost e)
-      (SymbolReadResult.message q v d n k hv s f) =
-      absurd (none_lost extent q u v d x lost hv)
-  one_symbol_result extent limit a b (SymbolReadResult.words p u c why h hu r e) (SymbolReadResult.border k f) =
-      absurd (omega (arith, h, k))
-  one_symbol_result extent limit a b (SymbolReadResult.words p u c why h hu r e)
-      (SymbolReadResult.block v y k lost f) =
-      absurd (none_lost extent p v u c y lost hu)
-  one_symbol_result extent limit a b (SymbolReadResult.words p u c why h hu r e)
-      (SymbolReadResult.words q v d other k hv too f) =
-      let same = (restored_is_one extent extent p q u c v d hu hv).1 in
-      let refused : Refused extent (first_data size d) why =
-      subst (λ w. Refused extent (first_data size w) why) same r in
-      let one = one_refused extent (first_data size d) why other (data_are_bytes size d hv.by.of_size) refused too in
-      e ∙ ap (λ x. Err (fault.Words x)) one ∙ sym f
-  one_symbol_result extent limit a b (SymbolReadResult.words p u c why h hu r e)
-      (SymbolReadResult.message q v d n k hv s f) =
-      absurd (not_both extent q p v d u c n why hv hu s r)
-  one_symbol_result extent limit a b (SymbolReadResult.message p u c m h hu s e) (SymbolReadResult.border k f) =
-      absurd (omega (arith, h, k))
-  one_symbol_result extent limit a b (SymbolReadResult.message p u c m h hu s e)
-      (SymbolReadResult.block v y k lost f) =
-      absurd (none_lost extent p v u c y lost hu)
-  one_symbol_result extent limit a b (SymbolReadResult.message p u c m h hu s e)
-      (SymbolReadResult.words q v d why k hv r f) =
-      absurd (not_both extent p q u c v d m why hu hv s r)
-  one_symbol_result extent limit a b (SymbolReadResult.message p u c m h hu s e)
-      (SymbolReadResult.message q v d n k hv t f) =
-      let same = restored_is_one extent extent p q u c v d hu hv in
-      let message : m ≡ n = one_symbol_message extent extent limit limit m n
-      (record { border = h; dealing = p; words = u; codewords = c; restored = hu; spelled = s })
-      (record { border = k; dealing = q; words = v; codewords = d; restored = hv; spelled = t }) in
-      e ∙ ap (λ x. said x p u c) message ∙ ap (λ x. said n p x c) same.0 ∙ ap (λ x. said n p v x) same.1
-      ∙ ap (λ x. said n x v d) same.2 ∙ sym f
-
-  -- The result for a symbol that is read as a message.
-  pub result_of_symbol : (extent : Extent) (limit : ℕ) (m : List Item)
-      → (r : ReadsSymbol extent modules doubtful limit m)
-      → SymbolReadResult extent modules doubtful limit (said m r.dealing r.words r.codewords)
-  result_of_symbol extent limit m r =
-      SymbolReadResult.message r.dealing r.words r.codewords m r.border r.restored r.spelled refl
-
-  -- Where a symbol is read as a message, the result is a reading of it.
-  pub symbol_read_by_result : (extent : Extent) (limit : ℕ) (result : Result ReadingView ReadFault) (m : List Item)
-      → SymbolReadResult extent modules doubtful limit result → ReadsSymbol extent modules doubtful limit m
-      → IsSymbolReadAs result m
-  symbol_read_by_result extent limit result m h r =
-      subst (λ a. IsSymbolReadAs a m)
-      (one_symbol_result extent limit (said m r.dealing r.words r.codewords) result (result_of_symbol extent limit m r)
-      h) refl
-
-  -- Where the result is a reading of a message, the symbol is read as it.
-  pub reads_symbol_by_result : (extent : Extent) (limit : ℕ) (result : Result ReadingView ReadFault) (m : List Item)
-      → SymbolReadResult extent modules doubtful limit result → IsSymbolReadAs result m
-      → ReadsSymbol extent modules doubtful limit m
-  reads_symbol_by_result extent limit result m (SymbolReadResult.border h e) is =
-      absurd (subst (λ a. IsSymbolReadAs a m) e is)
-  reads_symbol_by_result extent limit result m (SymbolReadResult.block u x h f e) is =
-      absurd (subst (λ a. IsSymbolReadAs a m) e is)
-  reads_symbol_by_result extent limit result m (SymbolReadResult.words p u c w h hu r e) is =
-      absurd (subst (λ a. IsSymbolReadAs a m) e is)
-  reads_symbol_by_result extent limit result m (SymbolReadResult.message p u c n h hu s e) is =
-      let same : n ≡ m = subst (λ a. IsSymbolReadAs a m) e is in
-      let spelled = subst (λ x. Spells extent (first_data size c) x) same s in
-      record { border = h; dealing = p; words = u; codewords = c; restored = hu; spelled = spelled }

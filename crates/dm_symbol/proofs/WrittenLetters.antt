@@ -1,12 +1,22 @@
 -- Symbols in which letters are written are read as these, and what follows for normal symbols.
 use Rattle.std.proofs.Common.{◌≡◌, ◌↔◌, ℕ, List, replicate, None, Result, Ok, refl, sym}
 use Rattle.std.proofs.Common.{[], ap, subst, ◌∙◌, arith}
+use Rattle.std.proofs.Common.{zero, suc, ◌+◌, ◌∷◌, map}
+use Rattle.std.specs.List.{range_with_len}
+use Rattle.dm_code.specs.Erased.{IsNearBut}
+use Rattle.dm_layout.specs.symbols.Holding.{IsLaid}
+use Rattle.dm_symbol.specs.declared.symbol.reading.BlockReading.{BlockReading}
+use Rattle.dm_symbol.specs.Doubt.{sure_fault_count, erased_in}
+use Rattle.dm_symbol.specs.SymbolBlocks.{words_with, AreCodewordsOf, block_in, first_data}
+use Rattle.dm_symbol.specs.SymbolReading.{AreRestored, block_reading, block_readings}
+use Rattle.dm_symbol.proofs.Distances.{near_itself, distance_to_itself}
+use Rattle.dm_symbol.proofs.SymbolBelow.{near_plain, distance_plain}
+use Rattle.dm_symbol.proofs.SymbolDoubt.{faults_by_none, erased_by_none}
 use Rattle.dm_words.specs.declared.extent.Extent.{Extent}
 use Rattle.dm_words.specs.declared.extent.Extent.TheVariants.{Wide}
-use Rattle.dm_words.specs.declared.item.Item.{Item}
 use Rattle.dm_words.specs.declared.profile.Profile.{Profile}
 use Rattle.dm_words.specs.Letters.{LetterView, IsLetter}
-use Rattle.dm_words.specs.LetterExtents.{as_letter, SaysIn, IsSaidIn}
+use Rattle.dm_words.specs.LetterExtents.{SaysIn, IsSaidIn}
 use Rattle.dm_words.specs.LetterForm.{letter_form}
 use Rattle.dm_words.specs.Pads.{padded}
 use Rattle.dm_words.proofs.Exported.{form_says_in, letter_form_codewords, letter_form_count, said_is_one}
@@ -16,31 +26,42 @@ use Rattle.dm_layout.specs.symbols.Symbols.{SymbolView}
 use Rattle.dm_layout.proofs.symbols.Exported.{size_facts}
 use Rattle.dm_symbol.specs.declared.symbol.dealing.Dealing.TheVariants.{Standard}
 use Rattle.dm_symbol.specs.declared.letters.LetterReadFault.{LetterReadFault}
-use Rattle.dm_symbol.specs.Doubt.{erased_in}
-use Rattle.dm_symbol.specs.SymbolBlocks.{block_in}
-use Rattle.dm_symbol.specs.SymbolReading.{block_reading, block_readings}
 use Rattle.dm_symbol.specs.SymbolLaws.{nothing_wrong}
-use Rattle.dm_symbol.specs.NormalSymbol.{IsWrittenIn}
-use Rattle.dm_symbol.specs.LetterReading.{LetterReadingView, ReadsLetter, LetterReadResult}
+use Rattle.dm_symbol.specs.LetterReading.{LetterReadingView, ReadsLetter, LetterReadResult, letter_reading_of}
 use Rattle.dm_words.specs.Symbology.{IsIdentifier}
-use Rattle.dm_symbol.specs.LetterReading.{letter_reading_of}
 use Rattle.dm_symbol.specs.NormalLetter.{LetterFits, IsLetterWrittenIn}
-use Rattle.dm_symbol.proofs.Distances.{distance_to_itself}
 use Rattle.dm_symbol.proofs.LetterReadings.{one_letter_result}
-use Rattle.dm_symbol.proofs.SymbolBelow.{distance_plain}
-use Rattle.dm_symbol.proofs.SymbolDoubt.{erased_by_none}
-use Rattle.dm_symbol.proofs.SymbolNormals.{laid_restored, map_to_one, no_sure_fault}
 use Rattle.dm_symbol.proofs.SymbolSteps.{reading_is}
 use Rattle.dm_symbol.proofs.WrittenWords.{words_written_once, written_hold, written_words_are_there, written_words_tell}
 
--- ---- messages
-
--- A letter without a head and marks is written as the message is that has its items.
-pub message_as_letter : (choice : SizeChoice) (p : Profile) (m : List Item) (g : SymbolView)
-    → IsLetterWrittenIn choice p (as_letter m) g ↔ IsWrittenIn choice p m g
-message_as_letter choice p m g = (λ n. n, λ n. n)
-
 -- ---- what is written is read
+
+-- A list that is made by a function that always gives the same has it at each place.
+map_to_one : (f : ℕ → BlockReading) (r : BlockReading) (a n : ℕ) → ((b : ℕ) → f b ≡ r)
+    → map f (range_with_len a n) ≡ replicate n r
+map_to_one f r a zero e = refl
+map_to_one f r a (suc n) e = ap (λ x. x ∷ map f (range_with_len (a + 1) n)) (e a)
+    ∙ ap (λ xs. r ∷ xs) (map_to_one f r (a + 1) n e)
+
+-- In a symbol in which codewords are laid, these are their own restored codewords, and no border fault is sure.
+module _ (g : SymbolView) (words : List ℕ) (laid : IsLaid (words_with g.size words) g)
+    (checked : AreCodewordsOf g.size words) where
+  pub no_sure_fault : sure_fault_count g None ≡ 0
+  no_sure_fault = sym (faults_by_none g) ∙ laid.border
+
+  pub laid_restored : (extent : Extent) → AreRestored extent g None Standard words words
+  laid_restored extent = record {
+    tried = tt;
+    by = record {
+      words_held = laid.holds;
+      of_size = laid.holds.codewords;
+      near = λ b hb.
+          let k = block_check g.size in
+          let block = block_in g.size words b in
+          subst (λ e. IsNearBut k block e block) (sym (erased_by_none g.size b))
+          (near_plain k block block (near_itself k block (checked b hb)));
+    };
+  }
 
 -- Where nothing is doubtful and codewords are held, nothing is wrong in any block.
 pub nothing_is_wrong : (size : SizeEntry) (words : List ℕ)
@@ -64,11 +85,15 @@ module _ (choice : SizeChoice) (p : Profile) (l : LetterView) where
 
   module _ (g : SymbolView) (n : IsLetterWrittenIn choice p l g) (right : IsLetter l) where
     -- Its data codewords are the normal form with pads, which says the letter.
-    form_says : (extent : Extent) → IsSaidIn extent l → SaysIn extent (padded (letter_form p l) g.size.data_count) l
+    pub form_says : (extent : Extent) → IsSaidIn extent l → SaysIn extent (padded (letter_form p l) g.size.data_count) l
     form_says extent said =
         let few = (size_facts g.size n.laid.holds.codewords.size).data_fits in
         form_says_in extent p l g.size.data_count right said (written_hold choice (letter_form p l) g n)
         (omega (arith, few))
+
+    -- So they say it.
+    pub written_says : (extent : Extent) → IsSaidIn extent l → SaysIn extent (first_data g.size n.words) l
+    written_says extent said = subst (λ words. SaysIn extent words l) (sym n.data_words) (form_says extent said)
 
     -- It is read as the letter.
     pub written_reads_letter : (extent : Extent) (limit : ℕ) → IsSaidIn extent l → ReadsLetter extent g None limit l
@@ -78,7 +103,7 @@ module _ (choice : SizeChoice) (p : Profile) (l : LetterView) where
       words = n.words;
       codewords = n.words;
       restored = laid_restored g n.words n.laid n.checked extent;
-      said = subst (λ words. SaysIn extent words l) (sym n.data_words) (form_says extent said);
+      said = written_says extent said;
     }
 
     -- This is said of it, where the codewords that are written have this identifier.

@@ -1,10 +1,9 @@
 -- What holds of all letters and of the symbols of all sizes.
-use Rattle.std.specs.Prelude.{◌≡◌, ◌≤◌, ℕ, List, Option, Some, None, Result, Ok, Err, IsOk, replicate, ◌↔◌, ◌⊎◌}
+use Rattle.std.specs.Prelude.{◌≡◌, ◌≤◌, ℕ, List, Option, Some, None, Result, Ok, replicate, ◌↔◌}
 use Rattle.dm_words.specs.declared.extent.Extent.{Extent}
 use Rattle.dm_words.specs.declared.extent.Extent.TheVariants.{Usual, Wide}
 use Rattle.dm_words.specs.declared.item.Item.{Item}
 use Rattle.dm_words.specs.declared.profile.Profile.{Profile}
-use Rattle.dm_words.specs.declared.letters.fault.LetterFault.TheVariants as words_fault
 use Rattle.dm_words.specs.Letters.{LetterView, IsLetter}
 use Rattle.dm_words.specs.LetterExtents.{as_letter, IsSaidIn}
 use Rattle.dm_words.specs.LetterForm.{letter_form}
@@ -18,15 +17,11 @@ use Rattle.dm_layout.specs.symbols.Symbols.{SymbolView, IsSymbol}
 use Rattle.dm_symbol.specs.declared.symbol.dealing.Dealing.{Dealing}
 use Rattle.dm_symbol.specs.declared.symbol.dealing.Dealing.TheVariants.{Standard}
 use Rattle.dm_symbol.specs.declared.letters.LetterReadFault.{LetterReadFault}
-use Rattle.dm_symbol.specs.declared.letters.LetterReadFault.TheVariants as fault
 use Rattle.dm_symbol.specs.declared.letters.LetterNormalFault.{LetterNormalFault}
-use Rattle.dm_symbol.specs.declared.reading.ReadFault.{ReadFault}
-use Rattle.dm_symbol.specs.declared.reading.ReadFault.TheVariants as message_fault
 use Rattle.dm_symbol.specs.Doubt.{sure_fault_count}
 use Rattle.dm_symbol.specs.SymbolBlocks.{first_data}
-use Rattle.dm_symbol.specs.SymbolReading.{ReadingView, ReadsSymbol, SymbolReadResult, AreRestored}
+use Rattle.dm_symbol.specs.SymbolReading.{AreRestored}
 use Rattle.dm_symbol.specs.SymbolLaws.{AreLight, nothing_wrong}
-use Rattle.dm_symbol.specs.NormalSymbol.{IsWrittenIn}
 use Rattle.dm_symbol.specs.LetterReading.{LetterReadingView, ReadsLetter, LetterReadResult}
 use Rattle.dm_words.specs.Symbology.{IsIdentifier}
 use Rattle.dm_symbol.specs.LetterReading.{letter_reading_of}
@@ -91,58 +86,12 @@ LightDoubtNormalisesLettersAlike =
     → NormalLetterResult extent profile modules None limit result
     → NormalLetterResult extent profile modules (Some doubtful) limit result
 
--- What is read as a message is read, in the same extent, as the letter with its items and without a head and marks.
-abbrev pub MessagesAreReadAsLetters : Type 0
-MessagesAreReadAsLetters =
-    (extent : Extent) (modules : SymbolView) (doubtful : Option SymbolView) (limit : ℕ) (message : List Item)
-    → ReadsSymbol extent modules doubtful limit message
-    → ReadsLetter extent modules doubtful limit (as_letter message)
-
--- What is read as a letter in the extent `Usual` is read there as a message: the letter has no head and no marks, and
--- its items are that message.
-abbrev pub UsualLettersAreMessages : Type 0
-UsualLettersAreMessages =
-    (modules : SymbolView) (doubtful : Option SymbolView) (limit : ℕ) (letter : LetterView)
-    → ReadsLetter Usual modules doubtful limit letter
-    → (letter ≡ as_letter letter.items) × ReadsSymbol Usual modules doubtful limit letter.items
-
--- A fault of reading messages is this one of reading letters.
-abbrev pub letter_fault : ReadFault → LetterReadFault
-letter_fault (message_fault.Border count) = fault.Border count
-letter_fault (message_fault.Block index) = fault.Block index
-letter_fault (message_fault.Words why) = fault.Words (words_fault.Word why)
-
--- These results say the same: readings of a message and of the letter with its items, and without a head and marks, by
--- one dealing, in which the same is said of each block and as many border faults are counted; or the same fault.
-abbrev pub SayTheSame : Result ReadingView ReadFault → Result LetterReadingView LetterReadFault → Type 0
-SayTheSame (Ok message) (Ok letter) =
-    (letter.letter ≡ as_letter message.message) × (letter.dealing ≡ message.dealing)
-    × (letter.blocks ≡ message.blocks) × (letter.border_faults ≡ message.border_faults)
-SayTheSame (Ok message) (Err why) = ⊥
-SayTheSame (Err why) (Ok letter) = ⊥
-SayTheSame (Err why) (Err other) = other ≡ letter_fault why
-
--- In the extent `Usual`, and in each extent in which a symbol is read as a message, the results of reading it as a
--- message and as a letter say the same.
-abbrev pub MessageResultsAreLetterResults : Type 0
-MessageResultsAreLetterResults =
-    (extent : Extent) (modules : SymbolView) (doubtful : Option SymbolView) (limit : ℕ)
-    (result : Result ReadingView ReadFault) (of_letter : Result LetterReadingView LetterReadFault)
-    → (extent ≡ Usual) ⊎ IsOk result → SymbolReadResult extent modules doubtful limit result
-    → LetterReadResult extent modules doubtful limit of_letter → SayTheSame result of_letter
-
 -- What is read in the extent `Usual` is read in `Wide` with the same result.
 abbrev pub WideReadsTheUsualLetter : Type 0
 WideReadsTheUsualLetter =
     (modules : SymbolView) (doubtful : Option SymbolView) (limit : ℕ) (reading : LetterReadingView)
     → LetterReadResult Usual modules doubtful limit (Ok reading)
     → LetterReadResult Wide modules doubtful limit (Ok reading)
-
--- A letter without a head and marks is written as the message is that has its items; so it has the same normal symbol.
-abbrev pub MessagesAreWrittenAsLetters : Type 0
-MessagesAreWrittenAsLetters =
-    (choice : SizeChoice) (profile : Profile) (message : List Item) (modules : SymbolView)
-    → IsLetterWrittenIn choice profile (as_letter message) modules ↔ IsWrittenIn choice profile message modules
 
 -- Where there is room for each size of the choice, there is room for the symbol in which a letter is written.
 abbrev pub RoomForEachServesLetters : Type 0

@@ -8,17 +8,13 @@ pub mod Dealings
 pub mod SymbolBlocks
 pub mod SymbolReading
 pub mod Restored
-pub mod NormalSymbol
-pub mod SymbolNormal
 pub mod SymbolInspection
 pub mod SymbolLaws
-pub mod SmallestSymbol
 pub mod WrittenWords
 pub mod LetterReading
 pub mod NormalLetter
 pub mod LetterNormal
 pub mod LetterLaws
-pub mod MessageLetters
 pub mod SmallestLetterSymbol
 pub mod PlainSymbol
 pub mod inner

@@ -5,6 +5,7 @@ use Rattle.dm_words.specs.declared.profile.Profile.{Profile}
 use Rattle.dm_layout.specs.Grid.{GridView}
 use Rattle.dm_symbol.specs.declared.reading.Reading.{Reading}
 use Rattle.dm_symbol.specs.declared.normalising.NormalFault.{NormalFault}
+use Rattle.dm_symbol.specs.declared.normalising.NormalFault.TheVariants.{Read, TooLong}
 use Rattle.dm_symbol.specs.NormalGrid.{IsNormalGrid, FitsSomeSize}
 use Rattle.dm_symbol.specs.NormalOutcomes.{IsNormalOrFault, IsNormalGiven, IsNormalLeft}
 use Rattle.dm_symbol.specs.Reading.{Reads, ReadResult}
@@ -25,14 +26,14 @@ pub record HasNoNormal (profile : Profile) (grid : GridView) (limit : ℕ) : Typ
 -- fault of reading.
 abbrev pub NormalResult : Profile → GridView → ℕ → Result GridView NormalFault → Type 0
 NormalResult profile grid limit =
-    IsNormalOrFault (HasNormal profile grid limit) (HasNoNormal profile grid limit)
+    IsNormalOrFault Read TooLong (HasNormal profile grid limit) (HasNoNormal profile grid limit)
     (λ why. ReadResult grid limit (Err why))
 
 -- What normalising a grid gives: the result defined above; and each kind of result is given exactly where its condition
 -- holds.
 abbrev pub IsNormalised : Profile → GridView → ℕ → Result GridView NormalFault → Type 0
 IsNormalised profile grid limit =
-    IsNormalGiven (HasNormal profile grid limit) (HasNoNormal profile grid limit)
+    IsNormalGiven Read TooLong (HasNormal profile grid limit) (HasNoNormal profile grid limit)
     (λ why. ReadResult grid limit (Err why))
 
 -- What normalising a grid leaves in its two targets: that of the reading then holds `reading`; that of the normal grid
@@ -42,5 +43,5 @@ IsNormalised profile grid limit =
 abbrev pub IsNormalisedTo : {U : Type 0} → Profile → GridView → ℕ → Result U NormalFault → Reading → GridView → GridView
     → Type 0
 IsNormalisedTo profile grid limit done reading =
-    IsNormalLeft (HasNormal profile grid limit) (HasNoNormal profile grid limit)
+    IsNormalLeft Read TooLong (HasNormal profile grid limit) (HasNoNormal profile grid limit)
     (λ why. ReadResult grid limit (Err why)) (ReadResult grid limit (Ok reading)) done

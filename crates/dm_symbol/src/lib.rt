@@ -2,22 +2,19 @@
 //! says, or a [`ReadFault`]; the symbol of a message, or [`TooLong`]; the normal symbol of what a symbol says, or a
 //! [`NormalFault`]; and the codewords of a symbol before and after correction.
 //!
-//! Three calls serve symbols of every size, squares and rectangles, a [`SymbolIn`] of some [`SymbolSize`]:
-//! [`read_symbol_to()`] leaves what a symbol says in a [`SymbolReadingIn`], with a [`BlockReading`] for each block;
-//! [`write_symbol_to()`] leaves the symbol of a [`MessageIn`] in another; and [`inspect_symbol_to()`] the codewords in
-//! a [`SymbolInspectionIn`]. How a symbol is read is said by [`ReadOptions`]: the [`Extent`], the limit of wrong border
-//! modules, and which modules are doubtful. How it is written is said by [`WriteOptions`]: the [`Profile`] and the
-//! [`SizeChoice`].
-//! [`write_smallest_to()`] writes one than which no smaller symbol says the message. A [`Dealing`] says how the check
-//! codewords of 144 x 144 were dealt into blocks, which some encoders do otherwise than the standard. Their results and
-//! the codewords stand in targets, memory that the caller hands in and that serves any number of symbols. Each has a
-//! room; those that serve every symbol are [`Symbol`], [`SymbolWords`], [`SymbolReading`] and [`SymbolInspection`].
-//!
-//! What a symbol says may be taken as a letter, a [`LetterIn`]: a [`Head`] or none, items, and [`Mark`]s at places of
-//! these. [`read_letter_to()`], [`write_letter_to()`] and [`write_smallest_letter_to()`] do for letters what the calls
-//! of these names do for messages, which are the letters without a head and marks; a [`LetterReadingIn`] tells the
-//! symbology identifier too. [`normal_letter_to()`] leaves the symbol of what a symbol says in the smallest square, and
-//! [`restore_symbol_to()`] does the first steps of reading alone.
+//! What a symbol says is a letter, a [`LetterIn`]: a [`Head`] or none, items, and [`Mark`]s at places of these. A
+//! message is a letter without a head and marks. These calls serve symbols of every size, squares and rectangles, a
+//! [`SymbolIn`] of some [`SymbolSize`]: [`read_letter_to()`] leaves what a symbol says in a [`LetterReadingIn`], with
+//! the symbology identifier and a [`BlockReading`] for each block; [`write_letter_to()`] leaves the symbol of a letter
+//! in another, as [`write_content_to()`] does of its parts; [`normal_letter_to()`] the symbol of what a symbol says in
+//! the smallest square; and [`inspect_symbol_to()`] the codewords in a [`SymbolInspectionIn`]. How a symbol is read is
+//! said by [`ReadOptions`]: the [`Extent`], the limit of wrong border modules, and which modules are doubtful. How it
+//! is written is said by [`WriteOptions`]: the [`Profile`] and the [`SizeChoice`]. [`write_smallest_letter_to()`], and
+//! [`write_smallest_to()`] for items alone, write one than which no smaller symbol says the same, and
+//! [`restore_symbol_to()`] does the first steps of reading alone. A [`Dealing`] says how the check codewords of 144 x
+//! 144 were dealt into blocks, which some encoders do otherwise than the standard. Their results and the codewords
+//! stand in targets, memory that the caller hands in and that serves any number of symbols. Each has a room; those that
+//! serve every symbol are [`Symbol`], [`SymbolWords`], [`LetterReading`] and [`SymbolInspection`].
 //!
 //! Squares of 10 to 104 rows may be given as a [`Grid`], which is read in [`Extent::Usual`]. [`read()`] gives what a
 //! grid says, a [`Reading`]; [`write()`] the normal grid of a [`Message`]; and [`normal()`] the normal grid of what a
@@ -30,13 +27,12 @@
 //! [`MOST_ITEMS`], [`MESSAGE_ROOM`] and [`LARGEST_ROOM`], the last for a [`MessageIn`] of any symbol, and
 //! [`LARGEST_MARKS`] for the marks of a [`LetterIn`].
 //!
-//! What the contracts say is defined in `specs/`. For symbols of every size it is in `Doubt`, `Dealings`,
-//! `SymbolBlocks`, `SymbolReading`, `Restored`, `WrittenWords`, `NormalSymbol`, `SmallestSymbol`, `SymbolNormal` and
-//! `SymbolInspection`; their laws are in `SymbolLaws`. For letters it is in `LetterReading`, `NormalLetter`,
-//! `SmallestLetterSymbol` and `LetterNormal`, with `LetterLaws` and `MessageLetters`. For grids, which are read,
-//! written and normalised as their symbols are, it is in `NormalGrid`, `Reading` and `Normal`, with `Laws`. What
-//! normalising gives, of whatever it is, is in `NormalOutcomes`. The functions of [`laws`] prove these. No call
-//! allocates memory.
+//! What the contracts say is defined in `specs/`. How symbols are restored and inspected is in `Doubt`, `Dealings`,
+//! `SymbolBlocks`, `SymbolReading`, `Restored` and `SymbolInspection`, with `SymbolLaws`. How letters are read, written
+//! and normalised is in `LetterReading`, `WrittenWords`, `NormalLetter`, `SmallestLetterSymbol` and `LetterNormal`,
+//! with `LetterLaws`. For grids, which are read, written and normalised as their symbols are, it is in `NormalGrid`,
+//! `Reading`, `Normal` and `NormalOutcomes`, with `Laws`. The functions of [`laws`] prove these. No call allocates
+//! memory.
 #![tactic(auto)]
 
 pub mod laws;
@@ -67,8 +63,6 @@ pub use normalising::{NormalFault, normal, normal_as, normal_to};
 pub use reading::{ReadFault, Reading, read, read_to};
 pub use symbol::dealing::Dealing;
 pub use symbol::inspection::{SymbolInspection, SymbolInspectionIn, has_lost, inspect_symbol_to};
-pub use symbol::reading::{
-    BlockReading, ReadOptions, SymbolReading, SymbolReadingIn, read_symbol_to,
-};
-pub use symbol::writing::{WriteOptions, write_smallest_to, write_symbol_to};
+pub use symbol::reading::{BlockReading, ReadOptions};
+pub use symbol::writing::{WriteOptions, write_smallest_to};
 pub use writing::{light_grid, write, write_as, write_to};

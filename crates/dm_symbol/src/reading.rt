@@ -6,11 +6,11 @@ ghost use Rattle.dm_words.specs.Outcomes.{outcome};
 ghost use Rattle.dm_symbol.specs.Reading.{IsRead, reading_of};
 
 use crate::symbol::dealing::Dealing;
-use crate::symbol::reading::{BlockReading, ReadOptions, read_parts};
+use crate::symbol::reading::{BlockReading, Lost, ReadOptions, restore_to};
 use arrayvec::ArrayVec;
 use dm_layout::symbols::SymbolWordsIn;
 use dm_layout::{Grid, MOST_GRID_BLOCKS, MOST_GRID_CODEWORDS};
-use dm_words::{Extent, Message, WordFault};
+use dm_words::{Extent, Message, WordFault, message_to_as};
 
 /// How many codewords the room has that serves for small squares, up to 32 x 32.
 const FEW_CODEWORDS: usize = 98;
@@ -106,17 +106,21 @@ fn read_by<const WORDS: usize>(
         border_limit,
         doubtful: None,
     };
-    match read_parts(
+    match restore_to(
         grid.as_symbol(),
         how,
         &mut words,
-        &mut reading.message,
         &mut dealing,
         &mut blocks,
         &mut reading.border_faults,
     ) {
         Ok(()) => {}
-        Err(fault) => return Err(fault),
+        Err(Lost::Border(count)) => return Err(ReadFault::Border(count)),
+        Err(Lost::Block(index)) => return Err(ReadFault::Block(index)),
+    }
+    match message_to_as(Extent::Usual, words.data_part(), &mut reading.message) {
+        Ok(()) => {}
+        Err(fault) => return Err(ReadFault::Words(fault)),
     }
     reading.corrected = corrected_in(&blocks);
     Ok(())

@@ -9,9 +9,8 @@ use dm_layout::symbols::MOST_ROWS;
 use dm_layout::{Grid, LARGEST_SIDE, MOST_GRID_CODEWORDS, Size, Words, table};
 use dm_symbol::{
     Extent, LetterReadFault, LetterReading, Message, NormalFault, Profile, ReadFault, ReadOptions,
-    Reading, SizeChoice, Symbol, SymbolInspection, SymbolReading, SymbolSize, SymbolWords, TooLong,
-    inspect_symbol_to, light_grid, normal_letter_to, read_letter_to, read_symbol_to,
-    write_smallest_letter_to,
+    Reading, SizeChoice, Symbol, SymbolInspection, SymbolSize, SymbolWords, TooLong,
+    inspect_symbol_to, light_grid, normal_letter_to, read_letter_to, write_smallest_letter_to,
 };
 use gf301::{Poly, generator};
 
@@ -172,8 +171,8 @@ pub(crate) fn symbol_of(grid: &Grid) -> Option<Symbol> {
 pub(crate) fn read_symbol(
     symbol: &Symbol,
     how: ReadOptions<MOST_ROWS>,
-    reading: &mut SymbolReading,
-) -> Option<Result<(), ReadFault>> {
+    reading: &mut LetterReading,
+) -> Option<Result<(), LetterReadFault>> {
     if let Some(doubtful) = how.doubtful {
         if doubtful.size() != symbol.size() {
             return None;
@@ -183,10 +182,10 @@ pub(crate) fn read_symbol(
     // For the proof alone: what these ensure says that there is room.
     let _room = (size.data_count(), size.check_count());
     let mut words = SymbolWords::zeros(size);
-    Some(read_symbol_to(symbol, how, &mut words, reading))
+    Some(read_letter_to(symbol, how, &mut words, reading))
 }
 
-/// Reads a symbol as a letter into `reading`, with no border fault.
+/// Reads a symbol none of whose modules is doubtful into `reading`, with no border fault.
 pub(crate) fn read_letter(
     extent: Extent,
     symbol: &Symbol,
@@ -271,8 +270,8 @@ pub(crate) fn read_doubtful(
     grid: &Grid,
     doubtful: &Grid,
     limit: u16,
-    reading: &mut SymbolReading,
-) -> Option<Result<(), ReadFault>> {
+    reading: &mut LetterReading,
+) -> Option<Result<(), LetterReadFault>> {
     let doubtful = symbol_of(doubtful)?;
     let how = ReadOptions {
         extent: Extent::Usual,

@@ -1,28 +1,25 @@
--- What normalising a symbol gives, by what reading it as a message gives.
-use Rattle.std.proofs.Common.{◌≡◌, ◌≢◌, ◌⊎◌, inl, inr, ℕ, Option, Result, Ok, Err, refl, sym, ◌∙◌, ap}
+-- What normalising a symbol gives, by the letter that it is read as.
+use Rattle.std.proofs.Common.{◌≡◌, ℕ, Option, Result, Ok, Err, refl, sym, ◌∙◌, ap, subst}
 use Rattle.std.proofs.lemmas.Bool.{false≢true}
 use Rattle.dm_symbol.specs.declared.Extent.{Extent}
 use Rattle.dm_symbol.specs.declared.Extent.TheVariants.{Usual}
+use Rattle.dm_symbol.specs.declared.LetterNormalFault.{LetterNormalFault}
 use Rattle.dm_symbol.specs.declared.LetterNormalFault.TheVariants as of_letter
-use Rattle.dm_symbol.specs.declared.NormalFault.{NormalFault}
-use Rattle.dm_symbol.specs.declared.NormalFault.TheVariants as of_message
 use Rattle.dm_symbol.specs.declared.Profile.{Profile}
-use Rattle.dm_symbol.specs.declared.ReadFault.{ReadFault}
 use Rattle.dm_symbol.specs.declared.SizeChoice.TheVariants.{Square}
 use Rattle.dm_symbol.specs.declared.TooLong.{TooLong}
 use Rattle.dm_words.specs.Letters.{LetterView}
 use Rattle.dm_words.specs.LetterExtents.{as_letter}
 use Rattle.dm_layout.specs.symbols.Symbols.{SymbolView}
-use Rattle.dm_symbol.specs.LetterLaws.{letter_fault}
 use Rattle.dm_symbol.specs.LetterNormal.{NormalLetterResult}
-use Rattle.dm_symbol.specs.LetterReading.{ReadsLetter}
-use Rattle.dm_symbol.specs.NormalLetter.{IsLetterWritten}
 use Rattle.dm_symbol.specs.NormalOutcomes.{IsNormalOrFault}
-use Rattle.dm_symbol.specs.SymbolNormal.{NormalSymbolResult}
-use Rattle.dm_symbol.proofs.Exported.{fault_tells_of_letters, message_reads_letter, one_normal_letter_result}
+use Rattle.dm_symbol.specs.LetterReading.{LetterReadResult, ReadsLetter}
+use Rattle.dm_symbol.specs.NormalLetter.{IsLetterWritten, IsNormalOfLetter, LetterFits}
+use Rattle.dm_symbol.proofs.Exported.{read_letter_right, usual_fault}
 use Rattle.ecc200_calls.specs.declared.form.Form.TheVariants.{Profiled}
 use Rattle.ecc200_calls.specs.declared.symbol.SymbolOut.{SymbolOut}
-use Rattle.ecc200_calls.specs.Laws.{normal_message_shown}
+use Rattle.ecc200_calls.specs.Faults.{read_letter_fault}
+use Rattle.ecc200_calls.specs.Laws.{IsNormalMessageGiven, MessagesAreNormalised}
 use Rattle.ecc200_calls.specs.Symbols.{IsNormalGiven, no_symbol, normal_shown}
 use Rattle.ecc200_calls.specs.Writings.{IsLetterGiven, symbol_given}
 use Rattle.ecc200_calls.proofs.ReadLetters.{same_fault}
@@ -39,56 +36,38 @@ module _ (extent : Extent) (profile : Profile) (symbol : SymbolView) (doubtful :
           → after ≡ symbol_given result before → IsNormalGiven extent profile symbol doubtful limit before after
       by (Ok normal) is shown = record {
         result = Ok normal;
-        result_is = NormalLetterResult.normal normal
+        result_is = IsNormalOrFault.normal normal
             (record { letter = letter; read = reads; normal_symbol = is.written }) refl;
         shown = shown;
       }
       by (Err why) is shown = record {
         result = Err of_letter.TooLong;
-        result_is = NormalLetterResult.too_long
+        result_is = IsNormalOrFault.too_long
             (record { letter = letter; read = reads; too_long = λ fits. false≢true (is.fits.1 fits) }) refl;
         shown = shown;
       }
 
-  -- What is given for a symbol in the extent `Usual`, and where it is read as a message, is what normalising it as a
-  -- message gives.
-  pub message_normalised : (result : Result SymbolView NormalFault)
-      → (extent ≡ Usual) ⊎ ((why : ReadFault) → result ≢ Err (of_message.Read why))
-      → NormalSymbolResult extent profile symbol doubtful limit result
-      → IsNormalGiven extent profile symbol doubtful limit before after → after ≡ normal_message_shown result before
-  message_normalised result when (IsNormalOrFault.normal normal h e) given =
-      given.shown
-      ∙ ap (λ r. normal_shown r before)
-      (one_normal_letter_result extent profile symbol doubtful limit given.result (Ok normal) given.result_is
-      (NormalLetterResult.normal normal
-      (record {
-        letter = as_letter h.message;
-        read = message_reads_letter symbol doubtful limit extent h.message h.read;
-        normal_symbol = h.normal_symbol;
-      }) refl))
-      ∙ ap (λ r. normal_message_shown r before) (sym e)
-  message_normalised result when (IsNormalOrFault.too_long h e) given =
-      given.shown
-      ∙ ap (λ r. normal_shown r before)
-      (one_normal_letter_result extent profile symbol doubtful limit given.result (Err of_letter.TooLong)
-      given.result_is
-      (NormalLetterResult.too_long
-      (record {
-        letter = as_letter h.message;
-        read = message_reads_letter symbol doubtful limit extent h.message h.read;
-        too_long = h.too_long;
-      }) refl))
-      ∙ ap (λ r. normal_message_shown r before) (sym e)
-  message_normalised result when (IsNormalOrFault.fault why h e) given =
-      elim when [
-        | inr read ↦ absurd (read why e)
-        | inl usual ↦
-            given.shown
-            ∙ ap (λ r. normal_shown r before)
-            (one_normal_letter_result extent profile symbol doubtful limit given.result
-            (Err (of_letter.Read (letter_fault why))) given.result_is
-            (NormalLetterResult.fault (letter_fault why)
-            (fault_tells_of_letters symbol doubtful limit extent why (inl usual) h) refl))
-            ∙ ap (λ f. no_symbol f before) (sym (same_fault why))
-            ∙ ap (λ r. normal_message_shown r before) (sym e)
-      ]
+-- In the extent `Usual` the normal symbol of a message is given, or that there is none, or a fault of messages.
+pub message_normalised : MessagesAreNormalised
+message_normalised profile symbol doubtful limit before after given = by given.result given.result_is given.shown
+  where
+    as_message : (l : LetterView) → ReadsLetter Usual symbol doubtful limit l → l ≡ as_letter l.items
+    as_message l reads = (read_letter_right symbol doubtful Usual limit l reads).1
+
+    by : (result : Result SymbolView LetterNormalFault) → NormalLetterResult Usual profile symbol doubtful limit result
+        → after ≡ normal_shown result before → IsNormalMessageGiven profile symbol doubtful limit before after
+    by result (IsNormalOrFault.normal n h e) shown =
+        let same = as_message h.letter h.read in
+        IsNormalMessageGiven.normal h.letter.items n (subst (ReadsLetter Usual symbol doubtful limit) same h.read)
+        (subst (λ l. IsNormalOfLetter profile l n) same h.normal_symbol)
+        (shown ∙ ap (λ r. normal_shown r before) e)
+    by result (IsNormalOrFault.too_long h e) shown =
+        let same = as_message h.letter h.read in
+        IsNormalMessageGiven.no_square h.letter.items (subst (ReadsLetter Usual symbol doubtful limit) same h.read)
+        (subst (λ l. LetterFits Square profile l → ⊥) same h.too_long) (shown ∙ ap (λ r. normal_shown r before) e)
+    by result (IsNormalOrFault.fault why read e) shown =
+        let f = usual_fault symbol doubtful limit why read in
+        IsNormalMessageGiven.fault f.0 (subst (λ w. LetterReadResult Usual symbol doubtful limit (Err w)) f.1 read)
+        (shown ∙ ap (λ r. normal_shown r before) e
+        ∙ ap (λ w. no_symbol (read_letter_fault w) before) f.1
+        ∙ ap (λ w. no_symbol w before) (sym (same_fault f.0)))

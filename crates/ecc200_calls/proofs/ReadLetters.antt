@@ -1,7 +1,6 @@
--- What reading a symbol as a message tells of what is given for it.
-use Rattle.std.proofs.Common.{◌≡◌, ◌⊎◌, ℕ, List, Option, Result, Ok, Err, IsOk, refl, sym, ◌∙◌, ap}
+-- What is given for a symbol in the extent `Usual`: a message, or a fault of messages.
+use Rattle.std.proofs.Common.{◌≡◌, ℕ, List, Option, Result, Ok, Err, refl, sym, ◌∙◌, ap, subst}
 use Rattle.dm_symbol.specs.declared.Dealing.{Dealing}
-use Rattle.dm_symbol.specs.declared.Extent.{Extent}
 use Rattle.dm_symbol.specs.declared.Extent.TheVariants.{Usual}
 use Rattle.dm_symbol.specs.declared.Head.{Head}
 use Rattle.dm_symbol.specs.declared.Item.{Item}
@@ -10,18 +9,15 @@ use Rattle.dm_symbol.specs.declared.Mark.{Mark}
 use Rattle.dm_symbol.specs.declared.ReadFault.{ReadFault}
 use Rattle.dm_symbol.specs.declared.ReadFault.TheVariants.{Border, Block, Words}
 use Rattle.dm_words.specs.Letters.{LetterView}
-use Rattle.dm_words.specs.LetterExtents.{as_letter}
 use Rattle.dm_layout.specs.symbols.Sizes.{SizeEntry}
-use Rattle.dm_layout.specs.symbols.Symbols.{SymbolView}
 use Rattle.dm_symbol.specs.declared.BlockReading.{BlockReading}
-use Rattle.dm_symbol.specs.SymbolReading.{ReadingView, SymbolReadResult}
-use Rattle.dm_symbol.specs.LetterReading.{LetterReadingView, letter_reading_of}
-use Rattle.dm_symbol.specs.LetterLaws.{letter_fault, SayTheSame}
-use Rattle.dm_symbol.proofs.Exported.{results_say_the_same}
+use Rattle.dm_symbol.specs.LetterReading.{LetterReadingView, LetterReadResult, letter_reading_of}
+use Rattle.dm_symbol.specs.Reading.{letter_fault}
+use Rattle.dm_symbol.proofs.Exported.{read_letter_right, reads_letter_by_result, usual_fault}
 use Rattle.ecc200_calls.specs.declared.reading.ReadingOut.{ReadingOut}
 use Rattle.ecc200_calls.specs.Faults.{read_fault, read_letter_fault}
-use Rattle.ecc200_calls.specs.Laws.{IsMessageShown}
-use Rattle.ecc200_calls.specs.Readings.{IsReadingGiven, no_reading, reading_shown, result_shown}
+use Rattle.ecc200_calls.specs.Laws.{IsMessageGiven, MessagesAreGiven}
+use Rattle.ecc200_calls.specs.Readings.{no_reading, reading_shown, result_shown}
 
 -- A fault of reading messages is the same one of reading letters.
 pub same_fault : (why : ReadFault) → read_fault why ≡ read_letter_fault (letter_fault why)
@@ -50,35 +46,18 @@ shown_alike size other l k dealing blocks others identifier faults before same_s
     of : SizeEntry → LetterView → List BlockReading → ReadingOut
     of s x b = reading_shown s.rows s.columns (letter_reading_of x identifier dealing b faults) before
 
-module _ (extent : Extent) (symbol : SymbolView) (doubtful : Option SymbolView) (limit rows columns : ℕ)
-    (before after : ReadingOut) where
-  -- What says the same as the result of reading a message is shown as it.
-  same_shown : (result : Result ReadingView ReadFault) (of_letter : Result LetterReadingView LetterReadFault)
-      → SayTheSame result of_letter → after ≡ result_shown rows columns of_letter before
-      → IsMessageShown rows columns result before after
-  same_shown (Ok reading) (Ok letter) (is, dealing, blocks, faults) shown = (
-    letter.identifier,
-    shown ∙ ap (λ (l : LetterView). of l letter.dealing letter.blocks letter.border_faults) is
-        ∙ ap (λ (d : Dealing). of (as_letter reading.message) d letter.blocks letter.border_faults) dealing
-        ∙ ap (λ (b : List BlockReading). of (as_letter reading.message) reading.dealing b letter.border_faults) blocks
-        ∙ ap (λ n. of (as_letter reading.message) reading.dealing reading.blocks n) faults,
-  )
-    where
-      of : LetterView → Dealing → List BlockReading → ℕ → ReadingOut
-      of l dealing blocks faults =
-          reading_shown rows columns (letter_reading_of l letter.identifier dealing blocks faults) before
-  same_shown (Ok reading) (Err why) never shown = absurd never
-  same_shown (Err why) (Ok letter) never shown = absurd never
-  same_shown (Err why) (Err other) is shown =
-      shown ∙ ap (λ f. no_reading (read_letter_fault f) before) is
-      ∙ ap (λ f. no_reading f before) (sym (same_fault why))
-
-  -- What is given for a symbol in the extent `Usual`, and where it is read as a message, is what reading it as a
-  -- message gives.
-  pub message_shown : (result : Result ReadingView ReadFault) → (extent ≡ Usual) ⊎ IsOk result
-      → SymbolReadResult extent symbol doubtful limit result
-      → IsReadingGiven extent rows columns symbol doubtful limit before after
-      → IsMessageShown rows columns result before after
-  message_shown result when read given =
-      same_shown result given.result
-      (results_say_the_same symbol doubtful limit extent result given.result when read given.result_is) given.shown
+-- In the extent `Usual` a message is given, or a fault of messages.
+pub message_given : MessagesAreGiven
+message_given rows columns symbol doubtful limit before after given = by given.result given.result_is given.shown
+  where
+    by : (result : Result LetterReadingView LetterReadFault) → LetterReadResult Usual symbol doubtful limit result
+        → after ≡ result_shown rows columns result before
+        → IsMessageGiven rows columns symbol doubtful limit before after
+    by (Ok reading) read shown =
+        let reads = reads_letter_by_result symbol doubtful Usual limit (Ok reading) reading.letter read refl in
+        IsMessageGiven.read reading read (read_letter_right symbol doubtful Usual limit reading.letter reads).1 shown
+    by (Err why) read shown =
+        let f = usual_fault symbol doubtful limit why read in
+        IsMessageGiven.fault f.0 (subst (λ w. LetterReadResult Usual symbol doubtful limit (Err w)) f.1 read)
+        (shown ∙ ap (λ w. no_reading (read_letter_fault w) before) f.1
+        ∙ ap (λ w. no_reading w before) (sym (same_fault f.0)))

@@ -26,9 +26,10 @@ use Rattle.dm_symbol.specs.Ascii.{ascii}
 use Rattle.dm_words.specs.Smallest.{IsTaken, IsSmaller}
 use Rattle.dm_layout.specs.symbols.Words.{WordsView, IsWords, data_of}
 use Rattle.dm_layout.proofs.symbols.Exported.{at_found, found_passes, same_size, size_facts}
-use Rattle.dm_words.specs.Letters.{LetterView, HasMarkRoom}
+use Rattle.dm_words.specs.Letters.{LetterView}
+use Rattle.dm_words.specs.LetterExtents.{as_letter}
 use Rattle.dm_words.specs.LetterForm.{letter_form}
-use Rattle.ecc200_calls.specs.inner.Rooms.{AreWordsFor, IsRoom, HasRoom, HasRoomToWrite}
+use Rattle.ecc200_calls.specs.inner.Rooms.{IsRoom, HasRoom, HasRoomToWrite}
 use Rattle.ecc200_calls.specs.inner.Rooms.{AreWordsForLetter, HasRoomForLetter}
 use Rattle.ecc200_calls.specs.inner.Restored.{HasRoomToSay}
 
@@ -108,12 +109,6 @@ pub room_to_say : (rows words items marks : ℕ) (size other : SizeEntry) → Ha
 room_to_say rows words items marks size other has same =
     rw same
     (record { spelled = has.spelled; most = has.most; marked = has.marked; few_marks = has.few_marks })
-
--- It has room for the marks that its codewords say.
-pub room_for_marks : (items marks : ℕ) (words : WordsView) → HasRoomToSay items marks words.size.data_count
-    → HasMarkRoom marks (data_of words)
-room_for_marks items marks words has =
-    inl (omega (arith, has.marked, length-take words.size.data_count words.list))
 
 -- There is room in the small room, in the middle one, and in the largest.
 pub small_room : (size : SizeEntry) → IsSize size → size.data_count ≤ 62 → HasRoom 32 98 131 31 size
@@ -221,14 +216,10 @@ abbrev by_area : ℕ → ℕ → SizeEntry → Bool
 by_area most modules size =
     cond (nat_le size.data_count most) (nat_le (area size) modules) (nat_le (suc modules) (area size))
 
--- That is so for the small room and for the middle one: this is computed.
+-- That is so for the small room: this is computed.
 small_by_area : list_all (by_area 62 1024) size_table ≡ true
 unfolding size_table
 small_by_area = refl
-
-middle_by_area : list_all (by_area 816 10816) size_table ≡ true
-unfolding size_table
-middle_by_area = refl
 
 -- So a size with at most as many data codewords is smaller than one with more.
 fewer_is_smaller : (most modules : ℕ) → list_all (by_area most modules) size_table ≡ true
@@ -252,29 +243,41 @@ fewer_is_smaller most modules all size other entry other_entry many few =
         (recursion_from_All (λ t. by_area most modules t ≡ true) size_table
         (AllPass-from_list_all (by_area most modules) size_table all)) stands
 
+-- Where one size is asked for, a size that the choice takes is the one that it gives.
+asked_is : (choice : SizeChoice) (r c count : ℕ) (size other : SizeEntry) → choice ≡ Exact r c → IsTaken choice size
+    → entry_for choice count ≡ Some other → IsSize other → size ≡ other
+asked_is choice r c count size other e taken found entry =
+    let mine = exact_sides size (subst (λ ch. takes ch size ≡ true) e taken.1) in
+    let its =
+    exact_sides other (subst (λ ch. takes ch other ≡ true) e
+    (and_parts (takes choice other) (nat_le count other.data_count)
+    (found_passes (λ s. takes choice s && nat_le count s.data_count) size_table other found)).0) in
+    same_size size other taken.0 entry (mine.0 ∙ sym its.0) (mine.1 ∙ sym its.1)
+  where
+    exact_sides : (s : SizeEntry) → takes (Exact r c) s ≡ true → (s.rows ≡ r) × (s.columns ≡ c)
+    exact_sides s t =
+        let both = and_parts (nat_eq s.rows r) (nat_eq s.columns c) t in
+        (eqb-true _ _ both.0, eqb-true _ _ both.1)
+
 -- Where a choice gives a size with so few data codewords, in either way of looking for one, there is room for the
--- symbol in which a message is written.
+-- smallest symbol of a message.
 module _ (most rows words modules : ℕ) (each : list_all (fits most rows words) size_table ≡ true)
-    (split : splits most size_table ≡ true) (areas : list_all (by_area most modules) size_table ≡ true)
-    (some : 3 ≤ most) (bounded : most ≤ most_data) (is : IsRoom rows words)
+    (areas : list_all (by_area most modules) size_table ≡ true) (is : IsRoom rows words)
   where
     to_write : (choice : SizeChoice) (message : List Item) (count : ℕ) (other : SizeEntry)
-        → AreWordsFor choice message count → entry_for choice count ≡ Some other → IsSize other
-        → other.data_count ≤ most → HasRoomToWrite most rows words choice message
-    to_write choice message count other (AreWordsFor.enough codewords) found entry small = record {
-      some_data = some;
-      few_data = bounded;
+        → AreWordsForLetter choice (as_letter message) count → entry_for choice count ≡ Some other → IsSize other
+        → other.data_count ≤ most → HasRoomToWrite rows words choice message
+    to_write choice message count other (AreWordsForLetter.enough codewords) found entry small = record {
       room = is;
-      written = λ profile. at_most profile (entry_for choice (length (normal_form profile message))) refl;
       smallest = λ size taken least. by_size size taken least (nat_le size.data_count most) refl;
     }
       where
-        test : SizeEntry → Bool
-        test s = takes choice s && nat_le count s.data_count
-
         other_passes : (takes choice other ≡ true) × (nat_le count other.data_count ≡ true)
-        other_passes =
-            and_parts (takes choice other) (nat_le count other.data_count) (found_passes test size_table other found)
+        other_passes = and_parts (takes choice other) (nat_le count other.data_count)
+            (found_passes (λ s. takes choice s && nat_le count s.data_count) size_table other found)
+
+        in_ascii : length (ascii message) ≤ count
+        in_ascii = codewords Ascii
 
         by_size : (size : SizeEntry) → IsTaken choice size
             → ((smaller : SizeEntry) → IsTaken choice smaller → length (ascii message) ≤ smaller.data_count
@@ -286,52 +289,15 @@ module _ (most rows words modules : ℕ) (each : list_all (fits most rows words)
             (leb-true _ _ t)
         by_size size taken least false t =
             absurd (least other (entry, other_passes.0)
-            (omega (arith, codewords Ascii, leb-true count other.data_count other_passes.1))
+            (omega (arith, in_ascii, leb-true count other.data_count other_passes.1))
             (inl (fewer_is_smaller most modules areas size other taken.0 entry t small)))
-
-        at_most : (profile : Profile) (o : Option SizeEntry)
-            → entry_for choice (length (normal_form profile message)) ≡ o
-            → IfSome o (λ size. IsRoomFor size most rows words)
-        at_most profile None f = tt
-        at_most profile (Some size) f =
-            let small_too =
-            fewer_found most choice (length (normal_form profile message)) count (codewords profile) size_table split
-            size other f found small in
-            let sides =
-            few most rows words each
-            (λ s. takes choice s && nat_le (length (normal_form profile message)) s.data_count) size f small_too in
-            (small_too, sides.0, sides.1)
-    to_write choice message count other (AreWordsFor.asked r c e) found entry small = record {
-      some_data = some;
-      few_data = bounded;
+    to_write choice message count other (AreWordsForLetter.asked r c e) found entry small = record {
       room = is;
-      written = λ profile. room_for_each choice (normal_form profile message) most rows words (λ size taken.
-          let mine = exact_sides size (subst (λ ch. takes ch size ≡ true) e taken.1) in
-          let its =
-          exact_sides other (subst (λ ch. takes ch other ≡ true) e
-          (and_parts (takes choice other) (nat_le count other.data_count)
-          (found_passes (λ s. takes choice s && nat_le count s.data_count) size_table other found)).0) in
-          let same : size ≡ other = same_size size other taken.0 entry (mine.0 ∙ sym its.0) (mine.1 ∙ sym its.1) in
-          let small_too : size.data_count ≤ most = subst (λ (s : SizeEntry). s.data_count ≤ most) (sym same) small in
-          let sides =
-          few most rows words each (λ s. nat_eq s.rows size.rows && nat_eq s.columns size.columns) size taken.0
-          small_too in
-          (small_too, sides.0, sides.1));
       smallest = λ size taken least.
-          let mine = exact_sides size (subst (λ ch. takes ch size ≡ true) e taken.1) in
-          let its =
-          exact_sides other (subst (λ ch. takes ch other ≡ true) e
-          (and_parts (takes choice other) (nat_le count other.data_count)
-          (found_passes (λ s. takes choice s && nat_le count s.data_count) size_table other found)).0) in
-          let same : size ≡ other = same_size size other taken.0 entry (mine.0 ∙ sym its.0) (mine.1 ∙ sym its.1) in
           few most rows words each (λ s. nat_eq s.rows size.rows && nat_eq s.columns size.columns) size taken.0
-          (subst (λ (s : SizeEntry). s.data_count ≤ most) (sym same) small);
+          (subst (λ (s : SizeEntry). s.data_count ≤ most)
+          (sym (asked_is choice r c count size other e taken found entry)) small);
     }
-      where
-        exact_sides : (s : SizeEntry) → takes (Exact r c) s ≡ true → (s.rows ≡ r) × (s.columns ≡ c)
-        exact_sides s t =
-            let both = and_parts (nat_eq s.rows r) (nat_eq s.columns c) t in
-            (eqb-true _ _ both.0, eqb-true _ _ both.1)
 
 -- Where a choice gives a size with so few data codewords for the codewords of a letter, there is room for the symbol in
 -- which the letter is written under a profile.
@@ -365,23 +331,13 @@ module _ (most rows words : ℕ) (each : list_all (fits most rows words) size_ta
       few_data = bounded;
       room = is;
       written = λ profile. room_for_each choice (letter_form profile letter) most rows words (λ size taken.
-          let mine = exact_sides size (subst (λ ch. takes ch size ≡ true) e taken.1) in
-          let its =
-          exact_sides other (subst (λ ch. takes ch other ≡ true) e
-          (and_parts (takes choice other) (nat_le count other.data_count)
-          (found_passes (λ s. takes choice s && nat_le count s.data_count) size_table other found)).0) in
-          let same : size ≡ other = same_size size other taken.0 entry (mine.0 ∙ sym its.0) (mine.1 ∙ sym its.1) in
-          let small_too : size.data_count ≤ most = subst (λ (s : SizeEntry). s.data_count ≤ most) (sym same) small in
+          let small_too : size.data_count ≤ most = subst (λ (s : SizeEntry). s.data_count ≤ most)
+          (sym (asked_is choice r c count size other e taken found entry)) small in
           let sides =
           few most rows words each (λ s. nat_eq s.rows size.rows && nat_eq s.columns size.columns) size taken.0
           small_too in
           (small_too, sides.0, sides.1));
     }
-      where
-        exact_sides : (s : SizeEntry) → takes (Exact r c) s ≡ true → (s.rows ≡ r) × (s.columns ≡ c)
-        exact_sides s t =
-            let both = and_parts (nat_eq s.rows r) (nat_eq s.columns c) t in
-            (eqb-true _ _ both.0, eqb-true _ _ both.1)
 
 -- A size that spells at most so many items has few data codewords.
 few_data : (most count : ℕ) → most_spelled Wide count ≤ 2 * most + 7 → count ≤ most
@@ -390,20 +346,11 @@ few_data most (suc count) le = omega arith
 
 -- So it is for the small room and for the middle one.
 pub small_to_write : (choice : SizeChoice) (message : List Item) (count : ℕ) (other : SizeEntry)
-    → AreWordsFor choice message count → entry_for choice count ≡ Some other → IsSize other → HasRoom 32 98 131 31 other
-    → HasRoomToWrite 62 32 98 choice message
+    → AreWordsForLetter choice (as_letter message) count → entry_for choice count ≡ Some other → IsSize other
+    → HasRoom 32 98 131 31 other → HasRoomToWrite 32 98 choice message
 small_to_write choice message count other are found entry room =
-    to_write 62 32 98 1024 small_fits small_splits small_by_area (omega arith) (omega arith) is_small choice message
-    count other are found entry
+    to_write 62 32 98 1024 small_fits small_by_area is_small choice message count other are found entry
     (few_data 62 other.data_count (room.spelled Wide))
-
-pub middle_to_write : (choice : SizeChoice) (message : List Item) (count : ℕ) (other : SizeEntry)
-    → AreWordsFor choice message count → entry_for choice count ≡ Some other → IsSize other
-    → HasRoom 104 1152 1639 408 other → HasRoomToWrite 816 104 1152 choice message
-middle_to_write choice message count other are found entry room =
-    to_write 816 104 1152 10816 middle_fits middle_splits middle_by_area (omega arith) (omega arith) is_middle choice
-    message count other are found entry
-    (few_data 816 other.data_count (room.spelled Wide))
 
 pub small_for_letter : (choice : SizeChoice) (letter : LetterView) (count : ℕ) (other : SizeEntry)
     → AreWordsForLetter choice letter count → entry_for choice count ≡ Some other → IsSize other
@@ -438,18 +385,11 @@ middle_square = entry_of 104 104 24 24 4 4 816 336 6 false
 
 -- A message of which no normal form has more codewords than these have data codewords is written in one of their room.
 pub square_in_small : (message : List Item) → ((profile : Profile) → length (normal_form profile message) ≤ 62)
-    → HasRoomToWrite 62 32 98 Square message
+    → HasRoomToWrite 32 98 Square message
 unfolding size_table
 square_in_small message few =
-    small_to_write Square message 62 small_square (AreWordsFor.enough few) refl refl
+    small_to_write Square message 62 small_square (AreWordsForLetter.enough few) refl refl
     (small_room small_square refl (omega arith))
-
-pub square_in_middle : (message : List Item) → ((profile : Profile) → length (normal_form profile message) ≤ 816)
-    → HasRoomToWrite 816 104 1152 Square message
-unfolding size_table
-square_in_middle message few =
-    middle_to_write Square message 816 middle_square (AreWordsFor.enough few) refl refl
-    (middle_room middle_square refl (omega arith))
 
 -- So it is of a letter.
 pub square_for_letter_in_small : (letter : LetterView)
@@ -484,16 +424,9 @@ largest_for_letter choice letter = record {
 }
 
 -- In the largest room there is always room.
-pub largest_to_write : (choice : SizeChoice) (message : List Item) → HasRoomToWrite 1558 144 2178 choice message
-largest_to_write choice message = record {
-  some_data = omega arith;
-  few_data = omega arith;
-  room = is_largest;
-  written =
-      λ profile. room_for_most choice (normal_form profile message) 1558 144 2178 (omega arith) (omega arith)
-      (omega arith);
-  smallest = smallest_room_for_most choice message 144 2178 (omega arith) (omega arith);
-}
+pub largest_to_write : (choice : SizeChoice) (message : List Item) → HasRoomToWrite 144 2178 choice message
+largest_to_write choice message =
+    record { room = is_largest; smallest = smallest_room_for_most choice message 144 2178 (omega arith) (omega arith) }
 
 -- The codewords of a symbol fit an array that holds those of the largest.
 pub words_fit : (words : WordsView) → IsWords words → length words.list ≤ most_codewords

@@ -10,8 +10,6 @@ use Rattle.dm_symbol.specs.declared.LetterReadFault.{LetterReadFault}
 use Rattle.dm_symbol.specs.declared.LetterReadFault.TheVariants as read_letter
 use Rattle.dm_symbol.specs.declared.LetterNormalFault.{LetterNormalFault}
 use Rattle.dm_symbol.specs.declared.LetterNormalFault.TheVariants as normal_letter
-use Rattle.dm_symbol.specs.declared.NormalFault.{NormalFault}
-use Rattle.dm_symbol.specs.declared.NormalFault.TheVariants as normal
 use Rattle.ecc200_calls.specs.declared.fault.Fault.{Fault}
 
 -- A fault has these three numbers.
@@ -64,11 +62,7 @@ read_letter_fault (read_letter.Words why) = letter_fault why
 abbrev pub too_long : Fault
 too_long = fault 14 0 0
 
--- A symbol has no normal symbol of a message, or of a letter.
-abbrev pub normal_fault : NormalFault → Fault
-normal_fault (normal.Read why) = read_fault why
-normal_fault normal.TooLong = too_long
-
+-- A symbol has no normal symbol.
 abbrev pub normal_letter_fault : LetterNormalFault → Fault
 normal_letter_fault (normal_letter.Read why) = read_letter_fault why
 normal_letter_fault normal_letter.TooLong = too_long

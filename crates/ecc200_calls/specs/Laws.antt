@@ -1,23 +1,21 @@
 -- What holds of the modules of all symbols, and of messages, which are letters without a head and marks.
-use Rattle.std.specs.Prelude.{◌≡◌, ◌≢◌, ℕ, ◌*◌, List, [], take, get_or, min, Option, None, Result, Ok, Err, IsOk, ◌⊎◌}
+use Rattle.std.specs.Prelude.{◌≡◌, ℕ, ◌*◌, List, [], take, get_or, min, Option, None, Ok, Err}
 use Rattle.dm_layout.specs.symbols.Symbols.{SymbolView, IsSymbol}
-use Rattle.dm_symbol.specs.declared.Extent.{Extent}
+use Rattle.dm_words.specs.LetterExtents.{as_letter}
 use Rattle.dm_symbol.specs.declared.Extent.TheVariants.{Usual}
 use Rattle.dm_symbol.specs.declared.Item.{Item}
-use Rattle.dm_symbol.specs.declared.NormalFault.{NormalFault}
-use Rattle.dm_symbol.specs.declared.NormalFault.TheVariants as of_message
 use Rattle.dm_symbol.specs.declared.Profile.{Profile}
 use Rattle.dm_symbol.specs.declared.ReadFault.{ReadFault}
 use Rattle.dm_symbol.specs.declared.SizeChoice.{SizeChoice}
+use Rattle.dm_symbol.specs.declared.SizeChoice.TheVariants.{Square}
+use Rattle.dm_symbol.specs.LetterReading.{LetterReadingView, LetterReadResult, ReadsLetter}
 use Rattle.dm_symbol.specs.Messages.{IsMessage}
-use Rattle.dm_symbol.specs.MessageLetters.{letter_reading_with}
-use Rattle.dm_symbol.specs.NormalSymbol.{FitsChoice, IsWrittenIn}
-use Rattle.dm_symbol.specs.SymbolNormal.{NormalSymbolResult}
-use Rattle.dm_symbol.specs.SymbolReading.{ReadingView, SymbolReadResult}
+use Rattle.dm_symbol.specs.NormalLetter.{IsLetterWrittenIn, IsNormalOfLetter, LetterFits}
+use Rattle.dm_symbol.specs.Reading.{letter_fault}
 use Rattle.ecc200_calls.specs.declared.form.Form.TheVariants.{Profiled}
 use Rattle.ecc200_calls.specs.declared.reading.ReadingOut.{ReadingOut}
 use Rattle.ecc200_calls.specs.declared.symbol.SymbolOut.{SymbolOut}
-use Rattle.ecc200_calls.specs.Faults.{foreign, normal_fault, read_fault, too_long}
+use Rattle.ecc200_calls.specs.Faults.{foreign, read_fault, too_long}
 use Rattle.ecc200_calls.specs.Items.{IsFirstForeign, numbers_of}
 use Rattle.ecc200_calls.specs.Modules.{AreModulesOf}
 use Rattle.ecc200_calls.specs.Readings.{IsReadingGiven, no_reading, reading_shown}
@@ -36,22 +34,21 @@ OneSymbolIsMade =
     (rows columns : ℕ) (modules : List ℕ) (symbol other : SymbolView) → AreModulesOf rows columns modules symbol
     → AreModulesOf rows columns modules other → symbol ≡ other
 
--- What reading a symbol as a message gives is shown: the message, which has no head and no marks, with some number of
--- the identifier; or its fault.
-abbrev pub IsMessageShown : ℕ → ℕ → Result ReadingView ReadFault → ReadingOut → ReadingOut → Type 0
-IsMessageShown rows columns (Ok reading) before after =
-    (identifier : ℕ) × (after ≡ reading_shown rows columns (letter_reading_with identifier reading) before)
-IsMessageShown rows columns (Err why) before after = after ≡ no_reading (read_fault why) before
+-- What is given for a symbol is a reading of a message, a letter without a head and marks; or a fault of messages.
+pub data IsMessageGiven (rows columns : ℕ) (symbol : SymbolView) (doubtful : Option SymbolView) (limit : ℕ)
+    (before after : ReadingOut) : Type 0 where
+  read : (reading : LetterReadingView) → LetterReadResult Usual symbol doubtful limit (Ok reading)
+      → reading.letter ≡ as_letter reading.letter.items → after ≡ reading_shown rows columns reading before
+      → IsMessageGiven rows columns symbol doubtful limit before after
+  fault : (why : ReadFault) → LetterReadResult Usual symbol doubtful limit (Err (letter_fault why))
+      → after ≡ no_reading (read_fault why) before → IsMessageGiven rows columns symbol doubtful limit before after
 
--- In the extent `Usual`, and wherever a symbol is read as a message, what is given for it is what reading it as a
--- message gives.
+-- In the extent `Usual` a message is given for a symbol, or a fault of messages.
 abbrev pub MessagesAreGiven : Type 0
 MessagesAreGiven =
-    (extent : Extent) (rows columns : ℕ) (symbol : SymbolView) (doubtful : Option SymbolView) (limit : ℕ)
-    (result : Result ReadingView ReadFault) (before after : ReadingOut) → (extent ≡ Usual) ⊎ IsOk result
-    → SymbolReadResult extent symbol doubtful limit result
-    → IsReadingGiven extent rows columns symbol doubtful limit before after
-    → IsMessageShown rows columns result before after
+    (rows columns : ℕ) (symbol : SymbolView) (doubtful : Option SymbolView) (limit : ℕ) (before after : ReadingOut)
+    → IsReadingGiven Usual rows columns symbol doubtful limit before after
+    → IsMessageGiven rows columns symbol doubtful limit before after
 
 -- What is given for the numbers of a message is the first number that stands for no item, with its index, counted from
 -- 0, or with 65535 if the index is more; or that the message fits no size of the choice; or the symbol in which it is
@@ -62,10 +59,10 @@ pub data IsMessageWriting (profile : Profile) (choice : SizeChoice) (numbers : L
       → after ≡ no_symbol (foreign (get_or numbers place 0) (min place 65535)) before
       → IsMessageWriting profile choice numbers before after
   no_size : (message : List Item) → IsMessage message → numbers_of message ≡ numbers
-      → (FitsChoice choice profile message → ⊥) → after ≡ no_symbol too_long before
+      → (LetterFits choice profile (as_letter message) → ⊥) → after ≡ no_symbol too_long before
       → IsMessageWriting profile choice numbers before after
   written : (message : List Item) (symbol : SymbolView) → IsMessage message → numbers_of message ≡ numbers
-      → IsWrittenIn choice profile message symbol → after ≡ symbol_shown symbol before
+      → IsLetterWrittenIn choice profile (as_letter message) symbol → after ≡ symbol_shown symbol before
       → IsMessageWriting profile choice numbers before after
 
 -- What is given for numbers of items without a head and marks is what writing their message gives.
@@ -75,17 +72,24 @@ MessagesAreWritten =
     → IsWritingGiven (Profiled profile) choice None numbers [] before after
     → IsMessageWriting profile choice numbers before after
 
--- A result of normalising a symbol as a message is given as its symbol, or as its fault.
-abbrev pub normal_message_shown : Result SymbolView NormalFault → SymbolOut → SymbolOut
-normal_message_shown (Ok normal) before = symbol_shown normal before
-normal_message_shown (Err why) before = no_symbol (normal_fault why) before
+-- What is given for a symbol is the normal symbol of the message that it is read as; or that this fits no square; or a
+-- fault of messages.
+pub data IsNormalMessageGiven (profile : Profile) (symbol : SymbolView) (doubtful : Option SymbolView) (limit : ℕ)
+    (before after : SymbolOut) : Type 0 where
+  normal : (message : List Item) (normal_symbol : SymbolView)
+      → ReadsLetter Usual symbol doubtful limit (as_letter message)
+      → IsNormalOfLetter profile (as_letter message) normal_symbol → after ≡ symbol_shown normal_symbol before
+      → IsNormalMessageGiven profile symbol doubtful limit before after
+  no_square : (message : List Item) → ReadsLetter Usual symbol doubtful limit (as_letter message)
+      → (LetterFits Square profile (as_letter message) → ⊥) → after ≡ no_symbol too_long before
+      → IsNormalMessageGiven profile symbol doubtful limit before after
+  fault : (why : ReadFault) → LetterReadResult Usual symbol doubtful limit (Err (letter_fault why))
+      → after ≡ no_symbol (read_fault why) before → IsNormalMessageGiven profile symbol doubtful limit before after
 
--- In the extent `Usual`, and wherever a symbol is read as a message, what is given for it is what normalising it as a
--- message gives.
+-- In the extent `Usual` the normal symbol of a message is given for a symbol, or that there is none, or a fault of
+-- messages.
 abbrev pub MessagesAreNormalised : Type 0
 MessagesAreNormalised =
-    (extent : Extent) (profile : Profile) (symbol : SymbolView) (doubtful : Option SymbolView) (limit : ℕ)
-    (result : Result SymbolView NormalFault) (before after : SymbolOut)
-    → (extent ≡ Usual) ⊎ ((why : ReadFault) → result ≢ Err (of_message.Read why))
-    → NormalSymbolResult extent profile symbol doubtful limit result
-    → IsNormalGiven extent profile symbol doubtful limit before after → after ≡ normal_message_shown result before
+    (profile : Profile) (symbol : SymbolView) (doubtful : Option SymbolView) (limit : ℕ) (before after : SymbolOut)
+    → IsNormalGiven Usual profile symbol doubtful limit before after
+    → IsNormalMessageGiven profile symbol doubtful limit before after

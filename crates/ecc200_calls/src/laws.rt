@@ -10,14 +10,13 @@ pub fn modules_make_the_symbol()
     ensures one { OneSymbolIsMade }
 {}
 
-/// In the extent `Usual`, and wherever a symbol is read as a message, what is given for it as a letter is what reading
-/// it as a message gives: the message, without a head and marks, or the fault.
+/// In the extent `Usual` what is given for a symbol is a message, without a head and marks, or a fault of messages.
 pub fn messages_are_given()
     ensures { MessagesAreGiven }
 {}
 
-/// What is given for items without a head and marks is what writing their message gives; and, in the extent `Usual` and
-/// wherever a symbol is read as a message, what normalising it as a message gives.
+/// What is given for items without a head and marks is what writing their message gives; and in the extent `Usual` what
+/// normalising a symbol gives is the normal symbol of a message, or that there is none, or a fault of messages.
 pub fn messages_are_written()
     ensures written { MessagesAreWritten }
     ensures normal { MessagesAreNormalised }

@@ -6,7 +6,8 @@ ghost use Rattle.dm_layout.specs.symbols.Sizes.{codeword_count};
 ghost use Rattle.dm_symbol.specs.declared.Profile.{Profile};
 ghost use Rattle.dm_symbol.specs.NormalForm.{normal_form};
 ghost use Rattle.dm_words.specs.LetterForm.{form_by};
-ghost use Rattle.ecc200_calls.specs.inner.Rooms.{AreWordsFor, HasRoom, HasRoomToWrite};
+ghost use Rattle.dm_words.specs.LetterExtents.{as_letter};
+ghost use Rattle.ecc200_calls.specs.inner.Rooms.{HasRoom, HasRoomToWrite};
 ghost use Rattle.ecc200_calls.specs.inner.Rooms.{AreWordsForLetter, HasRoomForLetter};
 
 use crate::message::most_words;
@@ -160,14 +161,12 @@ impl Room {
         }
     }
 
-    /// Gives the room for the symbol in which a message is written in a choice of sizes.
+    /// Gives the room for the smallest symbol of a message in a choice of sizes.
     pub(crate) fn of_message(choice: SizeChoice, items: &[Item]) -> Room
         requires { length items.now ≤ LARGEST_ITEMS }
         ensures small { result ≡ Room.Small
-            → HasRoomToWrite SMALL_DATA SMALL_ROWS SMALL_WORDS choice items.now }
-        ensures middle { result ≡ Room.Middle
-            → HasRoomToWrite MIDDLE_DATA MIDDLE_ROWS MIDDLE_WORDS choice items.now }
-        ensures largest { HasRoomToWrite LARGEST_DATA LARGEST_ROWS LARGEST_WORDS choice
+            → HasRoomToWrite SMALL_ROWS SMALL_WORDS choice items.now }
+        ensures largest { HasRoomToWrite LARGEST_ROWS LARGEST_WORDS choice
             items.now }
     {
         match choice {
@@ -177,20 +176,16 @@ impl Room {
     }
 }
 
-/// Does so for the smallest square: one of each room has as many data codewords as the room is for, so that none is
-/// looked for.
+/// Does so for the smallest square: one has as many data codewords as the small room is for, so that none is looked
+/// for.
 fn room_of_square(items: &[Item]) -> Room
     requires { length items.now ≤ LARGEST_ITEMS }
     ensures small { result ≡ Room.Small
-        → HasRoomToWrite SMALL_DATA SMALL_ROWS SMALL_WORDS SizeChoice.Square items.now }
-    ensures middle { result ≡ Room.Middle
-        → HasRoomToWrite MIDDLE_DATA MIDDLE_ROWS MIDDLE_WORDS SizeChoice.Square items.now }
+        → HasRoomToWrite SMALL_ROWS SMALL_WORDS SizeChoice.Square items.now }
 {
     let most = words_at_most(items);
     if most <= SMALL_DATA {
         Room::Small
-    } else if most <= MIDDLE_DATA {
-        Room::Middle
     } else {
         Room::Largest
     }
@@ -293,9 +288,7 @@ fn words_at_most(items: &[Item]) -> usize
 fn room_of_choice(choice: SizeChoice, items: &[Item]) -> Room
     requires { length items.now ≤ LARGEST_ITEMS }
     ensures small { result ≡ Room.Small
-        → HasRoomToWrite SMALL_DATA SMALL_ROWS SMALL_WORDS choice items.now }
-    ensures middle { result ≡ Room.Middle
-        → HasRoomToWrite MIDDLE_DATA MIDDLE_ROWS MIDDLE_WORDS choice items.now }
+        → HasRoomToWrite SMALL_ROWS SMALL_WORDS choice items.now }
 {
     match SymbolSize::for_words(choice, words_for(choice, items)) {
         Some(size) => Room::of(size),
@@ -307,7 +300,7 @@ fn room_of_choice(choice: SizeChoice, items: &[Item]) -> Room
 /// that it takes. A size that is asked for serves if it is there, however few these are.
 fn words_for(choice: SizeChoice, items: &[Item]) -> u16
     requires { length items.now ≤ LARGEST_ITEMS }
-    ensures { AreWordsFor choice items.now result }
+    ensures { AreWordsForLetter choice (as_letter items.now) result }
 {
     match choice {
         SizeChoice::Exact(_, _) => 0,

@@ -137,10 +137,10 @@ pub(crate) fn write_smallest_message(
 {
     match Room::of_message(size, items) {
         Room::Small => {
-            write_symbol::<SMALL_DATA, SMALL_ROWS, SMALL_WORDS>(items, extent, size, out);
+            write_symbol::<SMALL_ROWS, SMALL_WORDS>(items, extent, size, out);
         }
         Room::Fair | Room::Middle | Room::Largest => {
-            write_symbol::<LARGEST_DATA, LARGEST_ROWS, LARGEST_WORDS>(items, extent, size, out);
+            write_symbol::<LARGEST_ROWS, LARGEST_WORDS>(items, extent, size, out);
         }
     }
 }
@@ -148,14 +148,14 @@ pub(crate) fn write_smallest_message(
 /// Does so in a room that serves for the symbol. It stands by itself, so that no other room is left for it on the
 /// stack.
 #[inline(never)]
-fn write_symbol<const DATA: usize, const ROWS: usize, const WORDS: usize>(
+fn write_symbol<const ROWS: usize, const WORDS: usize>(
     items: &[Item],
     extent: Extent,
     size: SizeChoice,
     out: &mut SymbolOut,
 )
     requires few { length items.now ≤ LARGEST_ITEMS }
-    requires room { HasRoomToWrite DATA ROWS WORDS size items.now }
+    requires room { HasRoomToWrite ROWS WORDS size items.now }
     ensures { IsLetterGiven (Form.Smallest extent) size (as_letter items.now) out.old out.new }
 {
     let first = smallest_size();

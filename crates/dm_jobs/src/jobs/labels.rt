@@ -5,7 +5,7 @@ use crate::digest::Digest;
 use crate::message::{put_message, write_smallest};
 use crate::texts::{Text, labelled};
 use dm_layout::symbols::{MOST_DATA, SizeChoice, Symbol, SymbolWords, table};
-use dm_symbol::{Message, Profile, WriteOptions, write_symbol_to};
+use dm_symbol::{Message, Profile, WriteOptions, write_content_to};
 use dm_words::Extent;
 
 /// How many labels a round has.
@@ -31,8 +31,10 @@ pub(crate) fn round(chance: &mut Chance, digest: &mut Digest) {
             Profile::Shorter
         };
         let how = WriteOptions { profile, size };
-        let written = write_symbol_to::<MOST_DATA, _, _>(
+        let written = write_content_to::<MOST_DATA, _, _>(
+            None,
             message.items(),
+            &[],
             how,
             &mut words,
             &mut symbol,

@@ -7,7 +7,7 @@ use crate::message::{put_message, write_smallest};
 use crate::page::{add_record, answers, side_at, turn, turn_some};
 use crate::texts::{Text, scanned};
 use dm_layout::symbols::{MOST_DATA, SizeChoice, Symbol, SymbolSize, SymbolWords, table};
-use dm_symbol::{Message, WriteOptions, write_symbol_to};
+use dm_symbol::{Message, WriteOptions, write_content_to};
 use dm_text::{Profile, Task};
 use dm_words::{Extent, TooLong};
 use std::alloc::Global;
@@ -87,7 +87,7 @@ fn write_items(
     symbol: &mut Symbol,
 ) -> Result<(), TooLong> {
     let how = WriteOptions { profile, size };
-    write_symbol_to::<MOST_DATA, _, _>(message.items(), how, words, symbol)
+    write_content_to::<MOST_DATA, _, _>(None, message.items(), &[], how, words, symbol)
 }
 
 /// Damages a scan of a mark: the first stays, one has as many wrong modules as codewords may be, and the others a few.

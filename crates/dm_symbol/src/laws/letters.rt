@@ -3,15 +3,10 @@
 
 ghost use Rattle.dm_symbol.specs.LetterLaws.{OneSymbolLetter, ReadLettersAreRight, LetterReadResultIsThere};
 ghost use Rattle.dm_symbol.specs.LetterLaws.{LetterReadResultIsOne, NormalLetterResultIsThere, NormalLetterResultIsOne};
-ghost use Rattle.dm_symbol.specs.LetterLaws.{LightDoubtReadsLettersAlike, LightDoubtNormalisesLettersAlike};
-ghost use Rattle.dm_symbol.specs.LetterLaws.{MessagesAreReadAsLetters, UsualLettersAreMessages};
-ghost use Rattle.dm_symbol.specs.LetterLaws.{MessageResultsAreLetterResults, MessagesAreWrittenAsLetters};
-ghost use Rattle.dm_symbol.specs.LetterLaws.{WideReadsTheUsualLetter};
-ghost use Rattle.dm_symbol.specs.LetterLaws.{AWrittenLetterIsThere, WrittenLetterIsRead, WrittenSymbolsTellLetters};
-ghost use Rattle.dm_symbol.specs.LetterLaws.{RoomForEachServesLetters, MostRoomServesLetters};
-ghost use Rattle.dm_symbol.specs.LetterLaws.{NormalLetterTwiceIsOnce, EqualNormalSymbolsMeanEqualLetters};
-ghost use Rattle.dm_symbol.specs.LetterLaws.{AMacroIsItsText};
-ghost use Rattle.dm_symbol.specs.MessageLetters.{FaultTellsOfLetters, MessageTellsItsLetter};
+ghost use Rattle.dm_symbol.specs.LetterLaws.{WideReadsTheUsualLetter, AWrittenLetterIsThere, WrittenLetterIsRead};
+ghost use Rattle.dm_symbol.specs.LetterLaws.{WrittenSymbolsTellLetters, RoomForEachServesLetters};
+ghost use Rattle.dm_symbol.specs.LetterLaws.{MostRoomServesLetters, NormalLetterTwiceIsOnce};
+ghost use Rattle.dm_symbol.specs.LetterLaws.{EqualNormalSymbolsMeanEqualLetters, AMacroIsItsText};
 
 /// With the same doubtful modules, a symbol is read as at most one letter, whatever the extents and the limits; and
 /// that letter is right.
@@ -68,32 +63,7 @@ pub fn a_macro_is_its_text()
     ensures { AMacroIsItsText }
 {}
 
-/// What is read as a message is read, in the same extent, as the letter with its items and without a head and marks.
-/// What the usual extent reads as a letter is such a message; and in the usual extent, and wherever a message is read,
-/// the results say the same. The letter is written as the message is, so that it has the same normal symbol.
-pub fn messages_are_letters()
-    ensures read { MessagesAreReadAsLetters }
-    ensures usual { UsualLettersAreMessages }
-    ensures results { MessageResultsAreLetterResults }
-    ensures written { MessagesAreWrittenAsLetters }
-{}
-
-/// Where the modules that are given as doubtful are all light, what reading and normalising a symbol gives is what it
-/// gives with none given.
-pub fn light_doubt_leaves_letters()
-    ensures read { LightDoubtReadsLettersAlike }
-    ensures normal { LightDoubtNormalisesLettersAlike }
-{}
-
 /// What is read as a letter in the usual extent has the same result in the wide one.
 pub fn wide_reads_the_usual_letter()
     ensures { WideReadsTheUsualLetter }
-{}
-
-/// What reading a symbol as a message gives tells what reading it as a letter gives, but for one fault: where it is
-/// read, the letter with its items and the identifier of its codewords; where it isn't, the same fault. That a codeword
-/// is left out in the wide extent is the fault that tells nothing: the codewords may say a letter.
-pub fn a_message_tells_its_letter()
-    ensures letter { MessageTellsItsLetter }
-    ensures fault { FaultTellsOfLetters }
 {}

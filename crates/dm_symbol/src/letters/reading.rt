@@ -45,19 +45,29 @@ pub fn restore_symbol_to<const ROWS: usize, const WORDS: usize>(
 }
 
 /// Reads a symbol of any size as a letter, which is a head or none, items and marks (ISO/IEC 16022, decode algorithm,
-/// ECI encodation, structured append, reader programming). It does what [`read_symbol_to`](crate::read_symbol_to())
-/// does, with the same limits, and reads the restored data codewords as the letter that they say in the extent. At
-/// [`Extent::Usual`](crate::Extent::Usual) that is a message, as a letter without a head and marks. At
-/// [`Extent::Wide`](crate::Extent::Wide) it is each message that `read_symbol_to` reads, as such a letter; and beside
-/// these, letters with marks or a head, and texts whose macro stands behind empty runs. The fault is that of the first
-/// step that fails: `Border`, `Block` or `Words`.
+/// ECI encodation, structured append, reader programming): refuses it if more modules of its borders than
+/// `how.border_limit` have the wrong colour and aren't doubtful; restores the blocks in order; and reads the restored
+/// data codewords as the letter that they say in the extent. The first of these steps that fails gives the fault:
+/// `Border` with the number of such modules, `Block` with the first block that is beyond correction, `Words`. At
+/// [`Extent::Usual`](crate::Extent::Usual) the letter has no head and no marks. What is read there is read at
+/// [`Extent::Wide`](crate::Extent::Wide) as the same.
+///
+/// A block with k check codewords is restored where twice the number of its wrong codewords, and the number of its
+/// erased ones, of which a module is doubtful, are together at most k. Where no module is doubtful, that is up to half
+/// of its check codewords, rounded down. At `Wide` a symbol of 144 x 144 of which a block is lost is restored as some
+/// encoders deal its check codewords into blocks, where all blocks can be:
+/// [`dealing`](LetterReadingIn::dealing) then is [`Dealing::Restarted`]. The fixed square isn't looked at, nor is what
+/// follows the first pad. The symbol is taken to be upright. One with more damage may be near the codewords of another
+/// letter, and is then read as that letter. Where a block has erased codewords and its [`left`](BlockReading::left) is
+/// 0, that is likely.
 ///
 /// After `Ok`, `reading` holds what the symbol says, whatever it held before, and the number of the symbology
 /// identifier of its codewords. After `Border` it is as it was, and after another fault it holds some reading. `words`
 /// is room for the codewords, whatever they were before; after `Ok` it holds them as they were restored.
 ///
 /// Doubtful modules, where there are any, are a symbol of the same size. The rooms are for what a symbol of this size
-/// has: all its codewords, the items that its data codewords can spell in the extent, and a mark for each two of these.
+/// has: all its codewords, the items that its data codewords can spell in the extent, two for each and at `Wide` seven
+/// more, and a mark for each two codewords. Small rooms are made faster than those that serve every symbol.
 pub fn read_letter_to<
     const ROWS: usize,
     const WORDS: usize,

@@ -10,7 +10,7 @@ use dm_layout::symbols::{MOST_DATA, SizeChoice, Symbol, SymbolWords, lay_to};
 use dm_words::{Extent, LARGEST_MARKS, LARGEST_ROOM, LetterIn, TooLong, smallest_letter_words_to};
 
 /// Writes a letter in its smallest symbol for readers of an extent: does what
-/// [`write_smallest_to`](crate::write_smallest_to()) does for a message (ISO/IEC 16022, encodation schemes, ECI
+/// [`write_smallest_to`](crate::write_smallest_to()) does for items alone (ISO/IEC 16022, encodation schemes, ECI
 /// encodation, structured append, reader programming). After `Ok`, `symbol`, whatever it was before, is one that is
 /// read as the letter in the extent, with nothing wrong in it, and no symbol of a smaller size of the choice is read as
 /// the letter, whatever its codewords are, but for a macro before FNC1. The data codewords are plain, and their

@@ -24,7 +24,9 @@ use dm_words::{
 /// to mark with each mark at its place. The fault is `TooLong` exactly where no size of the choice holds them; then
 /// `symbol` is as it was. `words` is room for the codewords, whatever they were before.
 ///
-/// Both have room for that size, and `DATA` is room for its data codewords.
+/// Both have room for that size, and `DATA` is room for its data codewords. A [`Symbol`](crate::Symbol),
+/// [`SymbolWords`](crate::SymbolWords) and [`MOST_DATA`] have room for every size; small ones, which serve where the
+/// choice is of small sizes, are made faster.
 pub fn write_content_to<const DATA: usize, const WORDS: usize, const ROWS: usize>(
     head: Option<Head>,
     items: &[Item],

@@ -1,24 +1,19 @@
-//! Reading a symbol of any size: the message that its modules say.
+//! Reading a symbol of any size, up to its restored codewords.
 
-ghost use Rattle.std.specs.Prelude.{◌≡◌, ◌≤◌, ◌<◌, ℕ, List, [], None, Some, OnOk, IfErr, IfSome};
-ghost use Rattle.std.specs.Prelude.{length, option_map};
+ghost use Rattle.std.specs.Prelude.{◌≡◌, ◌≤◌, ℕ, None, Some, OnOk, IfErr, IfSome, option_map};
 ghost use Rattle.dm_layout.specs.symbols.Sizes.{codeword_count};
-ghost use Rattle.dm_words.specs.Messages.{most_spelled};
-ghost use Rattle.dm_words.specs.Outcomes.{outcome};
 ghost use Rattle.dm_symbol.specs.Dealings.{IsDealtTwoWays, erased_by};
 ghost use Rattle.dm_symbol.specs.inner.Marks.{marked_in};
 ghost use Rattle.dm_symbol.specs.Restored.{IsRestored};
 ghost use Rattle.dm_symbol.specs.inner.Restoring.{IsLost};
 ghost use Rattle.dm_symbol.specs.SymbolBlocks.{AreOfSize, AreBlocksNear};
-ghost use Rattle.dm_symbol.specs.SymbolReading.{IsSymbolRead, AreRestored, IsFirstLost, block_readings};
-ghost use Rattle.dm_symbol.specs.SymbolReading.{reading_in, symbol_reading_of};
+ghost use Rattle.dm_symbol.specs.SymbolReading.{IsFirstLost, block_readings};
 
-use crate::reading::ReadFault;
 use crate::symbol::correction::{marks_for, restore_block};
 use crate::symbol::dealing::{Dealing, restore_restarted};
 use arrayvec::ArrayVec;
 use dm_layout::symbols::{MOST_BLOCKS, SymbolIn, SymbolWordsIn, border_faults, lift_to};
-use dm_words::{Extent, LARGEST_ROOM, MessageIn, message_to_as};
+use dm_words::Extent;
 
 /// How a symbol is read.
 #[derive(Clone, Copy)]
@@ -51,122 +46,6 @@ pub(crate) enum Lost {
     Border(u16),
     /// This block has more errors than can be corrected. It is the first such block; blocks count from 0.
     Block(u8),
-}
-
-/// What a symbol says, and how much of it was wrong, with room for a message of at most `ITEMS` items.
-#[derive(Clone, Debug, Default, Drop, PartialEq, Eq)]
-pub struct SymbolReadingIn<const ITEMS: usize> {
-    /// The message.
-    pub message: MessageIn<ITEMS>,
-    /// How the codewords were found to be dealt into blocks: as the standard does, but in some symbols of 144 x 144.
-    pub dealing: Dealing,
-    /// What became of each block, in order.
-    pub blocks: ArrayVec<BlockReading, MOST_BLOCKS>,
-    /// How many modules of the borders have the wrong colour and aren't doubtful.
-    pub border_faults: u16,
-}
-
-/// What a symbol says, with room for what any symbol does.
-pub type SymbolReading = SymbolReadingIn<LARGEST_ROOM>;
-
-impl<const ITEMS: usize> SymbolReadingIn<ITEMS> {
-    /// Gives the reading of an empty message, into which [`read_symbol_to`] can read.
-    pub fn new() -> SymbolReadingIn<ITEMS>
-        ensures { reading_in result ≡ symbol_reading_of [] Dealing.Standard [] 0 }
-    {
-        SymbolReadingIn {
-            message: MessageIn::new(),
-            dealing: Dealing::Standard,
-            blocks: ArrayVec::new(),
-            border_faults: 0,
-        }
-    }
-}
-
-/// Reads a symbol of any size (ISO/IEC 16022, decode algorithm): refuses it if more modules of its borders than
-/// `how.border_limit` have the wrong colour and aren't doubtful; restores the blocks in order; and reads the data
-/// codewords, as far as the extent goes. The first of these steps that fails gives the fault: `Border` with the number
-/// of such modules, `Block` with the first block that is beyond correction, `Words`. A block with k check codewords is
-/// restored where twice the number of its wrong codewords, and the number of its erased ones, of which a module is
-/// doubtful, are together at most k. Where no module is doubtful, that is up to half of its check codewords, rounded
-/// down. At [`Extent::Wide`] a symbol of 144 x 144 of which a block is lost is restored as some encoders deal its check
-/// codewords into blocks, where all blocks can be: [`dealing`](SymbolReadingIn::dealing) then is
-/// [`Dealing::Restarted`].
-///
-/// The fixed square isn't looked at, nor is what follows the first pad. The symbol is taken to be upright. One with
-/// more damage may be near the codewords of another message, and is then read as that message. Where a block has erased
-/// codewords and its [`left`](BlockReading::left) is 0, that is likely. What is read at [`Extent::Usual`] is read at
-/// [`Extent::Wide`] as the same.
-///
-/// After `Ok`, `reading` holds what the symbol says, whatever it held before. After `Border` it is as it was, and after
-/// another fault it holds some reading. `words` is room for the codewords, whatever they were before; after `Ok` it
-/// holds them as they were restored.
-///
-/// Doubtful modules, where there are any, are a symbol of the same size. The rooms are for what a symbol of this size
-/// has: all its codewords, and the items that its data codewords can spell in the extent, two for each and at
-/// [`Extent::Wide`] seven more. Small rooms are made faster than those that serve every symbol.
-pub fn read_symbol_to<const ROWS: usize, const WORDS: usize, const ITEMS: usize>(
-    symbol: &SymbolIn<ROWS>,
-    how: ReadOptions<ROWS>,
-    words: &mut SymbolWordsIn<WORDS>,
-    reading: &mut SymbolReadingIn<ITEMS>,
-) -> Result<(), ReadFault>
-    requires doubtful { IfSome how.doubtful (λ doubtful. doubtful.now.size ≡ symbol.now.size) }
-    requires codewords { codeword_count symbol.now.size ≤ WORDS }
-    requires items { most_spelled how.extent symbol.now.size.data_count ≤ ITEMS }
-    ensures read { IsSymbolRead how.entry.extent symbol.now
-        (option_map (λ d. d.now) how.entry.doubtful) how.entry.border_limit
-        (outcome result (reading_in reading.new)) }
-    ensures same { (count : ℕ) → result ≡ Err (ReadFault.Border count)
-        → reading.new ≡ reading.old }
-    ensures restored { OnOk result ((held : List ℕ) × AreRestored how.entry.extent symbol.now
-        (option_map (λ d. d.now) how.entry.doubtful) reading.new.dealing held words.new.list) }
-    ensures size { OnOk result (words.new.size ≡ symbol.now.size) }
-{
-    read_parts(
-        symbol,
-        how,
-        words,
-        &mut reading.message,
-        &mut reading.dealing,
-        &mut reading.blocks,
-        &mut reading.border_faults,
-    )
-}
-
-/// Does the same as [`read_symbol_to`] with the parts of a reading in targets of their own: the message, the dealing,
-/// what became of each block, and the number of wrong modules of the borders.
-pub(crate) fn read_parts<const ROWS: usize, const WORDS: usize, const ITEMS: usize>(
-    symbol: &SymbolIn<ROWS>,
-    how: ReadOptions<ROWS>,
-    words: &mut SymbolWordsIn<WORDS>,
-    message: &mut MessageIn<ITEMS>,
-    dealing: &mut Dealing,
-    blocks: &mut ArrayVec<BlockReading, MOST_BLOCKS>,
-    faults: &mut u16,
-) -> Result<(), ReadFault>
-    requires doubtful { IfSome how.doubtful (λ doubtful. doubtful.now.size ≡ symbol.now.size) }
-    requires codewords { codeword_count symbol.now.size ≤ WORDS }
-    requires items { most_spelled how.extent symbol.now.size.data_count ≤ ITEMS }
-    ensures read { IsSymbolRead how.entry.extent symbol.now
-        (option_map (λ d. d.now) how.entry.doubtful) how.entry.border_limit
-        (outcome result (symbol_reading_of message.new dealing.new blocks.new.items faults.new)) }
-    ensures same { (count : ℕ) → result ≡ Err (ReadFault.Border count) → (message.new ≡ message.old)
-        × (dealing.new ≡ dealing.old) × (blocks.new ≡ blocks.old) × (faults.new ≡ faults.old) }
-    ensures restored { OnOk result ((held : List ℕ) × AreRestored how.entry.extent symbol.now
-        (option_map (λ d. d.now) how.entry.doubtful) dealing.new held words.new.list) }
-    ensures size { OnOk result (words.new.size ≡ symbol.now.size) }
-    ensures count { OnOk result (length blocks.new.items ≡ symbol.now.size.blocks) }
-{
-    match restore_to(symbol, how, words, dealing, blocks, faults) {
-        Ok(()) => {}
-        Err(Lost::Border(count)) => return Err(ReadFault::Border(count)),
-        Err(Lost::Block(index)) => return Err(ReadFault::Block(index)),
-    }
-    match message_to_as(how.extent, words.data_part(), message) {
-        Ok(()) => Ok(()),
-        Err(fault) => Err(ReadFault::Words(fault)),
-    }
 }
 
 /// Restores the codewords of a symbol, whatever they say: refuses it if more modules of its borders than the limit have

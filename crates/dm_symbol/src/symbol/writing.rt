@@ -1,66 +1,28 @@
-//! Writing a message in a symbol: in the smallest size of a choice.
+//! Writing data codewords in a symbol: in the smallest size of a choice.
 
-ghost use Rattle.std.specs.Prelude.{◌≡◌, ◌≢◌, ◌<◌, ◌≤◌, ℕ, length, OnErr, OnOk};
+ghost use Rattle.std.specs.Prelude.{◌≡◌, ◌≢◌, ◌<◌, ◌≤◌, ℕ, length, OnErr};
 ghost use Rattle.dm_code.specs.Codeword.{IsCodeword};
 ghost use Rattle.dm_layout.specs.symbols.Sizes.{block_check, codeword_count};
 ghost use Rattle.dm_words.specs.LetterExtents.{as_letter};
-ghost use Rattle.dm_words.specs.Messages.{IsMessage};
 ghost use Rattle.dm_words.specs.Outcomes.{outcome};
 ghost use Rattle.dm_symbol.specs.SymbolBlocks.{AreOfSize, AreCodewordsOf, block_in, first_data};
-ghost use Rattle.dm_symbol.specs.NormalSymbol.{IsSymbolWritten, HasRoomFor};
-ghost use Rattle.dm_symbol.specs.PlainSymbol.{IsPlainSymbol};
-ghost use Rattle.dm_symbol.specs.SmallestLetterSymbol.{IsSmallestLetterWritten};
-ghost use Rattle.dm_symbol.specs.SmallestSymbol.{HasRoomForSmallest, IsSmallestWritten};
+ghost use Rattle.dm_symbol.specs.SmallestLetterSymbol.{HasRoomForSmallest, IsSmallestLetterWritten};
 ghost use Rattle.dm_symbol.specs.WrittenWords.{HaveRoom, AreWritten};
 
 use arrayvec::ArrayVec;
 use dm_code::encode;
 use dm_layout::symbols::{
-    MOST_DATA, SizeChoice, Symbol, SymbolIn, SymbolSize, SymbolWords, SymbolWordsIn, block, lay_to,
-    put_block_checks,
+    MOST_DATA, SizeChoice, SymbolIn, SymbolSize, SymbolWordsIn, block, lay_to, put_block_checks,
 };
-use dm_words::{
-    Extent, Item, LARGEST_ROOM, Profile, TooLong, normal_words_in, pad_to, smallest_words_to,
-};
+use dm_words::{Extent, Item, LARGEST_ROOM, Profile, TooLong, pad_to, smallest_words_to};
 
-/// How a message or a letter is written.
+/// How a letter is written.
 #[derive(Clone, Copy, Debug, PartialEq, Eq)]
 pub struct WriteOptions {
     /// Which data codewords are chosen for it.
     pub profile: Profile,
     /// Which sizes may be taken. The smallest of them that holds it is.
     pub size: SizeChoice,
-}
-
-/// Writes a message of at most [`LARGEST_ROOM`] items (ISO/IEC 16022, symbol construction): after `Ok`, `symbol`,
-/// whatever it was before, is that of the codewords that the profile chooses, pads and check codewords, in the smallest
-/// size of the choice that holds them: the one of the smallest area, and of those of equal area the one with the fewest
-/// columns. The fault is `TooLong` exactly where no size of the choice holds them; then `symbol` is as it was. `words`
-/// is room for the codewords, whatever they were before.
-///
-/// Both have room for that size, and `DATA` is room for its data codewords. A [`Symbol`], [`SymbolWords`] and
-/// [`MOST_DATA`] have room for every size; small ones, which serve where the choice is of small sizes, are made faster.
-pub fn write_symbol_to<const DATA: usize, const WORDS: usize, const ROWS: usize>(
-    items: &[Item],
-    how: WriteOptions,
-    words: &mut SymbolWordsIn<WORDS>,
-    symbol: &mut SymbolIn<ROWS>,
-) -> Result<(), TooLong>
-    requires few { length items.now ≤ LARGEST_ROOM }
-    requires least { 3 ≤ DATA }
-    requires most { DATA ≤ MOST_DATA }
-    requires room { HasRoomFor how.size how.profile items.now DATA ROWS WORDS }
-    ensures written { IsSymbolWritten how.size how.profile items.now
-        (outcome result symbol.new) }
-    ensures plain { OnOk result (IsMessage items.now
-        → IsPlainSymbol symbol.new (as_letter items.now)) }
-    ensures same { OnErr result (symbol.new ≡ symbol.old) }
-{
-    let mut list = ArrayVec::<u8, DATA>::new();
-    match normal_words_in(how.profile, items, &mut list) {
-        Ok(()) => write_words_to(&mut list, how.size, words, symbol),
-        Err(TooLong) => Err(TooLong),
-    }
 }
 
 /// Writes data codewords without pads: after `Ok`, `symbol` is that of these codewords with pads and check codewords,
@@ -86,15 +48,14 @@ pub(crate) fn write_words_to<const DATA: usize, const WORDS: usize, const ROWS: 
     Ok(())
 }
 
-/// Writes the message of at most [`LARGEST_ROOM`] items in its smallest symbol for readers of an extent (ISO/IEC 16022,
-/// encodation schemes, which leave the choice of encodations to the writer): after `Ok`, `symbol`, whatever it was
-/// before, is one that is read as the message in the extent, with nothing wrong in it, and no symbol of a smaller size
-/// of the choice is read as the message, whatever its codewords are, but for a macro before FNC1. The data codewords
-/// are plain, and their symbology identifier is that of the ASCII form. The data codewords are ASCII where that size
-/// has room for these; else those of the usual extent, where it has room for any. The fault is `TooLong` exactly where
-/// no symbol of the choice is read as the message; then `symbol` is as it was. So it is of symbols that are read as the
-/// letter with these items, too. `words` is room for the codewords, whatever they were before. The work grows with the
-/// number of items.
+/// Writes at most [`LARGEST_ROOM`] items, as a letter without a head and marks, in its smallest symbol for readers of
+/// an extent (ISO/IEC 16022, encodation schemes, which leave the choice of encodations to the writer): after `Ok`,
+/// `symbol`, whatever it was before, is one that is read as the letter in the extent, with nothing wrong in it, and no
+/// symbol of a smaller size of the choice is read as the letter, whatever its codewords are, but for a macro before
+/// FNC1. The data codewords are plain, and their symbology identifier is that of the ASCII form. The data codewords are
+/// ASCII where that size has room for these; else those of the usual extent, where it has room for any. The fault is
+/// `TooLong` exactly where no symbol of the choice is read as the letter; then `symbol` is as it was. `words` is room
+/// for the codewords, whatever they were before. The work grows with the number of items.
 ///
 /// Both have room for each size of the choice up to the smallest that holds the message in ASCII, or for all of them
 /// where none does. A [`Symbol`] and [`SymbolWords`] have room for every size.
@@ -107,8 +68,7 @@ pub fn write_smallest_to<const WORDS: usize, const ROWS: usize>(
 ) -> Result<(), TooLong>
     requires few { length items.now ≤ LARGEST_ROOM }
     requires room { HasRoomForSmallest choice items.now ROWS WORDS }
-    ensures written { IsSmallestWritten extent choice items.now (outcome result symbol.new) }
-    ensures letter { IsSmallestLetterWritten extent choice (as_letter items.now)
+    ensures written { IsSmallestLetterWritten extent choice (as_letter items.now)
         (outcome result symbol.new) }
     ensures same { OnErr result (symbol.new ≡ symbol.old) }
 {

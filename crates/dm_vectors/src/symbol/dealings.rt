@@ -8,7 +8,7 @@ use crate::modules::{laid, words_of};
 use arrayvec::ArrayVec;
 use dm_layout::symbols::MOST_CODEWORDS;
 use dm_symbol::{
-    BlockReading, Dealing, Extent, Item, ReadFault, ReadOptions, Symbol, SymbolReading,
+    BlockReading, Dealing, Extent, Item, LetterReadFault, LetterReading, ReadOptions, Symbol,
 };
 
 /// The data codewords of 144 x 144.
@@ -104,7 +104,11 @@ fn symbol_with(list: &List) -> Option<Symbol> {
 }
 
 /// Reads the symbol of these codewords into `reading`.
-fn read(list: &List, extent: Extent, reading: &mut SymbolReading) -> Option<Result<(), ReadFault>> {
+fn read(
+    list: &List,
+    extent: Extent,
+    reading: &mut LetterReading,
+) -> Option<Result<(), LetterReadFault>> {
     let how = ReadOptions {
         extent,
         border_limit: 0,
@@ -137,17 +141,17 @@ fn corrected(count: u8) -> BlockReading {
 
 /// Whether the symbol of these codewords is read as the letters by this dealing, with so many wrong in each block.
 fn is_read(list: &List, extent: Extent, dealing: Dealing, count: u8) -> bool {
-    let mut reading = SymbolReading::new();
+    let mut reading = LetterReading::new();
     read(list, extent, &mut reading) == Some(Ok(()))
-        && are_letters(reading.message.items())
+        && are_letters(reading.letter.items())
         && reading.dealing == dealing
         && reading.blocks.as_slice() == [corrected(count); BLOCKS].as_slice()
 }
 
 /// Whether the symbol of these codewords is refused for this block.
 fn is_refused(list: &List, extent: Extent, b: u8) -> bool {
-    let mut reading = SymbolReading::new();
-    read(list, extent, &mut reading) == Some(Err(ReadFault::Block(b)))
+    let mut reading = LetterReading::new();
+    read(list, extent, &mut reading) == Some(Err(LetterReadFault::Block(b)))
 }
 
 /// The other dealing is read at `Wide` alone, and the standard's in both extents.
@@ -263,9 +267,9 @@ fn is_read_without_checks(dealing: Dealing) -> bool {
         erased: 62,
         left: 0,
     };
-    let mut reading = SymbolReading::new();
+    let mut reading = LetterReading::new();
     read_symbol(&symbol, how, &mut reading) == Some(Ok(()))
-        && are_letters(reading.message.items())
+        && are_letters(reading.letter.items())
         && reading.dealing == dealing
         && reading.blocks.as_slice() == blocks.as_slice()
 }

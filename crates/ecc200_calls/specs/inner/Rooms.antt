@@ -7,9 +7,7 @@ use Rattle.dm_symbol.specs.declared.Profile.{Profile}
 use Rattle.dm_symbol.specs.declared.SizeChoice.{SizeChoice}
 use Rattle.dm_symbol.specs.declared.SizeChoice.TheVariants.{Exact}
 use Rattle.dm_symbol.specs.Messages.{most_data, most_spelled}
-use Rattle.dm_symbol.specs.NormalForm.{normal_form}
-use Rattle.dm_symbol.specs.NormalSymbol.{HasRoomFor}
-use Rattle.dm_symbol.specs.SmallestSymbol.{HasRoomForSmallest}
+use Rattle.dm_symbol.specs.SmallestLetterSymbol.{HasRoomForSmallest}
 use Rattle.dm_symbol.specs.WrittenWords.{HaveRoom}
 use Rattle.dm_words.specs.Letters.{LetterView}
 use Rattle.dm_words.specs.LetterForm.{letter_form}
@@ -33,14 +31,9 @@ pub record HasRoom (rows words items marks : ℕ) (size : SizeEntry) : Type 0 wh
   pub marked : size.data_count ≤ 2 * marks
   pub few_marks : 2 * marks ≤ most_data
 
--- There is room for the symbol in which a message is written in a choice of sizes, and for its codewords: under a
--- profile, and in the smallest one; for no fewer data codewords than the smallest symbol has, and for no more than the
--- largest has.
-pub record HasRoomToWrite (data_words rows words : ℕ) (choice : SizeChoice) (message : List Item) : Type 0 where
-  pub some_data : 3 ≤ data_words
-  pub few_data : data_words ≤ most_data
+-- There is room for the smallest symbol of a message in a choice of sizes, and for its codewords.
+pub record HasRoomToWrite (rows words : ℕ) (choice : SizeChoice) (message : List Item) : Type 0 where
   pub room : IsRoom rows words
-  pub written : (profile : Profile) → HasRoomFor choice profile message data_words rows words
   pub smallest : HasRoomForSmallest choice message rows words
 
 -- There is room for the symbol in which a letter is written under a profile in a choice of sizes, and for its
@@ -56,9 +49,3 @@ pub record HasRoomForLetter (data_words rows words : ℕ) (choice : SizeChoice) 
 pub data AreWordsForLetter (choice : SizeChoice) (letter : LetterView) (words : ℕ) : Type 0 where
   enough : ((profile : Profile) → length (letter_form profile letter) ≤ words) → AreWordsForLetter choice letter words
   asked : (rows columns : ℕ) → choice ≡ Exact rows columns → AreWordsForLetter choice letter words
-
--- A size of a choice with so many data codewords, or the next larger one, is at least as large as the one in which a
--- message is written: no normal form of the message has more codewords; or one size is asked for.
-pub data AreWordsFor (choice : SizeChoice) (message : List Item) (words : ℕ) : Type 0 where
-  enough : ((profile : Profile) → length (normal_form profile message) ≤ words) → AreWordsFor choice message words
-  asked : (rows columns : ℕ) → choice ≡ Exact rows columns → AreWordsFor choice message words

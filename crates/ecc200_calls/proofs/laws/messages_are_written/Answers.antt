@@ -3,8 +3,4 @@ use Rattle.ecc200_calls.proofs.WrittenMessages.{messages_are_written}
 use Rattle.ecc200_calls.proofs.laws.messages_are_written.Goals as goal
 
 pub returns : goal.returns
-returns c = record {
-  written = messages_are_written;
-  normal = λ extent profile symbol doubtful limit result before after.
-      message_normalised extent profile symbol doubtful limit before after result;
-}
+returns c = record { written = messages_are_written; normal = message_normalised }

@@ -1,6 +1,6 @@
 use Rattle.std.proofs.Common.{Err, rules, refl, ◌∙◌, ap}
 use Rattle.dm_symbol.specs.declared.LetterNormalFault.TheVariants as of_letter
-use Rattle.dm_symbol.specs.LetterNormal.{NormalLetterResult}
+use Rattle.dm_symbol.specs.NormalOutcomes.{IsNormalOrFault}
 use Rattle.ecc200_calls.specs.Symbols.{no_symbol}
 use Rattle.ecc200_calls.proofs.OfGiven.{given_too}
 use Rattle.ecc200_calls.proofs.Rooms.{room_to_say}
@@ -24,6 +24,6 @@ returns-in-Err g c =
     given_too a.given.size a.modules.now a.doubtful.now a.given.doubt _ _
     (λ symbol doubtful lost. record {
       result = Err (of_letter.Read c.in-Err.why);
-      result_is = NormalLetterResult.fault c.in-Err.why lost refl;
+      result_is = IsNormalOrFault.fault c.in-Err.why lost refl;
       shown = c.show_fault.ensures ∙ ap (λ why. no_symbol why a.out.now) c.read_letter_fault.ensures;
     }) c.in-Err.ensures.restored

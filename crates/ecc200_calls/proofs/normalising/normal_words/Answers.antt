@@ -3,7 +3,7 @@ use Rattle.dm_layout.specs.symbols.Words.{data_of}
 use Rattle.dm_symbol.specs.declared.LetterNormalFault.TheVariants as of_letter
 use Rattle.dm_symbol.specs.declared.LetterReadFault.TheVariants.{Words}
 use Rattle.dm_symbol.specs.declared.SizeChoice.TheVariants.{Square}
-use Rattle.dm_symbol.specs.LetterNormal.{NormalLetterResult}
+use Rattle.dm_symbol.specs.NormalOutcomes.{IsNormalOrFault}
 use Rattle.dm_symbol.proofs.Exported.{refused_letter_result, restored_reads}
 use Rattle.dm_words.specs.Letters.{LetterView}
 use Rattle.dm_words.specs.LetterExtents.{RefusedIn, SaysIn}
@@ -50,7 +50,7 @@ returns-in-Err g c symbol doubtful limit restored is =
     ((c.in-Err.ensures.read.fault why).0 refl) in
     record {
       result = Err (of_letter.Read (Words why));
-      result_is = NormalLetterResult.fault (Words why)
+      result_is = IsNormalOrFault.fault (Words why)
           (refused_letter_result a.extent symbol doubtful limit a.words.now restored.dealing restored.blocks.items
           restored.border_faults is why refused) refl;
       shown = c.show_fault.ensures ∙ ap (λ f. no_symbol f a.out.now) c.read_letter_fault.ensures;

@@ -6,13 +6,13 @@ use Rattle.ecc200_calls.proofs.smallest_writing.write_symbol.Goals as goal
 pub returns-in-Ok : goal.returns-in-Ok
 returns-in-Ok g c = record {
   result = Ok c.write_smallest_to.new.symbol;
-  written = c.in-Ok.ensures.letter;
+  written = c.in-Ok.ensures.written;
   shown = c.show_symbol.ensures;
 }
 
 pub returns-in-Err : goal.returns-in-Err
 returns-in-Err g c = record {
   result = Err (let none : TooLong = record {} in none);
-  written = c.in-Err.ensures.letter;
+  written = c.in-Err.ensures.written;
   shown = c.show_fault.ensures ∙ ap (λ why. no_symbol why c.args.out.now) c.too_long.ensures;
 }

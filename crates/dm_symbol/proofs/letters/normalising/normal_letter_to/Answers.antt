@@ -6,7 +6,7 @@ use Rattle.dm_layout.specs.declared.symbols.size.SizeChoice.TheVariants.{Square}
 use Rattle.dm_layout.specs.symbols.Sizes.{most_data, most_rows, most_codewords}
 use Rattle.dm_layout.proofs.symbols.Exported.{size_facts}
 use Rattle.dm_symbol.proofs.Rooms.{room_for_most}
-use Rattle.dm_symbol.specs.LetterNormal.{NormalLetterResult}
+use Rattle.dm_symbol.specs.NormalOutcomes.{IsNormalOrFault}
 use Rattle.dm_symbol.proofs.NormalLetters.{is_letter_normalised}
 use Rattle.dm_symbol.proofs.letters.normalising.normal_letter_to.Goals as goal
 
@@ -17,7 +17,7 @@ returns-in-Err g c =
     record {
       normal =
           is_letter_normalised how.extent c.args.profile c.args.symbol.now doubt how.border_limit _
-          (NormalLetterResult.fault c.in-Err.fault c.in-Err.ensures.read.result_is refl);
+          (IsNormalOrFault.fault c.in-Err.fault c.in-Err.ensures.read.result_is refl);
       reading_is = tt;
       reading_of_long = λ e. cc;
       same = refl;
@@ -31,7 +31,7 @@ returns-in-Ok-write_letter_to g c =
     record {
       normal =
           is_letter_normalised how.extent c.args.profile c.args.symbol.now doubt how.border_limit _
-          (NormalLetterResult.normal c.write_letter_to.new.symbol
+          (IsNormalOrFault.normal c.write_letter_to.new.symbol
           (record {
             letter = letter;
             read = (c.in-Ok.ensures.read.letter letter).0 refl;
@@ -50,7 +50,7 @@ returns-in-Err-write_letter_to g c =
     record {
       normal =
           is_letter_normalised how.extent c.args.profile c.args.symbol.now doubt how.border_limit _
-          (NormalLetterResult.too_long
+          (IsNormalOrFault.too_long
           (record {
             letter = letter;
             read = (c.in-Ok.ensures.read.letter letter).0 refl;

@@ -1,0 +1,71 @@
+-- The results of reading a grid, from the restored codewords of its symbol.
+use Rattle.std.proofs.Common.{ℕ, List, map, None, Ok, Err, refl}
+use Rattle.dm_words.specs.declared.extent.Extent.TheVariants.{Usual}
+use Rattle.dm_words.specs.declared.item.Item.{Item}
+use Rattle.dm_words.specs.declared.fault.WordFault.{WordFault}
+use Rattle.dm_words.specs.declared.letters.fault.LetterFault.TheVariants as words_fault
+use Rattle.dm_words.specs.LetterExtents.{as_letter, RefusedIn}
+use Rattle.dm_words.specs.Refused.{Refused}
+use Rattle.dm_words.specs.Spells.{Spells}
+use Rattle.dm_words.proofs.Exported.{identifier_is_there, said_wide, spelled_said}
+use Rattle.dm_layout.specs.Grid.{GridView, IsGrid, symbol_modules}
+use Rattle.dm_layout.specs.symbols.Words.{WordsView, data_of}
+use Rattle.dm_symbol.specs.declared.symbol.dealing.Dealing.{Dealing}
+use Rattle.dm_symbol.specs.declared.symbol.reading.BlockReading.{BlockReading}
+use Rattle.dm_symbol.specs.declared.symbol.reading.Lost.TheVariants.{Border, Block}
+use Rattle.dm_symbol.specs.declared.letters.LetterReadFault.TheVariants as letter
+use Rattle.dm_symbol.specs.declared.reading.ReadFault.TheVariants as fault
+use Rattle.dm_symbol.specs.LetterReading.{letter_reading_of}
+use Rattle.dm_symbol.specs.Reading.{IsRead, reading_of}
+use Rattle.dm_symbol.specs.Restored.{IsRestored}
+use Rattle.dm_symbol.specs.inner.Restoring.{IsLost}
+use Rattle.dm_symbol.proofs.Grids.{is_read}
+use Rattle.dm_symbol.proofs.LetterReadSteps.{letter_border_result, letter_lost_result, refused_letter_result}
+use Rattle.dm_symbol.proofs.LetterReadSteps.{said_letter_result}
+
+module _ (grid : GridView) (limit : ℕ) (g : IsGrid grid) where
+  -- More border faults than the limit are what reading gives.
+  pub border_is_read : (count : ℕ) → IsLost Usual (symbol_modules grid) None limit (Border count)
+      → IsRead grid limit (Err (fault.Border count))
+  border_is_read count lost = is_read grid limit (Err (fault.Border count)) (record {
+    is_grid = g;
+    of_symbol = Err (letter.Border count);
+    read = letter_border_result Usual (symbol_modules grid) None limit count lost;
+    same = (fault.Border count, refl, refl);
+  })
+
+  -- The first block that can't be restored is.
+  pub block_is_read : (index : ℕ) → IsLost Usual (symbol_modules grid) None limit (Block index)
+      → IsRead grid limit (Err (fault.Block index))
+  block_is_read index lost = is_read grid limit (Err (fault.Block index)) (record {
+    is_grid = g;
+    of_symbol = Err (letter.Block index);
+    read = letter_lost_result Usual (symbol_modules grid) None limit index lost;
+    same = (fault.Block index, refl, refl);
+  })
+
+  module _ (w : WordsView) (dealing : Dealing) (blocks : List BlockReading) (count : ℕ)
+      (r : IsRestored Usual (symbol_modules grid) None limit w dealing blocks count) where
+    -- Where the data codewords are refused, their fault is.
+    pub fault_is_read : (why : WordFault) → Refused Usual (data_of w) why → IsRead grid limit (Err (fault.Words why))
+    fault_is_read why refused = is_read grid limit (Err (fault.Words why)) (record {
+      is_grid = g;
+      of_symbol = Err (letter.Words (words_fault.Word why));
+      read = refused_letter_result Usual (symbol_modules grid) None limit w dealing blocks count r
+          (words_fault.Word why) (RefusedIn.of_message why refl refused refl);
+      same = (fault.Words why, refl, refl);
+    })
+
+    -- Where they spell a message, it is.
+    pub message_is_read : (m : List Item) → Spells Usual (data_of w) m
+        → IsRead grid limit (Ok (reading_of m (map (λ (b : BlockReading). b.corrected) blocks) count))
+    message_is_read m spelled =
+        let says = spelled_said Usual (data_of w) m spelled in
+        let number = identifier_is_there (data_of w) (as_letter m) (said_wide Usual (data_of w) (as_letter m) says) in
+        is_read grid limit (Ok (reading_of m (map (λ (b : BlockReading). b.corrected) blocks) count)) (record {
+          is_grid = g;
+          of_symbol = Ok (letter_reading_of (as_letter m) number.0 dealing blocks count);
+          read = said_letter_result Usual (symbol_modules grid) None limit w dealing blocks count r (as_letter m)
+              number.0 says number.1;
+          same = refl;
+        })
