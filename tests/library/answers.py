@@ -1,6 +1,6 @@
 """Answers the requests of cases.py by the functions of the Python module."""
 from tests.library.cases import heading, marking, no, numbers
-from tests.library.model import ONE, SIZE_OF
+from tests.library.model import DIGITS, ONE, SIZE_OF
 
 
 def bytes_of(text):
@@ -36,7 +36,7 @@ def said(got):
 
 
 def symbol(rows):
-    modules = "".join(str(module) for row in rows for module in row)
+    modules = b"".join(rows).translate(DIGITS).decode("latin-1")
     return f"rows {len(rows)} columns {len(rows[0])} modules {modules}"
 
 

@@ -2,9 +2,9 @@
 it was worked out by hand. answers.c, answers.rs and answers.py answer such requests by the callers of the library, a
 line for each."""
 from tests.library.letters import USUAL, WIDE, letter_of, letter_words, said_by, symbol_of
-from tests.library.model import (ANY, BIT, EXTENDED, FIELD, FNC1, ONE, PLACES, RECTANGLE, SIZE_OF, SIZES,
-                                 SQUARE, UPPER_SHIFT, ascii_words, base_256_words, codewords, modules_of, padded,
-                                 randomised, triple)
+from tests.library.model import (ANY, DIGITS, EXTENDED, FIELD, FNC1, ONE, PLACES, RECTANGLE, SIZES, SIZE_OF, SQUARE,
+                                 UPPER_SHIFT, ascii_words, base_256_words, bits_of, codewords, modules_of, padded,
+                                 randomised, triple, words_in)
 
 SMALLEST = 2  # a form that is no profile
 LARGEST = SIZES[-1]
@@ -124,7 +124,7 @@ def symbol(said, profile=0, shape=SQUARE, named=(0, 0)):
     made = symbol_of(said, profile, shape, named)
     if not made:
         return no(14)
-    return f"rows {made[0].rows} columns {made[0].columns} modules {''.join(map(str, made[1]))}"
+    return f"rows {made[0].rows} columns {made[0].columns} modules {bytes(made[1]).translate(DIGITS).decode()}"
 
 
 def inspection(named, held, mended, corrected=None, border=0, erased=None, designators=()):
@@ -147,8 +147,8 @@ def words_of(size, block, count, first=0):
 
 def modules_at(named, words, bits):
     """Where these bits of codewords stand."""
-    words = set(words)
-    return [i for i, (kind, word, bit) in enumerate(PLACES[named]) if kind == BIT and word in words and bit in bits]
+    places = bits_of(SIZE_OF[named])
+    return [places[8 * word + bit - 1] for word in words for bit in bits]
 
 
 def hurt(grid, block, count, first=0):
@@ -164,11 +164,7 @@ def doubt_of(grid, words):
 
 def held_by(grid):
     """The codewords that a symbol holds."""
-    words = [0] * (grid.size.data + grid.size.check)
-    for module, (kind, word, bit) in zip(grid, PLACES[grid.named]):
-        if kind == BIT:
-            words[word] |= module << 8 - bit
-    return words
+    return words_in(grid.size, grid)
 
 
 def border_of(named, count):

@@ -2,6 +2,7 @@
 and some encodations, written from the standard and not from the library, so that what the library answers can be
 compared with it."""
 import functools
+import operator
 from collections import namedtuple
 
 FNC1, PAD, LATCH_BASE_256, UPPER_SHIFT = 256, 129, 231, 235
@@ -109,24 +110,22 @@ class Field:
         return self.power[(self.log[a] + self.log[b]) % 255] if a and b else 0
 
     @functools.cache
-    def generator(self, count):
-        """The coefficients of the generator polynomial for so many check codewords, the highest first, by their
-        logarithms."""
+    def multiples(self, count):
+        """The generator polynomial for so many check codewords, times each element: its coefficients but the highest,
+        together as a number to base 256."""
         generator = [1]
         for root in self.power[1:count + 1]:
             shifted, scaled = generator + [0], [0] + [self.times(root, x) for x in generator]
             generator = [a ^ b for a, b in zip(shifted, scaled)]
-        return [self.log[coefficient] for coefficient in generator]
+        return [int.from_bytes([self.times(element, x) for x in generator[1:]], "big") for element in range(256)]
 
     @functools.cache
     def checks(self, data, count):
         """What remains of the data codewords, followed by as many zeros, when they are divided by the generator."""
-        rest, generator = list(data) + [0] * count, self.generator(count)
-        for i in range(len(data)):
-            if rest[i]:
-                factor = self.log[rest[i]]
-                rest[i:i + count + 1] = [a ^ self.power[(factor + b) % 255] for a, b in zip(rest[i:], generator)]
-        return rest[len(data):]
+        rest, highest, multiples = 0, 8 * (count - 1), self.multiples(count)
+        for word in data:
+            rest = (rest & (1 << highest) - 1) << 8 ^ multiples[rest >> highest ^ word]
+        return list(rest.to_bytes(count, "big"))
 
 
 FIELD = Field()
@@ -229,10 +228,35 @@ def codewords(size, data):
     return words
 
 
+# The bits of each codeword, the highest first; and what makes digits of bits.
+BITS = [bytes(map(int, f"{word:08b}")) for word in range(256)]
+DIGITS = bytes.maketrans(b"\0\1", b"01")
+
+
+@functools.cache
+def bits_of(size):
+    """Where the bits of all codewords stand, one after another."""
+    places = sorted((word, bit, at) for at, (kind, word, bit) in enumerate(PLACES[size.named]) if kind == BIT)
+    return [at for _, _, at in places]
+
+
+@functools.cache
+def sources(size):
+    """Takes for each module its bit from those of all codewords, behind which stand a light one and a dark one."""
+    fixed = {kind: 8 * (size.data + size.check) + (kind in (BORDER_DARK, FIXED_DARK)) for kind in range(FIXED_DARK + 1)}
+    return operator.itemgetter(*(8 * word + bit - 1 if kind == BIT else fixed[kind]
+                                 for kind, word, bit in PLACES[size.named]))
+
+
 def modules_of(size, words):
     """The modules of a symbol that holds these codewords, row by row."""
-    dark = {BORDER_DARK: 1, FIXED_DARK: 1}
-    return [words[word] >> 8 - bit & 1 if kind == BIT else dark.get(kind, 0) for kind, word, bit in PLACES[size.named]]
+    return list(sources(size)(b"".join(BITS[word] for word in words) + b"\0\1"))
+
+
+def words_in(size, modules):
+    """The codewords that the modules of a symbol hold."""
+    bits = bytes(operator.itemgetter(*bits_of(size))(modules)).translate(DIGITS)
+    return list(int(bits, 2).to_bytes(len(bits) // 8, "big"))
 
 
 def padded(data, count):
