@@ -217,11 +217,14 @@ export const whyNot = ({ column, why }) => (column ? `Column ${column} ${why}.` 
 function elementAt(text, at) {
   const element = ELEMENTS[text[0]];
   element.lastIndex = at;
-  const [all, identifier, closed, spaced] = element.exec(text), spelledValue = spaced.trim(); // GS1 has no spaces
-  const begin = at + identifier.length + 2 + spaced.indexOf(spelledValue);
+  const [all, identifier, closed, spelledValue] = element.exec(text), begin = at + identifier.length + 2;
   if (!closed) return noElement(text, at, "opens a bracket that holds no identifier, such as (01)");
   const entry = known.get(identifier), { letter, ...fault } = parse(spelledValue, true);
   if (!entry) return noElement(text, at, `begins (${identifier}), which is no identifier of GS1’s table`);
+  if (/\s/.test(spelledValue)) {
+    const ways = [{ name: "without spaces", text: text.replace(/\s/g, "") }];
+    return { why: `(${identifier}) ${entry.name} has a space in its value, and GS1 has none.`, ways };
+  }
   if (!letter) {
     const [before, after] = [text.slice(0, begin), text.slice(begin + spelledValue.length)];
     const ways = fault.ways?.map((way) => ({ ...way, text: before + way.text + after }));

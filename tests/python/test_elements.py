@@ -121,6 +121,7 @@ class Elements(PackageCase):
                 elements = gs1.parse(text)
                 self.row(text, spelled(gs1.items(elements)), said)
                 self.row(f"{text} as text again", gs1.parse(gs1.text(elements)), elements)
+        self.holds("a backslash that isn't in front of a bracket", "not '\\\\' in" in accepted("(10)A\\x28B"))
         self.row("an unknown identifier passes", accepted("(999)ABC(05)1", unknown=True), "(999)ABC(05)1")
         self.holds("an unknown one with a strange value", "not ' '" in accepted("(999)a b", unknown=True))
         self.holds("an unknown one of a known length", "14 characters" in accepted("(04)12", unknown=True)

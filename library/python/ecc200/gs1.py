@@ -245,7 +245,7 @@ def _checked(element: Element, unknown: bool) -> Element:
 
 # ---- Text and messages
 
-_BRACKETED = r"(?s)\((\d*)\)((?:[^(\\]|\\.)*)"
+_BRACKETED = r"\((\d*)\)((?:\\\(|[^(])*)"
 _SQUARE = r"(?s)\[(\d*)\]([^\[\\]*)"
 
 
@@ -264,7 +264,7 @@ def _bracketed(text: str) -> Iterator[Element]:
         found = bracketed.match(text, at)
         if not found:
             raise Faulty(f"an identifier in brackets, such as (01), is wanted at character {at + 1}")
-        yield Element(found[1], re.sub(r"\\(.)", r"\1", found[2]))
+        yield Element(found[1], found[2].replace("\\(", "("))
         at = found.end()
 
 
