@@ -1,6 +1,7 @@
 // Files opened as pictures, in a worker or by the page.
 
 const PNG_START = [137, 80, 78, 71], PNG_END = [73, 69, 78, 68];
+/** @type {(bytes: Uint8Array, at: number, some: number[]) => boolean} */
 const hasAt = (bytes, at, some) => some.every((byte, k) => bytes[at + k] === byte);
 
 const MOST_PIXELS = 2e8, LARGE = 4e7, LESSENED = 1.6e7; // of a picture; decoded smaller if it has more; then of it

@@ -1,5 +1,6 @@
 // The camera, where the browser allows one: it looks as long as it is on, outlines what it sees, and lists what it has
 // read; until Stop is pressed, or something else is entered or shown.
+import { there } from "./common.mjs";
 import { $, hint } from "./dom.mjs";
 import { whenShown } from "./flow.mjs";
 import { addSights, choose, clearSights, drawOutlines, isKeepingSights } from "./found.mjs";
@@ -13,13 +14,16 @@ const EACH = 100, MOST_TIME_OF_FRAME = 600, MOST_IN_FRAME = 24; // milliseconds,
 const LENGTH = 1280; // pixels of the longer side that are asked for
 const HOLD = "Hold symbols before the camera. What is read is listed, until you stop it.";
 const WANTED = { video: { facingMode: "environment", width: { ideal: LENGTH } }, audio: false };
-/** @type {{ stream: MediaStream | null } | null} the one that is on, with its stream once the browser allows one */
+/** @typedef {{ stream: MediaStream | null }} Session with its stream, once the browser allows one */
+/** @type {Session | null} the one that is on */
 let session = null;
 let told = HOLD; // what it said last; what is said of a picture meanwhile stays until that changes
 
 const video = () => /** @type {HTMLVideoElement} */ ($("video"));
+/** @type {(time: number) => Promise<void>} */
 const wait = (time) => new Promise((resolve) => setTimeout(resolve, time));
 
+/** @type {(own: Session) => Promise<void>} */
 async function watch(own) {
   while (session === own) {
     const { videoWidth: width, videoHeight: height } = video();
@@ -32,6 +36,7 @@ async function watch(own) {
     await wait(EACH);
   }
 }
+/** @type {(sights: import("./found.mjs").Sights, size: { width: number, height: number }) => void} */
 function seeFrame({ symbols, unread }, size) {
   drawOutlines($("in-camera"), [...symbols, ...unread], size);
   const fresh = addSights(symbols);
@@ -44,7 +49,9 @@ function seeFrame({ symbols, unread }, size) {
 
 // ---- The light
 
+/** @type {(own: Session | null) => MediaStreamTrack | undefined} */
 const trackOf = (own) => own?.stream?.getVideoTracks()[0];
+/** @type {(own: Session) => void} */
 function showTorch(own) {
   /** @type {any} */
   const can = trackOf(own)?.getCapabilities?.() ?? {};
@@ -56,13 +63,14 @@ async function turnTorch() {
   /** @type {any} */
   const wanted = { advanced: [{ torch: isOn }] };
   try {
-    await trackOf(session).applyConstraints(wanted);
+    await there(trackOf(session)).applyConstraints(wanted);
     $("torch").setAttribute("aria-pressed", String(isOn));
   } catch { hint("picture-hint", "The light of this device can’t be switched.", true); }
 }
 
 // ---- On and off
 
+/** @type {(stream: MediaStream | null) => void} */
 const endStream = (stream) => { for (const track of stream?.getTracks() ?? []) track.stop(); };
 function stopCamera(words = "") {
   if (!session) return;
@@ -75,7 +83,9 @@ function stopCamera(words = "") {
 }
 async function startCamera() {
   if (session) return;
-  const own = session = { stream: null };
+  /** @type {Session} */
+  const own = { stream: null };
+  session = own;
   try {
     const stream = await navigator.mediaDevices.getUserMedia(WANTED);
     if (session !== own) { endStream(stream); return; }

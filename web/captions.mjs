@@ -1,5 +1,6 @@
 // Texts below symbols: in which lines they stand, and how large. What is shown, printed and saved has them alike, and
 // whole.
+import { codeOf } from "./common.mjs";
 import { WIDTH, hasLetter, outlineOf } from "./font.mjs";
 import { hexed, named } from "./messages.mjs";
 
@@ -40,7 +41,7 @@ function linesOf(text, most) {
 export function captionOf(text, width, height = Infinity) {
   if (!text) return { caption: NO_CAPTION };
   const shown = seenText(text), lacked = Array.from(shown).find((letter) => !hasLetter(letter));
-  if (lacked) return { why: `the text below has ${named(lacked.codePointAt(0))}, which can’t be drawn` };
+  if (lacked) return { why: `the text below has ${named(codeOf(lacked))}, which can’t be drawn` };
   const all = SIZES.map((size) => ({ size, most: Math.floor(width / (size * WIDTH)) })).filter(({ most }) => most > 0)
     .map(({ size, most }) => ({ size, lines: linesOf(shown, most) }))
     .map(({ size, lines }) => ({ size, lines, height: lines.length * LINE * size }))
@@ -56,7 +57,8 @@ export const placesOf = ({ lines, size }, width) => lines.map((line, k) =>
 // The outlines of all letters as a path, in which a millimetre has this length.
 /** @type {(caption: Caption, width: number, millimetre?: number) => string} */
 export function pathOf(caption, width, millimetre = 1) {
-  const { size } = caption, number = (value) => String(+(value * millimetre).toFixed(3));
+  const { size } = caption, number = (/** @type {number} */ value) => String(+(value * millimetre).toFixed(3));
+  /** @type {(letter: string, x: number, y: number) => string} */
   const drawn = (letter, x, y) => outlineOf(letter).map(({ word, at }) => word + at.map((value, k) =>
     number(k % 2 ? y - value * size : x + value * size)).join(" ")).join("");
   return placesOf(caption, width).flatMap(({ line, x, y }) =>

@@ -1,5 +1,5 @@
 // Drawing codewords, and telling about the one that is pointed at.
-import { BIT, BORDER_DARK, BORDER_LIGHT, blockOf } from "./common.mjs";
+import { BIT, BORDER_DARK, BORDER_LIGHT, blockOf, there } from "./common.mjs";
 import { $, made } from "./dom.mjs";
 import { mapOf, mark } from "./state.mjs";
 import { isWrong } from "./symbol.mjs";
@@ -37,7 +37,7 @@ export function drawWords() {
   }
   for (let w = 0; w < all; w++) {
     const node = box.children[w], isAt = String(w === word);
-    drawCell(node, seen, w);
+    drawCell(node, there(seen), w);
     if (node.getAttribute("aria-selected") !== isAt) node.setAttribute("aria-selected", isAt);
   }
   if (word === null) box.removeAttribute("aria-activedescendant");
@@ -50,12 +50,16 @@ export function drawWords() {
 /** @type {(value: number) => string} */
 export const bitsOf = (value) => value.toString(2).padStart(8, "0");
 // The bits of a value, of which those that differ from another's are marked.
+/** @type {(value: number, other: number) => (Node | string)[]} */
 const bitsAgainst = (value, other) => Array.from(bitsOf(value), (bit, k) =>
   (bit === bitsOf(other)[k] ? bit : made("u", { textContent: bit })));
+/** @type {(kind: number) => boolean} */
 const isBorder = (kind) => kind === BORDER_LIGHT || kind === BORDER_DARK;
 /** @type {(k: number, shape: import("./common.mjs").Shape) => string} */
 export const placeOf = (k, { columns }) => `Row ${Math.floor(k / columns) + 1}, column ${(k % columns) + 1}`;
+/** @type {(seen: Seen, k: number) => boolean} */
 const isDoubtful = ({ doubtful }, k) => Boolean(doubtful?.[k]);
+/** @type {(text: string) => Node} */
 export const bold = (text) => made("b", { textContent: text });
 
 /** @type {(seen: Seen, k: number) => (Node | string)[]} */
@@ -70,8 +74,8 @@ function aboutModule(seen, k) {
 function aboutWord({ size, dealing, held, mended, states, isErased, told }, w) {
   const what = w < size.data ? "data" : "check";
   const block = size.blocks > 1 ? `, block ${blockOf(size, dealing, w) + 1}` : "";
-  const value = (one, other) =>
-    [bold(one), ", ", made("span", { className: "bits" }, ...bitsAgainst(one, other))];
+  const value = (/** @type {number} */ one, /** @type {number} */ other) =>
+    [bold(String(one)), ", ", made("span", { className: "bits" }, ...bitsAgainst(one, other))];
   const mending = states[w] === 1 ? [", and is corrected to ", ...value(mended[w], held[w])] : [];
   const beyond = states[w] === 2 ? "; its block is beyond correction" : "";
   const doubt = isErased[w] ? " It is doubtful: the reader takes it for unknown, which costs its block one check "

@@ -1,6 +1,6 @@
 // Text and the bytes of a letter: which charset an ECI assignment means, in which one a text is written, and what bytes
 // say in each. The browser's decoders do most of the work.
-import { FNC1 } from "./common.mjs";
+import { FNC1, there } from "./common.mjs";
 import { ECI_UTF_8, letterOf } from "./letters.mjs";
 
 /** @typedef {import("./letters.mjs").Letter} Letter */
@@ -60,7 +60,8 @@ function decodedBy(bytes, charset) {
 const FIRST_OF_ISO_8859 = 160, SPACE = 32;
 /** @type {(bytes: Uint8Array, charset: string) => string} */
 function decodedInIso8859(bytes, charset) {
-  const isOwn = (byte) => byte < FIRST_OF_ISO_8859, high = bytes.map((byte) => (isOwn(byte) ? SPACE : byte));
+  const isOwn = (/** @type {number} */ byte) => byte < FIRST_OF_ISO_8859;
+  const high = bytes.map((byte) => (isOwn(byte) ? SPACE : byte));
   return Array.from(decodedBy(high, charset), (character, k) =>
     (isOwn(bytes[k]) ? String.fromCharCode(bytes[k]) : character)).join("");
 }
@@ -96,7 +97,8 @@ export const bytesOf = (items) => Uint8Array.from(items, (item) => (item === FNC
 // that, else ISO 8859-1.
 /** @type {(letter: Letter) => { charset: string, items: number[] }[]} */
 function stretchesOf({ items, marks }) {
-  const front = items[0] === FNC1 ? 1 : 0, stretches = [];
+  /** @type {{ charset: string, items: number[] }[]} */
+  const stretches = [], front = items[0] === FNC1 ? 1 : 0;
   const behind = marks.map(({ place, number }) => ({ place: Math.max(place, front), number }));
   const begins = [{ place: front, number: null }, ...behind];
   begins.forEach(({ place, number }, k) => {
@@ -130,6 +132,7 @@ const SIGNS = /[\xa0-\xbf\xd7\xf7]/g, SURE_RUN = 3;
 function isGuessedShiftJis(text) {
   if (!LIKE_SHIFT_JIS.test(text)) return false;
   const runs = [...text.matchAll(RUNS_OF_SHIFT_JIS)].map(([, katakana = "", pairs = ""]) => ({ katakana, pairs }));
+  /** @type {(run: { katakana: string, pairs: string }) => boolean} */
   const isSure = ({ katakana, pairs }) => Math.max(katakana.length, pairs.length / 2) >= SURE_RUN;
   if (runs.some(isSure) || CONTROL.test(text)) return true;
   const lengths = runs.map(({ katakana }) => katakana.length).filter(Boolean);
@@ -184,7 +187,7 @@ function codesOf(number) {
   const left = new Set(unlike.split(" ").map((hex) => parseInt(hex, 16)));
   for (const span of `00-7f ${spans}`.split(" ")) {
     const codes = codesBetween(span), characters = charactersOf(codes, CHARSET_OF[number]);
-    const isOne = (it) => it?.length === 1 && it !== REPLACEMENT;
+    const isOne = (/** @type {string | null | undefined} */ it) => it?.length === 1 && it !== REPLACEMENT;
     for (const [k, code] of codes.entries())
       if (isOne(characters[k]) && !left.has(code)) table.set(characters[k], code);
   }
@@ -197,11 +200,12 @@ function codesOf(number) {
 /** @type {(text: string) => Letter[]} */
 export function waysOfText(text) {
   const units = Array.from({ length: text.length }, (_, k) => text.charCodeAt(k)), characters = Array.from(text);
-  const marked = (number) => [{ place: 0, number }];
+  const marked = (/** @type {number} */ number) => [{ place: 0, number }];
   if (units.every((unit) => unit <= MOST_OF_LATIN_1))
     return [letterOf(units, isClear(text) ? [] : marked(ECI_LATIN_1))];
-  const hasAll = (number) => characters.every((it) => codesOf(number).has(it));
-  const bytesIn = (number) => characters.flatMap((it) => bytesOfCode(codesOf(number).get(it)));
+  const hasAll = (/** @type {number} */ number) => characters.every((it) => codesOf(number).has(it));
+  const bytesIn = (/** @type {number} */ number) =>
+    characters.flatMap((it) => bytesOfCode(there(codesOf(number).get(it))));
   return [letterOf([...new TextEncoder().encode(text)], marked(ECI_UTF_8)),
     ...Object.keys(ALIKE).map(Number).filter(hasAll).map((number) => letterOf(bytesIn(number), marked(number)))];
 }

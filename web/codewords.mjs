@@ -3,7 +3,11 @@ import { nameOfEci } from "./charsets.mjs";
 import { FNC1, plural } from "./common.mjs";
 import { isPlain, spelledItem } from "./messages.mjs";
 
+/** @type {Record<number, string>} */
 const LATCHES = { 230: "C40", 231: "Base 256", 238: "X12", 239: "Text", 240: "EDIFACT" };
+/** @type {Record<number, string>} */
+const BRIEF_LATCHES = { 231: "256", 240: "EDI" };
+/** @type {Record<number, string>} */
 const MACROS = { 236: "05", 237: "06" };
 const TRAILER = [30, 4]; // RS and EOT, at the end of a macro's message
 const MOST_NUMBER = 999999; // of an ECI
@@ -12,14 +16,18 @@ const SHIFTS = ["Shift 1", "Shift 2", "Shift 3"];
 const PAD = 129, APPEND = 233, PROGRAM = 234, UPPER_SHIFT = 235, ECI = 241, UNLATCH = 254, EDIFACT_UNLATCH = 31;
 const WITHOUT_SHIFTS = [230, 238, 239]; // latches to C40, X12 and Text: a macro may stand behind empty runs of these
 
+/** @type {(item: number) => string} */
 function character(item) {
   if (item === 32) return "a space";
   return isPlain(item) || item === 92 ? `the character ${String.fromCharCode(item)}` : `the byte ${item}`;
 }
 const NEXT = ["", "", ", together with the next", ", together with the next two"]; // by how many share a value
 const BEFORE = "the one before", NEIGHBOURS = "its two neighbours";
+/** @type {(items: number[]) => string} */
 const shown = (items) => items.map((item) => (item === 32 ? "␣" : spelledItem(item))).join("");
+/** @type {(text: string) => number[]} */
 const codes = (text) => Array.from(text, (c) => c.charCodeAt(0));
+/** @type {(number: string) => number[]} */
 const macroFront = (number) => [...codes("[)>"), 30, ...codes(number), 29];
 
 /** @typedef {{ items: number[], text: string, brief: string, mark?: number }} Meaning of a codeword; its mark is the
@@ -31,6 +39,7 @@ const macroFront = (number) => [...codes("[)>"), 30, ...codes(number), 29];
 export function meanings(data) {
   /** @type {Meaning[]} */
   const told = [];
+  /** @type {Reading} */
   const reading = { data, told, say: (text, brief = "", items = [], mark = undefined) => {
     told.push({ text, brief, items, mark });
   } };
@@ -62,6 +71,7 @@ function sayFront(reading) {
     macroFront(macro));
   return macro;
 }
+/** @type {(value: number) => boolean} */
 const isLetterOfNumber = (value) => value >= 1 && value <= 254; // a codeword of numbers behind 233 and 241
 /** @type {(which: number) => { part: number, parts: number }} */
 const partIn = (which) => ({ part: (which >> 4) + 1, parts: 17 - (which & 15) });
@@ -108,7 +118,7 @@ function sayOne(reading) {
     const item = data[told.length] + 127;
     if (told.length < data.length) say(`the byte ${item}, with the 128 of the Upper Shift`, shown([item]), [item]);
   } else if (LATCHES[value]) {
-    say(`a latch to ${LATCHES[value]}`, { 231: "256", 240: "EDI" }[value] ?? LATCHES[value]);
+    say(`a latch to ${LATCHES[value]}`, BRIEF_LATCHES[value] ?? LATCHES[value]);
     if (value === 231) sayBytes(reading);
     else if (value === 240) sayGroups(reading);
     else sayTriplets(LATCHES[value], reading);
@@ -119,7 +129,8 @@ function sayOne(reading) {
 // each.
 /** @type {(reading: Reading) => void} */
 function sayBytes({ data, told, say }) {
-  const plain = (at) => (data[at] - (((149 * (at + 1)) % 255) + 1) + 256) % 256, most = () => data.length - told.length;
+  const plain = (/** @type {number} */ at) => (data[at] - (((149 * (at + 1)) % 255) + 1) + 256) % 256;
+  const most = () => data.length - told.length;
   let length = plain(told.length);
   const toEnd = "the length: to the end of the symbol";
   if (length < 250) say(length ? `the length, ${plural(length, "byte", "bytes")}` : toEnd, String(length));
@@ -135,8 +146,10 @@ function sayBytes({ data, told, say }) {
   }
 }
 
+/** @type {(value: number) => number} */
 const edifactItem = (value) => (value < 32 ? value + 64 : value);
 
+/** @type {(value: number) => string} */
 const edifactName = (value) =>
   (value === EDIFACT_UNLATCH ? "an unlatch, back to ASCII" : shown([edifactItem(value)]));
 
@@ -181,6 +194,7 @@ function sayTriplets(mode, { data, told, say }) {
   }
   if (data[told.length] === UNLATCH) say("an unlatch, back to ASCII", "ASC");
 }
+/** @type {(mode: string, set: number, value: number) => number} */
 function characterOf(mode, set, value) {
   if (mode === "X12" && value < 4) return [13, 42, 62, 32][value];
   if (set === 1) return value;

@@ -38,8 +38,21 @@ export const isSameShape = (a, b) => a.rows === b.rows && a.columns === b.column
 // The block of a codeword, counted from 0. By the other dealing of 144 x 144 check codewords are dealt anew.
 /** @type {(size: { data: number, blocks: number }, dealing: number, word: number) => number} */
 export const blockOf = ({ data, blocks }, dealing, word) => (dealing && word >= data ? word - data : word) % blocks;
+// What has to be there by now.
+/** @type {<T>(value: T | null | undefined) => T} */
+export function there(value) {
+  if (value === null || value === undefined) throw new TypeError("something that has to be there isn’t");
+  return value;
+}
+// The number of a letter that isn't empty.
+/** @type {(letter: string) => number} */
+export const codeOf = (letter) => there(letter.codePointAt(0));
 // What something that was thrown says.
 /** @type {(why: unknown) => string} */
 export const messageOf = (why) => (why instanceof Error ? why.message : String(why));
-/** @type {(a: ArrayLike<number> & { every: any }, b: ArrayLike<number>) => boolean} */
-export const isSame = (a, b) => a.length === b.length && a.every((value, k) => value === b[k]);
+/** @type {(a: ArrayLike<number>, b: ArrayLike<number>) => boolean} */
+export function isSame(a, b) {
+  let at = 0;
+  while (at < a.length && a[at] === b[at]) at++;
+  return a.length === b.length && at === a.length;
+}

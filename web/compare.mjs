@@ -1,6 +1,6 @@
 // Two symbols compared: each is a message, a grid or a picture.
 import { textOf } from "./charsets.mjs";
-import { ASCII, FNC1, SHORTER, isSame, isSameShape, shapeWords } from "./common.mjs";
+import { ASCII, FNC1, SHORTER, isSame, isSameShape, shapeWords, there } from "./common.mjs";
 import { $, made, shape } from "./dom.mjs";
 import { bound, broughtBy, textOfFile } from "./dropping.mjs";
 import { C40, DAMAGED_GRID } from "./examples.mjs";
@@ -62,20 +62,23 @@ class Slot {
     for (const name of ["drop", "paste"]) box.addEventListener(name, (event) => this.given(event));
   }
   // What is dropped or pasted here is taken here, and not as the symbol above.
+  /** @param {any} event */
   given(event) {
     const { pictures, file, text, note, why } = broughtBy(event.dataTransfer ?? event.clipboardData);
     if (event.type === "paste" && !pictures && !file) return; // text is pasted in the field
     event.preventDefault();
-    const others = pictures?.length > 1 ? ` It is one of ${pictures.length} pictures.` : "";
+    const others = pictures && pictures.length > 1 ? ` It is one of ${pictures.length} pictures.` : "";
     if (pictures) this.enterPicture(pictures[0], `${others}${note}`);
-    else if (file) this.enterFile(file, note);
+    else if (file) this.enterFile(file, note ?? "");
     else if (why) this.settle({ why: "isn’t there", words: why });
-    else this.enterDropped(text);
+    else this.enterDropped(text ?? "");
   }
+  /** @type {(text: string) => void} */
   enterDropped(text) {
     this.area.value = tooMuch(text) ? "" : text;
     if (tooMuch(text)) this.settle({ why: "can’t be taken", words: tooMuch(text) }); else this.enterText();
   }
+  /** @type {(file: File, others: string) => Promise<void>} */
   async enterFile(file, others) {
     const own = this.wait(), { text, note, why } = await textOfFile(file);
     if (this.asked !== own) return;
@@ -98,12 +101,13 @@ class Slot {
     this.changed();
   }
   // The symbol above, as it stands now.
+  /** @type {(it: import("./state.mjs").Mark) => Promise<void>} */
   async enterMark(it) {
     const own = this.wait();
     await settled(it);
     if (this.asked !== own) return;
     if (it.stage !== VALID) { this.settle({ why: "isn’t there: the symbol above isn’t valid" }); return; }
-    this.area.value = gridText(it.seen);
+    this.area.value = gridText(there(it.seen));
     this.enterText();
   }
   async enterText(note = "") {
@@ -116,16 +120,18 @@ class Slot {
     if (!text.trim()) { this.settle({ why: "is empty" }); return; }
     const isRows = isGrid(text), read = isRows ? null : takenAsTyped(text.replace(/\n+$/, ""));
     if (read && !read.letter) { this.settle({ why: "can’t be taken", words: whyNot(read) }); return; }
-    const question = isRows ? { grid: text } : { ways: waysTaken(read, 1) };
+    const question = isRows ? { grid: text } : { ways: waysTaken(there(read), 1) };
     const judged = await desks.quick.ask("judge", question, `judge ${this.name}`);
     if (!judged || this.asked !== own) return;
     this.settle({ ...judgedOf(judged, isRows ? "isn’t a grid" : "isn’t written"), note });
   }
+  /** @type {(file: File, note?: string) => Promise<void>} */
   async enterPicture(file, note = "") {
     const own = this.wait();
     this.area.value = "";
     this.reads.textContent = `Looking at ${file.name || "the picture"}…`;
-    const how = { kind: "judge", more: (picture) => ({ picture: { ...picture, most: MOST_ASKED } }) };
+    const more = (/** @type {object} */ picture) => ({ picture: { ...picture, most: MOST_ASKED } });
+    const how = { kind: "judge", more };
     const judged = await lookAt(file, `picture ${this.name}`, how).catch((why) => ({ failed: why.message }));
     if (!judged || this.asked !== own) return;
     if (judged.symbols) this.askWhich(judged.symbols, note);
@@ -158,7 +164,7 @@ class Slot {
     if (!seen || seen.answer.fault) return;
     const { answer } = seen, stands = how ? `, ${how}` : "";
     const mended = borne(answer) || "nothing had to be corrected";
-    const letter = letterRead(seen), text = readable(letter) || "the empty message";
+    const letter = there(letterRead(seen)), text = readable(letter) || "the empty message";
     const found = `${shapeWords(seen)}${stands}; ${mended}${headWords(letter)}: `;
     this.reads.append(found, made("b", { textContent: text }));
   }
@@ -203,16 +209,17 @@ function compare(slots) {
   const unread = slots.filter((slot) => slot.judged.why).map((slot) => `Symbol ${slot.name} ${slot.judged.why}.`);
   if (unread.length) { sayOnBoth("unknown", "No answer", unread.join(" ")); return; }
   // Under one profile: ASCII, or Shorter if a message fits no size in ASCII.
-  const pairUnder = (profile) => judged.map(({ normals }) => normals[profile]);
+  const pairUnder = (/** @type {number} */ profile) => judged.map(({ normals }) => there(normals)[profile]);
   const under = [ASCII, SHORTER].map(pairUnder).find((pair) => pair.every(Boolean));
   if (!under) {
     sayOnBoth("unknown", "No answer", "Both are read, but the normal form of a message fits no size.");
     return;
   }
-  const [a, b] = under, isEqual = (one, other) => isSameShape(one, other) && isSame(one.modules, other.modules);
-  const isOne = isEqual(judged[0].seen, judged[1].seen);
+  /** @type {(one: Grid, other: Grid) => boolean} */
+  const isEqual = (one, other) => isSameShape(one, other) && isSame(one.modules, other.modules);
+  const [a, b] = under.map(there), seen = judged.map((each) => there(each.seen)), isOne = isEqual(seen[0], seen[1]);
   const both = isOne ? "Both" : "Their modules differ, but both";
-  const words = `Their normal grids differ${likenessOf(judged.map(({ seen }) => letterRead(seen)))}:`;
+  const words = `Their normal grids differ${likenessOf(seen.map((each) => there(letterRead(each))))}:`;
   if (!isEqual(a, b)) sayOnBoth("differ", "No, they say different things.", words, [a, b]);
   else sayOnBoth("", "Yes, they say the same.", `${both} have this one normal grid${unlike(judged)}:`, [a]);
 }
@@ -239,7 +246,7 @@ function fnc1Words(letters) {
 // In what symbols that say the same differ that equal normal grids don't tell, in words, or "".
 /** @type {(judged: Judged[]) => string} */
 function unlike(judged) {
-  const [one, other] = judged.map(({ seen }) => seen.answer.symbology);
+  const [one, other] = judged.map(({ seen }) => seen?.answer.symbology);
   return one === other ? "" : `, though their symbology identifiers are ${one} and ${other}`;
 }
 export function wireCompare() {

@@ -58,16 +58,19 @@ function identifierOf(heading) {
   return isIdentifier(meaning) ? meaning : "";
 }
 /** @type {(heading: string) => string | null} */
-const roleOf = (heading) => (identifierOf(heading) ? ELEMENT : ROLES[knownAs(heading)] ?? null);
+const roleOf = (heading) => (identifierOf(heading) ? ELEMENT : ROLES[knownAs(heading) ?? ""] ?? null);
 // Whether a heading is one for sure: a word of the table, or digits in brackets.
 /** @type {(heading: string) => boolean} */
 const isSure = (heading) => knownAs(heading) !== null && !DIGITS.test(heading);
+/** @type {(headings: string[]) => boolean} */
 const isOfFound = (headings) => headings.filter((heading) => heading !== PICTURE).join() === FOUND.join();
+/** @type {(rows: string[][], k: number) => string[]} */
 const columnOf = (rows, k) => rows.map((row) => (row[k] ?? "").trim());
 // The columns by their headings. What comes a second time isn't known, nor a message beside identifiers.
 /** @type {(headings: string[], rows: string[][]) => Column[]} */
 function columnsOf(headings, rows) {
   const identifiers = headings.map(identifierOf), roles = headings.map(roleOf);
+  /** @type {(k: number) => boolean} */
   const isKnown = (k) => (roles[k] === UNUSED ? true : roles[k] === ELEMENT ? identifiers.indexOf(identifiers[k]) === k
     : roles.indexOf(roles[k]) === k && !(roles[k] === MESSAGE && roles.includes(ELEMENT)));
   return headings.map((heading, k) => {
@@ -86,7 +89,8 @@ function mayBeData(columns, rows) {
 /** @type {(text: string) => Table} */
 export function tableOf(text) {
   const { rows: all, unclosed } = rowsOf(text);
-  const isMeant = isOfFound(all[0] ?? []) ? (row) => Boolean(row[all[0].indexOf(FOUND[1])]) : () => true;
+  const at = isOfFound(all[0] ?? []) ? all[0].indexOf(FOUND[1]) : -1;
+  const isMeant = (/** @type {string[]} */ row) => at < 0 || Boolean(row[at]);
   const rows = all.filter(isMeant), [first = [], ...others] = rows;
   const count = rows.reduce((most, row) => Math.max(most, row.length), 0);
   const headings = Array.from({ length: count }, (_, k) => (first[k] ?? "").trim());
@@ -116,7 +120,7 @@ export const canMean = (columns, roles) => Array.isArray(roles) && roles.length 
 // Why columns that mean this make no symbols, or "".
 /** @type {(meaning: Meaning) => string} */
 export function whyNoMessage({ roles }) {
-  const count = (role) => roles.filter((each) => each === role).length;
+  const count = (/** @type {string} */ role) => roles.filter((each) => each === role).length;
   if (!count(ELEMENT) && count(MESSAGE) !== 1) return "One column has to be the message.";
   if (count(ELEMENT) && count(MESSAGE)) return "Identifiers make the message, so no other column can be it.";
   if (count(TEXT) > 1) return "Only one column can stand below the symbol.";
@@ -128,6 +132,7 @@ export function whyNoMessage({ roles }) {
 // A field without the apostrophe that a spreadsheet has in front of a text that else would be a formula.
 /** @type {(field: string) => string} */
 const plainField = (field) => (/^'+[=+@\t\r-]/.test(field) ? field.slice(1) : field);
+/** @type {(field: string) => string} */
 const spelledValue = (field) => field.trim().replace(/[\\]/g, "\\\\").replace(/[(]/g, "\\(");
 const MOST_COPIES = 9999;
 /** @type {(field: string) => { copies: number, why?: string }} */
@@ -140,7 +145,7 @@ function copiesOf(field) {
 /** @type {(table: Table, meaning: Meaning, each: number) => Line[]} */
 export function linesOf({ rows, columns }, { isData, roles }, each) {
   const [message, text, copies] = [MESSAGE, TEXT, COPIES].map((role) => roles.indexOf(role));
-  const element = (field, k) =>
+  const element = (/** @type {string} */ field, /** @type {number} */ k) =>
     (roles[k] === ELEMENT && field.trim() ? `(${columns[k].identifier})${spelledValue(field)}` : "");
   return (isData ? rows : rows.slice(1)).map((row) => {
     const own = message < 0 ? row.map(element).join("") : plainField(row[message] ?? "");

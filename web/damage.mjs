@@ -1,8 +1,8 @@
 // Pointing at modules and codewords, and turning modules over: with the mouse, a finger, or keys. Only where one
 // learns; elsewhere the symbol is a picture.
 import { drawAbout, drawWords, spokenModule } from "./cells.mjs";
-import { AUTO, BIT, limitIn } from "./common.mjs";
-import { $, field, hint, setUsable, whenUsed } from "./dom.mjs";
+import { AUTO, BIT, limitIn, there } from "./common.mjs";
+import { $, field, hint, one, setUsable, whenUsed } from "./dom.mjs";
 import { begin, damage, doubtDamage, look, redo, setLimit, undo, undoAll } from "./flow.mjs";
 import { afterThat, inTurn, settled } from "./order.mjs";
 import { mapOf, mark, store } from "./state.mjs";
@@ -24,9 +24,10 @@ function point(module, word = null) {
   drawSymbol(); drawWords(); drawAbout();
 }
 // Where an event is, as shares of the symbol's width and height.
+/** @type {(event: MouseEvent) => { x: number, y: number }} */
 function placeOfEvent({ clientX, clientY }) {
   const box = $("symbol").getBoundingClientRect(), edge = $("symbol").clientLeft;
-  const share = (from, length) => (from - edge) / (length - 2 * edge);
+  const share = (/** @type {number} */ from, /** @type {number} */ length) => (from - edge) / (length - 2 * edge);
   return { x: share(clientX - box.left, box.width), y: share(clientY - box.top, box.height) };
 }
 // The module of a symbol of this shape that is there, if one is.
@@ -36,26 +37,28 @@ function moduleAt({ x, y }, shape) {
   const r = Math.floor(y * all.rows) - QUIET, c = Math.floor(x * all.columns) - QUIET;
   return r >= 0 && c >= 0 && r < rows && c < columns ? r * columns + c : null;
 }
-const moduleUnder = (event) => (mark().seen ? moduleAt(placeOfEvent(event), mark().seen) : null);
+/** @type {(event: MouseEvent) => number | null} */
+const moduleUnder = (event) => (mark().seen ? moduleAt(placeOfEvent(event), there(mark().seen)) : null);
 
 // The modules on the line from one to another, so that a quick drag leaves none out.
 /** @type {(from: number, to: number, shape: Shape) => number[]} */
 function between(from, to, { columns }) {
   const [r, c, R, C] = [Math.floor(from / columns), from % columns, Math.floor(to / columns), to % columns];
-  const steps = Math.max(Math.abs(R - r), Math.abs(C - c)), share = (k) => k / (steps || 1);
+  const steps = Math.max(Math.abs(R - r), Math.abs(C - c)), share = (/** @type {number} */ k) => k / (steps || 1);
+  /** @type {(k: number) => number} */
   const at = (k) => Math.round(r + (R - r) * share(k)) * columns + Math.round(c + (C - c) * share(k));
   return Array.from({ length: steps + 1 }, (_, k) => at(k));
 }
 /** @type {(it: Mark, cells: number[]) => void} */
 function turn(it, cells) {
-  it.modules = it.modules.slice();
+  it.modules = there(it.modules).slice();
   for (const cell of cells) it.modules[cell] ^= 1;
   look(it);
 }
 // Tells the reader that these modules are doubtful, or no longer so.
 /** @type {(it: Mark, cells: number[], isDoubtful: boolean) => void} */
 function doubt(it, cells, isDoubtful) {
-  const doubtful = it.doubtful?.slice() ?? new Uint8Array(it.modules.length);
+  const doubtful = it.doubtful?.slice() ?? new Uint8Array(there(it.modules).length);
   for (const cell of cells) doubtful[cell] = isDoubtful ? 1 : 0;
   it.doubtful = doubtful.includes(1) ? doubtful : null;
   look(it);
@@ -87,7 +90,7 @@ class Stroke {
       this.isMarking = !it.doubtful?.[k];
       begin(it);
     }
-    const fresh = between(this.last, k, it).filter((cell) => !this.turned.has(cell));
+    const fresh = between(this.last ?? k, k, it).filter((cell) => !this.turned.has(cell));
     this.last = it.cursor = k;
     if (!fresh.length) return;
     for (const cell of fresh) this.turned.add(cell);
@@ -99,6 +102,7 @@ class Stroke {
 // click.
 function wirePointer() {
   const svg = $("symbol");
+  /** @type {Stroke | null} */
   let stroke = null;
   svg.addEventListener("pointerdown", (event) => {
     if (!isLearning()) return;
@@ -121,14 +125,16 @@ function wirePointer() {
 
 // ---- Keys
 
-const speakCursor = () => { $("spoken").textContent = spokenModule(mark().seen, mark().cursor); };
+const speakCursor = () => { $("spoken").textContent = spokenModule(there(mark().seen), mark().cursor); };
+/** @type {Record<string, (row: number, column: number) => [number, number]>} */
 const STEPS = {
   ArrowUp: (r, c) => [r - 1, c], ArrowDown: (r, c) => [r + 1, c],
   ArrowLeft: (r, c) => [r, c - 1], ArrowRight: (r, c) => [r, c + 1],
   Home: (r) => [r, 0], End: (r) => [r, -1], PageUp: (_r, c) => [0, c], PageDown: (_r, c) => [-1, c],
 };
+/** @type {(it: Mark, key: string) => void} */
 function moveCursor(it, key) {
-  const { rows, columns } = it.seen, to = STEPS[key](Math.floor(it.cursor / columns), it.cursor % columns);
+  const { rows, columns } = it, to = STEPS[key](Math.floor(it.cursor / columns), it.cursor % columns);
   it.cursor = ((to[0] + rows) % rows) * columns + ((to[1] + columns) % columns);
 }
 /** @type {(it: Mark, isDoubt: boolean) => void} */
@@ -137,6 +143,7 @@ function changeAtCursor(it, isDoubt) {
   if (isDoubt) doubt(it, [it.cursor], !it.doubtful?.[it.cursor]); else turn(it, [it.cursor]);
 }
 // What a key does to the symbol, if anything.
+/** @type {(event: KeyboardEvent) => ((it: Mark) => void) | null} */
 function actOf({ key, shiftKey, ctrlKey, metaKey }) {
   const isCommand = ctrlKey || metaKey;
   const isDoubt = isDoubting();
@@ -152,7 +159,7 @@ async function keyOnSymbol(event) {
   if (!isMove && !act) return;
   event.preventDefault();
   it.byKeys = true;
-  if (isMove) afterThat(it, () => moveCursor(it, event.key)); else act(it);
+  if (isMove) afterThat(it, () => moveCursor(it, event.key)); else act?.(it);
   await (isMove ? it.turn : settled(it));
   if (it !== mark() || !it.seen) return;
   point(it.cursor);
@@ -161,7 +168,7 @@ async function keyOnSymbol(event) {
 }
 function wireKeys() {
   const svg = $("symbol");
-  document.querySelector(".skip").addEventListener("click", (event) => {
+  one(".skip").addEventListener("click", (event) => {
     event.preventDefault(); // the address says what is entered, and leads nowhere else
     svg.focus();
   });
@@ -185,6 +192,7 @@ function wireWords() {
     const cells = /** @type {HTMLElement[]} */ ([...box.children]);
     const across = cells.findIndex((cell) => cell.offsetTop > cells[0].offsetTop);
     const row = across < 0 ? cells.length : across, w = mark().word ?? -1, last = cells.length - 1;
+    /** @type {Record<string, number>} */
     const steps = { ArrowRight: w + 1, ArrowLeft: w - 1, ArrowDown: w + row, ArrowUp: w - row, Home: 0, End: last };
     const to = steps[event.key];
     if (to === undefined || !cells.length) return;
@@ -199,6 +207,7 @@ function wireWords() {
 
 const LARGEST_ZOOM = 5;
 let zoom = 1;
+/** @type {(to: number) => void} */
 function setZoom(to) {
   zoom = Math.max(1, Math.min(LARGEST_ZOOM, to));
   $("easel").style.setProperty("--zoom", String(zoom));

@@ -1,10 +1,13 @@
 // Where the page asks its workers. Each desk has one, which answers one question at a time; a question that waits is
 // replaced by a newer one of its lane. An answer never throws: it is what the worker says, { failed: why },
 // { stopped: true }, or undefined if replaced.
-import { messageOf } from "./common.mjs";
+import { messageOf, there } from "./common.mjs";
 
 /** @typedef {{ number: number, kind: string, given: any, lane: string, transfer: Transferable[], since: number,
     tell: ((progress: string) => void) | null, resolve: (answer: any) => void }} Question */
+/** @typedef {{ library: WebAssembly.Module, sampler: WebAssembly.Module }} Code of the workers */
+/** @type {Transferable[]} */
+const NONE = [];
 /** @type {Desk[]} */
 const allDesks = [];
 /** @type {(() => void)[]} */
@@ -27,7 +30,7 @@ export class Desk {
   waiting = [];
   count = 0; // of all questions
 
-  /** @param {string} script @param {{ library: WebAssembly.Module, sampler: WebAssembly.Module }} code */
+  /** @param {string} script @param {Code} code */
   constructor(script, code) {
     this.script = script;
     this.code = code;
@@ -45,8 +48,9 @@ export class Desk {
     return this.ready;
   }
   // `tell` is given what the worker says of this question meanwhile.
-  /** @type {(kind: string, given: any, lane: string, more?: { transfer?: any[], tell?: any }) => Promise<any>} */
-  ask(kind, given, lane, { transfer = [], tell = null } = {}) {
+  /** @type {(kind: string, given: any, lane: string, more?: { transfer?: Transferable[], tell?: any }) =>
+      Promise<any>} */
+  ask(kind, given, lane, { transfer = NONE, tell = null } = {}) {
     if (!this.worker && kind !== "load") this.start();
     return new Promise((resolve) => {
       this.waiting = this.waiting.filter((question) => {
@@ -59,10 +63,9 @@ export class Desk {
   }
   next() {
     if (!this.running && this.waiting.length) {
-      this.running = this.waiting.shift();
-      this.running.since = performance.now();
-      const { number, kind, given, transfer } = this.running;
-      try { this.worker.postMessage({ number, kind, given }, transfer); } catch (why) {
+      const running = this.running = there(this.waiting.shift()), { number, kind, given, transfer } = running;
+      running.since = performance.now();
+      try { there(this.worker).postMessage({ number, kind, given }, transfer); } catch (why) {
         this.hear({ number, failed: messageOf(why) });
         return;
       }
@@ -72,17 +75,18 @@ export class Desk {
   /** @type {(said: { number?: number, answer?: any, failed?: string, progress?: string }) => void} */
   hear({ number, answer, failed, progress }) {
     if (progress) { this.running?.tell?.(progress); return; }
-    if (number !== this.running?.number) return;
+    if (!this.running || number !== this.running.number) return;
     const { resolve } = this.running;
     this.running = null;
     resolve(failed === undefined ? answer : { failed });
     this.next();
   }
   // Ends the worker, with this answer to all that was asked; the next question starts another.
+  /** @type {(answer: any) => void} */
   end(answer) {
     this.worker?.terminate();
     this.worker = null;
-    const asked = [this.running, ...this.waiting].filter(Boolean);
+    const asked = [...(this.running ? [this.running] : []), ...this.waiting];
     this.running = null;
     this.waiting = [];
     for (const question of asked) question.resolve(answer);

@@ -1,8 +1,9 @@
 // Finding and making what the page consists of. Texts are always put in as texts, and never read as markup.
+import { there } from "./common.mjs";
 
 // An element of index.html, by its id.
 /** @type {(id: string) => HTMLElement} */
-export const $ = (id) => document.getElementById(id);
+export const $ = (id) => /** @type {HTMLElement} */ (document.getElementById(id));
 // One in which something is entered or chosen: an input, a field of text, or a list. What they have in common, and what
 // inputs have besides.
 /** @type {(id: string) => HTMLInputElement} */
@@ -26,6 +27,9 @@ export function numberIn(id, least, most) {
   const { value } = field(id), number = Number(value);
   return value !== "" && Number.isInteger(number) && number >= least && number <= most ? number : null;
 }
+// The element in another, or in the page, that a selector says.
+/** @type {(selector: string, within?: ParentNode) => Element} */
+export const one = (selector, within = document) => there(within.querySelector(selector));
 // All elements that a selector says.
 /** @type {(selector: string) => any[]} */
 export const allOf = (selector) => [...document.querySelectorAll(selector)];

@@ -1,7 +1,7 @@
 // Drawing what is read: the stage, facts, the verdict and the meters.
 import { drawAbout, drawWords } from "./cells.mjs";
 import { textOf } from "./charsets.mjs";
-import { AUTO, BEYOND, FNC1, plural, shapeWords } from "./common.mjs";
+import { AUTO, BEYOND, FNC1, plural, shapeWords, there } from "./common.mjs";
 import { $, field, hint, made, setUsable, shape } from "./dom.mjs";
 import { drawElements, elementsOf, faultsOf } from "./elements.mjs";
 import { drawGathered, missingWords } from "./gathered.mjs";
@@ -27,7 +27,7 @@ export function drawStage() {
   document.body.dataset.stage = it.stage;
   document.body.toggleAttribute("data-entering", it.isEntering);
   for (const id of GIVING) setUsable(id, isValid);
-  setUsable("copy-message", isValid && !it.seen.answer.fault);
+  setUsable("copy-message", isValid && !it.seen?.answer.fault);
   for (const id of ["to-limit", "one-more", "scratch"]) setUsable(id, canAct);
   setUsable("undo", canAct && it.past.length > 0);
   setUsable("redo", canAct && it.future.length > 0);
@@ -38,12 +38,13 @@ export function drawStage() {
   if ($("which").hidden && !wasHidden) field("which-undamaged").checked = true;
   $("which-first").textContent = it.letter ? "take the undamaged symbol" : "take the symbol as it was opened";
 }
+/** @type {(number: string | number, what: string) => Node} */
 const fact = (number, what) =>
   made("div", {}, made("dt", { textContent: what }), made("dd", { textContent: number }));
 function drawFacts() {
-  const { seen } = mark(), { size } = seen ?? {};
-  const each = size?.blocks > 1 ? ` in each of ${size.blocks} blocks` : "";
-  const facts = !seen ? [] : [fact(shapeWords(seen), "modules"), fact(size.data, "data codewords"),
+  const { seen } = mark(), size = seen?.size;
+  const each = size && size.blocks > 1 ? ` in each of ${size.blocks} blocks` : "";
+  const facts = !seen || !size ? [] : [fact(shapeWords(seen), "modules"), fact(size.data, "data codewords"),
     fact(size.check, "check codewords"), fact(size.limit, `wrong codewords can be corrected${each}`),
     ...(seen.answer.symbology ? [fact(seen.answer.symbology, "symbology identifier")] : [])];
   $("facts").replaceChildren(...facts);
@@ -60,11 +61,13 @@ const ICONS = {
   other: ["M12 1.5L23.5 22H.5z", "M12 8.5v6.5m0 2v2.5"],
   none: [CIRCLE, "M6.5 12h11"],
 };
+/** @type {(drawing: [string, string]) => SVGElement} */
 const iconOf = ([around, sign]) => shape("svg", { viewBox: "0 0 24 24", "aria-hidden": "true" },
   shape("path", { d: around, fill: "currentColor" }),
   shape("path", { d: sign, fill: "none", stroke: "var(--card)", "stroke-width": 2.6 }));
 
 /** @typedef {import("./letters.mjs").Letter} Letter */
+/** @type {(textContent: string) => Node} */
 const emphasised = (textContent) => made("i", { textContent });
 // A letter as people read it: GS1 data by its identifiers in brackets, text as it is, all else as it is spelled.
 /** @type {(letter: Letter) => (Node | string)[]} */
@@ -87,6 +90,7 @@ function say(kind, state, why, letter = null) {
   $("why").textContent = why;
   $("says").tabIndex = $("says").textContent ? 0 : -1; // it scrolls, where there is something
 }
+/** @type {Record<string, string>} */
 const NONE = { [EMPTY]: "Nothing is entered yet", [WORKING]: "Working…" };
 const OTHER = "The damage is beyond the limit, and what is left is within the limit of another message’s codewords. "
   + "No reader can notice that: only damage within the limit leaves the message certain.";
@@ -95,8 +99,8 @@ function drawVerdict() {
   const it = mark();
   if (it.stage === BAD) say("none", "Nothing is read", it.why);
   else if (it.stage !== VALID) say("none", NONE[it.stage], "");
-  else if (it.seen.answer.fault) say("refused", "Refused", refusal(it.seen.answer.fault, it.seen));
-  else sayRead(it, it.seen.answer);
+  else if (it.seen?.answer.fault) say("refused", "Refused", refusal(it.seen.answer.fault, it.seen));
+  else sayRead(it, there(it.seen));
 }
 // Of text in which charset it is, and of which bytes.
 /** @type {(letter: Letter, hasBytes: boolean) => string} */
@@ -126,10 +130,11 @@ function missing(it, letter) {
 // How many elements of a whole GS1 message are wrong. A part may have some that are cut.
 /** @type {(letter: Letter) => number} */
 const wrongElements = ({ items, head }) => (items[0] === FNC1 && !head ? faultsOf(elementsOf(items)) : 0);
-/** @type {(it: import("./state.mjs").Mark, answer: import("./library.mjs").Answer) => void} */
-function sayRead(it, { items, marks, head, corrected, erased, left, border }) {
+/** @type {(it: import("./state.mjs").Mark, seen: import("./examine.mjs").Seen) => void} */
+function sayRead(it, { usual, answer }) {
+  const { items = [], marks = [], head = null, corrected = [], erased = [], left = [], border = 0 } = answer;
   const letter = { items, marks, head }, faults = wrongElements(letter);
-  const words = borne({ corrected, erased, border }), isSpent = spentBy(erased, left), { usual } = it.seen;
+  const words = borne({ corrected, erased, border }), isSpent = spentBy(erased, left);
   const torn = it.limit === AUTO && border > usual ? ` Usually ${usual} may${TORN}` : "";
   if (it.letter && !isSameLetter(it.letter, letter)) {
     say("other", "Read as another message", OTHER, letter);
@@ -159,7 +164,7 @@ function meter(name, { on, doubtful = 0, all, isOver }, [count, ...words]) {
   bar.setAttribute("aria-valuemax", String(Math.max(all, on + doubtful)));
   bar.setAttribute("aria-valuenow", String(on + doubtful));
   bar.setAttribute("aria-valuetext", `${name}: ${count}${said}`);
-  const at = (k) => (isOver || k < on ? "on" : k < on + doubtful ? "doubtful" : "");
+  const at = (/** @type {number} */ k) => (isOver || k < on ? "on" : k < on + doubtful ? "doubtful" : "");
   for (let k = 0; k < segments; k++) bar.append(made("i", { className: at((k * Math.max(all, 1)) / segments) }));
   const counted = made("span", { className: "count" }, made("b", { textContent: count }), said);
   return made("div", { className: `meter${isOver ? " over" : ""}` }, made("span", { textContent: name }), bar, counted);
@@ -186,8 +191,9 @@ function drawMeters() {
   setUsable("usual", it.limit !== null);
   setUsable("any-border", it.limit !== AUTO);
   if (!it.seen) { $("meters").replaceChildren(); return; }
-  const { size, corrected, border, limit } = it.seen, name = (b) => (size.blocks > 1 ? `Block ${b + 1}` : "Codewords");
-  const blocks = corrected.map((_, b) => meterOfBlock(name(b), it.seen, b));
+  const { seen } = it, { size, corrected, border, limit } = seen;
+  const name = (/** @type {number} */ b) => (size.blocks > 1 ? `Block ${b + 1}` : "Codewords");
+  const blocks = corrected.map((_, b) => meterOfBlock(name(b), seen, b));
   const ofBorder = meter("Border", { on: border, all: limit, isOver: border > limit },
     [String(border), ` wrong, ${limit} accepted`]);
   $("meters").replaceChildren(...blocks, ofBorder);

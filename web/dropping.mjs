@@ -19,9 +19,13 @@ import { toast } from "./taking.mjs";
 /** @typedef {{ pictures?: File[], file?: File, text?: string, note?: string, why?: string }} Brought */
 const BYTES = 4; // of a character, at most
 const MOST_BYTES_OF_SAVED = 5e7; // of a file that the page saved, and that is opened again
+/** @type {(file: File) => boolean} */
 const isPicture = ({ type }) => type.startsWith("image/");
+/** @type {(file: File) => boolean} */
 const isText = ({ type, name }) => type.startsWith("text/") || (!type && /\.(txt|csv|grid)$/i.test(name));
+/** @type {(file: { name: string }) => boolean} */
 const isCsvFile = ({ name }) => /\.csv$/i.test(name);
+/** @type {(file: File) => boolean} */
 const isTextOrSaved = (file) => isText(file) || mayBeSaved(file.name);
 
 // What is dropped or pasted: the pictures, or else the first file of text, or else the text; and a note on what isn't
@@ -47,6 +51,7 @@ const MOST_NAMED = 3;
 /** @type {(file: File) => string} */
 const noneOf = (file) => `${file.name} is ${isPdf(file) ? PDF_WORDS : "neither a picture nor a text."}`;
 const PDF_WORDS = "a PDF, which isn’t read here: save its pages as pictures, or take pictures of the screen.";
+/** @type {(file: File) => boolean} */
 const isPdf = ({ name, type }) => type === "application/pdf" || /\.pdf$/i.test(name);
 // The text of a file, with a note on how it is read; or why it isn't taken.
 /** @type {(file: File, most?: number) => Promise<{ text?: string, note?: string, why?: string }>} */
@@ -65,7 +70,7 @@ export function bound(area, refuse, most = MOST_TEXT) {
     const { data, dataTransfer } = /** @type {InputEvent} */ (event);
     const { value, selectionStart: from, selectionEnd: to } = area;
     const more = data ?? dataTransfer?.getData("text");
-    const much = more && tooMuch(value.slice(0, from) + more + value.slice(to), most);
+    const much = more && tooMuch(value.slice(0, from ?? 0) + more + value.slice(to ?? 0), most);
     if (!much) return;
     event.preventDefault();
     refuse(`Nothing was taken: ${much}`);
@@ -88,9 +93,9 @@ function takeText(text) {
   field("message").value = text;
   writeMessage();
 }
-/** @type {(area: HTMLTextAreaElement, text: string) => void} */
+/** @type {(area: HTMLInputElement, text: string) => void} */
 function insert(area, text) {
-  area.setRangeText(text, area.selectionStart, area.selectionEnd, "end");
+  area.setRangeText(text, area.selectionStart ?? 0, area.selectionEnd ?? 0, "end");
   area.dispatchEvent(new Event("input", { bubbles: true }));
 }
 /** @type {(why: string) => void} */
@@ -106,7 +111,7 @@ async function takeFile(file, others, isOnSheet = false) {
   const isSheet = isOnSheet || isCsvFile(file);
   const before = entered(), { labels = null, sights = null, grid = "" } = await heldBy(file);
   const most = isSheet ? MOST_OF_SHEET : MOST_TEXT;
-  const { text, why, note: coding = "" } = labels || sights || grid ? { text: "", why: "" }
+  const { text = "", why = "", note: coding = "" } = labels || sights || grid ? { text: "", why: "" }
     : await textAlone(file, most);
   const note = `${coding}${others}`;
   if (entered() !== before) toast(`${file.name} was given up, since something else was entered meanwhile.`);
@@ -119,7 +124,8 @@ async function takeFile(file, others, isOnSheet = false) {
   if (note && !isSheet && !why) toast(`${file.name}:${note}`);
 }
 // What a file holds that the page saved: a list of labels, one of what was found, or the grid of one symbol.
-/** @type {(file: File) => Promise<{ labels?: import("./labelfile.mjs").Labels, sights?: any, grid?: string }>} */
+/** @type {(file: File) => Promise<{ labels?: import("./labelfile.mjs").Labels | null, sights?: any,
+    grid?: string }>} */
 async function heldBy(file) {
   if (!mayBeSaved(file.name) || file.size > MOST_BYTES_OF_SAVED) return {};
   const bytes = new Uint8Array(await file.arrayBuffer()), labels = labelsIn(bytes), grid = keptIn(bytes, "Grid");
@@ -153,9 +159,10 @@ function takeLines({ name }, text, why, note) {
   }
   hint("sheet-hint", why || `The lines of ${name}.${note}`, Boolean(why), "messages");
 }
+/** @type {(event: ClipboardEvent) => void} */
 function pasted(event) {
   if (event.defaultPrevented) return;
-  const { pictures, file, text, note } = broughtBy(event.clipboardData, isTextOrSaved);
+  const { pictures, file, text, note = "" } = broughtBy(event.clipboardData, isTextOrSaved);
   const isMessage = event.target === $("message");
   if (pictures) { event.preventDefault(); readPictures(pictures, note); return; }
   if (file) { event.preventDefault(); takeFile(file, note, event.target === $("messages")); return; }
@@ -163,23 +170,24 @@ function pasted(event) {
   event.preventDefault(); // a grid that is pasted as a message is taken as a grid
   takeGridText(text);
 }
+/** @type {(event: DragEvent) => void} */
 function dropped(event) {
   document.body.classList.remove("over");
   if (event.defaultPrevented) return;
   event.preventDefault();
-  const { pictures, file, text, note, why } = broughtBy(event.dataTransfer, isTextOrSaved);
+  const { pictures, file, text = "", note = "", why } = broughtBy(event.dataTransfer, isTextOrSaved);
   const { target } = event, isSheet = target === $("messages");
   const much = text && tooMuch(text, isSheet ? MOST_OF_SHEET : MOST_TEXT);
   if (pictures) readPictures(pictures, note);
   else if (file) takeFile(file, note, isSheet);
   else if (why) refuseBrought(why);
   else if (much) hint(isSheet ? "sheet-hint" : "message-hint", `Nothing was taken: ${much}`, true);
-  else if (isSheet || (target === $("message") && !isGrid(text))) insert(target, text);
+  else if (isSheet || (target === $("message") && !isGrid(text))) insert(fieldOf(event), text);
   else if (text) takeText(text);
 }
 /** @type {(id: string, take: (files: File[]) => any) => void} */
 const whenOpened = (id, take) => $(id).addEventListener("change", (event) => {
-  const files = [...fieldOf(event).files];
+  const files = [...fieldOf(event).files ?? []];
   fieldOf(event).value = "";
   if (files.length) take(files);
 });
@@ -187,10 +195,10 @@ const whenOpened = (id, take) => $(id).addEventListener("change", (event) => {
 function openPictures(files) {
   const pdf = files.find(isPdf), pictures = files.filter((file) => !isPdf(file));
   if (pictures.length) readPictures(pictures, leftWords(pdf ? [pdf] : []));
-  else takeFile(pdf, "");
+  else if (pdf) takeFile(pdf, "");
 }
 export function wireDropping() {
-  addEventListener("paste", pasted);
+  document.addEventListener("paste", pasted);
   addEventListener("dragover", (event) => { event.preventDefault(); document.body.classList.add("over"); });
   addEventListener("dragleave", (event) => { if (!event.relatedTarget) document.body.classList.remove("over"); });
   addEventListener("drop", dropped);

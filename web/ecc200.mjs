@@ -1,7 +1,7 @@
 // Data Matrix ECC 200 for programs in JavaScript: reads symbols in pictures and grids, writes messages as symbols, by
 // the proved library and the sampler in WebAssembly. docs/JAVASCRIPT.md tells how it is used. The page stands on it.
 import { bytesOf, textOf, waysOfText } from "./charsets.mjs";
-import { ANY, ASCII, EXTENDED, FNC1, ONE, RECTANGLE, SHORTER, SMALLEST, SQUARE } from "./common.mjs";
+import { ANY, ASCII, EXTENDED, FNC1, ONE, RECTANGLE, SHORTER, SMALLEST, SQUARE, there } from "./common.mjs";
 import { elementsOfLetter, letterOfElements } from "./gs1.mjs";
 import { CODE_WORDS, SAMPLER } from "./layouts.mjs";
 import { isSameLetter, letterOf, nameOfFile, partOf, together } from "./letters.mjs";
@@ -80,7 +80,7 @@ function waysGiven(given, isElements) {
   if (typeof given === "string") return waysOfText(given);
   if ("length" in given) return [letterOf(Array.from(given))];
   const { items, marks, head } = given;
-  return [letterOf(Array.from(items), marks, head)];
+  return [letterOf(Array.from(items ?? []), marks ?? [], head ?? null)];
 }
 // What readings say together that are the parts of one message, in any order, each of them there.
 /** @type {(readings: Letter[]) => Message} */
@@ -89,9 +89,9 @@ export function joined(readings) {
   const byPart = new Map(readings.map((letter, k) => [parts[k]?.part, letter]));
   const letters = Array.from({ length: parts[0]?.parts ?? 0 }, (_, k) => byPart.get(k + 1));
   const areAll = names.size === 1 && letters.length > 0 && letters.every(Boolean);
-  if (!areAll || !readings.every((letter, k) => isSameLetter(letter, byPart.get(parts[k].part))))
+  if (!areAll || !readings.every((letter, k) => isSameLetter(letter, there(byPart.get(parts[k]?.part)))))
     throw new RangeError("these aren't the parts of one message, each of them there");
-  return messageIn(together(letters));
+  return messageIn(together(letters.map(there)));
 }
 
 export class Ecc200 {

@@ -2,7 +2,7 @@
 import { FNC1 } from "./common.mjs";
 import { elementsIn } from "./gs1.mjs";
 import { spelled } from "./messages.mjs";
-import { $, made } from "./dom.mjs";
+import { $, made, one } from "./dom.mjs";
 import { VALID, mark } from "./state.mjs";
 
 /** @type {(items: number[]) => import("./gs1.mjs").Element[]} */
@@ -16,6 +16,7 @@ export function wrongGs1(letter) {
   const identifier = wrong.identifier && `(${wrong.identifier}) `;
   return `It isn’t right as GS1 data: ${identifier}${wrong.name}, ${wrong.fault}.`;
 }
+/** @type {(elements: import("./gs1.mjs").Element[]) => number} */
 export const faultsOf = (elements) => elements.filter(({ fault }) => fault).length;
 
 /** @type {(element: import("./gs1.mjs").Element) => Node} */
@@ -32,5 +33,5 @@ export function drawElements() {
   const it = mark(), { items, head } = it.seen?.answer ?? {};
   const isShown = it.stage === VALID && items?.[0] === FNC1 && !head;
   $("elements").hidden = !isShown;
-  $("elements").querySelector("tbody").replaceChildren(...(isShown ? elementsOf(items).map(rowOf) : []));
+  one("tbody", $("elements")).replaceChildren(...(isShown ? elementsOf(items).map(rowOf) : []));
 }

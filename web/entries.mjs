@@ -1,5 +1,5 @@
 // The symbols of the list of many messages, with their texts: all of them, to be given, or some, to be looked at.
-import { plural } from "./common.mjs";
+import { plural, there } from "./common.mjs";
 import { field } from "./dom.mjs";
 import { wrongGs1 } from "./elements.mjs";
 import { desks } from "./flow.mjs";
@@ -25,7 +25,7 @@ function readLine({ message, why }) {
   if (why) return { why: `${why}.` };
   if (!message.trim()) return { why: "its row has no message." };
   const taken = takenNow(message), { letter, column, why: fault } = taken;
-  return letter ? { taken, why: wrongGs1(letter) } : { why: column ? `column ${column} ${fault}` : fault };
+  return letter ? { taken, why: wrongGs1(letter) } : { why: column ? `column ${column} ${fault}` : fault ?? "" };
 }
 // Why the list as a whole isn't taken, or "".
 /** @type {(lines: Line[]) => string} */
@@ -50,9 +50,9 @@ export function faultIn(lines) {
 /** @type {(line: Line, number: number) => { ways: Letter[][], entries: Omit<Entry, "letter" | "grid">[] }} */
 function askedOf(line, number) {
   const { taken, why } = readLine(line), { message, text, copies } = line;
-  const ways = why ? [[letterOf([])]] : waysTaken(taken, partsNow()), [{ length }] = ways;
+  const ways = why ? [[letterOf([])]] : waysTaken(there(taken), partsNow()), [{ length }] = ways;
   const below = field("label-text").checked ? text ?? message : "";
-  const textOfPart = (k) => (below && length > 1 ? `${below} (${k + 1}/${length})` : below);
+  const textOfPart = (/** @type {number} */ k) => (below && length > 1 ? `${below} (${k + 1}/${length})` : below);
   return { ways, entries: Array.from({ length }, (_, k) => ({ number, text: textOfPart(k), copies, why })) };
 }
 // What becomes of some of the lines, from this one on; or why there is no answer.
@@ -73,7 +73,7 @@ export async function entriesNow() {
   if (why) return { why };
   const { why: broken, entries } = await entriesOf(lines, 1, "sheet");
   const bad = entries?.find((entry) => entry.why);
-  return bad ? { why: ofMessage(bad.number, bad.why) } : { why: broken, entries };
+  return bad ? { why: ofMessage(bad.number, bad.why ?? "") } : { why: broken, entries };
 }
 // Each as often as it is wanted.
 /** @type {(entries: Entry[]) => Entry[]} */

@@ -1,5 +1,5 @@
 // Everything that is shown about modules, and damage to them; all by the library.
-import { BEYOND, BIT, MOST_ITEMS, blockOf } from "./common.mjs";
+import { BEYOND, BIT, MOST_ITEMS, blockOf, there } from "./common.mjs";
 import { meanings } from "./codewords.mjs";
 
 /** @typedef {import("./common.mjs").Grid} Grid */
@@ -14,11 +14,12 @@ import { meanings } from "./codewords.mjs";
 /** @type {(lib: Library, grid: Grid, doubtful: Uint8Array | null, givenLimit: import("./common.mjs").Limit) =>
     Seen} */
 export function examine(lib, { modules, rows, columns }, doubtful, givenLimit) {
-  const grid = { modules, rows, columns }, size = lib.sizeOf(grid), usual = lib.usualLimit(grid);
+  const grid = { modules, rows, columns }, size = there(lib.sizeOf(grid)), usual = lib.usualLimit(grid);
   const limit = lib.limitOf(grid, givenLimit, doubtful), answer = lib.read(grid, limit, doubtful);
   const inspected = lib.inspect(grid, doubtful), { held, mended, corrected, dealing } = inspected;
-  const isErased = erasedBy(lib, grid, doubtful), block = (w) => blockOf(size, dealing, w);
-  const isRight = (w) => held[w] === mended[w], isBeyond = (w) => corrected[block(w)] === BEYOND;
+  const isErased = erasedBy(lib, grid, doubtful), block = (/** @type {number} */ w) => blockOf(size, dealing, w);
+  const isRight = (/** @type {number} */ w) => held[w] === mended[w];
+  const isBeyond = (/** @type {number} */ w) => corrected[block(w)] === BEYOND;
   const states = Array.from(held, (_, w) => (isBeyond(w) ? 2 : isRight(w) ? 0 : 1));
   const told = corrected.includes(BEYOND) ? null : meanings(mended.subarray(0, size.data));
   const erased = corrected.map((_, b) => isErased.filter((is, w) => is && block(w) === b).length);
@@ -32,6 +33,7 @@ function erasedBy(lib, grid, doubtful) {
   return isErased;
 }
 
+/** @type {(list: number[]) => number} */
 const any = (list) => list[Math.floor(Math.random() * list.length)];
 
 // Modules in the making, with what the library says of them after each change.
@@ -42,17 +44,19 @@ class Spoiling {
     this.doubtful = doubtful;
     this.grid = { ...grid, modules: grid.modules.slice() };
     this.modules = this.grid.modules;
-    this.size = lib.sizeOf(grid);
+    this.size = there(lib.sizeOf(grid));
     this.map = lib.map(grid);
     this.isErased = erasedBy(lib, grid, doubtful);
     this.truth = original && lib.inspect({ ...grid, modules: original }).held;
-    this.look();
+    this.held = lib.inspect(this.grid, doubtful);
   }
   look() { this.held = this.lib.inspect(this.grid, this.doubtful); }
   // Turns over one module of a codeword of this block that is still right.
+  /** @type {(block: number) => void} */
   spoilOne(block) {
     const { held, mended, corrected, dealing } = this.held, truth = this.truth ?? mended;
     const isBeyond = corrected[block] === BEYOND;
+    /** @type {(w: number) => boolean} */
     const isRight = (w) => !this.isErased[w] && held[w] === truth[w] && (isBeyond || held[w] === mended[w]);
     const right = [...held.keys()].filter((w) => blockOf(this.size, dealing, w) === block && isRight(w));
     if (right.length) this.modules[any(this.map.modules[any(right)])] ^= 1;
@@ -60,10 +64,12 @@ class Spoiling {
   }
 }
 
+/** @type {Record<string, (spoiling: Spoiling) => void>} */
 const ACTS = {
   // Each block has as many wrong codewords as can be corrected: each takes two check codewords.
   limit(spoiling) {
     const { size } = spoiling;
+    /** @type {(block: number) => boolean} */
     const isDone = (block) => spoiling.held.corrected[block] === BEYOND || spoiling.held.left[block] < 2;
     for (let block = 0; block < size.blocks; block++)
       for (let guard = 0; guard < size.limit && !isDone(block); guard++) spoiling.spoilOne(block);
@@ -97,7 +103,7 @@ export function damaged(lib, act, grid, original, doubtful) {
 // How many of the items of a letter fit a symbol that is written so.
 /** @type {(lib: Library, letter: import("./letters.mjs").Letter, how: import("./library.mjs").How) => number} */
 export function mostThatFit(lib, { items, marks, head }, how) {
-  const beginning = (count) =>
+  const beginning = (/** @type {number} */ count) =>
     ({ items: items.slice(0, count), marks: marks.filter(({ place }) => place <= count), head });
   let low = 0, high = Math.min(items.length, MOST_ITEMS);
   while (low < high) {
@@ -108,4 +114,5 @@ export function mostThatFit(lib, { items, marks, head }, how) {
 }
 
 // The map of a shape, without the lists that the page makes itself.
+/** @type {(map: import("./library.mjs").Places) => { kind: Uint8Array, word: Uint16Array, bit: Uint8Array }} */
 export const plainMap = ({ kind, word, bit }) => ({ kind, word, bit });

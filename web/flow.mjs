@@ -1,5 +1,6 @@
 // How a mark changes: by what is entered, and by damage. What is shown is always about what is entered: from the moment
 // of a change the mark isn't valid, until the worker has answered about that very state.
+import { there } from "./common.mjs";
 import { Desk } from "./desk.mjs";
 import { $, allOf, field, folded } from "./dom.mjs";
 import { redraw } from "./redraw.mjs";
@@ -13,8 +14,9 @@ import { PANE_OF, TASKS, VALID, WORKING, isChanged, isDamaged, keepMap, mark, pa
 /** @typedef {import("./common.mjs").Limit} Limit */
 const MOST_ACTS = 500; // that can be undone
 
-/** @type {{ quick: Desk | null, pictures: Desk | null, readsFiles: boolean }} */
-export const desks = { quick: null, pictures: null, readsFiles: true }; // the workers do
+/** @type {{ quick: Desk, pictures: Desk, readsFiles: boolean }} whose workers read files, or not */
+export const desks = /** @type {any} */ ({ readsFiles: true });
+/** @type {(script: string, code: import("./desk.mjs").Code) => Promise<any>} */
 export function openDesks(script, code) {
   desks.quick = new Desk(script, code);
   desks.pictures = new Desk(script, code);
@@ -65,12 +67,13 @@ export function begin(it) {
   if (it.past.length > MOST_ACTS) it.past.shift();
   it.future = [];
 }
+/** @type {(a: Uint8Array, b: Uint8Array) => boolean} */
 const differ = (a, b) => a.some((module, k) => module !== b[k]);
 /** @type {(it: Mark, from: Step[], to: Step[]) => void} */
 function goBack(it, from, to) {
   if (!from.length) return;
   to.push(it.step());
-  it.goTo(from.pop());
+  it.goTo(there(from.pop()));
   look(it);
 }
 export const undo = () => inTurn(mark(), (it) => goBack(it, it.past, it.future));
@@ -78,14 +81,15 @@ export const redo = () => inTurn(mark(), (it) => goBack(it, it.future, it.past))
 export const undoAll = () => inTurn(mark(), (it) => {
   if (!isChanged(it)) return;
   begin(it);
-  it.goTo({ modules: it.original.slice(), doubtful: it.doubted });
+  it.goTo({ modules: there(it.original).slice(), doubtful: it.doubted });
   look(it);
 });
 // Tells the reader that all that was turned over is doubtful.
 export const doubtDamage = () => inTurn(mark(), (it) => {
   if (!isDamaged(it)) return;
   begin(it);
-  it.doubtful = it.modules.map((module, k) => (it.doubtful?.[k] || module !== it.original[k] ? 1 : 0));
+  const original = there(it.original), { doubtful } = it;
+  it.doubtful = there(it.modules).map((module, k) => (doubtful?.[k] || module !== original[k] ? 1 : 0));
   look(it);
 });
 
@@ -99,7 +103,7 @@ async function damageNow(it, what) {
   const seen = await desks.quick.ask("damage", { act: what, original, ...asked(it) }, `damage ${it.name}`);
   if (it.entered !== entered) return;
   if (isBroken(seen)) { refuse(it, brokenWords(seen)); return; }
-  if (differ(seen.modules, it.modules)) begin(it);
+  if (differ(seen.modules, there(it.modules))) begin(it);
   validate(it, seen);
   it.modules = seen.modules.slice();
   if (it === mark()) redraw();
@@ -118,6 +122,7 @@ export function setLimit(it, limit, limitWhy = "") {
 const showing = [];
 /** @type {(listener: (task: string) => void) => void} */
 export const whenShown = (listener) => { showing.push(listener); };
+/** @type {Record<string, boolean>} */
 const areDetailsOpen = { read: false, make: false, learn: true }; // as they were left in each task
 
 // Opens a task; what is learnt is about the symbol that was at hand, unless another is named.

@@ -1,6 +1,7 @@
 // The font of the texts below symbols, of which the page has the outlines: so they look alike on the screen, on paper
 // and in files, whatever fonts there are. All its letters are equally wide. A letter is what stands by itself, from the
 // left to the right: no mark on another, and none that is joined to the next.
+import { codeOf, there } from "./common.mjs";
 
 /** @typedef {{ word: string, at: number[] }} Step of an outline: M x y, L x y, Q x y x y, or Z; in heights of the font,
     upwards from the line on which letters stand */
@@ -22,15 +23,17 @@ class Font {
     this.view = view;
     for (let k = 0, at = 12; k < view.getUint16(4); k++, at += 16)
       this.tables.set(String.fromCharCode(...bytes.subarray(at, at + 4)), view.getUint32(at + 8));
-    this.units = view.getUint16(this.tables.get("head") + 18);
-    this.readCharacters(this.tables.get("cmap"));
+    this.units = view.getUint16(this.table("head") + 18);
+    this.readCharacters(this.table("cmap"));
   }
+  /** @type {(name: string) => number} */
+  table(name) { return there(this.tables.get(name)); }
   // Reads the groups of characters that follow one another, as their outlines do.
   /** @param {number} cmap */
   readCharacters(cmap) {
     const { view } = this, tables = Array.from({ length: view.getUint16(cmap + 2) }, (_, k) =>
       cmap + view.getUint32(cmap + 8 + 8 * k));
-    const own = tables.find((at) => view.getUint16(at) === 12);
+    const own = there(tables.find((at) => view.getUint16(at) === 12));
     for (let k = 0, at = own + 16; k < view.getUint32(own + 12); k++, at += 12) {
       const [first, last, outline] = [0, 4, 8].map((more) => view.getUint32(at + more));
       for (let code = first; code <= last; code++) this.outlines.set(code, outline + code - first);
@@ -39,10 +42,10 @@ class Font {
   // The closed lines of an outline.
   /** @type {(outline: number) => Corner[][]} */
   linesOf(outline) {
-    const { view, tables } = this, [from, to] = [0, 4].map((more) =>
-      view.getUint32(tables.get("loca") + 4 * outline + more));
+    const { view } = this, [from, to] = [0, 4].map((more) =>
+      view.getUint32(this.table("loca") + 4 * outline + more));
     if (from === to) return [];
-    const at = tables.get("glyf") + from, count = view.getInt16(at);
+    const at = this.table("glyf") + from, count = view.getInt16(at);
     return count < 0 ? this.partsOf(at + 10) : this.ownLines(at + 10, count);
   }
   // The lines of an outline that is made of others, each shifted and perhaps scaled.
@@ -58,6 +61,7 @@ class Font {
     else if (flags & SCALED_TWICE) [xx, yy] = [scale(), scale()];
     else if (flags & TURNED) [xx, xy, yx, yy] = [scale(), scale(), scale(), scale()];
     const [ox, oy] = flags & ARE_SHIFTS ? [dx, dy] : [0, 0];
+    /** @type {(corner: Corner) => Corner} */
     const moved = ({ x, y, isOn }) => ({ x: x * xx + y * yx + ox, y: x * xy + y * yy + oy, isOn });
     const lines = this.linesOf(outline).map((line) => line.map(moved));
     return flags & MORE ? [...lines, ...this.partsOf(next)] : lines;
@@ -65,7 +69,8 @@ class Font {
   /** @type {(at: number, count: number) => Corner[][]} */
   ownLines(at, count) {
     const { view } = this, ends = Array.from({ length: count }, (_, k) => view.getUint16(at + 2 * k) + 1);
-    const all = ends[count - 1], flags = [];
+    /** @type {number[]} */
+    const flags = [], all = ends[count - 1];
     let next = at + 2 * count + 2 + view.getUint16(at + 2 * count);
     while (flags.length < all) {
       const flag = view.getUint8(next++), more = flag & AGAIN ? view.getUint8(next++) : 0;
@@ -94,7 +99,7 @@ export async function readFont(packed) {
 }
 /** @type {(character: string) => boolean} */
 export const hasLetter = (character) =>
-  character === " " || (font.outlines.has(character.codePointAt(0)) && !JOINED.test(character));
+  character === " " || (font.outlines.has(codeOf(character)) && !JOINED.test(character));
 
 // Between two corners that a curve bends to, it touches the middle.
 /** @type {(one: Corner, other: Corner) => Corner} */
@@ -106,7 +111,9 @@ function stepsAlong(line) {
     return corner.isOn || next.isOn ? [corner] : [corner, between(corner, next)];
   });
   const first = all.findIndex(({ isOn }) => isOn), corners = [...all.slice(first), ...all.slice(0, first), all[first]];
-  const at = ({ x, y }) => [x / font.units, y / font.units], steps = [{ word: "M", at: at(corners[0]) }];
+  /** @type {(corner: Corner) => number[]} */
+  const at = ({ x, y }) => [x / font.units, y / font.units];
+  const steps = [{ word: "M", at: at(corners[0]) }];
   for (let k = 1; k < corners.length; k++) {
     if (corners[k].isOn) steps.push({ word: "L", at: at(corners[k]) });
     else { steps.push({ word: "Q", at: [...at(corners[k]), ...at(corners[k + 1])] }); k++; }
@@ -116,7 +123,7 @@ function stepsAlong(line) {
 // The outline of a letter that the font has.
 /** @type {(character: string) => Step[]} */
 export function outlineOf(character) {
-  if (!known.has(character))
-    known.set(character, font.linesOf(font.outlines.get(character.codePointAt(0))).flatMap(stepsAlong));
-  return known.get(character);
+  const steps = known.get(character) ?? font.linesOf(there(font.outlines.get(codeOf(character)))).flatMap(stepsAlong);
+  known.set(character, steps);
+  return steps;
 }

@@ -28,7 +28,7 @@ let isOwn = false; // whether what is entered is chosen here
     act?: ((symbol: Sighted) => void) | null) => void} */
 export function drawOutlines(svg, list, { width, height }, chosen = null, act = null) {
   svg.setAttribute("viewBox", `0 0 ${width} ${height}`);
-  const outline = (symbol) => {
+  const outline = (/** @type {Sighted} */ symbol) => {
     const points = symbol.corners.map(({ x, y }) => `${x},${y}`).join(" ");
     const name = `${symbol.isRead ? "" : "unread "}${symbol === chosen ? "chosen" : ""}`.trim();
     const polygon = shape("polygon", { points, "vector-effect": "non-scaling-stroke", class: name });
@@ -80,7 +80,7 @@ const entriesOf = ({ name, why, symbols }) => [...symbols.map(entryOf),
 function drawView(view, { width, height }) {
   const canvas = /** @type {HTMLCanvasElement} */ ($("view"));
   [canvas.width, canvas.height] = [view.width, view.height];
-  canvas.getContext("bitmaprenderer").transferFromImageBitmap(view);
+  canvas.getContext("bitmaprenderer")?.transferFromImageBitmap(view);
   Object.assign($("outlines").dataset, { width: String(width || view.width), height: String(height || view.height) });
   $("scene").hidden = false;
 }
@@ -132,7 +132,7 @@ function blobOf(view) {
 // Shows the picture in which a symbol is, where there are several.
 /** @type {(symbol: Sighted | null) => Promise<void>} */
 async function showPictureOf(symbol) {
-  const own = scene.pictures.find(({ symbols }) => symbols.includes(symbol));
+  const own = scene.pictures.find(({ symbols }) => symbol && symbols.includes(symbol));
   if (!own?.view || scene.shown === own) return;
   scene.shown = own;
   const view = await createImageBitmap(own.view);
@@ -169,13 +169,14 @@ export async function bringFound() {
   const list = listIn(new TextEncoder().encode(kept(KEPT)));
   const sights = list && await desks.quick.ask("again", list, "found");
   if (!sights?.symbols || scene.list.length) return;
-  const { original } = panes.read, isAtHand = ({ modules }) => original !== null && isSame(modules, original);
+  const { original } = panes.read;
+  const isAtHand = (/** @type {Sighted} */ { modules }) => original !== null && isSame(modules, original);
   showSights(sights, [...sights.symbols, ...sights.unread].find(isAtHand) ?? null);
 }
 export function wireFound() {
   whenEntered((it) => { if (it === panes.read && !isOwn) clearSights(); });
   const read = () => scene.list.filter(({ isRead }) => isRead);
-  const file = (text, type) => new Blob([text], { type });
+  const file = (/** @type {string} */ text, /** @type {string} */ type) => new Blob([text], { type });
   whenUsed("found-copy", () => copyText(copiedLines(read()),
     `Copied: ${plural(read().length, "message", "messages")}`));
   $("found-csv").addEventListener("click", () => save(file(csvOf(scene.list), "text/csv"), "found.csv"));

@@ -1,4 +1,5 @@
 // The parts of messages that several symbols say together (structured append), put together as they are read.
+import { there } from "./common.mjs";
 import { $, made, setUsable, whenUsed } from "./dom.mjs";
 import { redraw } from "./redraw.mjs";
 import { readable, typed } from "./gs1.mjs";
@@ -53,7 +54,7 @@ function wholeOf(part) {
 }
 // The part that is at hand where symbols are read, or null.
 function partAtHand() {
-  const { seen, stage } = mark(), letter = stage === VALID && store.task === "read" ? letterRead(seen) : null;
+  const { seen, stage } = mark(), letter = seen && stage === VALID && store.task === "read" ? letterRead(seen) : null;
   return letter && partOf(letter);
 }
 /** @type {(part: import("./letters.mjs").Part) => Node[]} */
@@ -80,11 +81,11 @@ export function drawGathered() {
   setUsable("copy-whole", whole !== null);
 }
 export function wireGathered() {
-  whenUsed("copy-whole", () => copyText(typed(wholeOf(partAtHand())), "Copied: the whole message"));
+  whenUsed("copy-whole", () => copyText(typed(there(wholeOf(there(partAtHand())))), "Copied: the whole message"));
   $("forget-parts").addEventListener("click", () => {
-    const part = partAtHand(), { seen } = mark();
+    const part = there(partAtHand()), letter = there(letterRead(there(mark().seen)));
     files.delete(nameOfFile(part));
     keepParts();
-    gatherAll([letterRead(seen)]);
+    gatherAll([letter]);
   });
 }

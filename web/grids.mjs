@@ -7,7 +7,7 @@ import { tooMuch } from "./messages.mjs";
 /** @typedef {{ quarters: number, mirrored: boolean, inverted: boolean }} Stand how a symbol stands */
 /** @type {(grid: Grid) => string} */
 export function gridText({ modules, rows, columns }) {
-  const lineAt = (r) => Array.from(modules.subarray(r * columns, (r + 1) * columns)).join("");
+  const lineAt = (/** @type {number} */ r) => Array.from(modules.subarray(r * columns, (r + 1) * columns)).join("");
   return Array.from({ length: rows }, (_, r) => `${lineAt(r)}\n`).join("");
 }
 
@@ -44,7 +44,7 @@ function unfit(lines, isPictured, lib) {
   const isLarge = lines.length > MOST_ROWS || lines.some((line) => line.length > MOST_COLUMNS);
   if (isLarge) return `More than ${MOST_ROWS} rows or ${MOST_COLUMNS} columns, and no symbol has as many.`;
   const columns = lines[0].length, uneven = lines.findIndex((line) => line.length !== columns);
-  const has = (row) => `row ${row + 1} has ${plural(lines[row].length, "module", "modules")}`;
+  const has = (/** @type {number} */ row) => `row ${row + 1} has ${plural(lines[row].length, "module", "modules")}`;
   if (uneven >= 0) return `Not a rectangle: ${has(0)}, and ${has(uneven)}.`;
   if (standsOf(lib, { rows: lines.length, columns }).length) return "";
   const rows = plural(lines.length, "row", "rows");

@@ -1,12 +1,13 @@
 // GS1 messages: element strings as people write them, with identifiers in parentheses, and as a symbol holds them. The
 // identifiers are those of the library's table, which is packed into the page.
-import { FNC1, isSame, plural } from "./common.mjs";
+import { FNC1, isSame, plural, there } from "./common.mjs";
 import { letterOf } from "./letters.mjs";
 import { parse, spelledItem, spelledLetter, takenAsText, tooMuch, unspelled, visibleTextOf } from "./messages.mjs";
 
 /** @typedef {{ charset: string, least: number, most: number, check?: string, mayLack: boolean }} Part of a value */
 /** @typedef {{ isFixed: boolean, hasDecimals: boolean, parts: Part[], name: string }} Entry of the table */
 /** @typedef {{ identifier: string, name: string, items: number[], note?: string, fault?: string }} Element */
+/** @typedef {{ identifier: string, items: number[] }} Written element */
 /** @typedef {import("./letters.mjs").Letter} Letter */
 /** @typedef {import("./messages.mjs").Taken} Taken */
 /** @typedef {import("./messages.mjs").Fault} Fault */
@@ -16,6 +17,7 @@ const known = new Map();
 
 // ---- What a value must be
 
+/** @type {Record<string, { all: RegExp, words: [string, string] }>} */
 const CHARSETS = {
   N: { all: /^[0-9]*$/, words: ["digit", "digits"] },
   X: { all: /^[!"%-?A-Z_a-z]*$/, words: ["character", "characters"] },
@@ -38,15 +40,18 @@ const checkDigit = (digits) =>
 const OF_PAIRS = "!\"%&'()*+,-./0123456789:;<=>?ABCDEFGHIJKLMNOPQRSTUVWXYZ_abcdefghijklmnopqrstuvwxyz";
 const PAIR = "23456789ABCDEFGHJKLMNPQRSTUVWXYZ";
 const PRIMES = [2, 3, 5, 7, 11, 13, 17, 19, 23, 29, 31, 37, 41, 43, 47, 53, 59, 61, 67, 71, 73, 79, 83];
+/** @type {(text: string) => string} */
 function checkPair(text) {
   const sum = [...text].reverse().reduce((all, c, k) => all + OF_PAIRS.indexOf(c) * PRIMES[k], 0) % 1021;
   return PAIR[Math.floor(sum / 32)] + PAIR[sum % 32];
 }
 const MONTHS = ["January", "February", "March", "April", "May", "June", "July", "August", "September", "October",
   "November", "December"];
+/** @type {(text: string, at: number) => number} */
 const numberAt = (text, at) => Number(text.slice(at, at + 2));
 
 // A day: { words } or { fault }. Day 00 is the end of the month, where that may stand.
+/** @type {(year: number, text: string, mayLackDay: boolean) => { words?: string, fault?: string }} */
 function dayOf(year, text, mayLackDay) {
   const month = numberAt(text, 0), day = numberAt(text, 2);
   if (month < 1 || month > 12) return { fault: `${text.slice(0, 2)} is no month` };
@@ -56,10 +61,11 @@ function dayOf(year, text, mayLackDay) {
   return { words: `${day} ${MONTHS[month - 1]} ${year}` };
 }
 // Of a year of two digits the century is the one that puts it at most 49 years back or 50 ahead.
+/** @type {(year: number) => number} */
 function fullYear(year) {
   const now = new Date().getFullYear();
   const years = [-100, 0, 100].map((more) => Math.floor(now / 100) * 100 + more + year);
-  return years.find((each) => each >= now - 49 && each <= now + 50);
+  return there(years.find((each) => each >= now - 49 && each <= now + 50));
 }
 /** @type {(most: number, what: string) => (text: string) => { words?: string, fault?: string }} */
 const below = (most, what) => (text) => (Number(text) < most ? {} : { fault: `${text} is no ${what}` });
@@ -122,9 +128,9 @@ function judgedValue(identifier, entry, text) {
     const due = parts.length > 1 ? "are due in a part" : "are due";
     if (own.length < part.least) return { fault: `too short: ${lengthWords(part)} ${due}` };
     if (!CHARSETS[part.charset].all.test(own)) return { fault: part.charset === "N" ? NO_DIGITS : NO_CHARACTERS };
-    const { words, fault } = CHECKS[part.check]?.(own) ?? {};
+    const { words, fault } = CHECKS[part.check ?? ""]?.(own) ?? {};
     if (fault) return { fault };
-    notes.push(words);
+    notes.push(words ?? "");
     at += own.length;
   }
   if (at < text.length) return { fault: `too long by ${plural(text.length - at, "character", "characters")}` };
@@ -133,9 +139,10 @@ function judgedValue(identifier, entry, text) {
 
 // ---- The identifiers
 
+const PART = /^(\[?)([NXYZ])(\.\.)?(\d+)(?::([a-z-]+))?\]?$/;
 /** @type {(words: string) => Part} */
 function valuePartOf(words) {
-  const [, open, charset, range, count, check] = /^(\[?)([NXYZ])(\.\.)?(\d+)(?::([a-z-]+))?\]?$/.exec(words);
+  const [, open, charset, range, count, check] = PART.exec(words) ?? [];
   return { charset, least: range ? 1 : Number(count), most: Number(count), check, mayLack: open === "[" };
 }
 // Each line has: the identifier, or the first and the last of several; `fixed` or `fnc1`; since when; the parts of the
@@ -158,13 +165,17 @@ export function readIdentifiers(text) {
 const mostOf = (parts) => parts.reduce((sum, { most }) => sum + most, 0);
 /** @type {(digits: string) => boolean} */
 export const isIdentifier = (digits) => known.has(digits);
+/** @type {(identifier: string) => Entry} */
+const entryOf = (identifier) => there(known.get(identifier));
 /** @type {(identifier: string) => string} */
 export const nameOfIdentifier = (identifier) => known.get(identifier)?.name ?? "";
 // The identifier at the beginning of a text.
+/** @type {(text: string) => string | undefined} */
 const identifierAt = (text) => [2, 3, 4].map((length) => text.slice(0, length)).find((some) => known.has(some));
 
 // ---- As a symbol holds them
 
+/** @type {(items: number[]) => string} */
 const asText = (items) => items.map((item) => (item === FNC1 ? "\u001D" : String.fromCharCode(item))).join("");
 /** @type {(items: number[]) => Element[]} */
 export function elementsIn(items) {
@@ -172,7 +183,7 @@ export function elementsIn(items) {
   for (let at = 0; at < items.length;) {
     const rest = items.slice(at), gap = rest.findIndex((item) => item === FNC1 || item === SEPARATOR);
     const whole = gap < 0 ? rest : rest.slice(0, gap);
-    const identifier = identifierAt(asText(whole.slice(0, 4))), entry = known.get(identifier);
+    const identifier = identifierAt(asText(whole.slice(0, 4))) ?? "", entry = known.get(identifier);
     if (!entry) {
       elements.push({ identifier: "", name: "no identifier begins here", items: whole, fault: "unknown" });
       at += whole.length + 1;
@@ -200,7 +211,9 @@ export function elementsOfLetter({ items, head }) {
 
 // A text that begins with a bracket is meant as elements. In it each bracket that is opened begins an identifier, but
 // for those that are spelled \x28 or \(. Square brackets may stand in place of all round ones, as zint has them.
+/** @type {(text: string) => boolean} */
 const isElements = (text) => text.startsWith("(") || /^\[\d{2,4}\]/.test(text);
+/** @type {Record<string, RegExp>} */
 const ELEMENTS = { "(": /\((\d*)(\)?)((?:\\[^]?|[^(\\])*)/y, "[": /\[(\d*)(\]?)([^[]*)/y };
 /** @type {(text: string, at: number, why: string) => Fault} */
 function noElement(text, at, why) {
@@ -210,36 +223,38 @@ function noElement(text, at, why) {
 
 // Why a text isn't taken, in words.
 /** @type {(taken: Taken) => string} */
-export const whyNot = ({ column, why }) => (column ? `Column ${column} ${why}.` : why);
+export const whyNot = ({ column, why = "" }) => (column ? `Column ${column} ${why}.` : why);
 
 // The element that is written at this place: { identifier, items, end }, or what is wrong.
-/** @type {(text: string, at: number) => Fault & { identifier?: string, items?: number[], end?: number }} */
+/** @type {(text: string, at: number) => Fault & { element?: Written, end: number }} */
 function elementAt(text, at) {
   const element = ELEMENTS[text[0]];
   element.lastIndex = at;
-  const [all, identifier, closed, spelledValue] = element.exec(text), begin = at + identifier.length + 2;
-  if (!closed) return noElement(text, at, "opens a bracket that holds no identifier, such as (01)");
+  const [all, identifier, closed, spelledValue] = there(element.exec(text)), begin = at + identifier.length + 2;
+  const end = at + all.length;
+  if (!closed) return { ...noElement(text, at, "opens a bracket that holds no identifier, such as (01)"), end };
   const entry = known.get(identifier), { letter, ...fault } = parse(spelledValue, true);
-  if (!entry) return noElement(text, at, `begins (${identifier}), which is no identifier of GS1’s table`);
+  if (!entry) return { ...noElement(text, at, `begins (${identifier}), which is no identifier of GS1’s table`), end };
   if (/\s/.test(spelledValue)) {
     const ways = [{ name: "without spaces", text: text.replace(/\s/g, "") }];
-    return { why: `(${identifier}) ${entry.name} has a space in its value, and GS1 has none.`, ways };
+    return { why: `(${identifier}) ${entry.name} has a space in its value, and GS1 has none.`, ways, end };
   }
   if (!letter) {
     const [before, after] = [text.slice(0, begin), text.slice(begin + spelledValue.length)];
     const ways = fault.ways?.map((way) => ({ ...way, text: before + way.text + after }));
-    return { ...fault, column: begin + fault.column, ways };
+    return { ...fault, column: begin + (fault.column ?? 0), ways, end };
   }
   if (letter.items.some((item) => item === FNC1 || item === SEPARATOR))
-    return { why: `(${identifier}) ${entry.name} has a separator in its value: FNC1 is put in where one is due.` };
-  return { identifier, items: letter.items, end: at + all.length };
+    return { why: `(${identifier}) ${entry.name} has a separator in its value: FNC1 is put in where one is due.`, end };
+  return { element: { identifier, items: letter.items }, end };
 }
 // The items of elements: FNC1 in front, and at the end of each value of variable length that another element follows.
+/** @type {(elements: Written[]) => number[]} */
 function joinedItems(elements) {
   const items = [FNC1];
   elements.forEach(({ identifier, items: value }, k) => {
     items.push(...Array.from(identifier, (digit) => digit.charCodeAt(0)), ...value);
-    if (k + 1 < elements.length && !known.get(identifier).isFixed) items.push(FNC1);
+    if (k + 1 < elements.length && !entryOf(identifier).isFixed) items.push(FNC1);
   });
   return items;
 }
@@ -249,8 +264,8 @@ export function elementString({ items, marks }) {
   if (items[0] !== FNC1 || marks.length) return "";
   const elements = elementsIn(items.slice(1));
   if (elements.some(({ identifier }) => !identifier) || !isSame(joinedItems(elements), items)) return "";
-  const valueOf = (value) => value.map((item) => (item === 40 ? "\\(" : spelledItem(item))).join("");
-  return elements.map(({ identifier, items: value }) => `(${identifier})${valueOf(value)}`).join("");
+  const spell = (/** @type {number} */ item) => (item === 40 ? "\\(" : spelledItem(item));
+  return elements.map(({ identifier, items: value }) => `(${identifier})${value.map(spell).join("")}`).join("");
 }
 // A letter as people read it: as an element string, as text, or as it is spelled.
 /** @type {(letter: Letter) => string} */
@@ -260,13 +275,14 @@ export const readable = (letter) => elementString(letter) || visibleTextOf(lette
 export const typed = (letter) => elementString(letter) || unspelled(letter) || spelledLetter(letter);
 // What a reader would take apart otherwise than it was written, in words, or "": a value of fixed length runs into what
 // follows it if it has another.
+/** @type {(elements: Written[], items: number[]) => string} */
 function misread(elements, items) {
   const read = elementsIn(items.slice(1));
-  const isOdd = ({ identifier, items: value }, k) =>
+  const isOdd = (/** @type {Written} */ { identifier, items: value }, /** @type {number} */ k) =>
     read[k]?.identifier !== identifier || read[k].items.length !== value.length;
   const odd = elements.find(isOdd);
   if (!odd) return "";
-  const entry = known.get(odd.identifier), [one, many] = CHARSETS[entry.parts[0].charset].words;
+  const entry = entryOf(odd.identifier), [one, many] = CHARSETS[entry.parts[0].charset].words;
   const due = plural(mostOf(entry.parts), one, many);
   return `(${odd.identifier}) ${entry.name} takes ${due}, and has ${odd.items.length}.`;
 }
@@ -274,10 +290,10 @@ function misread(elements, items) {
 function elementsOfText(text) {
   const elements = [];
   for (let at = 0; at < text.length;) {
-    const element = elementAt(text, at);
-    if (!element.items) return element;
+    const { element, end, ...fault } = elementAt(text, at);
+    if (!element) return fault;
     elements.push(element);
-    at = element.end;
+    at = end;
   }
   const items = joinedItems(elements), why = misread(elements, items);
   return why ? { why } : { letter: letterOf(items), isElements: true };

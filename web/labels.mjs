@@ -1,4 +1,5 @@
 // Labels of stock sizes, of which sheets of A4 have rows and columns; where each symbol stands on them.
+import { there } from "./common.mjs";
 import { captionOf } from "./captions.mjs";
 import { field, lengthIn, numberIn } from "./dom.mjs";
 import { paperNow, tooWide } from "./paper.mjs";
@@ -19,6 +20,7 @@ const STOCK = {
   "25x25": roll(25, 25), "38x25": roll(38, 25), "50x30": roll(50, 30), "100x50": roll(100, 50),
 };
 const LEAST_LABEL = 5, MOST_LABEL = 300; // millimetres of a label's own width or height
+/** @type {(id: string) => number | null} */
 const ownLength = (id) => lengthIn(id, LEAST_LABEL, MOST_LABEL);
 // The labels that are chosen; { why } if their size is none; null for none at all.
 /** @type {() => Stock | { why: string } | null} */
@@ -41,17 +43,18 @@ const sizeOf = (grid, module) => {
   const { rows, columns } = withQuiet(grid);
   return { width: columns * module, height: rows * module };
 };
+/** @type {(number: number, why: string) => string} */
 const NO_ROOM = (number, why) => `Message ${number}: ${why}. Take a shorter text, larger labels, or no text below.`;
 const LEAST_WIDTH = 20; // millimetres for a text, however narrow the symbol above it is
 // A symbol in the middle of its text, as large as both: a page of its own, or a cell among others.
 /** @type {(entry: Pick<Entry, "grid" | "text" | "number">, module: number, most?: number) =>
     { why?: string, page?: Page }} */
 export function pageOf({ grid, text, number }, module, most = Infinity) {
-  const own = sizeOf(grid, module), more = (quietNow() - QUIET) * module;
+  const own = sizeOf(there(grid), module), more = (quietNow() - QUIET) * module;
   const [across, down] = [own.width, own.height].map((length) => length + 2 * more);
   const width = Math.max(across, text ? LEAST_WIDTH : 0), { caption, why } = captionOf(text, width, most - down);
-  if (why) return { why: NO_ROOM(number, why) };
-  const placed = [{ grid, x: (width - own.width) / 2, y: more, module, caption, width, below: more }];
+  if (!caption) return { why: NO_ROOM(number, why ?? "") };
+  const placed = [{ grid: there(grid), x: (width - own.width) / 2, y: more, module, caption, width, below: more }];
   return { page: { width, height: down + caption.height, placed } };
 }
 // How many modules of quiet zone there are around a symbol that is as large as its label.
@@ -61,10 +64,11 @@ const MOST_QUIET = 20;
 /** @type {(entries: Entry[], stock: Stock, module: number) => Pages} */
 export function laidOut(entries, { page: [width, height], columns, rows, ...label }, module) {
   const left = (width - (columns - 1) * label.across - label.width) / 2, top = (height - rows * label.height) / 2;
+  /** @type {Page[]} */
   const pages = [], room = label.width - 2 * TEXT_MARGIN;
   for (const [k, { grid, text, number }] of entries.entries()) {
-    const own = sizeOf(grid, module), whole = captionOf(text, room), free = label.height - own.height;
-    if (whole.why) return { why: NO_ROOM(number, whole.why) };
+    const own = sizeOf(there(grid), module), whole = captionOf(text, room), free = label.height - own.height;
+    if (!whole.caption) return { why: NO_ROOM(number, whole.why ?? "") };
     const { caption } = captionOf(text, room, free);
     if (own.width > label.width || !caption || free < 0) {
       const words = text ? ` and ${rounded(whole.caption.height)} mm of text` : "";
@@ -75,10 +79,11 @@ export function laidOut(entries, { page: [width, height], columns, rows, ...labe
     if (!at) pages.push({ width, height, placed: [] });
     const x = left + column * label.across + (label.width - own.width) / 2;
     const y = top + row * label.height + (free - caption.height) / 2;
-    pages[pages.length - 1].placed.push({ grid, x, y, module, caption, width: room, below: 0 });
+    pages[pages.length - 1].placed.push({ grid: there(grid), x, y, module, caption, width: room, below: 0 });
   }
   return { pages };
 }
+/** @type {(length: number) => string} */
 const rounded = (length) => String(+length.toFixed(2));
 const GAP = 6; // millimetres between symbols that follow one another
 // One after another on sheets of paper.
@@ -88,10 +93,10 @@ export function flowed(entries, { width, height, across, down, margin }, module)
   const pages = [];
   let x = Infinity, y = Infinity, high = 0; // where the next one stands, from the margins, and how high its line is
   for (const entry of entries) {
-    const own = sizeOf(entry.grid, module).width, whyWide = tooWide(own);
+    const own = sizeOf(there(entry.grid), module).width, whyWide = tooWide(own);
     if (whyWide) return { why: `Message ${entry.number} makes a symbol that is ${rounded(own)} mm wide: ${whyWide}` };
     const { page: cell, why } = pageOf(entry, module, down);
-    if (why) return { why };
+    if (!cell) return { why };
     if (x + cell.width > across) [x, y, high] = [0, y + high + GAP, 0];
     high = Math.max(high, cell.height);
     if (y + high > down) {
@@ -111,7 +116,7 @@ export function labelOf(entry, module) {
   if (!stock) return pageOf(entry, module);
   if ("why" in stock) return stock;
   const { why, pages } = laidOut([entry], roll(stock.width, stock.height), module);
-  return why ? { why } : { page: pages[0] };
+  return why ? { why } : { page: pages?.[0] };
 }
 // All pages as they are chosen.
 /** @type {(entries: Entry[], module: number) => Pages} */
@@ -120,5 +125,5 @@ export function pagesOf(entries, module) {
   if (stock) return "why" in stock ? stock : laidOut(entries, stock, module);
   if (paper) return flowed(entries, paper, module);
   const own = entries.map((entry) => pageOf(entry, module)), bad = own.find(({ why }) => why);
-  return bad ? { why: bad.why } : { pages: own.map(({ page }) => page) };
+  return bad ? { why: bad.why } : { pages: own.map(({ page }) => there(page)) };
 }

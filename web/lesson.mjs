@@ -2,8 +2,8 @@
 // hand.
 import { bitsOf, bold } from "./cells.mjs";
 import { nameOfEci } from "./charsets.mjs";
-import { BEYOND, blockOf, plural, shapeWords } from "./common.mjs";
-import { $, fieldOf, folded, made, setUsable, shape, whenUsed } from "./dom.mjs";
+import { BEYOND, blockOf, plural, shapeWords, there } from "./common.mjs";
+import { $, fieldOf, folded, made, one, setUsable, shape, whenUsed } from "./dom.mjs";
 import { partOf } from "./letters.mjs";
 import { isPlain, spelledItem } from "./messages.mjs";
 import { VALID, mapOf, mark } from "./state.mjs";
@@ -12,17 +12,22 @@ import { numbersDrawn, runs, viewBox } from "./symbol.mjs";
 /** @typedef {import("./examine.mjs").Seen} Seen */
 /** @typedef {(Node | string)[]} Content */
 const SHOWN = 120; // entries of a list before it is cut
+/** @type {(count: number) => Node} */
 const more = (count) => made("span", { className: "hint", textContent: ` and ${count} more` });
 /** @type {(list: Node[]) => Content} */
 const cut = (list) => [...list.slice(0, SHOWN), ...(list.length > SHOWN ? [more(list.length - SHOWN)] : [])];
+/** @type {(value: string | number, below: string, kind?: string) => Node} */
 const chip = (value, below, kind = "") =>
   made("b", { className: `chip ${kind}` }, String(value), made("small", { textContent: below }));
+/** @type {(...content: (Node | string)[]) => Node} */
 const paragraph = (...content) => made("p", {}, ...content);
+/** @type {(list: Node[]) => Node} */
 const chips = (list) => made("div", { className: "chips" }, ...(list.length ? cut(list) : ["none"]));
 
 /** @type {(seen: Seen) => Content} */
 function messageStep({ answer }) {
-  const { items, marks } = answer, below = (item) => (isPlain(item) ? String.fromCharCode(item) : spelledItem(item));
+  const { items = [], marks = [] } = answer;
+  const below = (/** @type {number} */ item) => (isPlain(item) ? String.fromCharCode(item) : spelledItem(item));
   const list = items.map((item) => chip(item === 256 ? "FNC1" : item, below(item)));
   for (const { place, number } of [...marks].reverse())
     list.splice(place, 0, chip(`ECI ${number}`, nameOfEci(number), "soft"));
@@ -39,9 +44,9 @@ function aboutHead({ head }) {
   return head ? " It is an instruction to the reader." : "";
 }
 /** @type {(seen: Seen) => Content} */
-function codewordStep({ answer, told, held, size }) {
-  const kindOf = (brief) => (brief === "pad" || brief === "end" ? "soft" : "");
-  const list = told.map(({ brief }, w) => chip(held[w], brief || "·", kindOf(brief)));
+function codewordStep({ answer, told: given, held, size }) {
+  const kindOf = (/** @type {string} */ brief) => (brief === "pad" || brief === "end" ? "soft" : "");
+  const told = there(given), list = told.map(({ brief }, w) => chip(held[w], brief || "·", kindOf(brief)));
   const end = told.findIndex(({ brief }) => brief === "end"), count = end < 0 ? told.length : end;
   const pads = size.data - count, follow = plural(pads, "pad follows", "pads follow");
   const rest = pads === 0 ? `They fill the ${size.data} of this size.`
@@ -50,7 +55,7 @@ function codewordStep({ answer, told, held, size }) {
   const sets = Object.keys(ABOUT_SETS).filter((name) => told.some(({ text }) => text === `a latch to ${name}`));
   return [paragraph(`They become ${plural(count, "data codeword", "data codewords")} of eight bits. `
     + "In ASCII encodation a character is its number and 1, two digits together are their value and 130, and FNC1 is "
-    + `232; latches change to another encodation.${answer.marks.length ? ABOUT_DESIGNATORS : ""} ${rest}`),
+    + `232; latches change to another encodation.${answer.marks?.length ? ABOUT_DESIGNATORS : ""} ${rest}`),
   ...sets.map((name) => paragraph(bold(name), ABOUT_SETS[name])), chips(list)];
 }
 // What the encodations besides ASCII are, where one of them is used.
@@ -103,7 +108,7 @@ export function syndromes(words, count) {
 function checkStep({ size, dealing, mended, held }) {
   const each = size.check / size.blocks;
   const rows = Array.from({ length: size.blocks }, (_, b) => {
-    const own = (words) => [...words].filter((_word, w) => blockOf(size, dealing, w) === b);
+    const own = (/** @type {Uint8Array} */ words) => [...words].filter((_word, w) => blockOf(size, dealing, w) === b);
     const now = syndromes(own(held), each);
     const sums = made("span", { className: "sums", textContent: now.join(" ") });
     const verdict = now.some(Boolean) ? ", so it is damaged." : ": all 0, as they must be.";
@@ -122,6 +127,7 @@ function checkStep({ size, dealing, mended, held }) {
 export const pathOf = (of, count) => mapOf(of).modules.slice(0, count)
   .map(([, , , , , , , last]) => [last % of.columns, Math.floor(last / of.columns)]);
 const place = { word: 0 };
+/** @type {(seen: Seen) => number} */
 const wordShown = ({ held }) => Math.min(place.word, held.length - 1);
 // Of a light module and its number, and of a dark one.
 const PATH_INKS = [["#c5e3f6", "#00456e"], ["#00629b", "#fff"]];
@@ -129,7 +135,7 @@ const PATH_INKS = [["#c5e3f6", "#00456e"], ["#00629b", "#fff"]];
 function pathDrawn(seen, word) {
   const { rows, columns, held, modules } = seen, map = mapOf(seen), points = pathOf(seen, word + 1);
   const d = points.map(([x, y], k) => `${k ? "L" : "M"}${x + 0.5} ${y + 0.5}`).join("");
-  const square = (k) => shape("path", { d: `M${k % columns} ${Math.floor(k / columns)}h1v1h-1z`,
+  const square = (/** @type {number} */ k) => shape("path", { d: `M${k % columns} ${Math.floor(k / columns)}h1v1h-1z`,
     fill: PATH_INKS[modules[k]][0] });
   const label = `The path of the placement up to codeword ${word + 1} of ${held.length}`;
   const width = Math.max(0.16, Math.max(rows, columns) / 260);
@@ -160,7 +166,7 @@ function placeStep(seen) {
 /** @type {(seen: Seen) => void} */
 function walkTo(seen) {
   const word = wordShown(seen);
-  $("step").querySelector("output").textContent = `${word + 1} of ${seen.held.length}`;
+  one("output", $("step")).textContent = `${word + 1} of ${seen.held.length}`;
   $("walk-words").textContent = wordTold(seen, word);
   $("path").replaceWith(pathDrawn(seen, word));
 }
@@ -187,9 +193,10 @@ export function drawLesson() {
   $("step-count").textContent = `Step ${stepAt + 1} of ${STEPS_OF_LESSON.length}: ${title}`;
   setUsable("step-back", stepAt > 0);
   setUsable("step-on", stepAt + 1 < STEPS_OF_LESSON.length);
-  const isTold = stage === VALID && !seen.answer.fault && !seen.corrected.includes(BEYOND);
+  const isTold = seen && stage === VALID && !seen.answer.fault && !seen.corrected.includes(BEYOND);
   $("step").replaceChildren(...(isTold ? step(taught(seen)) : [paragraph(UNTOLD)]));
 }
+/** @type {(to: number) => void} */
 function go(to) {
   stepAt = Math.max(0, Math.min(STEPS_OF_LESSON.length - 1, to));
   drawLesson();
@@ -201,6 +208,6 @@ export function wireLesson() {
   $("step").addEventListener("input", (event) => {
     if (fieldOf(event).id !== "walk") return;
     place.word = Number(fieldOf(event).value) - 1;
-    walkTo(taught(mark().seen));
+    walkTo(taught(there(mark().seen)));
   });
 }

@@ -42,6 +42,7 @@ function fileOf(letter) {
   return [crc % MOST_OF_FILE, Math.floor(crc / MOST_OF_FILE) % MOST_OF_FILE].map((number) => number + 1);
 }
 // The number that is in force behind so many items, or undefined.
+/** @type {(marks: Mark[], at: number) => number | undefined} */
 const eciAt = (marks, at) => marks.filter(({ place }) => place <= at).pop()?.number;
 // The items of a letter from one place to another, with their marks, of which the one in force stands first.
 /** @type {(letter: Letter, from: number, to: number, isLast: boolean) => Letter} */

@@ -2,7 +2,7 @@
 // lengths stay 64 bits wide, so they are BigInts; pages of its memory are counted in ordinary numbers. For everything
 // about Data Matrix symbols (sizes, places, codewords, correction, messages, borders, normal forms) the page asks it.
 import {
-  ABI, AUTO, BIT, BORDER_FAULT, MOST_COLUMNS, MOST_ITEMS, MOST_MARKS, MOST_ROWS, SIZE_COUNT, WIDE,
+  ABI, AUTO, BIT, BORDER_FAULT, MOST_COLUMNS, MOST_ITEMS, MOST_MARKS, MOST_ROWS, SIZE_COUNT, WIDE, there,
 } from "./common.mjs";
 import { LAYOUT } from "./layouts.mjs";
 import { headOf, kindOfHead, partOf } from "./letters.mjs";
@@ -68,8 +68,11 @@ export class Library {
     /** @type {Map<string, Size>} */
     this.sizes = new Map(this.sizeTable().map((size) => [keyOf(size), size]));
   }
+  /** @type {(at: number, count: number) => Uint8Array} */
   bytes(at, count) { return new Uint8Array(this.c.memory.buffer, at, count); }
+  /** @type {(at: number, count: number) => Uint16Array} */
   numbers(at, count) { return new Uint16Array(this.c.memory.buffer, at, count); }
+  /** @type {(at: number, count: number) => Uint32Array} */
   longs(at, count) { return new Uint32Array(this.c.memory.buffer, at, count); }
   get out() { return BigInt(this.outAt); }
   fault() { const [code, value, place] = this.numbers(this.outAt, 3); return { fault: { code, value, place } }; }
@@ -87,6 +90,8 @@ export class Library {
     return { rows, columns, modules: this.bytes(this.outAt + LAYOUT.symbol.modules, rows * columns).slice() };
   }
   // Of each block what was corrected, what is erased, and what is left, of a reading or an inspection.
+  /** @type {(places: { corrected: number, erased: number, left: number }, blocks: number) =>
+      { corrected: number[], erased: number[], left: number[] }} */
   blockCounts({ corrected, erased, left }, blocks) {
     const [a, b, c] = [corrected, erased, left].map((at) => Array.from(this.bytes(this.outAt + at, blocks)));
     return { corrected: a, erased: b, left: c };
@@ -145,7 +150,7 @@ export class Library {
     // (one too many has the same effect as all of them)
     const some = items.slice(0, MOST_ITEMS + 1), few = marks.slice(0, MOST_MARKS + 1);
     this.numbers(this.itemsAt, some.length).set(some.map((item) => within(item, SHORTS, SHORTS)));
-    const placed = (place) => (place <= items.length ? Math.min(place, some.length) : place);
+    const placed = (/** @type {number} */ place) => (place <= items.length ? Math.min(place, some.length) : place);
     const flat = few.flatMap(({ place, number }) => [number, placed(place)]);
     this.longs(this.marksAt, flat.length).set(flat.map((number) => within(number, LONGS, LONGS)));
     this.numbers(this.howAt, 5).set([form, shape, rows, columns, WIDE].map((number) => within(number, SHORTS, SHORTS)));
@@ -158,10 +163,12 @@ export class Library {
   /** @type {(ways: Letter[][], how: How) => { way: number, symbols: (Partial<Grid> & { fault?: Fault })[] }} */
   writeSmallest(ways, how) {
     const written = ways.map((letters, way) => {
-      const symbols = letters.map((letter) => this.write(letter, how)), sum = (one, other) => one + other;
-      const area = symbols.map(({ fault, rows, columns }) => (fault ? Infinity : rows * columns)).reduce(sum);
+      const symbols = letters.map((letter) => this.write(letter, how));
+      const sum = (/** @type {number} */ one, /** @type {number} */ other) => one + other;
+      const area = symbols.map(({ rows = Infinity, columns = 1 }) => rows * columns).reduce(sum);
       return { way, symbols, area, length: letters.map(({ items }) => items.length).reduce(sum) };
     });
+    /** @type {(one: { area: number, length: number }, other: { area: number, length: number }) => boolean} */
     const isLess = (one, other) => (one.area === Infinity && other.area === Infinity
       ? one.length < other.length : one.area < other.area);
     const { way, symbols } = written.reduce((best, other) => (isLess(other, best) ? other : best));
@@ -186,7 +193,7 @@ export class Library {
     if (this.c.ecc200_inspect(...this.given(grid, doubtful), this.out)) throw new Error("no size has this shape");
     const { inspection } = LAYOUT;
     const [border, blocks, count, dealing] = this.numbers(this.outAt + inspection.border_faults, 4);
-    const list = (at) => this.bytes(this.outAt + at, count).slice();
+    const list = (/** @type {number} */ at) => this.bytes(this.outAt + at, count).slice();
     return { border, dealing, ...this.blockCounts(inspection, blocks), held: list(inspection.held),
       mended: list(inspection.mended) };
   }
@@ -196,9 +203,10 @@ export class Library {
   map(shape) {
     const key = keyOf(shape), known = this.maps.get(key);
     if (known) return known;
-    const { rows, columns, data, check } = this.sizes.get(key), all = rows * columns;
+    const { rows, columns, data, check } = there(this.sizes.get(key)), all = rows * columns;
     this.c.ecc200_places(rows, columns, this.out);
     const kind = new Uint8Array(all), word = new Uint16Array(all), bit = new Uint8Array(all);
+    /** @type {number[][]} */
     const modules = Array.from({ length: data + check }, () => []);
     for (let k = 0; k < all; k++) {
       const { place, place_table: table } = LAYOUT, at = this.outAt + table.places + place.size * k;

@@ -30,6 +30,7 @@ export function setListText(text) {
   field("messages").value = text;
 }
 export const isCsv = () => field("lines-as").value === "csv";
+/** @type {(table: Table) => string} */
 const keyOf = ({ rows, columns }) => JSON.stringify([rows[0], columns.length]);
 // What is known or answered of the columns that are entered.
 /** @type {() => Asked} */
@@ -82,6 +83,7 @@ const WORDS = { [MESSAGE]: "the message", [TEXT]: "text below the symbol", [COPI
 function columnAsked({ table, meaning }, k) {
   const { heading, identifier, example } = table.columns[k], first = meaning.isData ? heading : example;
   const choice = made("select", { ariaLabel: `What column ${k + 1} is` });
+  /** @type {(value: string, textContent: string) => HTMLOptionElement} */
   const option = (value, textContent) => made("option", { value, textContent, selected: meaning.roles[k] === value });
   if (identifier && !meaning.isData) choice.append(option(ELEMENT, `(${identifier}) ${nameOfIdentifier(identifier)}`));
   choice.append(...Object.entries(WORDS).map(([value, words]) => option(value, words)));
@@ -98,14 +100,14 @@ function questionOn({ columns, mayBeData }) {
   return `${mayBeData ? "The first row may have headings or data. " : ""}${unknown}${known}`;
 }
 function drawQuestion() {
-  const it = isCsv() && field("messages").value.trim() ? askedNow() : null, isShown = Boolean(it) && isOpen(it.table);
+  const it = isCsv() && field("messages").value.trim() ? askedNow() : null, isShown = it !== null && isOpen(it.table);
   $("columns").hidden = !isShown;
   if (!isShown) return;
   const { table, meaning, isAnswered } = it;
   hint("columns-question", withCode(questionOn(table)), !isAnswered);
   $("first-row").hidden = !table.mayBeData;
   field(meaning.isData ? "first-data" : "first-headings").checked = true;
-  $("columns-are").replaceChildren(...table.columns.map((_, k) => columnAsked(it, k)));
+  $("columns-are").replaceChildren(...table.columns.map((_column, k) => columnAsked(it, k)));
   $("columns-taken").hidden = isAnswered;
 }
 // From here on the list, or how it is to look, is another one: what was said of it before isn't so any more.

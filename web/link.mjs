@@ -34,6 +34,7 @@ const LETTERS = "ABCDEFGHIJKLMNOPQRSTUVWXYZabcdefghijklmnopqrstuvwxyz0123456789-
 // Before them a square has its side, and a rectangle its rows and columns, as 8.18.
 /** @type {(grid: Grid) => string} */
 export function lettersOf({ modules, rows, columns }) {
+  /** @type {(at: number) => number} */
   const six = (at) => [0, 1, 2, 3, 4, 5].reduce((sum, bit) => 2 * sum + (modules[at + bit] ?? 0), 0);
   let text = "";
   for (let k = 0; k < modules.length; k += 6) text += LETTERS[six(k)];
@@ -52,7 +53,7 @@ export function fromLetters(text) {
 function gridOf(rows, columns, letters) {
   const count = rows * columns;
   if (!isSize({ rows, columns }) || letters.length !== Math.ceil(count / 6) || /[^\w-]/.test(letters)) return null;
-  const sixOf = (k) => LETTERS.indexOf(letters[Math.floor(k / 6)]);
+  const sixOf = (/** @type {number} */ k) => LETTERS.indexOf(letters[Math.floor(k / 6)]);
   const modules = Uint8Array.from({ length: count }, (_, k) => (sixOf(k) >> (5 - (k % 6))) & 1);
   return { modules, rows, columns };
 }
@@ -63,6 +64,7 @@ const FORM_NAMES = new Map([["shorter", SHORTER], ["smallest", SMALLEST]]);
 const countIn = (text) => (/^\d{1,2}$/.test(text ?? "") ? Number(text) : 1);
 
 // Whether there is a symbol of what is entered.
+/** @type {(it: import("./state.mjs").Mark) => boolean} */
 const isThere = ({ stage, isEntering }) => stage === VALID || (stage === WORKING && !isEntering);
 function fragment() {
   const { write, read } = panes, fields = new URLSearchParams();
@@ -85,7 +87,7 @@ function fragment() {
   return `#${[store.task, String(fields)].filter(Boolean).join("&")}`;
 }
 // What was kept or followed last, and how many links are being followed; the page's start counts as one.
-let timer = null, isNewEntry = false, own = "", followed = 1;
+let timer = 0, isNewEntry = false, own = "", followed = 1;
 // Something has changed: what is kept follows soon. While the page restores a link it doesn't.
 export function tellLink() {
   if (followed || timer) return;
@@ -112,7 +114,7 @@ function setEntry(link, address) {
 }
 function writeLink() {
   clearTimeout(timer);
-  timer = null;
+  timer = 0;
   if ("start" in document.body.dataset) { own = ""; return; } // nothing is entered yet
   const text = fragment();
   if (text !== own || linkOfEntry() !== text) {
@@ -151,23 +153,23 @@ export function fromFragment(text) {
   const fields = new URLSearchParams(text.slice(1)), task = taskOf(fields);
   if (TASKS.includes(text.slice(1))) return { isBare: true, task, pane: PANE_OF[task] };
   if (!["message", "grid", "pane", ...TASKS].some((name) => fields.has(name))) return null;
-  const limit = (name) => {
+  const limit = (/** @type {string} */ name) => {
     const text = fields.get(name) ?? "", value = limitIn(text);
-    return { limit: value, why: text && value === null ? noLimit(text, null) : "" };
+    return { limit: value, why: text && value === null ? noLimit(text) : "" };
   };
   return {
     message: fields.get("message") ?? "",
     kind: ["typed", "text"].find((kind) => kind === fields.get("as")) ?? "message",
-    form: FORM_NAMES.get(fields.get("profile")) ?? ASCII,
+    form: FORM_NAMES.get(fields.get("profile") ?? "") ?? ASCII,
     size: fields.get("size") ?? "square",
     parts: countIn(fields.get("parts")),
     part: countIn(fields.get("part")),
-    damage: (count) => placesOf(fields.get("damage"), count),
-    doubtful: (count) => placesOf(fields.get("doubtful"), count),
+    damage: (/** @type {number} */ count) => placesOf(fields.get("damage"), count),
+    doubtful: (/** @type {number} */ count) => placesOf(fields.get("doubtful"), count),
     limit: limit("border"),
     grid: fromLetters(fields.get("grid") ?? ""),
-    gridDamage: (count) => placesOf(fields.get("grid-damage"), count),
-    gridDoubtful: (count) => placesOf(fields.get("grid-doubtful"), count),
+    gridDamage: (/** @type {number} */ count) => placesOf(fields.get("grid-damage"), count),
+    gridDoubtful: (/** @type {number} */ count) => placesOf(fields.get("grid-doubtful"), count),
     gridLimit: limit("grid-border"),
     task,
     pane: PANE_OF[task] ?? (fields.get("pane") === "read" ? "read" : "write"),
@@ -192,7 +194,7 @@ export async function wireLink(restore, say, begin) {
     if (asked === own && own) return;
     own = asked;
     clearTimeout(timer); // what was to be kept there is of the state before
-    timer = null;
+    timer = 0;
     isNewEntry = false;
     const held = fromFragment(own);
     const count = own.length.toLocaleString("en");

@@ -1,7 +1,7 @@
 // What is told of the symbols that were found: in words, and in files of their list. CSV is for tables; JSON has all
 // that is known of them, with heads and marks as dm_sample has them, and can be opened again.
 import { textOf } from "./charsets.mjs";
-import { limitIn, shapeWords } from "./common.mjs";
+import { limitIn, shapeWords, there } from "./common.mjs";
 import { FOUND, PICTURE } from "./csv.mjs";
 import { gridText } from "./grids.mjs";
 import { typed } from "./gs1.mjs";
@@ -23,6 +23,7 @@ function keptFor({ head }) {
   const part = partOf({ head });
   return part ? `part ${part.part} of ${part.parts}` : head ? "reader programming" : "";
 }
+/** @type {(parts: (string | undefined)[]) => string} */
 const inWords = (parts) => parts.filter(Boolean).join("; ");
 /** @type {(symbol: Sighted) => string} */
 export const remarksOn = (symbol) => inWords([shapeWords(symbol), keptFor(symbol), symbol.how,
@@ -68,14 +69,17 @@ const recordOf = (symbol) => {
 export const jsonOf = (list, isComplete) =>
   `${JSON.stringify({ complete: isComplete, symbols: list.map(recordOf) }, null, 1)}\n`;
 
+/** @type {(numbers: any[]) => import("./sampler.mjs").Point} */
+const pointOf = ([x, y]) => ({ x: Number(x), y: Number(y) });
 /** @type {(record: any) => import("./pictures.mjs").Kept} */
 function keptOf({ picture, read, stands, corners, borderLimit, doubtful: places, modules: lines }) {
   const text = lines.join(""), columns = lines[0].length;
-  if (!/^[01]+$/.test(text) || lines.some((line) => line.length !== columns)) throw new Error("no grid");
+  const isOdd = (/** @type {string} */ line) => line.length !== columns;
+  if (!/^[01]+$/.test(text) || lines.some(isOdd)) throw new Error("no grid");
   const doubtful = places.length ? new Uint8Array(text.length) : null;
-  for (const place of places) doubtful[place] = 1;
+  for (const place of places) there(doubtful)[place] = 1;
   return { rows: lines.length, columns, modules: Uint8Array.from(text, Number), doubtful, isRead: read === true,
-    limit: limitIn(String(borderLimit)), how: String(stands), corners: corners.map(([x, y]) => ({ x: +x, y: +y })),
+    limit: limitIn(String(borderLimit)), how: String(stands), corners: corners.map(pointOf),
     ...(picture ? { picture: String(picture) } : {}) };
 }
 // The list that a file of JSON holds, or null.

@@ -14,6 +14,7 @@ import { panes } from "./state.mjs";
 import { drawnSvg } from "./svg.mjs";
 import { stood } from "./words.mjs";
 
+/** @typedef {import("./pictures.mjs").Sighted} Sighted */
 /** @typedef {{ files: File[], note: string, at: number, isStopped: boolean }} Batch of pictures, and how many of these
     were looked at */
 const LIKEST = " What looks most like one is outlined, and listed with the reason.";
@@ -28,9 +29,9 @@ function questionOf(file) {
   return desks.readsFiles ? { file } : bitmapOf(file);
 }
 /** @type {(file: Blob, lane: string, how?: { kind?: string, more?: any, tell?: any }) => Promise<any>} */
-export async function lookAt(file, lane, { kind = "picture", more = (question) => question, tell = null } = {}) {
-  const question = await questionOf(file), { why, bitmap } = question;
-  return why ? { why } : desks.pictures.ask(kind, more(question), lane, { transfer: bitmap ? [bitmap] : [], tell });
+export async function lookAt(file, lane, { kind = "picture", more = null, tell = null } = {}) {
+  const question = await questionOf(file), { why, bitmap } = question, given = more ? more(question) : question;
+  return why ? { why } : desks.pictures.ask(kind, given, lane, { transfer: bitmap ? [bitmap] : [], tell });
 }
 // Asks what stands in a frame of the camera.
 /** @type {(given: { bitmap: ImageBitmap, most: number, time: number }, lane: string) => Promise<any>} */
@@ -68,7 +69,8 @@ function tellProgress(batch, progress = "") {
 }
 /** @type {(batch: Batch, given?: object) => Promise<any>} */
 const lookAtOne = (batch, given = {}) => lookAt(batch.files[batch.at], "picture",
-  { tell: (progress) => tellProgress(batch, progress), more: (question) => ({ ...question, ...given }) });
+  { tell: (/** @type {string} */ progress) => tellProgress(batch, progress),
+    more: (/** @type {object} */ question) => ({ ...question, ...given }) });
 
 // ---- Several pictures
 
@@ -94,6 +96,7 @@ async function listNext(batch) {
   retire(sights);
   return sights;
 }
+/** @type {(batch: Batch) => boolean} */
 const hasNext = (batch) => pending.last === batch && !batch.isStopped && batch.at < batch.files.length;
 // Looks at pictures until something is read in one.
 /** @type {(batch: Batch) => Promise<any>} */
@@ -133,7 +136,7 @@ function takeSymbol(symbol) {
 /** @type {(batch: Batch, sights: any) => void} */
 function takePicture(batch, sights) {
   const it = panes.read, { symbols = [], unread = [], view } = sights, name = nameOf(batch), { note } = batch;
-  const symbol = symbols[0] ?? unread.find(({ isExact }) => isExact);
+  const symbol = symbols[0] ?? unread.find((/** @type {Sighted} */ { isExact }) => isExact);
   if (view) showSights(sights, symbol);
   if (!symbol) {
     const why = isBroken(sights) ? brokenWords(sights) : `${sights.why}${unread.length ? LIKEST : ""}`;
@@ -159,6 +162,7 @@ async function takeRest(batch, first) {
   const sights = await desks.pictures.ask("rest", null, "rest");
   if (!sights || isBroken(sights) || pending.last !== batch || (first && !isShown(first))) return;
   const begin = first?.corners[0];
+  /** @type {(it: Sighted) => boolean} */
   const isFirst = ({ corners: [at] }) => begin && Math.hypot(at.x - begin.x, at.y - begin.y) < NEAR;
   showSights(sights, sights.symbols.find(isFirst) ?? null);
   if (sights.symbols.length > 1)
@@ -168,6 +172,7 @@ async function takeRest(batch, first) {
 }
 const NEAR = 3; // pixels
 // The worker's memory never shrinks: after a large picture another worker begins.
+/** @type {(sights: any) => void} */
 const retire = ({ isLarge }) => { if (isLarge) desks.pictures.retire(); };
 
 // Where the time was over before all was looked at, more of it is offered.

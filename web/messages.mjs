@@ -2,7 +2,7 @@
 // character of 32 to 126 itself; in front of them \A{2/5:001002} a part of what several symbols say, with the numbers
 // of its file, and \P reader programming. The values of element strings have no ECI and no head, but \( a bracket.
 import { textOf, waysOfText } from "./charsets.mjs";
-import { FNC1, MOST_LINES, MOST_LINES_OF_SHEET, MOST_TEXT } from "./common.mjs";
+import { FNC1, MOST_LINES, MOST_LINES_OF_SHEET, MOST_TEXT, codeOf, there } from "./common.mjs";
 import { PROGRAMMING, letterOf } from "./letters.mjs";
 
 /** @typedef {import("./letters.mjs").Letter} Letter */
@@ -15,7 +15,7 @@ import { PROGRAMMING, letterOf } from "./letters.mjs";
 export function parse(text, isValue = false) {
   const { head, length } = isValue ? NO_HEAD : headIn(text), letter = letterOf([], [], head), { items, marks } = letter;
   for (let at = length; at < text.length;) {
-    const code = text.codePointAt(at), rest = text.slice(at, at + LONGEST_SPELLING);
+    const code = there(text.codePointAt(at)), rest = text.slice(at, at + LONGEST_SPELLING);
     const [hex] = /^\\x[0-9A-Fa-f]{2}/.exec(rest) ?? [], [eci, number] = (!isValue && ECI_SPELLED.exec(rest)) || [];
     if (rest.startsWith("\\\\")) { items.push(92); at += 2; }
     else if (rest.startsWith("\\F")) { items.push(FNC1); at += 2; }
@@ -61,7 +61,7 @@ export function visibleTextOf(letter) {
 // Why a text is more than a field takes, or "".
 /** @type {(text: string, most?: number) => string} */
 export function tooMuch(text, most = MOST_TEXT) {
-  const words = (count, what, bound) =>
+  const words = (/** @type {number} */ count, /** @type {string} */ what, /** @type {number} */ bound) =>
     `${count.toLocaleString("en")} ${what}, and no more than ${bound.toLocaleString("en")} are taken.`;
   if (text.length > most) return words(text.length, "characters", most);
   const lines = text.split("\n").length, mostLines = most > MOST_TEXT ? MOST_LINES_OF_SHEET : MOST_LINES;
@@ -69,34 +69,42 @@ export function tooMuch(text, most = MOST_TEXT) {
 }
 
 // The text with each backslash that begins no spelling doubled.
+/** @type {(text: string) => string} */
 const doubled = (text) => text.replace(SPELLING_OR_NONE, (found) => (found.length > 1 ? found : "\\\\"));
 const SPELLING_OR_NONE = /^\\(?:P|A\{\d{1,2}\/\d{1,2}:\d{6}\})|\\(?:\\|F|x[0-9A-Fa-f]{2}|E\{\d{1,6}\})|\\/g;
 
+/** @type {Record<number, string>} */
 const CONTROLS = { 9: "a tab", 10: "a line break", 13: "a line break" };
 // Controls, formats, spaces and fillers; these and marks that stand on the letter before; and such a mark that stands
 // on no letter.
 const UNSEEN = /[\p{C}\p{Z}\u115F\u1160\u3164\uFFA0]/u;
 const INVISIBLE = /[\p{C}\p{Z}\p{M}\u115F\u1160\u3164\uFFA0]/u;
 const LONE_MARK = /(?:^|[^\p{L}\p{M}\p{N}\p{S}])\p{M}/u;
+/** @type {(code: number) => string} */
 const codePoint = (code) => `U+${code.toString(16).toUpperCase().padStart(4, "0")}`;
+/** @type {(code: number) => string} */
 export function named(code) {
   if (CONTROLS[code]) return CONTROLS[code];
   if (code < 32 || code === 127) return `the control character ${codePoint(code)}`;
   const character = String.fromCodePoint(code);
   return INVISIBLE.test(character) ? `the invisible character ${codePoint(code)}` : character;
 }
+/** @type {(byte: number) => string} */
 export const hexed = (byte) => "\\x" + byte.toString(16).toUpperCase().padStart(2, "0");
 
 // The text with each character that has no spelling as bytes: those of Latin-1, if it has them, and those of UTF-8.
+/** @type {(text: string) => { name: string, text: string }[]} */
 function respelled(text) {
-  const spell = (bytesOf) =>
+  const spell = (/** @type {(c: string) => number[]} */ bytesOf) =>
     Array.from(text, (c) => (c >= " " && c <= "~" ? c : bytesOf(c).map(hexed).join(""))).join("");
   const utf8 = { name: "as UTF-8", text: spell((c) => [...new TextEncoder().encode(c)]) };
-  if (Array.from(text).some((c) => c.codePointAt(0) > 255)) return [utf8];
-  const latin = { name: "as Latin-1", text: spell((c) => [c.codePointAt(0)]) };
+  if (Array.from(text).some((c) => codeOf(c) > 255)) return [utf8];
+  const latin = { name: "as Latin-1", text: spell((c) => [codeOf(c)]) };
   return latin.text === utf8.text ? [{ name: "as bytes", text: utf8.text }] : [latin, utf8];
 }
+/** @type {(item: number) => boolean} */
 export const isPlain = (item) => item >= 32 && item <= 126 && item !== 92;
+/** @type {(item: number) => string} */
 export const spelledItem = (item) =>
   (isPlain(item) ? String.fromCharCode(item) : item === 92 ? "\\\\" : item === FNC1 ? "\\F" : hexed(item));
 /** @type {(items: number[]) => string} */

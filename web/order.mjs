@@ -61,6 +61,7 @@ export function clear(it) {
   if (it === mark()) redraw();
   tellLink();
 }
+/** @type {(it: Mark) => (why: Error) => void} */
 const failedAt = (it) => (why) => refuse(it, brokenWords({ failed: why.message }));
 
 // Enters what a question brings: `take` is given its answer, which may be that it was stopped or failed, unless

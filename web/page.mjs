@@ -5,7 +5,7 @@ import { wireCamera } from "./camera.mjs";
 import { wireCompare } from "./compare.mjs";
 import { wireDamage } from "./damage.mjs";
 import { waysOfText } from "./charsets.mjs";
-import { ASCII, SQUARE, messageOf } from "./common.mjs";
+import { ASCII, SQUARE, messageOf, there } from "./common.mjs";
 import { isWorking, stopAll, whenChanged, workingSince } from "./desk.mjs";
 import { $ } from "./dom.mjs";
 import { wireDropping } from "./dropping.mjs";
@@ -42,11 +42,11 @@ const hasVectors = () => typeof WebAssembly === "object" && WebAssembly.validate
 const BUSY_AFTER = 300; // milliseconds until a running thing shows that it runs
 
 function wireBusy() {
-  let timer = null;
-  const show = () => { $("busy").hidden = !isWorking(); timer = null; };
+  let timer = 0;
+  const show = () => { $("busy").hidden = !isWorking(); timer = 0; };
   whenChanged(() => {
-    if (!isWorking()) { clearTimeout(timer); timer = null; $("busy").hidden = true; return; }
-    timer ??= setTimeout(show, Math.max(0, BUSY_AFTER - (performance.now() - workingSince())));
+    if (!isWorking()) { clearTimeout(timer); timer = 0; $("busy").hidden = true; return; }
+    timer ||= setTimeout(show, Math.max(0, BUSY_AFTER - (performance.now() - workingSince())));
   });
   $("stop").addEventListener("click", stopAll);
 }
@@ -58,14 +58,16 @@ async function idle() {
     calm = isWorking() || pending.pictures ? 0 : calm + 1;
   }
 }
+/** @type {(id: string) => string} */
+const textIn = (id) => there($(id).textContent);
 async function startPage() {
-  readIdentifiers($("identifiers").textContent);
-  readHeadings($("headings").textContent);
-  const bytesOf = (id) => Uint8Array.from(atob($(id).textContent.trim()), (c) => c.charCodeAt(0));
+  readIdentifiers(textIn("identifiers"));
+  readHeadings(textIn("headings"));
+  const bytesOf = (/** @type {string} */ id) => Uint8Array.from(atob(textIn(id).trim()), (c) => c.charCodeAt(0));
   await readFont(bytesOf("font"));
-  const compiled = (id) => WebAssembly.compile(bytesOf(id));
+  const compiled = (/** @type {string} */ id) => WebAssembly.compile(bytesOf(id));
   const [library, sampler] = await Promise.all(["library", "sampler"].map(compiled)); // once, for each worker
-  const script = new Blob([$("worker").textContent], { type: "text/javascript" });
+  const script = new Blob([textIn("worker")], { type: "text/javascript" });
   const loaded = await openDesks(URL.createObjectURL(script), { library, sampler });
   if (loaded.failed !== undefined) throw new Error(loaded.failed);
   desks.readsFiles = loaded.readsFiles;
@@ -88,7 +90,7 @@ async function startPage() {
   Object.defineProperty(globalThis, "mitsubadoor", { value: forTests });
 }
 /** @type {() => void} of fallback.js */
-const showInstead = globalThis["showFallback"];
+const showInstead = /** @type {any} */ (globalThis).showFallback;
 removeEventListener("error", showInstead); // that was for a script that can't be read or begun
 try {
   if (hasVectors()) await startPage(); else showInstead();

@@ -3,6 +3,7 @@
 import { $, field, made } from "./dom.mjs";
 
 const MARGIN = 15; // millimetres on each side of a sheet
+/** @type {Record<string, { name: string, width: number, height: number }>} */
 const PAPERS = { a4: { name: "A4", width: 210, height: 297 }, letter: { name: "Letter", width: 215.9, height: 279.4 } };
 const rule = made("style");
 

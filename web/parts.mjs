@@ -1,4 +1,5 @@
 // A message in several symbols (structured append): into how many it is taken apart, and which of them is shown.
+import { there } from "./common.mjs";
 import { markedThroughout } from "./charsets.mjs";
 import { $, field, made, setUsable, whenUsed } from "./dom.mjs";
 import { takenApart } from "./letters.mjs";
@@ -11,7 +12,7 @@ export const partsNow = () => Number(field("parts").value);
 export const partNow = () => Math.min(part, partsNow());
 // The letters of what is taken, in so many parts, in each way to write it; of what has a head of its own, that alone.
 /** @type {(taken: import("./messages.mjs").Taken, parts: number) => import("./letters.mjs").Letter[][]} */
-export const waysTaken = ({ letter, letters = [letter], isText }, parts) => letters.map((way) =>
+export const waysTaken = ({ letter, letters = [there(letter)], isText }, parts) => letters.map((way) =>
   (way.head ? [way] : takenApart(isText && parts > 1 ? markedThroughout(way) : way, parts)));
 // Chooses what a link has; one symbol, if that is no number of parts.
 /** @type {(parts: number, shown: number) => void} */
@@ -32,7 +33,7 @@ export function wireParts(write) {
   const options = Array.from({ length: MOST_PARTS }, (_, k) =>
     made("option", { value: String(k + 1), textContent: k ? `${k + 1} symbols` : "one symbol" }));
   $("parts").replaceChildren(...options);
-  const leaf = (by) => { chooseParts(partsNow(), partNow() + by); write(); };
+  const leaf = (/** @type {number} */ by) => { chooseParts(partsNow(), partNow() + by); write(); };
   $("parts").addEventListener("change", () => { chooseParts(partsNow(), 1); write(); });
   whenUsed("part-back", () => leaf(-1));
   whenUsed("part-on", () => leaf(1));

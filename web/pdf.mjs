@@ -1,5 +1,6 @@
 // A PDF of pages in millimetres, on which symbols are drawn as rectangles of exact size, with texts below them that can
 // be searched and copied: their font has the outlines of their letters.
+import { there } from "./common.mjs";
 import { placesOf } from "./captions.mjs";
 import { WIDTH, outlineOf } from "./font.mjs";
 import { QUIET, runsOf, withQuiet } from "./symbol.mjs";
@@ -11,6 +12,7 @@ import { QUIET, runsOf, withQuiet } from "./symbol.mjs";
 /** @typedef {{ width: number, height: number, placed: Placed[] }} Page */
 const MILLIMETRES = 25.4 / 72; // of a point
 
+/** @type {(value: number) => string} */
 const number = (value) => String(+value.toFixed(4));
 // The rectangles of a symbol, runs of dark modules along its rows; y grows upwards.
 /** @type {(placed: Placed, height: number) => string} */
@@ -25,6 +27,7 @@ function symbolDrawn({ grid, x, y, module }, height) {
 // ---- Letters
 
 const MOST_LETTERS = 255, EM = 1000; // letters of a font; units of its height
+/** @type {(value: number, digits: number) => string} */
 const hexOf = (value, digits) => value.toString(16).toUpperCase().padStart(digits, "0");
 // The letters that stand on pages, in fonts of so many, each with a code of two hexadecimal digits.
 class Letters {
@@ -43,7 +46,7 @@ class Letters {
     let font = -1, codes = "", words = "";
     const end = () => { if (codes) words += `<${codes}> Tj\n`; codes = ""; };
     for (const letter of line) {
-      const place = this.places.get(letter), own = Math.floor(place / MOST_LETTERS);
+      const place = there(this.places.get(letter)), own = Math.floor(place / MOST_LETTERS);
       if (own !== font) { end(); font = own; words += `/F${font} ${number(size)} Tf\n`; }
       codes += hexOf((place % MOST_LETTERS) + 1, 2);
     }
@@ -64,6 +67,7 @@ const streamOf = (body, about = "") => `<<${about} /Length ${body.length} >>\nst
 // A letter's outline, in which curves have two corners that they bend to.
 /** @type {(letter: string) => string} */
 function outlineDrawn(letter) {
+  /** @type {(...values: number[]) => string} */
   const units = (...values) => values.map((value) => String(+(value * EM).toFixed(1))).join(" ");
   let [x, y] = [0, 0], drawn = `${units(WIDTH)} 0 -300 -400 1000 1200 d1\n`;
   for (const { word, at } of letter === " " ? [] : outlineOf(letter)) {
@@ -71,7 +75,9 @@ function outlineDrawn(letter) {
     if (word === "M" || word === "L") drawn += `${units(...at)} ${word.toLowerCase()}\n`;
     else if (word === "Z") drawn += "h\n";
     else {
-      const [bendX, bendY] = at, towards = (from, bend) => from + ((bend - from) * 2) / 3;
+      /** @type {(from: number, bend: number) => number} */
+      const towards = (from, bend) => from + ((bend - from) * 2) / 3;
+      const [bendX, bendY] = at;
       const bends = [towards(x, bendX), towards(y, bendY), towards(toX, bendX), towards(toY, bendY)];
       drawn += `${units(...bends, toX, toY)} c\n`;
     }
@@ -123,7 +129,7 @@ function contentOf({ height, placed }, letters) {
 export function pdfOf(pages, kept) {
   const known = Object.entries(kept).map(([name, text]) => ` /${name} <${hexOfText(text)}>`).join("");
   const objects = [`<< /Type /Catalog /Pages 2 0 R${known} >>`, ""], letters = new Letters(pages);
-  const add = (body) => objects.push(body), fonts = letters.addTo(add);
+  const add = (/** @type {string} */ body) => objects.push(body), fonts = letters.addTo(add);
   const kids = pages.map((page) => {
     const box = `0 0 ${number(page.width / MILLIMETRES)} ${number(page.height / MILLIMETRES)}`;
     const content = add(streamOf(contentOf(page, letters)));

@@ -1,4 +1,5 @@
 // The symbols in a picture: found by the sampler, in bounded time, or taken as they are where the picture is a grid.
+import { there } from "./common.mjs";
 import { bitmapOf } from "./bitmap.mjs";
 import { luminanceOf } from "./ecc200.mjs";
 import { found, hasBorder, hasShape } from "./grids.mjs";
@@ -8,6 +9,7 @@ import { qrCodeIn } from "./qr.mjs";
 import { unspread } from "./quality.mjs";
 
 /** @typedef {import("./ecc200.mjs").Ecc200} Ecc200 */
+/** @typedef {import("./sampler.mjs").Point} Point */
 /** @typedef {import("./common.mjs").Grid} Grid */
 /** @typedef {import("./letters.mjs").Letter} Letter */
 /** @typedef {import("./common.mjs").Limit} Limit */
@@ -36,13 +38,14 @@ const NO_CONTRAST = 4, LITTLE_CONTRAST = 32;
 
 /** @type {(bitmap: ImageBitmap, share: number) => { width: number, height: number, scale: number }} */
 function sizeAt({ width, height }, share) {
-  const scaled = (length) => Math.max(1, Math.round(length * share));
+  const scaled = (/** @type {number} */ length) => Math.max(1, Math.round(length * share));
   return { width: scaled(width), height: scaled(height), scale: 1 / share };
 }
 /** @type {(width: number, height: number) => any} */
 const penOf = (width, height) =>
   new OffscreenCanvas(width, height).getContext("2d", { willReadFrequently: true, alpha: false });
 // Draws a picture at a size, from a row of it on.
+/** @type {(pen: any, bitmap: ImageBitmap, size: { width: number, height: number }, top?: number) => void} */
 function draw(pen, bitmap, { width, height }, top = 0) {
   [pen.imageSmoothingQuality, pen.fillStyle] = ["medium", "#fff"];
   pen.fillRect(0, 0, width, height); // what is transparent is seen on white paper
@@ -70,7 +73,8 @@ function greyOf(bitmap, size) {
 }
 /** @type {(bitmap: ImageBitmap, size: { width: number, height: number, scale: number }) => boolean} */
 function isOneColour(bitmap, size) {
-  let first = null;
+  /** @type {number | undefined} */
+  let first;
   for (const { data } of bandsOf(bitmap, size)) {
     const pixels = new Uint32Array(data.buffer);
     first ??= pixels[0];
@@ -98,6 +102,7 @@ function lookOf(bitmap, by) {
   const isOne = contrast === 0 && isOneColour(bitmap, size);
   return { ...size, scale: size.scale * by, grey, contrast, between, isOneColour: isOne, view };
 }
+/** @type {(look: Look) => string} */
 function alike({ contrast, isOneColour: isOne }) {
   if (isOne) return "The picture has only one colour.";
   return `All of the picture is about equally bright: its greys differ by ${contrast} of 255.`;
@@ -167,10 +172,11 @@ export function foundBefore(library, { symbols, isComplete }) {
     unread: all.filter(({ isRead }) => !isRead) };
 }
 // A picture of which every n-th pixel is left, if it is large.
+/** @type {(look: Look) => { grey: Uint8Array, width: number, height: number, step: number }} */
 function smaller({ grey, width, height }) {
   const step = Math.ceil(Math.max(width, height) / LENGTH_OF_CODES), across = Math.floor(width / step);
   const down = Math.floor(height / step);
-  const at = (k) => Math.floor(k / across) * step * width + (k % across) * step;
+  const at = (/** @type {number} */ k) => Math.floor(k / across) * step * width + (k % across) * step;
   return { grey: Uint8Array.from({ length: across * down }, (_, k) => grey[at(k)]), width: across, height: down, step };
 }
 // Whether a place is inside of a convex shape of these corners.
@@ -186,6 +192,7 @@ function isInside(corners, { x, y }) {
 /** @type {(look: Look, unread: Sighted[], end: number) => { hasQrCode: boolean, unread: Sighted[] }} */
 function besideQrCode(look, unread, end) {
   const small = smaller(look), corners = qrCodeIn(small, end), each = 1 / (small.step * look.scale);
+  /** @type {(it: Sighted) => Point} */
   const middle = ({ corners: at }) => ({ x: ((at[0].x + at[2].x) / 2) * each, y: ((at[0].y + at[2].y) / 2) * each });
   return { hasQrCode: corners !== null,
     unread: unread.filter((symbol) => !corners || !isInside(corners, middle(symbol))) };
@@ -194,11 +201,13 @@ function besideQrCode(look, unread, end) {
 // ---- Questions
 
 const NEAR = 3; // pixels
+/** @type {(one: Point, other: Point) => boolean} */
 const isNear = (one, other) => Math.hypot(one.x - other.x, one.y - other.y) < NEAR;
 
 /** @type {{ look: Look, sights: Sights, end: number } | null} the picture that was looked at last, if not all is said
     of it, and when its time is over */
 let kept = null;
+/** @type {(why: string) => Sights} */
 const nothing = (why) => ({ why, symbols: [], unread: [], isComplete: true, notes: "", left: 0, width: 0, height: 0 });
 const NONE_FOUND = "No symbol that can be read was found in the picture.";
 
@@ -207,7 +216,7 @@ const NONE_FOUND = "No symbol that can be read was found in the picture.";
     tell: any) => Promise<Sights>} */
 export async function firstInPicture(ecc200, { file, bitmap: given, by: own = 1, most = 1, time = MOST_TIME }, tell) {
   kept = null;
-  const { bitmap, by = 1, why = "" } = given ? { bitmap: given, by: own } : await bitmapOf(file);
+  const { bitmap, by = 1, why = "" } = given ? { bitmap: given, by: own } : await bitmapOf(there(file));
   if (!bitmap) return nothing(why);
   const look = lookOf(bitmap, by);
   if (look.contrast < NO_CONTRAST) return { ...nothing(alike(look)), view: look.view };
@@ -237,6 +246,7 @@ export function restOfPicture(ecc200) {
   kept = null;
   if (sights.isComplete) return sights;
   const rest = sampled(ecc200, look, MOST_SYMBOLS, end - TIME_OF_CODES);
+  /** @type {(it: Sighted) => boolean} */
   const isThere = ({ corners }) => rest.symbols.some((other) => isNear(corners[0], other.corners[0]));
   return { ...rest, ...besideQrCode(look, rest.unread, end),
     symbols: [...sights.symbols.filter((symbol) => !isThere(symbol)), ...rest.symbols] };

@@ -16,6 +16,7 @@ export function extent(grey) {
   }
   return [least, most];
 }
+/** @type {(a: number, b: number) => number} */
 const gcd = (a, b) => { while (b) [a, b] = [b, a % b]; return a; };
 // Of each pixel whether it is dark, if the picture has two colours that are told apart; else null.
 /** @type {(grey: Uint8Array, between: [number, number]) => Uint8Array | null} */
@@ -56,7 +57,7 @@ function isSome(count, is) {
 }
 /** @type {(dark: Uint8Array, width: number, frame: Frame) => Grid | null} */
 function gridIn(dark, width, { left, top, width: wide, height: high }) {
-  const at = (x, y) => dark[(top + y) * width + left + x];
+  const at = (/** @type {number} */ x, /** @type {number} */ y) => dark[(top + y) * width + left + x];
   const across = unitOf(wide, (x) => isSome(high, (y) => at(x, y) !== at(x - 1, y)));
   const down = unitOf(high, (y) => isSome(wide, (x) => at(x, y) !== at(x, y - 1)));
   const columns = wide / across, rows = high / down;
@@ -71,5 +72,8 @@ export function gridsOfPixels(grey, width, between) {
   const dark = twoColours(grey, between);
   if (!dark) return [];
   const frames = [frameOf(dark, width, 1), frameOf(dark, width, 0)];
-  return frames.map((frame) => ({ frame, grid: gridIn(dark, width, frame) })).filter(({ grid }) => grid);
+  return frames.flatMap((frame) => {
+    const grid = gridIn(dark, width, frame);
+    return grid ? [{ frame, grid }] : [];
+  });
 }

@@ -1,5 +1,5 @@
 // Labels of the list of many messages, as they will be: three at a time, the first ones first.
-import { plural } from "./common.mjs";
+import { plural, there } from "./common.mjs";
 import { $, folded, hint, made, setUsable, whenUsed } from "./dom.mjs";
 import { entriesOf, faultIn } from "./entries.mjs";
 import { whenShown } from "./flow.mjs";
@@ -12,7 +12,7 @@ import { millimetres } from "./taking.mjs";
 
 const AT_ONCE = 3, AFTER_A_KEY = 150; // labels; milliseconds after the last key
 let from = 0; // the first line that is shown
-let timerOfLabels = null;
+let timerOfLabels = 0;
 
 /** @type {(entry: import("./entries.mjs").Entry) => Node} */
 function labelShown(entry) {
@@ -20,7 +20,8 @@ function labelShown(entry) {
   const told = `${number}${copies === 1 ? "" : `, ${plural(copies, "copy", "copies")}`}: `;
   const { why, page } = entry.why ? { why: `${told}${entry.why}`, page: null } : labelOf(entry, millimetres());
   if (why) return made("figure", {}, made("p", { className: "hint bad", textContent: why }));
-  return made("figure", {}, pageDrawn(page), made("p", {}, told, made("code", { textContent: readable(letter) })));
+  const said = made("p", {}, told, made("code", { textContent: readable(letter) }));
+  return made("figure", {}, pageDrawn(there(page)), said);
 }
 /** @type {(lines: import("./csv.mjs").Line[]) => void} */
 function drawSteps(lines) {
@@ -32,7 +33,7 @@ function drawSteps(lines) {
 }
 // Shows the labels from `from` on, unless the list is another one by then.
 async function showLabels() {
-  timerOfLabels = null;
+  timerOfLabels = 0;
   if (store.task !== "make" || !folded("sheet").open) return;
   const own = versionNow(), lines = linesNow(), begin = from;
   drawSteps(lines);

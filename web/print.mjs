@@ -1,5 +1,5 @@
 // How good the print of a symbol is that was found in a picture, as a table.
-import { $, made } from "./dom.mjs";
+import { $, made, one } from "./dom.mjs";
 import { VALID, mark } from "./state.mjs";
 
 /** @typedef {import("./quality.mjs").Quality} Quality */
@@ -32,7 +32,8 @@ function rowsOf({ grades, contrast, modulation, unused, axial, grid, growth, bor
 }
 export function drawPrint() {
   const { stage, quality } = mark(), isShown = stage === VALID && quality !== null;
+  /** @type {(cells: string[]) => Node} */
   const row = (cells) => made("tr", {}, ...cells.map((textContent) => made("td", { textContent })));
   $("print-quality").hidden = !isShown;
-  $("print-quality").querySelector("tbody").replaceChildren(...(isShown ? rowsOf(quality).map(row) : []));
+  one("tbody", $("print-quality")).replaceChildren(...(isShown ? rowsOf(quality).map(row) : []));
 }

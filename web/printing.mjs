@@ -1,6 +1,6 @@
 // Printing: the symbol at its size with its text, on one page; or a sheet of many messages; or each on a label as large
 // as itself.
-import { SHORTER, plural, shapeName, shapeWords } from "./common.mjs";
+import { SHORTER, plural, shapeName, shapeWords, there } from "./common.mjs";
 import { $, field, hint, made } from "./dom.mjs";
 import { wrongGs1 } from "./elements.mjs";
 import { copied, entriesNow } from "./entries.mjs";
@@ -25,7 +25,7 @@ let isSheet = false;
 /** @type {(grid: Grid, texts: Node[]) => HTMLElement} */
 function figure(grid, texts) {
   const { page } = pageOf({ grid, text: "", number: 1 }, millimetres());
-  return made("figure", {}, pageDrawn(page), ...(paperNow() ? texts : []));
+  return made("figure", {}, pageDrawn(there(page)), ...(paperNow() ? texts : []));
 }
 /** @type {(className: string, figures: Node[], width: number, height: number) => void} */
 function layOut(className, figures, width, height) {
@@ -33,7 +33,9 @@ function layOut(className, figures, width, height) {
   setPage(width, height);
   $("paper").replaceChildren(...figures);
 }
+/** @type {(textContent: string) => HTMLElement} */
 const captionOf = (textContent) => made("figcaption", { textContent });
+/** @type {(textContent: string) => HTMLElement} */
 const noteOf = (textContent) => made("p", { textContent });
 
 // ---- One symbol
@@ -77,7 +79,7 @@ function printOne() {
 // Each page on one of its own; a browser's pages are all as large as the largest of them.
 /** @type {(entries: Entry[], pages: Page[]) => void} */
 function layOutPages(_, pages) {
-  const most = (side) => Math.max(...pages.map((page) => page[side]));
+  const most = (/** @type {"width" | "height"} */ side) => Math.max(...pages.map((page) => page[side]));
   $("paper").className = "sheets";
   setPageSize(most("width"), most("height"));
   $("paper").replaceChildren(...pages.map(pageDrawn));
@@ -95,7 +97,7 @@ function givenWords(count, none, where, form) {
 const withAll = (act, where) => async () => {
   const own = versionNow(), form = formNow(), { why, entries: all = [] } = await entriesNow();
   const entries = copied(all), laid = why ? { why } : pagesOf(entries, millimetres());
-  const fault = laid.why || await act(entries, laid.pages);
+  const fault = laid.why || await act(entries, there(laid.pages));
   const none = new Set(all.filter(({ copies }) => !copies).map(({ number }) => number)).size;
   const said = fault || givenWords(entries.length, none, where, form);
   if (own === versionNow()) hint("sheet-hint", said, Boolean(fault), "messages");
@@ -109,14 +111,15 @@ async function printSheet() {
 }
 /** @type {(entry: Entry, ending: string, copy: number) => string} */
 const fileName = ({ number, letter, grid, copies }, ending, copy) => `${String(number).padStart(3, "0")}`
-  + `${partInName(letter)}-symbol-${shapeName(grid)}${copies > 1 ? `-copy-${copy}` : ""}.${ending}`;
+  + `${partInName(letter)}-symbol-${shapeName(there(grid))}${copies > 1 ? `-copy-${copy}` : ""}.${ending}`;
 // Saves a file for each label, in one archive.
 /** @type {(ending: string, bytesOf: (page: Page) => Uint8Array | Promise<Uint8Array>) => any} */
 const zipping = (ending, bytesOf) => withAll(async (entries) => {
   const files = [];
   for (const entry of new Set(entries)) {
-    const { why, page } = labelOf(entry, millimetres()), bytes = why ? null : await bytesOf(page);
-    if (why) return why;
+    const { why, page } = labelOf(entry, millimetres());
+    if (!page) return why;
+    const bytes = await bytesOf(page);
     for (let copy = 1; copy <= entry.copies; copy++) files.push({ name: fileName(entry, ending, copy), bytes });
   }
   save(zipOf([...files, labelsFile()]), `symbols-${ending}.zip`);

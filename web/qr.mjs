@@ -36,6 +36,7 @@ function darkPixels({ grey, width, height }) {
 /** @type {(lengths: number[], ratios: number[], modules: number) => number} */
 function moduleOf(lengths, ratios, modules) {
   const module = lengths.reduce((sum, length) => sum + length, 0) / modules;
+  /** @type {(length: number, k: number) => boolean} */
   const isOff = (length, k) => Math.abs(length - ratios[k] * module) > TOLERANCE * ratios[k] * module;
   return lengths.some(isOff) ? 0 : module;
 }
@@ -75,15 +76,18 @@ function patternsIn(picture, end) {
   /** @type {Pattern[]} */
   const patterns = [];
   const columns = new Map();
+  /** @type {(x: number) => { at: number, module: number }[]} */
   const ofColumn = (x) => columns.get(x) ?? columns.set(x, crossings(dark, x, width, height)).get(x);
   for (let y = 0; y < height && patterns.length < MOST_PATTERNS && performance.now() < end; y++) {
     for (const { at: x, module } of crossings(dark, y * width, 1, width)) {
       if (patterns.some((other) => Math.hypot(other.x - x, other.y - y) < 3 * module)) continue;
       const own = ofColumn(Math.floor(x)).find((other) => Math.abs(other.at - y) <= 2 * module
         && Math.abs(other.module - module) < module / 2);
-      const at = own && { x, y: own.at, module: (module + own.module) / 2 };
+      if (!own) continue;
+      const at = { x, y: own.at, module: (module + own.module) / 2 };
+      /** @type {(_: any, k: number) => boolean} */
       const isAcross = (_, k) => isArm(dark, picture, at, (2 * Math.PI * (k + 0.5)) / ARMS);
-      if (at && Array.from({ length: ARMS }, isAcross).filter(Boolean).length >= LEAST_ARMS) patterns.push(at);
+      if (Array.from({ length: ARMS }, isAcross).filter(Boolean).length >= LEAST_ARMS) patterns.push(at);
     }
   }
   return patterns;
@@ -102,7 +106,9 @@ function areCorners(corner, a, b) {
 // The corners of a code of which the middles of three patterns are known: half a pattern further out.
 /** @type {(corner: Pattern, a: Pattern, b: Pattern) => Point[]} */
 function cornersOf(corner, a, b) {
+  /** @type {(to: Point) => number} */
   const half = (to) => (corner.module * MODULES) / 2 / Math.hypot(to.x - corner.x, to.y - corner.y);
+  /** @type {(along: number, down: number) => Point} */
   const at = (along, down) => ({ x: corner.x + along * (a.x - corner.x) + down * (b.x - corner.x),
     y: corner.y + along * (a.y - corner.y) + down * (b.y - corner.y) });
   const [p, q] = [half(a), half(b)];

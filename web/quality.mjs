@@ -1,11 +1,13 @@
 // How good the print of a symbol is, as the sampler measures it: of this picture, uncalibrated.
+import { there } from "./common.mjs";
 import { LAYOUT } from "./layouts.mjs";
 
 /** @typedef {"A" | "B" | "C" | "D" | "F"} Grade */
 /** @typedef {{ contrast: number, modulation: number, unused: number[], axial: number, grid: number, growth: number[],
     border: number[], quiet: number[], readable: number[], weakest: string, grades: Record<string, Grade>,
     modulations: number[] }} Quality by the names that library/python/ecc200/core.py has */
-const { sample_quality: QUALITY } = LAYOUT;
+/** @type {Record<string, number>} */
+const QUALITY = LAYOUT.sample_quality;
 /** @type {Grade[]} */
 const GRADES = ["F", "D", "C", "B", "A"];
 const GRADED = ["contrast", "modulation", "unused", "axial", "grid"];
@@ -16,8 +18,9 @@ const LEVELS = 4, SIDES = 4; // of modulation; of a symbol
 // What the sampler has left in its memory.
 /** @type {(view: DataView, at: number) => Quality} */
 export function qualityAt(view, at) {
-  const short = (place) => view.getUint16(at + place, true), grade = (name) => view.getUint8(at + QUALITY[name]);
-  const doubles = (place, count) =>
+  const short = (/** @type {number} */ place) => view.getUint16(at + place, true);
+  const grade = (/** @type {string} */ name) => view.getUint8(at + QUALITY[name]);
+  const doubles = (/** @type {number} */ place, /** @type {number} */ count) =>
     Array.from({ length: count }, (_, k) => view.getFloat64(at + place + k * DOUBLE, true));
   const [contrast, modulation, axial, grid] = ["contrast", "modulation", "axial", "grid"]
     .map((name) => view.getFloat64(at + QUALITY[name], true));
@@ -39,6 +42,6 @@ export function qualityAt(view, at) {
 export function unspread(quality, share) {
   if (!quality || share === 1) return quality ?? null;
   const contrast = quality.contrast * share;
-  const [name] = CONTRAST_GRADES.find(([, begin]) => contrast >= Number(begin));
+  const [name] = there(CONTRAST_GRADES.find(([, begin]) => contrast >= Number(begin)));
   return { ...quality, contrast, grades: { ...quality.grades, contrast: /** @type {Grade} */ (name) } };
 }

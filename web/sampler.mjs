@@ -48,6 +48,7 @@ export class Sampler {
   }
   get buffer() { return this.c.memory.buffer; }
   get size() { return this.buffer.byteLength; }
+  /** @type {(at: number, count: number) => Uint8Array} */
   bytes(at, count) { return new Uint8Array(this.buffer, at, count); }
 
   // ---- What the sampler asks for
@@ -55,10 +56,13 @@ export class Sampler {
   // The calls of ecc200.h, of which inputs and output are copied from one memory to the other.
   calls() {
     const { library } = this, { c } = library;
+    /** @type {(at: number, from: number, count: number) => void} */
     const given = (at, from, count) => library.bytes(at, count).set(this.bytes(from, count));
+    /** @type {(to: number, count: number) => void} */
     const taken = (to, count) => this.bytes(to, count).set(library.bytes(library.outAt, count));
     const itemsOf = () => library.numbers(library.outAt + READING.item_count, 1)[0];
-    return {
+    /** @type {Record<string, (...given: number[]) => any>} */
+    const calls = {
       ecc200_read: (modules, count, doubtful, doubtfulCount, rows, columns, limit, extent, out) => {
         given(library.modulesAt, modules, count);
         given(library.doubtfulAt, doubtful, doubtfulCount);
@@ -68,18 +72,19 @@ export class Sampler {
         return code;
       },
       ecc200_usual_limit: c.ecc200_usual_limit,
-      ecc200_sizes: (out) => { c.ecc200_sizes(library.out); taken(out, SIZES.size); },
+      ecc200_sizes: (/** @type {number} */ out) => { c.ecc200_sizes(library.out); taken(out, SIZES.size); },
       ecc200_places: (rows, columns, out) => {
         const code = c.ecc200_places(rows, columns, library.out);
         taken(out, code ? FAULT.size : TABLE.places + PLACE.size * rows * columns);
         return code;
       },
     };
+    return calls;
   }
   // The one call of WASI that its clock makes.
   clock() {
     return {
-      clock_time_get: (_, __, out) => {
+      clock_time_get: (/** @type {any} */ _, /** @type {any} */ __, /** @type {number} */ out) => {
         new DataView(this.buffer).setBigUint64(out, BigInt(Math.round(performance.now() * NANOSECONDS)), true);
         return 0;
       },
@@ -99,7 +104,10 @@ export class Sampler {
     try {
       if (rooms.includes(0)) return NOTHING;
       this.bytes(picture, luminance.length).set(luminance);
-      const view = new DataView(this.buffer), long = (at, value) => view.setUint32(search + at, value, true);
+      const view = new DataView(this.buffer);
+      /** @type {(at: number, value: number) => void} */
+      const long = (at, value) => view.setUint32(search + at, value, true);
+      /** @type {(at: number, value: number) => void} */
       const short = (at, value) => view.setUint16(search + at, value, true);
       long(SEARCH.milliseconds, milliseconds);
       short(SEARCH.least_side, leastSide);
@@ -112,7 +120,7 @@ export class Sampler {
       const code = this.c.ecc200_sample_find(picture, width, height, width, search);
       const finding = this.findingAt(search, read, unread, code);
       if (!quality) return finding;
-      const withQuality = (from) => (symbol, k) =>
+      const withQuality = (/** @type {number} */ from) => (/** @type {Found} */ symbol, /** @type {number} */ k) =>
         ({ ...symbol, ...this.measured(picture, width, height, from + k * SAMPLE.size, measured) });
       return { ...finding, symbols: finding.symbols.map(withQuality(read)),
         unread: finding.unread.map(withQuality(unread)) };
@@ -129,20 +137,25 @@ export class Sampler {
   }
   /** @type {(search: number, read: number, unread: number, code: number) => Finding} */
   findingAt(search, read, unread, code) {
-    const view = new DataView(this.buffer), count = (at) => view.getUint32(search + at, true);
+    const view = new DataView(this.buffer), count = (/** @type {number} */ at) => view.getUint32(search + at, true);
+    /** @type {(at: number, many: number) => Found[]} */
     const all = (at, many) => Array.from({ length: many }, (_, k) => this.foundAt(at + k * SAMPLE.size));
     return { symbols: all(read, count(SEARCH.count)), unread: all(unread, count(SEARCH.unread_count)),
       ended: view.getUint16(search + SEARCH.ended, true), hasNoMemory: code === SAMPLER.NO_MEMORY };
   }
   /** @type {(at: number) => Found} */
   foundAt(at) {
-    const view = new DataView(this.buffer), number = (place) => view.getUint16(at + place, true);
+    const view = new DataView(this.buffer), number = (/** @type {number} */ place) => view.getUint16(at + place, true);
     const rows = number(SAMPLE.rows), columns = number(SAMPLE.columns), why = number(SAMPLE.unread);
-    const grid = (place) => this.bytes(at + place, rows * columns).slice(), doubtful = grid(SAMPLE.doubtful);
+    const grid = (/** @type {number} */ place) => this.bytes(at + place, rows * columns).slice();
+    const doubtful = grid(SAMPLE.doubtful);
+    /** @type {(k: number, of: number) => number} */
     const coordinate = (k, of) => view.getFloat64(at + SAMPLE.corners + k * POINT.size + of, true);
-    const isRefused = why === REFUSED, ofReading = (member) => (isRefused ? 0 : number(SAMPLE.reading + member));
-    const of = (member) => number(SAMPLE.reading + READING.fault + member), blocks = ofReading(READING.block_count);
-    const inBlocks = (member) => [...this.bytes(at + SAMPLE.reading + member, blocks)];
+    const isRefused = why === REFUSED;
+    const ofReading = (/** @type {number} */ member) => (isRefused ? 0 : number(SAMPLE.reading + member));
+    const of = (/** @type {number} */ member) => number(SAMPLE.reading + READING.fault + member);
+    const blocks = ofReading(READING.block_count);
+    const inBlocks = (/** @type {number} */ member) => [...this.bytes(at + SAMPLE.reading + member, blocks)];
     return {
       rows, columns, modules: grid(SAMPLE.modules), doubtful: doubtful.includes(1) ? doubtful : null,
       corners: [0, 1, 2, 3].map((k) => ({ x: coordinate(k, POINT.x), y: coordinate(k, POINT.y) })),
@@ -159,11 +172,14 @@ export class Sampler {
       { symbology: string }} */
   letterAt(view, at, isRefused) {
     if (isRefused) return { ...letterOf([]), symbology: "" };
-    const number = (place) => view.getUint16(at + place, true), long = (place) => view.getUint32(at + place, true);
+    const number = (/** @type {number} */ place) => view.getUint16(at + place, true);
+    const long = (/** @type {number} */ place) => view.getUint32(at + place, true);
+    /** @type {(place: number) => import("./letters.mjs").Mark} */
     const markAt = (place) => ({ place: long(place + MARK_AT.place), number: long(place + MARK_AT.number) });
+    /** @type {(count: number, of: (k: number) => any) => any[]} */
     const list = (count, of) => Array.from({ length: number(count) }, (_, k) => of(k));
     const file = [0, 1].map((k) => view.getUint8(at + READING.head + HEAD_AT.file + k));
-    const [kind, part, parts] = ["kind", "part", "parts"].map((name) => number(READING.head + HEAD_AT[name]));
+    const [kind, part, parts] = [HEAD_AT.kind, HEAD_AT.part, HEAD_AT.parts].map((at) => number(READING.head + at));
     return {
       items: list(READING.item_count, (k) => number(READING.items + 2 * k)),
       marks: list(READING.mark_count, (k) => markAt(READING.marks + k * MARK_AT.size)),

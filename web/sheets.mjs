@@ -1,4 +1,5 @@
 // Pages of symbols with their texts, drawn: as SVG, on the screen, on paper and in files, and as PNG.
+import { there } from "./common.mjs";
 import { pathOf } from "./captions.mjs";
 import { made, numberIn, shape } from "./dom.mjs";
 import { QUIET, runs, viewBox, withQuiet } from "./symbol.mjs";
@@ -7,17 +8,20 @@ import { crcOf } from "./zip.mjs";
 /** @typedef {import("./common.mjs").Grid} Grid */
 /** @typedef {import("./pdf.mjs").Page} Page */
 /** @typedef {import("./pdf.mjs").Placed} Placed */
+/** @type {(length: number) => string} */
 const rounded = (length) => String(+length.toFixed(3));
 /** @type {(placed: Placed) => { width: number, height: number }} */
 const sizeOf = ({ grid, module }) => {
   const { rows, columns } = withQuiet(grid);
   return { width: columns * module, height: rows * module };
 };
+/** @type {(grid: Grid) => string} */
 const symbolPath = (grid) => runs(grid, (k) => grid.modules[k]);
 // A symbol at its size, with its quiet zone.
 /** @type {(grid: Grid, module: number, place?: { x?: string, y?: string }) => SVGElement} */
 export function symbolDrawn(grid, module, place = {}) {
-  const { rows, columns } = withQuiet(grid), size = (modules) => `${+(modules * module).toFixed(2)}mm`;
+  const { rows, columns } = withQuiet(grid);
+  const size = (/** @type {number} */ modules) => `${+(modules * module).toFixed(2)}mm`;
   const all = { width: size(columns), height: size(rows), viewBox: viewBox(grid), "shape-rendering": "crispEdges" };
   return shape("svg", { ...place, ...all },
     shape("path", { fill: "#fff", d: `M${-QUIET} ${-QUIET}h${columns}v${rows}h${-columns}z` }),
@@ -28,7 +32,7 @@ export function symbolDrawn(grid, module, place = {}) {
 function placedDrawn(placed) {
   const { grid, x, y, module, caption, width, below } = placed, own = sizeOf(placed);
   const symbol = symbolDrawn(grid, module, { x: rounded(x), y: rounded(y) });
-  for (const name of ["width", "height"]) symbol.setAttribute(name, rounded(own[name]));
+  for (const [name, length] of Object.entries(own)) symbol.setAttribute(name, rounded(length));
   if (!caption.lines.length) return [symbol];
   const at = [x + (own.width - width) / 2, y + own.height + below].map(rounded).join(" ");
   const title = shape("title", {}, caption.lines.join("\n"));
@@ -81,9 +85,10 @@ function drawPlaced(pen, placed, each) {
 }
 /** @type {(page: Page) => Promise<Uint8Array>} */
 export async function pngOf({ width, height, placed }) {
-  const { module } = placed[0], each = pixelsOf(module), pixels = (length) => Math.round((length * each) / module);
+  const { module } = placed[0], each = pixelsOf(module);
+  const pixels = (/** @type {number} */ length) => Math.round((length * each) / module);
   /** @type {HTMLCanvasElement} */
-  const canvas = made("canvas", { width: pixels(width), height: pixels(height) }), pen = canvas.getContext("2d");
+  const canvas = made("canvas", { width: pixels(width), height: pixels(height) }), pen = there(canvas.getContext("2d"));
   pen.fillStyle = "#fff"; pen.fillRect(0, 0, canvas.width, canvas.height); pen.fillStyle = "#000";
   for (const one of placed) drawPlaced(pen, one, each);
   const blob = await new Promise((then) => canvas.toBlob(then, "image/png"));

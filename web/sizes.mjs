@@ -16,6 +16,7 @@ export function listSizes(list) {
     ["Rectangles", ({ rows, columns, isExtension }) => rows !== columns && !isExtension],
     ["Rectangles of the extension", ({ isExtension }) => isExtension]];
   for (const size of list) sizes.set(shapeName(size), size);
+  /** @type {(size: import("./common.mjs").Shape) => HTMLOptionElement} */
   const option = (size) => made("option", { value: shapeName(size), textContent: shapeWords(size) });
   $("size").replaceChildren(...groups.map(([label, isIn]) =>
     made("optgroup", { label }, ...list.filter(isIn).map(option))));

@@ -1,5 +1,5 @@
 // Where the symbol comes from: a message, a grid, or a link.
-import { ASCII, MOST_TEXT, SHORTER, SMALLEST, TOO_LONG, isSameShape, plural, shapeWords } from "./common.mjs";
+import { ASCII, MOST_TEXT, SHORTER, SMALLEST, TOO_LONG, isSameShape, plural, shapeWords, there } from "./common.mjs";
 import { $, allOf, field, hint, made, withCode } from "./dom.mjs";
 import { C40, EDIFACT, TURNED } from "./examples.mjs";
 import { begin, desks, setLimit, showTask, take, whenShown } from "./flow.mjs";
@@ -18,14 +18,14 @@ import { refusal, stood, tooLong } from "./words.mjs";
 const FORMS = [SMALLEST, ASCII, SHORTER];
 // The form that is chosen.
 /** @type {() => number} */
-export const formNow = () => FORMS.find((form) => field(`profile-${form}`).checked);
+export const formNow = () => there(FORMS.find((form) => field(`profile-${form}`).checked));
 // What a text that is entered as a message stands for, as it is to be taken.
 /** @type {(text: string) => import("./messages.mjs").Taken} */
 export const takenNow = (text) => KINDS[kindNow()](text);
 // How what is entered can be taken, by the names of index.html and of links.
 /** @type {Record<string, (text: string) => import("./messages.mjs").Taken>} */
 const KINDS = { typed: takenAsTyped, text: takenAsText, message: takenAsSpelled };
-export const kindNow = () => Object.keys(KINDS).find((kind) => field(`kind-${kind}`).checked);
+export const kindNow = () => there(Object.keys(KINDS).find((kind) => field(`kind-${kind}`).checked));
 const STILL = "The symbol that is shown is the one before, and isn’t read.";
 
 // ---- The message
@@ -35,6 +35,7 @@ function fitHeight(area) {
   area.style.height = "auto";
   area.style.height = `${Math.min(200, area.value.length > MOST_TEXT ? 200 : area.scrollHeight + 2)}px`;
 }
+/** @type {(words: string, act: () => void) => void} */
 function offerOne(words, act) {
   const button = made("button", { textContent: words });
   button.addEventListener("click", () => { act(); $("message").focus(); writeMessage(); });
@@ -57,7 +58,10 @@ function refuseMessage(words, ways = [], mayBeText = ways.length > 0) {
 }
 /** @type {(shapes: (import("./common.mjs").Shape | null)[]) => void} */
 function showShapes(shapes) {
-  for (const form of FORMS) $(`side-${form}`).textContent = shapes[form] ? shapeWords(shapes[form]) : "doesn’t fit";
+  for (const form of FORMS) {
+    const shape = shapes[form];
+    $(`side-${form}`).textContent = shape ? shapeWords(shape) : "doesn’t fit";
+  }
   const own = shapes[formNow()], plain = shapes[ASCII], isSaving = own && plain && !isSameShape(own, plain);
   const saved = isSaving ? ` in place of ${shapeWords(plain)}` : "";
   $("side-now").textContent = `${$(`side-${formNow()}`).textContent}${saved}`;
@@ -163,7 +167,7 @@ export function readWritten() {
   enter(read, async () => {
     await settled(write);
     if (write.stage !== VALID) return { why: "There is no written symbol: the message can’t be taken." };
-    const text = gridText(write.seen);
+    const text = gridText(there(write.seen));
     return { ...await desks.quick.ask("grid", text, "written"), text };
   }, (symbol) => {
     field("grid").value = symbol.text ?? "";
@@ -178,10 +182,10 @@ export function readWritten() {
 function spoil(it, turned, doubtful, { limit, why }) {
   if (!turned.length && !doubtful.length && limit === null && !why) return;
   if (turned.length || doubtful.length) begin(it);
-  it.modules = it.modules.slice();
-  for (const place of turned) it.modules[place] ^= 1;
-  if (doubtful.length) it.doubtful = new Uint8Array(it.modules.length);
-  for (const place of doubtful) it.doubtful[place] = 1;
+  const modules = it.modules = there(it.modules).slice(), marks = new Uint8Array(modules.length);
+  for (const place of turned) modules[place] ^= 1;
+  for (const place of doubtful) marks[place] = 1;
+  if (doubtful.length) it.doubtful = marks;
   setLimit(it, limit, why);
 }
 // What an address without a fragment holds.
@@ -202,7 +206,7 @@ export async function restore(linked, isFirst) {
   chooseParts(held.parts, held.part);
   field("grid").value = held.grid ? gridText(held.grid) : "";
   readGrid();
-  const count = (it) => it.modules.length;
+  const count = (/** @type {Mark} */ it) => there(it.modules).length;
   inTurn(read, (it) => spoil(it, held.gridDamage(count(it)), held.gridDoubtful(count(it)), held.gridLimit));
   showTask(held.task, held.pane);
   writeMessage();

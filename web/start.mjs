@@ -1,4 +1,5 @@
 // What is shown first, where nothing is linked or kept: what one may want to do. And an example of what can be read.
+import { there } from "./common.mjs";
 import { $, folded, made } from "./dom.mjs";
 import { C40, EDIFACT } from "./examples.mjs";
 import { whenShown } from "./flow.mjs";
@@ -18,7 +19,7 @@ function hideStart() {
 /** @type {() => Promise<File>} */
 async function examplePicture() {
   /** @type {HTMLCanvasElement} */
-  const canvas = made("canvas", { width: 900, height: 560 }), pen = canvas.getContext("2d"), each = 8;
+  const canvas = made("canvas", { width: 900, height: 560 }), pen = there(canvas.getContext("2d")), each = 8;
   pen.fillStyle = "#8d8578"; pen.fillRect(0, 0, 900, 560);
   pen.setTransform(0.985, 0.174, -0.174, 0.985, 130, 10);
   pen.fillStyle = "#f4f2ec"; pen.fillRect(0, 0, 700, 420);

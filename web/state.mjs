@@ -1,6 +1,6 @@
 // What the page has at hand: the task that is open, and for messages and for what is read a symbol each, with its
 // damage and what is read of it.
-import { BIT, isSame, isSameShape, shapeName } from "./common.mjs";
+import { BIT, isSame, isSameShape, shapeName, there } from "./common.mjs";
 
 /** @typedef {import("./common.mjs").Shape} Shape */
 /** @typedef {import("./common.mjs").Grid} Grid */
@@ -73,12 +73,12 @@ export class Mark {
   }
   // What an act changes, as it is now, and as it was.
   /** @type {() => Step} */
-  step() { return { modules: this.modules, doubtful: this.doubtful }; }
+  step() { return { modules: there(this.modules), doubtful: this.doubtful }; }
   /** @type {(step: Step) => void} */
   goTo({ modules, doubtful }) { [this.modules, this.doubtful] = [modules, doubtful]; }
   // The symbol as it was written or opened.
   /** @type {() => Grid} */
-  undamaged() { return { modules: this.original, rows: this.rows, columns: this.columns }; }
+  undamaged() { return { modules: there(this.original), rows: this.rows, columns: this.columns }; }
 }
 
 // The three tasks. What is read and what is made have a symbol each, and what is learnt is about one of these.
@@ -107,16 +107,17 @@ export function keepMap(shape, { kind, word, bit }) {
   maps.set(name, { kind, word, bit, modules });
 }
 /** @type {(shape: Shape) => import("./library.mjs").Places} */
-export const mapOf = (shape) => maps.get(shapeName(shape));
+export const mapOf = (shape) => there(maps.get(shapeName(shape)));
 
 /** @type {(it: { modules: Uint8Array | null, original: Uint8Array | null }) => boolean} */
 export const isDamaged = ({ modules, original }) =>
-  Boolean(modules) && modules.some((module, k) => module !== original[k]);
+  modules !== null && original !== null && !isSame(modules, original);
 // Whether there is something to be undone: damage, or doubtful modules.
 /** @type {(it: Mark) => boolean} */
 export const isChanged = (it) => isDamaged(it) || !isSame(it.doubtful ?? NO_DOUBT, it.doubted ?? NO_DOUBT);
 const NO_DOUBT = new Uint8Array(0);
 /** @type {(it: Mark) => number[]} */
 export const doubtsOf = ({ doubtful }) => (doubtful ? [...doubtful.keys()].filter((k) => doubtful[k]) : []);
-/** @type {(it: { modules: Uint8Array, original: Uint8Array }) => number[]} */
-export const damageOf = ({ modules, original }) => [...modules.keys()].filter((k) => modules[k] !== original[k]);
+/** @type {(it: { modules: Uint8Array | null, original: Uint8Array | null }) => number[]} */
+export const damageOf = ({ modules, original }) =>
+  (modules && original ? [...modules.keys()].filter((k) => modules[k] !== original[k]) : []);

@@ -2,6 +2,7 @@
 // So it is bounded before how much there is to draw, also by elements that are used many times, what takes long
 // whatever its size is refused by name, and it is drawn small first, to see how long it takes. What is drawn is what
 // was counted, written anew, whatever encoding or styles the file declares beside it.
+import { there } from "./common.mjs";
 
 const MOST_OF_SVG = 4e6;
 const MOST_DRAWN = 60000; // elements; some count as many
@@ -15,7 +16,9 @@ const LAYER = /opacity|mask|clip-path|blend|filter|dasharray/;
 const STYLES = /url\(|@import|opacity|mask|blend|filter|dasharray/;
 const INSTEAD = "Save it as PNG, and open that.";
 
+/** @type {(attribute: Attr) => boolean} */
 const isReference = ({ localName, value }) => localName === "href" && value.startsWith("#");
+/** @type {(element: Element) => string[]} */
 function referencesOf(element) {
   return [...element.attributes].flatMap((attribute) => (isReference(attribute) ? [attribute.value.slice(1)]
     : [...attribute.value.matchAll(/url\(\s*["']?#([^"')]+)["']?\s*\)/g)].map(([, name]) => name)));
@@ -24,7 +27,7 @@ function referencesOf(element) {
 function ownCost(element) {
   let cost = 1;
   for (const { nodeType, nodeValue } of element.childNodes)
-    if (nodeType === Node.TEXT_NODE || nodeType === Node.CDATA_SECTION_NODE) cost += nodeValue.trim().length;
+    if (nodeType === Node.TEXT_NODE || nodeType === Node.CDATA_SECTION_NODE) cost += (nodeValue ?? "").trim().length;
   for (const { localName, value } of element.attributes) {
     cost += value.length / PER_ELEMENT;
     if (LAYER.test(localName === "style" ? value : localName)) cost += COSTLY;
@@ -35,11 +38,12 @@ function ownCost(element) {
 // often as it does.
 /** @type {(element: Element, named: Map<string, Element>, known: Map<Element, number>) => number} */
 function costOf(element, named, known) {
-  if (known.has(element)) return known.get(element);
+  const before = known.get(element);
+  if (before !== undefined) return before;
   known.set(element, Infinity); // if it comes back to itself
   let cost = ownCost(element);
   for (const child of element.children) cost += costOf(child, named, known);
-  for (const name of referencesOf(element)) if (named.has(name)) cost += costOf(named.get(name), named, known);
+  for (const name of referencesOf(element)) cost += named.has(name) ? costOf(there(named.get(name)), named, known) : 0;
   known.set(element, cost);
   return cost;
 }
@@ -50,7 +54,8 @@ function whyNotDrawn(drawing) {
   if (drawing.querySelector("parsererror")) return "The file can’t be opened as a picture.";
   const refused = all.find(({ localName }) => REFUSED.test(localName));
   if (refused) return `The drawing has an element ‘${refused.localName}’, which isn’t drawn here. ${INSTEAD}`;
-  const isOdd = ({ localName, textContent }) => localName === "style" && STYLES.test(textContent);
+  /** @type {(it: Element) => boolean} */
+  const isOdd = ({ localName, textContent }) => localName === "style" && STYLES.test(textContent ?? "");
   if (all.some(isOdd)) return `The drawing has styles that aren’t drawn here. ${INSTEAD}`;
   /** @type {Map<string, Element>} of two elements with one name the first is used */
   const named = new Map();
@@ -61,8 +66,10 @@ function whyNotDrawn(drawing) {
   return cost > MOST_DRAWN ? `The drawing has more than ${most} elements, as often as they are used.` : "";
 }
 
+/** @type {(image: HTMLImageElement) => [number, number]} */
 const sizeOf = ({ naturalWidth, naturalHeight }) => [naturalWidth || 1000, naturalHeight || 1000];
 // The image with so many pixels on its longer side, once it is drawn.
+/** @type {(image: HTMLImageElement, length: number) => any} */
 function drawnAt(image, length) {
   const size = sizeOf(image), scale = length / Math.max(...size);
   const canvas = new OffscreenCanvas(...size.map((pixels) => Math.max(1, Math.round(pixels * scale))));
@@ -73,6 +80,7 @@ function drawnAt(image, length) {
 }
 // The image as large as it is, within bounds, or as can be drawn in time: each length takes four times as long as half
 // of it. Null if that is too small.
+/** @type {(image: HTMLImageElement) => any} */
 function drawnInTime(image) {
   const wanted = Math.min(Math.max(...sizeOf(image), LENGTHS[0]), LENGTHS[1]);
   for (let length = FIRST_LENGTH; ; length = Math.min(2 * length, wanted)) {

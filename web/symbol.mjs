@@ -1,5 +1,5 @@
 // Drawing a symbol: its modules, their states, what was turned over, and what is pointed at.
-import { BIT, BORDER_DARK, BORDER_LIGHT } from "./common.mjs";
+import { BIT, BORDER_DARK, BORDER_LIGHT, there } from "./common.mjs";
 import { $, made, shape } from "./dom.mjs";
 import { mapOf, mark } from "./state.mjs";
 
@@ -20,9 +20,13 @@ export function viewBox(shape) {
   const { rows, columns } = withQuiet(shape);
   return `${-QUIET} ${-QUIET} ${columns} ${rows}`;
 }
+/** @type {(x: number, y: number) => string} */
 const crossAt = (x, y) => `M${x + 0.28} ${y + 0.28}l.44 .44m0-.44l-.44 .44`;
+/** @type {(x: number, y: number) => string} */
 const frameAt = (x, y) => `M${x + 0.1} ${y + 0.1}h.8v.8h-.8z`;
+/** @type {(x: number, y: number) => string} */
 const dotAt = (x, y) => `M${x + 0.5} ${y + 0.5}h.001`;
+/** @type {(x: number, y: number) => string} */
 const ringAt = (x, y) => `M${x + 0.2} ${y + 0.5}a.3 .3 0 1 0 .6 0a.3 .3 0 1 0 -.6 0`;
 
 // The runs of wanted modules along the rows: their row, column and length.
@@ -79,6 +83,7 @@ const MARKS = {
   turned: { at: crossAt, width: 0.13 }, wrong: { at: dotAt, width: 0.3 }, framed: { at: frameAt, width: 0.08 },
   doubtful: { at: ringAt, width: 0.1 },
 };
+/** @type {(what: string, d: string, ink: string, more?: object) => SVGElement} */
 const stroked = (what, d, ink, more = {}) => shape("path", { d, stroke: ink, "stroke-width": MARKS[what].width,
   "stroke-linecap": "round", "shape-rendering": "auto", ...more });
 
@@ -86,16 +91,17 @@ const stroked = (what, d, ink, more = {}) => shape("path", { d, stroke: ink, "st
 // frame around the bit's number. A ring marks one that is doubtful. Which of them there are, and their drawing.
 /** @type {(it: import("./state.mjs").Mark, colours: Uint8Array) => SVGElement[]} */
 function marksDrawn(it, colours) {
-  const { seen, original } = it, { modules, columns, doubtful } = seen;
+  const seen = there(it.seen), original = there(it.original), { modules, columns, doubtful } = seen;
   /** @type {Record<string, [string, string]>} */
   const paths = { turned: ["", ""], wrong: ["", ""], framed: ["", ""], doubtful: ["", ""] };
+  /** @type {(what: string, k: number) => void} */
   const add = (what, k) => { paths[what][modules[k]] += MARKS[what].at(k % columns, Math.floor(k / columns)); };
   for (let k = 0; k < modules.length; k++) {
     const isTurned = modules[k] !== original[k];
     if (doubtful?.[k]) add("doubtful", k);
     if (isTurned || isWrong(seen, modules, k)) add(colours[k] === 3 ? "framed" : isTurned ? "turned" : "wrong", k);
   }
-  const drawn = (what, d, dark) =>
+  const drawn = (/** @type {string} */ what, /** @type {string} */ d, /** @type {number} */ dark) =>
     stroked(what, d, INKS[dark], { class: what, fill: "none", "pointer-events": "none" });
   return Object.entries(paths).flatMap(([what, both]) => both.flatMap((d, dark) => (d ? [drawn(what, d, dark)] : [])));
 }
@@ -153,10 +159,14 @@ export function drawSymbol() {
 const LEGEND = [["turned over", "turned", 0], ["corrected, or border of the wrong colour", 1, 1],
   ["beyond correction", 2, 2], ["pointed at", 3, 3], ["wrong from the start", "wrong", 0],
   ["doubtful, as the reader is told", "doubtful", 0]];
+/** @type {(what: string | number, kind: number) => SVGElement} */
 function swatch(what, kind) {
-  const square = (x, fill) => shape("path", { fill, d: `M${x} 0h1v1H${x}z` }), [light, dark] = COLOURS[kind];
+  /** @type {(x: number, fill: string) => SVGElement} */
+  const square = (x, fill) => shape("path", { fill, d: `M${x} 0h1v1H${x}z` });
+  const [light, dark] = COLOURS[kind];
   const squares = [square(0, light), ...(kind === 2 ? [square(0, HATCHED)] : []), square(1, dark)];
-  const marks = MARKS[what] ? [0, 1].map((x) => stroked(what, MARKS[what].at(x, 0), INKS[x], { fill: "none" })) : [];
+  const own = String(what), is = MARKS[own];
+  const marks = is ? [0, 1].map((x) => stroked(own, is.at(x, 0), INKS[x], { fill: "none" })) : [];
   return shape("svg", { viewBox: "0 0 2 1", "shape-rendering": "crispEdges", "aria-hidden": "true" },
     ...squares, ...marks);
 }

@@ -1,5 +1,5 @@
 // Taking a symbol away: copied, or saved as SVG or PNG. By default it is the undamaged one. And what it says.
-import { plural, shapeName } from "./common.mjs";
+import { plural, shapeName, there } from "./common.mjs";
 import { $, field, hint, lengthIn, made } from "./dom.mjs";
 import { gridText } from "./grids.mjs";
 import { wrongGs1 } from "./elements.mjs";
@@ -17,7 +17,7 @@ import { VALID, isDamaged, mark } from "./state.mjs";
 /** @typedef {import("./common.mjs").Shape} Shape */
 /** @typedef {import("./letters.mjs").Letter} Letter */
 /** @typedef {{ grid: Grid, isDamagedOne: boolean, letter: Letter | null }} Given */
-let toasted = null; // the timer that ends it
+let toasted = 0; // the timer that ends it
 /** @type {(text: string) => void} */
 export function toast(text) {
   $("toast").textContent = text;
@@ -28,14 +28,14 @@ export function toast(text) {
 
 // What is read of a symbol, or null.
 /** @type {(seen: import("./examine.mjs").Seen) => Letter | null} */
-export const letterRead = ({ answer: { items, marks, head } }) => (items ? { items, marks, head } : null);
+export const letterRead = ({ answer: { items, marks = [], head = null } }) => (items ? { items, marks, head } : null);
 // What is given: the symbol, and how it is called.
 const isDamagedChosen = () => !$("which").hidden && field("which-damaged").checked;
 /** @type {(it?: import("./state.mjs").Mark, isChosen?: boolean) => Given} */
 export function given(it = mark(), isChosen = isDamagedChosen()) {
   const isDamagedOne = isChosen && isDamaged(it);
-  const { modules, rows, columns } = it, grid = isDamagedOne ? { modules, rows, columns } : it.undamaged();
-  return { grid, isDamagedOne, letter: it.letter ?? letterRead(it.seen) };
+  const { rows, columns } = it, grid = isDamagedOne ? { modules: there(it.modules), rows, columns } : it.undamaged();
+  return { grid, isDamagedOne, letter: it.letter ?? letterRead(there(it.seen)) };
 }
 // Gives the symbol that is entered now, once there is an answer about it.
 /** @type {(give: (what: Given) => any) => () => Promise<void>} */
@@ -50,10 +50,12 @@ export function partInName(letter) {
   const part = letter && partOf(letter);
   return part ? `-${part.part}-of-${part.parts}` : "";
 }
+/** @type {(what: Given, ending: string) => string} */
 const nameOf = ({ grid, isDamagedOne, letter }, ending) =>
   `symbol-${shapeName(grid)}${partInName(letter)}${isDamagedOne ? "-damaged" : ""}.${ending}`;
 
 // Whether a text went to the clipboard.
+/** @type {(text: string) => Promise<boolean>} */
 async function isCopied(text) {
   try {
     await navigator.clipboard.writeText(text);
@@ -71,13 +73,14 @@ const NOT_COPIED = "This browser doesn’t let the page copy. Save the symbol in
 export async function copyText(text, done) {
   toast(await isCopied(text) ? done : "This browser doesn’t let the page copy. Select the message instead.");
 }
+/** @type {(what: Given) => Promise<void>} */
 async function copySymbol({ grid, isDamagedOne }) {
   const isDone = await isCopied(gridText(grid));
   toast(isDone ? `Copied: ${isDamagedOne ? "the damaged symbol" : "the symbol"}, a line for each row` : NOT_COPIED);
 }
 // The message as a person would type it, if it is text; else as it is spelled.
 async function copyMessage() {
-  const letter = letterRead(mark().seen);
+  const letter = letterRead(there(mark().seen));
   if (letter) await copyText(typed(letter), "Copied: the message");
 }
 const LONG = 8000; // characters of a link that some programs don't take whole
@@ -88,6 +91,7 @@ async function copyLink() {
   const size = link.length > LONG ? `. It has ${count} characters, which not every program takes.` : "";
   toast(isDone ? `Copied: a link that holds what is entered${size}` : LINK_NOT_COPIED);
 }
+/** @type {(blob: Blob, name: string) => void} */
 export function save(blob, name) {
   const link = made("a", { href: URL.createObjectURL(blob), download: name });
   link.click();
@@ -99,11 +103,12 @@ export function save(blob, name) {
 const LEAST = 0.05, MOST = 20, USUAL_WIDTH = 0.5; // millimetres of a module
 const millimetresEntered = () => lengthIn("millimetres", LEAST, MOST);
 export const millimetres = () => millimetresEntered() ?? USUAL_WIDTH;
+/** @type {(value: number) => string} */
 const rounded = (value) => String(+value.toFixed(2));
 // The millimetres of a symbol of this shape, with its quiet zone.
 /** @type {(shape: Shape) => { width: number, height: number }} */
 export function sizeNow(of) {
-  const length = (modules) => +rounded((modules + 2 * quietNow()) * millimetres());
+  const length = (/** @type {number} */ modules) => +rounded((modules + 2 * quietNow()) * millimetres());
   return { width: length(of.columns), height: length(of.rows) };
 }
 export function drawPrintSize() {
@@ -126,10 +131,12 @@ export function drawPrintSize() {
 /** @type {(letter: Letter | null) => string} */
 const textNow = (letter) => (field("text-below").checked && letter ? readable(letter) : "");
 // A symbol is saved alone, as large as it is; and where it is wrong GS1 data, that is said.
+/** @type {(ending: string, type: string, bodyOf: (page: import("./pdf.mjs").Page, what: Given) => any) =>
+    (what: Given) => Promise<void>} */
 const saving = (ending, type, bodyOf) => async (what) => {
   const { page, why } = pageOf({ grid: what.grid, text: textNow(what.letter), number: 1 }, millimetres());
   const name = nameOf(what, ending);
-  if (why) { toast(why); return; }
+  if (!page) { toast(why ?? ""); return; }
   save(new Blob([await bodyOf(page, what)], { type }), name);
   const wrong = wrongGs1(what.letter);
   if (wrong) toast(`${name} is saved. ${wrong}`);

@@ -1,8 +1,9 @@
 // Refusals and corrections in words.
 import {
-  ANY, BLOCK_FAULT, BORDER_FAULT, EXTENDED, MOST_LIMIT, ONE, RECTANGLE, TOO_LONG, plural, shapeWords,
+  ANY, BLOCK_FAULT, BORDER_FAULT, EXTENDED, MOST_LIMIT, ONE, RECTANGLE, TOO_LONG, plural, shapeWords, there,
 } from "./common.mjs";
 
+/** @type {Record<number, string>} */
 const MISPLACED = { 233: "structured append", 234: "reader programming", 236: "macro 05", 237: "macro 06" };
 
 /** @typedef {import("./examine.mjs").Seen} Seen */
@@ -39,9 +40,9 @@ export function refusal({ code, value, place }, seen = undefined) {
     case BORDER_FAULT: {
       const count = plural(value, "module", "modules"), have = value === 1 ? "has" : "have";
       const wrong = `${count} of the border ${have} the wrong colour`;
-      return `${wrong}, and ${seen.limit} may. The message may still be readable: accept more under “Details”.`;
+      return `${wrong}, and ${seen?.limit} may. The message may still be readable: accept more under “Details”.`;
     }
-    case BLOCK_FAULT: return blockRefusal(seen, place);
+    case BLOCK_FAULT: return blockRefusal(there(seen), place);
     case 7: return `The value of ${at}, 0 or 242 to 255, is one that the standard reserves.`;
     case 8: return `Data codeword ${place} begins ${MISPLACED[value]}, which is read only as the first codeword.`;
     case 9: return `No character follows the Upper Shift that ${at}, or the pair that begins there, holds.`;
@@ -59,12 +60,14 @@ export function refusal({ code, value, place }, seen = undefined) {
     default: return `Refused: ${code} ${value} ${place}.`;
   }
 }
+/** @type {(text: string, limit?: number) => string} */
 export const noLimit = (text, limit) =>
   `${text || "This"} isn’t a whole number from 0 to ${MOST_LIMIT}: ${limit ?? "the usual limit"} is taken.`;
+/** @type {(list: number[]) => number} */
 const sumOf = (list) => list.reduce((a, b) => a + b, 0);
 // What had to be corrected or accepted, in words; empty if nothing had.
 /** @type {(answer: { corrected?: number[], erased?: number[], border?: number }) => string} */
-export function borne({ corrected, erased, border }) {
+export function borne({ corrected = [], erased = [], border = 0 }) {
   const sum = sumOf(corrected), doubtful = sumOf(erased), parts = [];
   if (sum) parts.push(`${plural(sum, "wrong codeword was", "wrong codewords were")} corrected`);
   if (doubtful) parts.push(`${plural(doubtful, "doubtful codeword was", "doubtful codewords were")} replaced`);

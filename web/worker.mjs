@@ -1,7 +1,7 @@
 // The worker: it has the library, and answers the page's questions, one at a time. A question is { number, kind, given
 // }, its answer { number, answer } or, if something went wrong, { number, failed }.
 import { readsFiles } from "./bitmap.mjs";
-import { ASCII, SHORTER, SMALLEST, SQUARE, TOO_LONG, messageOf } from "./common.mjs";
+import { ASCII, SHORTER, SMALLEST, SQUARE, TOO_LONG, messageOf, there } from "./common.mjs";
 import { Ecc200 } from "./ecc200.mjs";
 import { damaged, examine, mostThatFit, plainMap } from "./examine.mjs";
 import { found, gridFrom } from "./grids.mjs";
@@ -15,6 +15,7 @@ let lib;
 const PROFILES = [ASCII, SHORTER], ALL_FORMS = [...PROFILES, SMALLEST];
 const LARGE = 1.2e8; // bytes of the sampler's memory, which never shrinks: the worker is ended after more
 // In the smallest square.
+/** @type {(form: number) => import("./library.mjs").How} */
 const squarely = (form) => ({ form, shape: SQUARE, rows: 0, columns: 0 });
 
 // What is shown of a symbol; the map of its shape goes along.
@@ -22,19 +23,22 @@ const squarely = (form) => ({ form, shape: SQUARE, rows: 0, columns: 0 });
     import("./examine.mjs").Seen} */
 const seen = (grid, doubtful = null, limit = null) =>
   ({ ...examine(lib, grid, doubtful, limit), map: plainMap(lib.map(grid)) });
+/** @type {(symbol: any) => any} */
 const shownOf = (symbol) =>
   (symbol.modules ? { ...symbol, seen: seen(symbol, symbol.doubtful ?? null, symbol.limit ?? null) } : symbol);
 
 // A symbol with its normal grids under both profiles, where it has them.
+/** @type {(symbol: any) => any} */
 function judged(symbol) {
   if (!symbol.modules) return symbol;
   const shown = shownOf(symbol), { limit, answer } = shown.seen;
-  const under = (profile) => {
+  const under = (/** @type {number} */ profile) => {
     const normal = lib.normal(symbol, limit, profile, symbol.doubtful ?? null);
     return normal.fault ? null : normal;
   };
   return { ...shown, normals: answer.fault ? PROFILES.map(() => null) : PROFILES.map(under) };
 }
+/** @type {(text: string) => any} */
 const gridGiven = (text) => {
   const { why, grid } = gridFrom(text, lib);
   return grid ? found(lib, grid) : { why };
@@ -44,14 +48,17 @@ const gridGiven = (text) => {
 const sightsShown = (sights, most) => sights && { ...sights, unread: sights.unread.map(shownOf),
   symbols: sights.symbols.map((symbol, k) => (k < most ? shownOf(symbol) : symbol)),
   isLarge: ecc200.sampler.size > LARGE };
+/** @type {(given: any) => Promise<any>} */
 const picture = async (given) =>
-  sightsShown(await firstInPicture(ecc200, given, (progress) => postMessage({ progress })), 1);
+  sightsShown(await firstInPicture(ecc200, given, (/** @type {string} */ progress) => postMessage({ progress })), 1);
 // The first symbol of them, or the grid that the picture is, or why there is none.
+/** @type {(sights: import("./pictures.mjs").Sights) => any} */
 const oneOf = ({ symbols, unread, why }) => {
   const { fault, ...symbol } = symbols[0] ?? unread.find(({ isExact }) => isExact) ?? { why };
   return symbol;
 };
 
+/** @type {Record<string, (given: any) => any>} */
 const ANSWERS = {
   async load({ library, sampler }) {
     ecc200 = await Ecc200.load(library, sampler);
@@ -62,11 +69,12 @@ const ANSWERS = {
   // has in each form; or of the first of them that no size holds why, and how many items would fit.
   write({ ways, at = 0, how, hasLook = true }) {
     const { way, symbols } = lib.writeSmallest(ways, how), bad = symbols.findIndex(({ fault }) => fault);
-    const shown = bad < 0 ? at : bad, inForm = (form) => lib.writeSmallest(ways, { ...how, form }).symbols[shown];
+    const shown = bad < 0 ? at : bad;
+    const inForm = (/** @type {number} */ form) => lib.writeSmallest(ways, { ...how, form }).symbols[shown];
     const shapes = ALL_FORMS.map(inForm).map(({ fault, rows, columns }) => (fault ? null : { rows, columns }));
     if (bad < 0)
       return { ...symbols[at], way, shapes, seen: hasLook ? seen(/** @type {Grid} */ (symbols[at])) : null };
-    const { fault } = symbols[bad], isTooLong = fault.code === TOO_LONG;
+    const fault = there(symbols[bad].fault), isTooLong = fault.code === TOO_LONG;
     return { fault, way, at: bad, shapes, fits: isTooLong ? mostThatFit(lib, ways[way][bad], how) : null };
   },
   look: ({ grid, doubtful, limit }) => seen(grid, doubtful, limit),
@@ -92,8 +100,10 @@ const ANSWERS = {
   },
   // Of many lines, each with the ways to write it, the way that is taken, and its symbols, or null for one that fits no
   // size.
-  sheet: ({ lines, how }) => lines.map((ways) => lib.writeSmallest(ways, how))
-    .map(({ way, symbols }) => ({ way, symbols: symbols.map((symbol) => (symbol.fault ? null : symbol)) })),
+  sheet: ({ lines, how }) => lines.map((/** @type {import("./letters.mjs").Letter[][]} */ ways) => {
+    const { way, symbols } = lib.writeSmallest(ways, how);
+    return { way, symbols: symbols.map((symbol) => (symbol.fault ? null : symbol)) };
+  }),
 };
 
 addEventListener("message", async ({ data: { number, kind, given } }) => {

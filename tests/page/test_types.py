@@ -1,5 +1,6 @@
-"""The page's modules have the types that their comments say, as TypeScript's checker sees them: what is called is
-there, and is given what it takes. ESLint isn't asked: what it would say of unused names, this does too."""
+"""The page's modules have the types that their comments say, as TypeScript's checker sees them, which is strict: each
+value has a type, what may be missing is looked at first, and what is called is there and is given what it takes. ESLint
+isn't asked: what it would say of unused names, this does too."""
 import pathlib
 import shutil
 
@@ -16,6 +17,8 @@ WRONG = [
     ("paper.mjs", 'PAPERS[field("paper-size").value]', 'PAPERS[$("paper-size").value]'),
     ("desk.mjs", "failed: messageOf(why) }", "failed: why.message }"),
     ("pixels.mjs", "gridIn(dark, width, frame)", "gridIn(grey, frame, width)"),
+    ("state.mjs", "return { modules: there(this.modules),", "return { modules: this.modules,"),
+    ("pdf.mjs", "/** @type {(value: number) => string} */\n", ""),
 ]
 
 
@@ -47,5 +50,5 @@ class Types(Case):
     def test_what_is_wrong_is_told(self):
         status, lines = said(self.copy(WRONG))
         self.assertNotEqual(status, 0)
-        for name, _, new in WRONG:
-            self.row(f"{new} in {name}", f"web/{name}(" in lines, True)
+        for name, old, new in WRONG:
+            self.row(f"{new} for {old} in {name}", f"web/{name}(" in lines, True)
