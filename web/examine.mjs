@@ -1,6 +1,6 @@
 // Everything that is shown about modules, and damage to them; all by the library.
-import { BEYOND, BIT, MOST_ITEMS, blockOf, there } from "./common.mjs";
 import { meanings } from "./codewords.mjs";
+import { BEYOND, BIT, MOST_ITEMS, blockOf, there } from "./common.mjs";
 
 /** @typedef {import("./common.mjs").Grid} Grid */
 /** @typedef {import("./library.mjs").Library} Library */

@@ -1,6 +1,6 @@
 // Labels of stock sizes, of which sheets of A4 have rows and columns; where each symbol stands on them.
-import { there } from "./common.mjs";
 import { captionOf } from "./captions.mjs";
+import { there } from "./common.mjs";
 import { field, lengthIn, numberIn } from "./dom.mjs";
 import { paperNow, tooWide } from "./paper.mjs";
 import { QUIET, withQuiet } from "./symbol.mjs";

@@ -20,6 +20,8 @@ import { stood } from "./words.mjs";
 const LIKEST = " What looks most like one is outlined, and listed with the reason.";
 const REMEDY = "Take it from nearer, straight from above, sharp and without glare; or enter its grid as text.";
 const LONGER = { time: 30000, most: 400 }; // milliseconds, and symbols, if a picture is looked at longer
+/** @type {{ time?: number }} milliseconds for a picture, if not the usual ones: none by the clock where infinite */
+export const limits = {};
 
 /** @type {(file: Blob) => boolean} */
 const isSvg = (file) => file.type === "image/svg+xml";
@@ -30,7 +32,8 @@ function questionOf(file) {
 }
 /** @type {(file: Blob, lane: string, how?: { kind?: string, more?: any, tell?: any }) => Promise<any>} */
 export async function lookAt(file, lane, { kind = "picture", more = null, tell = null } = {}) {
-  const question = await questionOf(file), { why, bitmap } = question, given = more ? more(question) : question;
+  const question = { ...limits, ...await questionOf(file) }, { why, bitmap } = question;
+  const given = more ? more(question) : question;
   return why ? { why } : desks.pictures.ask(kind, given, lane, { transfer: bitmap ? [bitmap] : [], tell });
 }
 // Asks what stands in a frame of the camera.

@@ -26,7 +26,7 @@ import { isLinked, linkKept, wireLink } from "./link.mjs";
 import { spelled } from "./messages.mjs";
 import { wirePreview } from "./preview.mjs";
 import { wirePrinting } from "./printing.mjs";
-import { pending, wireLooking } from "./looking.mjs";
+import { limits, pending, wireLooking } from "./looking.mjs";
 import { drawBy } from "./redraw.mjs";
 import { restore, wireSource } from "./source.mjs";
 import { wireSerial } from "./serial.mjs";
@@ -86,7 +86,8 @@ async function startPage() {
   wireCompare();
   makeInstallable();
   desks.pictures.start(); // so that it is ready for the first picture
-  const forTests = { get mark() { return mark(); }, panes, store, desks, idle, isLinked, linkKept, spelled, gridText };
+  const forTests = { get mark() { return mark(); }, panes, store, desks, limits, idle, isLinked, linkKept, spelled,
+    gridText };
   Object.defineProperty(globalThis, "mitsubadoor", { value: forTests });
 }
 /** @type {() => void} of fallback.js */

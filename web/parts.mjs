@@ -1,6 +1,6 @@
 // A message in several symbols (structured append): into how many it is taken apart, and which of them is shown.
-import { there } from "./common.mjs";
 import { markedThroughout } from "./charsets.mjs";
+import { there } from "./common.mjs";
 import { $, field, made, setUsable, whenUsed } from "./dom.mjs";
 import { takenApart } from "./letters.mjs";
 

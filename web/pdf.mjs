@@ -1,7 +1,7 @@
 // A PDF of pages in millimetres, on which symbols are drawn as rectangles of exact size, with texts below them that can
 // be searched and copied: their font has the outlines of their letters.
-import { there } from "./common.mjs";
 import { placesOf } from "./captions.mjs";
+import { there } from "./common.mjs";
 import { WIDTH, outlineOf } from "./font.mjs";
 import { QUIET, runsOf, withQuiet } from "./symbol.mjs";
 

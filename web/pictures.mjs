@@ -1,12 +1,13 @@
 // The symbols in a picture: found by the sampler, in bounded time, or taken as they are where the picture is a grid.
-import { there } from "./common.mjs";
 import { bitmapOf } from "./bitmap.mjs";
+import { there } from "./common.mjs";
 import { luminanceOf } from "./ecc200.mjs";
 import { found, hasBorder, hasShape } from "./grids.mjs";
 import { SAMPLER } from "./layouts.mjs";
 import { extent, gridsOfPixels } from "./pixels.mjs";
 import { qrCodeIn } from "./qr.mjs";
 import { unspread } from "./quality.mjs";
+import { ANY_TIME } from "./sampler.mjs";
 
 /** @typedef {import("./ecc200.mjs").Ecc200} Ecc200 */
 /** @typedef {import("./sampler.mjs").Point} Point */
@@ -134,7 +135,7 @@ const sightedBy = (lib, { scale, contrast, between: [least, most] }) => (symbol)
 /** @type {(ecc200: Ecc200, look: Look, most: number, end: number) => Sights} */
 function sampled({ library, sampler }, look, most, end) {
   const { grey, width, height, scale } = look, sighted = sightedBy(library, look);
-  const milliseconds = Math.max(1, end - performance.now());
+  const milliseconds = Math.min(ANY_TIME, Math.max(1, end - performance.now()));
   const { symbols, unread, ended, hasNoMemory } =
     sampler.find(grey, width, height, { most, mostUnread: MOST_UNREAD, milliseconds, quality: true });
   return { symbols: symbols.map(sighted), unread: unread.map(sighted),

@@ -27,7 +27,7 @@ const { sample: SAMPLE, sample_search: SEARCH, reading: READING, fault: FAULT, h
 const { READ, REFUSED, WHOLE } = SAMPLER;
 const NANOSECONDS = 1e6; // of a millisecond
 const MOST_BYTES = 2 ** 31; // of one piece of memory; more than that isn't there, and a length has 32 bits
-const ANY_TIME = 2 ** 32 - 1; // milliseconds: the search is limited by its work
+export const ANY_TIME = 2 ** 32 - 1; // milliseconds: the search is limited by its work
 /** @type {Finding} */
 const NOTHING = { symbols: [], unread: [], ended: WHOLE, hasNoMemory: true };
 

@@ -1,6 +1,6 @@
 // Pages of symbols with their texts, drawn: as SVG, on the screen, on paper and in files, and as PNG.
-import { there } from "./common.mjs";
 import { pathOf } from "./captions.mjs";
+import { there } from "./common.mjs";
 import { made, numberIn, shape } from "./dom.mjs";
 import { QUIET, runs, viewBox, withQuiet } from "./symbol.mjs";
 import { crcOf } from "./zip.mjs";

@@ -48,11 +48,23 @@ def start():
         on.page = opened()
 
 
+def have():
+    """Starts a browser where there is none, or none that answers."""
+    if on.page is None or is_lost():
+        end()
+        start()
+
+
+def lacking():
+    """Brings the page up to date; what isn't there that this or a browser needs, if something isn't."""
+    programs = needs.lacking("chromium", "chromedriver", "node", *needs.PAGE)
+    return programs or ("" if webdriver else "selenium isn't installed") or needs.made("page")
+
+
 @contextlib.contextmanager
 def ready():
     """Brings the page up to date, and starts the browser for as long as it is needed."""
-    lacking = needs.lacking("chromium", "chromedriver", "node", *needs.PAGE)
-    if problem := lacking or ("" if webdriver else "selenium isn't installed") or needs.made("page"):
+    if problem := lacking():
         sys.exit(problem)
     on.program = places.PROGRAM
     with tempfile.TemporaryDirectory(ignore_cleanup_errors=True) as folder:
@@ -74,12 +86,6 @@ def start_webkit(display):
     on.page = webdriver.Remote(service.service_url, options=webdriver.WebKitGTKOptions())
     on.page.file_detector = UselessFileDetector()  # files lie where the browser finds them
     on.page.set_script_timeout(PATIENCE)
-
-
-def start_again(part, fault):
-    print(f"the browser was lost in {part}, and is started again: {first_line(fault)}", flush=True)
-    end()
-    on.page = opened()
 
 
 def is_lost():

@@ -1,8 +1,8 @@
 """How the page conducts itself: no verdict outlives its input, nothing freezes, phones, GS1, links."""
 from tests.page.pictures import chunks, opened, png
 from tests.page.stage import (By, agree, cells, changed, click, count, find, grid, metrics, on, pointed, processor_time,
-                              push, put, run, settle, shown, text_of, unseen, usable, usual_metrics, wait_for, write,
-                              written)
+                              push, put, run, settle, shown, take_time, text_of, unseen, usable, usual_metrics,
+                              wait_for, write, written)
 
 NOTHING = ("Nothing is read", "")
 GIVING = ("copy", "save-svg", "save-png", "print")
@@ -14,6 +14,7 @@ def verdict():
 
 def started():
     wait_for(lambda: run("return 'mitsubadoor' in globalThis"))
+    take_time()
     settle()
 
 

@@ -2,7 +2,7 @@
 // node finder.mjs LIBRARY.wasm SAMPLER.wasm < QUESTIONS
 // A question is a line of JSON: { file } is a picture in PGM; { width, height, kind, seed } is one that is made here,
 // of noise, stripes, squares or one grey; `most`, `mostUnread` and `milliseconds` go to the search. Each is answered by
-// a line: what was found, how long it took, and how many bytes the memory then has; or what was thrown.
+// a line: what was found, its milliseconds of a processor, and how many bytes the memory then has; or what was thrown.
 import { readFileSync } from "node:fs";
 import { Ecc200 } from "../../web/ecc200.mjs";
 
@@ -39,10 +39,10 @@ function pictureOf({ width, height, kind, seed = 1 }) {
 const plain = ({ modules, doubtful, ...symbol }) =>
   ({ ...symbol, modules: modules.join(""), doubtful: doubtful ? doubtful.join("") : "" });
 function answered({ file, width, height, kind, seed, ...asked }) {
-  const picture = file ? pictureIn(file) : pictureOf({ width, height, kind, seed }), begun = performance.now();
+  const picture = file ? pictureIn(file) : pictureOf({ width, height, kind, seed }), begun = process.cpuUsage();
   try {
     const { symbols, unread, isComplete } = ecc200.read(picture, asked);
-    const time = performance.now() - begun, bytes = ecc200.sampler.size;
+    const { user, system } = process.cpuUsage(begun), time = (user + system) / 1000, bytes = ecc200.sampler.size;
     return { symbols: symbols.map(plain), unread: unread.map(plain), isComplete, time, bytes };
   } catch (why) { return { thrown: `${why.name}: ${why.message}` }; }
 }

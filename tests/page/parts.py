@@ -4,7 +4,7 @@ import pathlib
 from tests.page import (bounds, conduct, damage, elements, endurance, everyone, first, giving, history, installed,
                         labels, kept, letters, looks, order, paper, photographs, pictures, several, sights, sizes,
                         tasks, texts)
-from tests.page.stage import Failed, count, forget, on, run, settle, text_of, to_top, unfold, wait_for
+from tests.page.stage import Failed, count, forget, on, run, settle, take_time, text_of, to_top, unfold, wait_for
 
 # (the longest last)
 PARTS = [everyone.one_file, damage.codewords, damage.by_keys, damage.dragged, damage.touched, damage.border,
@@ -24,12 +24,14 @@ def load(file):
     if not wait_for(lambda: run("return 'mitsubadoor' in globalThis")):
         count.expect("the page starts", text_of("broken"), "")
     unfold("more-ways")  # so that all buttons can be pressed
+    take_time()
     settle()
 
 
-def fault_of(part):
-    """Runs a part, from the top of the page; why it couldn't go on, if it couldn't."""
+def fault_of(part, file):
+    """Runs a part over a page, which is loaded anew, from its top; why it couldn't go on, if it couldn't."""
     try:
+        load(file)
         to_top()
         part()
     except Failed:

@@ -1,11 +1,12 @@
 """Plants bugs in the page's modules or in what stands beside the page: with each, the test has to fail."""
+import contextlib
 import random
 import sys
 
 from tests.bugs import bugs_of
-from tests.page.browser import ready
+from tests.page import browser, crew
 from tests.page.javascript import uses
-from tests.page.parts import PARTS, fault_of, load
+from tests.page.parts import PARTS, fault_of
 from tests.page.stage import Failed, count, on
 from tests.support import places
 
@@ -13,7 +14,7 @@ sys.path.insert(0, places.path("web"))
 import pack
 
 __all__ = ["AT_ONCE", "bugs", "found_by", "ready", "sources"]
-AT_ONCE = 1
+AT_ONCE = crew.BROWSERS
 BESIDE = ("mitsubadoor.webmanifest", "offline.js")
 
 
@@ -41,17 +42,32 @@ def laid(spoilt):
 
 def try_parts(file, first):
     """Runs the parts over a page, each over one that is loaded anew, until one fails."""
+    browser.have()
     for part in sorted([*PARTS, uses], key=lambda part: part.__name__ != first):
         random.seed(1)
-        load(file)
         on.part = part.__name__
-        if fault := fault_of(part):  # a part that can't go on has failed
+        if fault := fault_of(part, file):  # a part that can't go on has failed
             count.expect(f"{part.__name__}, which broke off with {type(fault).__name__}", str(fault), "no fault")
     count.expect("console", [entry["message"] for entry in on.page.get_log("browser")], [])
 
 
+@contextlib.contextmanager
+def ready():
+    """Brings the page up to date, and has browsers at work."""
+    if problem := browser.lacking():
+        sys.exit(problem)
+    with crew.at_work() as pool:
+        on.pool = pool
+        yield
+
+
 def found_by(bug, _):
     """What fails first, of all parts, over a page with a bug."""
+    return on.pool.apply(found, (bug,))
+
+
+def found(bug):
+    """The same, in a process that leads a browser."""
     count.stops = True
     try:
         try_parts(laid(bug.planted(sources())), bug.where)

@@ -10,7 +10,8 @@ from tests.page.labels import saved
 from tests.page.photographs import CAMERA
 from tests.page.pictures import chunks, opened, png
 from tests.page.sights import LISTED, OUTLINED, beyond, scene
-from tests.page.stage import count, find, on, push, put, run, settle, shown, text_of, wait_for, write, written
+from tests.page.stage import (count, find, on, push, put, run, settle, shown, take_time, text_of, wait_for, write,
+                              written)
 from tests.page.bounds import drop
 
 ALL = "return [...document.querySelectorAll('#found-are li')].map((it) => it.textContent)"
@@ -111,7 +112,7 @@ LONGER = """
     const desk = mitsubadoor.desks.pictures, ask = desk.ask.bind(desk);
     desk.ask = (kind, given, ...more) => {
         asked.push(given?.time ?? null);
-        return ask(kind, given ? { ...given, time: 3000 } : given, ...more);
+        return ask(kind, given ? { ...given, time: Infinity } : given, ...more);
     };"""
 
 
@@ -125,6 +126,7 @@ def longer():
         drawn = b"".join(bytes([20 if module == "1" else 235]) * scale for module in f"00{row}00")
         line = lines[1300 + y]
         lines[1300 + y] = line[:1301] + drawn + line[1301 + len(drawn):]
+    take_time(1000)
     opened("noise.png", chunks(side, side, b"".join(lines)))
     count.expect_soon("more time is offered", lambda: find("look-longer").is_displayed(), True)
     run(LONGER)

@@ -218,6 +218,11 @@ def shown():
     return run(SHOWN)
 
 
+def take_time(milliseconds=None):
+    """Lets each picture take so many milliseconds by the clock; or, whatever else the machine does, the usual work."""
+    run("mitsubadoor.limits.time = arguments[0] ?? Infinity", milliseconds)
+
+
 def settle():
     """Waits until the page's workers have answered all that they were asked."""
     on.page.execute_async_script("mitsubadoor.idle().then(() => arguments[0]())")

@@ -1,18 +1,12 @@
 """The page in headless Chromium against the program: what is typed, clicked and dragged there, and what the page shows.
-A case for each part. Nothing is proved here. A browser that is lost is started again, once, and the part in which that
-happened is run once more."""
-import pathlib
-import random
-import shutil
-import tempfile
-
-from tests.page import browser
-from tests.page.parts import PARTS, fault_of, load
-from tests.page.stage import count, on
+A case for each part; the parts are shared out among some browsers. Nothing is proved here."""
+from tests.page import crew
+from tests.page.parts import PARTS
 from tests.support import needs, places
 from tests.support.case import Case
 
 PAGE = places.path("web", "out", "mitsubadoor.html")
+PATIENCE = 1800  # seconds in which a part has to end that others wait for
 
 
 @needs.program
@@ -20,39 +14,40 @@ PAGE = places.path("web", "out", "mitsubadoor.html")
 @needs.page
 @needs.programs("chromium", "chromedriver")
 class Page(Case):
-    restarts = 1
+    chosen = []  # the parts that are to be run, by their names
+
+    def __init__(self, name="runTest"):
+        super().__init__(name)
+        self.chosen.append(name.removeprefix("test_"))
 
     @classmethod
     def setUpClass(cls):
         if problem := needs.made("page"):
             raise AssertionError(problem)
-        on.program, on.folder = places.PROGRAM, pathlib.Path(tempfile.mkdtemp())
-        cls.addClassCleanup(shutil.rmtree, on.folder, ignore_errors=True)
-        cls.addClassCleanup(browser.end)
-        browser.start()
+        cls.pool, cls.told = cls.enterClassContext(crew.at_work()), {}
+        for part in PARTS:
+            if part.__name__ in cls.chosen:
+                cls.ask(part.__name__)
 
-    def run_part(self, part):
-        """Compares what a part compares in a page that is loaded anew, and fails if it can't go on."""
-        random.seed(1)
-        on.part, count.rows = part.__name__, []
-        load(PAGE)
-        fault = fault_of(part)
-        if fault and browser.is_lost() and Page.restarts:
-            Page.restarts -= 1
-            browser.start_again(part.__name__, fault)
-            load(PAGE)
-            count.rows = []
-            fault = fault_of(part)
-        count.expect("console", [entry["message"] for entry in on.page.get_log("browser")], [])
-        self.rows(count.rows)
+    @classmethod
+    def ask(cls, name):
+        """Gives what tells of a part once that has been run."""
+        if name not in cls.told:
+            cls.told[name] = cls.pool.apply_async(crew.rows_of, (name, PAGE))
+        return cls.told[name]
+
+    def run_part(self, name):
+        """Compares what a part compares, and fails if it couldn't go on."""
+        rows, fault = self.ask(name).get(PATIENCE)
+        self.rows(rows)
         if fault:
-            raise fault
+            self.fail(fault)
 
 
 def case_of(part):
     """Gives the case of a part."""
     def test(self):
-        self.run_part(part)
+        self.run_part(part.__name__)
     test.__doc__ = part.__doc__
     return test
 

@@ -14,7 +14,7 @@ MAKER = places.path("bench", "photographs")
 DEBIANS = "/usr/bin/python3"
 SHARE = 29  # of each kind every so many
 NEAR = 0.001  # pixels, by which corners may differ: libraries of C compute sines and roots a little differently
-LATE = 400  # milliseconds by which a search may end after its time, on a machine that has other things to do
+LATE = 400  # milliseconds of a processor by which a search may end after its time, with what the engine does beside it
 KINDS = ["noise", "grey", "stripes", "squares", "weave"]
 MEBIBYTE = 1 << 20
 
