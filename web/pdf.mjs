@@ -1,8 +1,9 @@
 // A PDF of pages in millimetres, on which symbols are drawn as rectangles of exact size, with texts below them that can
-// be searched and copied: their font has the outlines of their letters.
+// be searched and copied: their font has the outlines of their letters, or they stand unseen where dots are drawn.
 import { placesOf } from "./captions.mjs";
 import { there } from "./common.mjs";
-import { WIDTH, outlineOf } from "./font.mjs";
+import { WIDTH, hasLetter, outlineOf } from "./font.mjs";
+import { DOT, dotsOf } from "./scripts.mjs";
 import { QUIET, runsOf, withQuiet } from "./symbol.mjs";
 
 /** @typedef {import("./common.mjs").Grid} Grid */
@@ -70,7 +71,7 @@ function outlineDrawn(letter) {
   /** @type {(...values: number[]) => string} */
   const units = (...values) => values.map((value) => String(+(value * EM).toFixed(1))).join(" ");
   let [x, y] = [0, 0], drawn = `${units(WIDTH)} 0 -300 -400 1000 1200 d1\n`;
-  for (const { word, at } of letter === " " ? [] : outlineOf(letter)) {
+  for (const { word, at } of letter === " " || !hasLetter(letter) ? [] : outlineOf(letter)) {
     const [toX, toY] = at.slice(-2);
     if (word === "M" || word === "L") drawn += `${units(...at)} ${word.toLowerCase()}\n`;
     else if (word === "Z") drawn += "h\n";
@@ -105,9 +106,14 @@ function addFont(letters, add) {
 /** @type {(placed: Placed, height: number, letters: Letters) => string} */
 function textDrawn({ grid, x, y, module, caption, width, below: gap }, height, letters) {
   const { rows, columns } = withQuiet(grid), left = x + (columns * module - width) / 2, top = y + rows * module + gap;
-  return placesOf(caption, width).map(({ line, x: over, y: below }) =>
-    `BT ${number(left + over)} ${number(height - top - below)} Td\n${letters.shown(line, caption.size)}ET\n`).join("");
+  return placesOf(caption, width).map(({ line, x: over, y: below }) => {
+    const at = `${number(left + over)} ${number(height - top - below)}`, shown = letters.shown(line, caption.size);
+    if (!caption.isDrawn) return `BT ${at} Td\n${shown}ET\n`;
+    const dots = dotsOf(line, caption.size).map((run) => `${run.join(" ")} 1 re`).join(" ");
+    return `q\nBT 3 Tr ${at} Td\n${shown}ET\n${DOT_WIDE} 0 0 ${DOT_WIDE} ${at} cm\n${dots} f*\nQ\n`;
+  }).join("");
 }
+const DOT_WIDE = DOT.toFixed(6);
 
 // ---- The file
 

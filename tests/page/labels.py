@@ -476,10 +476,35 @@ SAVED = [
     ("markup", "messages", "<b>&amp;\"'</b> ]]>", "50x30", ["<b>&amp;\"'</b> ]]>"]),
     ("letters of many kinds", "messages", "Größe → 5 µm\nЖук №5\nαβγ ≥ 1 €", "none",
      ["Größe → 5 µm", "Жук №5", "αβγ ≥ 1 €"]),
+    ("letters that the page's font hasn't", "messages", "شماره 12\nמספר\nk\u0301\u0325", "50x30",
+     ["شماره 12", "מספר", "\u1e31\u0325"]),
     ("rows that are wanted more than once", "csv", "message,qty\nA1,3\nB2,0\nC3,1\n", "38x25",
      ["A1", "A1", "A1", "C3"]),
     ("copies as large as they are", "csv", "message,qty\nA1,2\nB2,1\n", "none", ["A1", "A1", "B2"]),
 ]
+
+
+DOTS = 600 / 25.4  # of a millimetre
+
+
+def from_first(runs, right=1.0, down=-1.0):
+    """Runs, each the left end, the lower edge and the length, as numbers of dots to the right and down from the first
+    of them."""
+    numbers = [[float(x) * right, float(y) * down, float(length) * right] for x, y, length in runs]
+    return [[round(x - numbers[0][0]), round(y - numbers[0][1]), round(length)] for x, y, length in numbers]
+
+
+def dots_of_pdf():
+    """The dots of each line that the browser's fonts have drawn, in the PDF that was saved last."""
+    text = (on.folder / "symbols.pdf").read_text("latin-1")
+    runs = [re.findall(r"(-?\d+) (-?\d+) (\d+) 1 re", line) for line in text.split("\n") if line.endswith(" f*")]
+    return [from_first(line) for line in runs]
+
+
+def dots_of_svg(drawing):
+    """The same of a drawing, in one line."""
+    runs = re.findall(r"M(-?[\d.]+) (-?[\d.]+)h([\d.]+)v-", drawing)
+    return [from_first(runs, DOTS, DOTS)] if runs else []
 
 
 def saved_as_shown():
@@ -514,6 +539,7 @@ def saved_as_shown():
         if name.startswith("elements"):
             (*_, lines), = run(LABELS, "#labels-are")
             count.expect("elements in lines", lines, ["(01)09506000134352", "(17)271231(10)AB-42"])
+        count.expect(f"{name}: dots", dots_of_pdf(), [dots for body in whole for dots in dots_of_svg(body)])
         for drawing, picture in zip(whole, files["png"]):
             across, down = re.search(r'^<svg [^>]*width="([\d.]+)mm" height="([\d.]+)mm"', drawing).groups()
             pixels = [int.from_bytes(picture[at : at + 4], "big") for at in (16, 20)]

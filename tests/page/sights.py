@@ -6,9 +6,9 @@ import random
 
 from tests.page.conduct import linked, started
 from tests.page.pictures import LIKEST, QR, chunks, opened, png
-from tests.page.stage import (Keys, acting, choose, click, count, fill, find, fold, grid, on, processor_time, push,
-                              put, run, settle, shown, take_time, task, text_of, unfold, usable, wait_for, write,
-                              written)
+from tests.page.stage import (Keys, acting, choose, click, count, fill, find, fold, grid, metrics, on, processor_time,
+                              push, put, run, settle, shown, take_time, task, text_of, unfold, usable, usual_metrics,
+                              wait_for, write, written)
 
 MOST_TIME, OPENING = 3000, 1500  # milliseconds for a picture, and for what is done before and after its search
 LIMIT = 27  # of wrong border modules of a side of 22, if each block leaves a correction unused; usually it is 5
@@ -134,6 +134,11 @@ def all_symbols():
         count.expect(f"{name}: outlines", (len(far), [each for each in far if each > 2]), (48, []))
         view = run("const { width, height } = document.getElementById('view'); return [width, height]")
         count.expect("the picture", (find("scene").is_displayed(), view), (True, [430, 290]))
+        metrics(1200, 757)
+        run("scrollTo(0, 0)")
+        last = run("return document.getElementById('says').getBoundingClientRect().bottom")
+        count.expect(f"the message on the first screen, {last}", last <= 757, True)
+        usual_metrics()
     for k in (3, 0):
         run("document.querySelectorAll('#found-are button')[arguments[0]].click()", k)
         settle()
