@@ -3,25 +3,11 @@ taken, or said not to be."""
 import base64
 
 from tests.page.pictures import chunks, opened, png
-from tests.page.stage import (By, Keys, count, find, grid, on, processor_time, push, put, run, settle, shown, text_of,
-                              unfold, wait_for, write, written)
+from tests.page.stage import (Keys, area_of, count, find, grid, head, on, processor_time, push, put, put_in, run,
+                              settle, shown, text_of, unfold, wait_for, write, written)
 
 SOON = 6  # seconds of a processor that the page may take
 MANY_LINES = "#\n" * 130000
-
-
-def area_of(slot):
-    return find(f"slot-{slot}").find_element(By.TAG_NAME, "textarea")
-
-
-def put_in(area, text):
-    script = "arguments[0].value = arguments[1]; arguments[0].dispatchEvent(new Event('input', { bubbles: true }))"
-    run(script, area, text)
-    settle()
-
-
-def head():
-    return run("return [...document.querySelectorAll('#same strong, #same p')].map((it) => it.textContent)")
 
 
 def seconds_of(act):

@@ -1,8 +1,8 @@
 """How the page conducts itself: no verdict outlives its input, nothing freezes, phones, GS1, links."""
 from tests.page.pictures import chunks, opened, png
-from tests.page.stage import (By, agree, cells, changed, click, count, find, grid, metrics, on, pointed, processor_time,
-                              push, put, run, settle, shown, take_time, text_of, unseen, usable, usual_metrics,
-                              wait_for, write, written)
+from tests.page.stage import (agree, cells, changed, click, count, fill, find, grid, metrics, on, pointed,
+                              processor_time, push, put, run, settle, shown, take_time, text_of, unseen, usable,
+                              usual_metrics, wait_for, write, written)
 
 NOTHING = ("Nothing is read", "")
 GIVING = ("copy", "save-svg", "save-png", "print")
@@ -35,13 +35,10 @@ def never_stale():
     write("123456")
     count.expect("taken again", (verdict(), [usable(it) for it in GIVING]), (("Read", "123456"), [True] * 4))
     many = "#\n" * 130000
-    area = find("slot-a").find_element(By.TAG_NAME, "textarea")
-    fill = "arguments[0].value = arguments[1]; arguments[0].dispatchEvent(new Event('input'))"
     with unseen():  # so many lines would be laid out anew with each change of the page
-        run(fill, area, many)
-        settle()
+        fill("a", many)
         count.expect("130,000 lines in a slot", text_of("same").startswith("No answer"), True)
-        run(fill, area, "")
+        fill("a", "")
         push("tab-read", "example-c40")
         put("grid", many)
         count.expect("130,000 lines in the grid", (verdict(), find("grid").get_attribute("aria-invalid")),

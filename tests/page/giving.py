@@ -4,8 +4,8 @@ import re
 
 from tests.page.conduct import verdict
 from tests.page.pictures import png
-from tests.page.stage import (By, Keys, click, count, find, grid, on, push, put, run, settle, text_of, unfold,
-                              wait_for, write, written)
+from tests.page.stage import (COLLECT, By, Keys, area_of, click, count, find, grid, on, push, put, run, settle, text_of,
+                              unfold, wait_for, write, written)
 
 
 def saved_as(name, button):
@@ -22,16 +22,15 @@ def gives_what_it_says():
     count.expect("no choice without damage", find("which").is_displayed(), False)
     click(33, 44)
     count.expect("the undamaged one by default", saved_as("symbol-10.svg", "save-svg"), clean)
-    copied = "globalThis.copied = null; navigator.clipboard.writeText = async (text) => { globalThis.copied = text; }"
-    run(copied)
+    run(COLLECT)
     push("copy")
-    count.expect("copied undamaged", (run("return copied").strip(), wait_for(lambda: text_of("toast"))),
+    count.expect("copied undamaged", (run("return copied.pop()").strip(), wait_for(lambda: text_of("toast"))),
                  (written("123456"), "Copied: the symbol, a line for each row"))
     push("which-damaged")
     damaged = saved_as("symbol-10-damaged.svg", "save-svg")
     count.expect("the damaged one by its own choice", (damaged is not None, damaged != clean), (True, True))
     push("copy")
-    count.expect("copied damaged", (run("return copied").strip(), text_of("toast")),
+    count.expect("copied damaged", (run("return copied.pop()").strip(), text_of("toast")),
                  (grid(), "Copied: the damaged symbol, a line for each row"))
     run("navigator.clipboard.writeText = async () => { throw new Error('no'); }; document.execCommand = () => false")
     push("copy")
@@ -158,7 +157,7 @@ def pasted_pictures():
     settle()
     copy("pasted below")
     unfold("comparison")
-    find("slot-b").find_element(By.TAG_NAME, "textarea").send_keys(*paste)
+    area_of("b").send_keys(*paste)
     count.expect_soon("a picture pasted in a slot", lambda: "pasted below" in text_of("slot-b"), True)
     settle()
     count.expect("it isn't taken above", verdict(), ("Read", "pasted again"))

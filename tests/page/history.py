@@ -2,8 +2,8 @@
 import urllib.parse
 
 from tests.page.conduct import linked, started
-from tests.page.stage import (Keys, agree, click, count, find, forget, grid, on, push, put, run, shown, text_of,
-                              write, written)
+from tests.page.stage import (COLLECT, Keys, agree, click, count, find, forget, grid, on, push, put, run, shown,
+                              text_of, write, written)
 
 
 def afresh():
@@ -102,7 +102,6 @@ def limits():
 def long_links():
     """What is entered is in the link, however long it is; a link that some programs cut says so; what is too much for
     the page is said not to be kept."""
-    copying = "globalThis.copied = null; navigator.clipboard.writeText = async (text) => { globalThis.copied = text; }"
     message = "\u00e9\u20ac" * 3500  # 7,000 characters, of 52,500 in the address
     put("message", message)
     linked()
@@ -111,11 +110,11 @@ def long_links():
     started()
     count.expect("and read from there", (find("message").get_attribute("value"), shown()["state"]),
                  (message, "Nothing is read"))
-    run(copying)
+    run(COLLECT)
     push("tab-read", "example-c40", "copy-link")
     count.expect_soon("a long link says so", lambda: text_of("toast"),
                       "Copied: a link that holds what is entered. "
-                      f"It has {len(run('return copied')):,} characters, which not every program takes.")
+                      f"It has {len(run('return copied[0]')):,} characters, which not every program takes.")
     write("short")
     push("copy-link")
     count.expect_soon("a short link", lambda: text_of("toast"), "Copied: a link that holds what is entered")

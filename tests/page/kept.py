@@ -1,11 +1,12 @@
 """Work is kept in the browser's storage: lists, settings, what was read, and parts survive a reload and another visit,
 until they are forgotten; and no message stands in the address, but for a link that was copied."""
 from tests.page.conduct import linked, started
-from tests.page.labels import CHOOSE, chosen, pages_of, saved
+from tests.page.labels import CHOOSE, pages_of, saved
 from tests.page.photographs import LISTED
 from tests.page.pictures import opened
 from tests.page.sights import scene
-from tests.page.stage import (count, find, grid, on, push, put, run, shown, text_of, unfold, wait_for, write, written)
+from tests.page.stage import (COLLECT, choose, count, find, grid, on, push, put, run, shown, text_of, unfold, wait_for,
+                              write, written)
 
 FIELDS = ["message", "lines-as", "messages", "stock", "millimetres", "paper-size", "label-width", "copies", "shape"]
 STATE = "return arguments[0].map((id) => document.getElementById(id).value)"
@@ -28,13 +29,13 @@ def work_survives():
     """A list with its columns, how labels look, a message, and what was read of a picture, by reload and anew."""
     write("kept as it is", 1, "rectangle")
     unfold("sheet")
-    chosen("lines-as", "csv")
+    choose("lines-as", "csv")
     put("messages", "place,part\nleft,A1\nright,B2")
     push("first-headings")
     for column, role in ((0, "text"), (1, "message")):
         run(CHOOSE, column, role)
     push("columns-taken")
-    chosen("stock", "own")
+    choose("stock", "own")
     for name, value in (("label-width", "44.5"), ("millimetres", "0.4"), ("copies", "2")):
         put(name, value)
         run("document.getElementById(arguments[0]).dispatchEvent(new Event('change', { bubbles: true }))", name)
@@ -85,12 +86,12 @@ def parts_survive():
 def written_part(part):
     """The grid of a part of a message."""
     push("tab-make", "kind-typed", "profile-2")
-    chosen("parts", "3")
+    choose("parts", "3")
     put("message", "one and two and three")
     for _ in range(part - 1):
         push("part-on")
     text = run("return mitsubadoor.gridText(mitsubadoor.mark.seen)")
-    chosen("parts", "1")
+    choose("parts", "1")
     push("tab-read")
     return text
 
@@ -109,10 +110,10 @@ def address_is_bare():
     linked()
     count.expect("damage", address(), "learn")
     push("tab-make")
-    run("globalThis.copied = null; navigator.clipboard.writeText = async (text) => { globalThis.copied = text; }")
+    run(COLLECT)
     push("copy-link")
-    count.expect_soon("a link that is copied", lambda: "message=a+secret" in (run("return copied") or ""), True)
-    count.expect("it stands in the address", on.page.current_url, run("return copied"))
+    count.expect_soon("a link that is copied", lambda: "message=a+secret" in str(run("return copied")), True)
+    count.expect("it stands in the address", [on.page.current_url], run("return copied"))
     put("message", "another")
     linked()
     count.expect("until something changes", address(), "make")

@@ -10,14 +10,8 @@ import zlib
 
 from tests.page.paper import POINT, paper_is, printed
 from tests.page.pictures import opened
-from tests.page.stage import (count, drawn_rows, find, grid, on, push, put, run, settle, shown, spelled, task, text_of,
-                              unfold, usable, wait_for, write, written)
-
-
-def chosen(name, value):
-    run("""const choice = document.getElementById(arguments[0]);
-           choice.value = arguments[1];
-           choice.dispatchEvent(new Event('change', { bubbles: true }))""", name, value)
+from tests.page.stage import (choose, count, drawn_rows, find, grid, on, push, put, run, settle, shown, spelled, task,
+                              text_of, unfold, usable, wait_for, write, written)
 
 
 def saved(name, button):
@@ -111,7 +105,7 @@ def on_labels():
     unfold("sheet")
     paper_is("a4", "0.4")
     for name, labels in STOCK.items():
-        chosen("stock", name)
+        choose("stock", name)
         messages = [f"label {k}" for k in range(len(labels) + 2)]
         put("messages", "\n".join(messages))
         pages = pages_of(saved("symbols.pdf", "many-pdf"))
@@ -135,7 +129,7 @@ def labels_printed():
     paper_is("a4", "0.5")
     push("label-text")
     for name, per_page, page in (("a4-3x7", 21, [210, 297]), ("50x30", 1, [50, 30]), ("own", 1, [60, 40])):
-        chosen("stock", name)
+        choose("stock", name)
         put("messages", "\n".join(["123456"] * (per_page + 1)))
         push("print-sheet")
         boxes, widths = printed()
@@ -154,18 +148,18 @@ def labels_printed():
                                       ("25x25", "2", "123456",
                                        "Message 1 takes 28 × 28 mm and 3 mm of text, and a label is 25 × 25 mm. "
                                        "Take narrower modules or larger labels.")):
-        chosen("stock", name)
+        choose("stock", name)
         paper_is("a4", value)
         put("messages", message)
         push("print-sheet")
         count.expect(f"what doesn't fit {name}", (run("return printed"), text_of("sheet-hint")), (3, why))
-    chosen("stock", "own")
+    choose("stock", "own")
     put("label-width", "2")
     push("many-pdf")
     count.expect("no size of a label", text_of("sheet-hint"), "A label has 5 to 300 mm on each side.")
     put("label-width", "60")
     paper_is("a4", "0.5")
-    chosen("stock", "none")
+    choose("stock", "none")
     put("messages", "")
 
 
@@ -205,7 +199,7 @@ def one_after_another():
     write("123456")
     unfold("sheet")
     paper_is("a4", "0.5")
-    chosen("stock", "none")
+    choose("stock", "none")
     lines = [f"label {k}" + "0" * (k % 7 * 12) for k in range(150)]
     put("messages", "\n".join(lines))
     pages = pages_of(saved("symbols.pdf", "many-pdf"))
@@ -220,12 +214,12 @@ def one_after_another():
     count.expect("texts", [text for *_, texts in pages for text in texts], lines)
     inside = [15 <= x < 195 and 15 <= y < 282 for _, symbols, _ in pages for x, y, *_ in symbols]
     count.expect("within the margins", (len(pages) > 1, len(inside), all(inside)), (True, 150, True))
-    chosen("stock", "25x25")
+    choose("stock", "25x25")
     put("messages", "\n".join(str(k) for k in range(1200)))
     body = saved("symbols.pdf", "many-pdf")
     count.expect("1,200 labels", (body.count(b"/Type /Page "), text_of("sheet-hint")),
                  (1200, "1,200 symbols are in the PDF."))
-    chosen("stock", "none")
+    choose("stock", "none")
     put("messages", "")
 
 
@@ -233,7 +227,7 @@ def by_columns():
     """A file of CSV with one column a field, and what is wrong in one."""
     write("123456")
     unfold("sheet")
-    chosen("stock", "50x30")
+    choose("stock", "50x30")
     paper_is("a4", "0.4")
     for name, (text, lines, texts) in CSV.items():
         file = on.folder / "fields.csv"
@@ -263,8 +257,8 @@ def by_columns():
         put("messages", text)
         push("many-pdf")
         count.expect(f"{text!r} is said", text_of("sheet-hint"), why or "1 symbol is in the PDF.")
-    chosen("lines-as", "messages")
-    chosen("stock", "none")
+    choose("lines-as", "messages")
+    choose("stock", "none")
     paper_is("a4", "0.5")
     put("messages", "")
 
@@ -319,8 +313,8 @@ def asked_about_columns():
     """What a heading leaves open is asked, and before it is answered nothing is given."""
     write("123456")
     unfold("sheet")
-    chosen("lines-as", "csv")
-    chosen("stock", "50x30")
+    choose("lines-as", "csv")
+    choose("stock", "50x30")
     paper_is("a4", "0.4")
     run("globalThis.printed = 0; window.print = () => { printed++; }")
     for file in files():
@@ -361,8 +355,8 @@ def asked_about_columns():
     put("messages", "part,place\nA1,left\nB2,right")
     pages = pages_of(saved("symbols.pdf", "many-pdf"))
     count.expect("the answer stays while the headings do", [texts for *_, texts in pages], [["left"], ["right"]])
-    chosen("lines-as", "messages")
-    chosen("stock", "none")
+    choose("lines-as", "messages")
+    choose("stock", "none")
     paper_is("a4", "0.5")
     put("messages", "")
 
@@ -389,12 +383,12 @@ def labels_shown():
     count.expect_soon("and back", lambda: text_of("labels-shown"), "4 to 6 of 8")
     for name, change in (
         ("a line is added", lambda: put("messages", "\n".join([*lines, "one more"]))),
-        ("the lines become CSV", lambda: chosen("lines-as", "csv")),
-        ("they become messages again", lambda: chosen("lines-as", "messages")),
+        ("the lines become CSV", lambda: choose("lines-as", "csv")),
+        ("they become messages again", lambda: choose("lines-as", "messages")),
         ("the text goes", lambda: run("document.getElementById('label-text').click()")),
         ("it comes back", lambda: run("document.getElementById('label-text').click()")),
-        ("labels are chosen", lambda: chosen("stock", "50x30")),
-        ("none are", lambda: chosen("stock", "none")),
+        ("labels are chosen", lambda: choose("stock", "50x30")),
+        ("none are", lambda: choose("stock", "none")),
     ):
         saved("symbols.pdf", "many-pdf") if name != "they become messages again" else None
         change()
@@ -432,7 +426,7 @@ def on_one_label():
     is the same on paper."""
     messages = ["one", WIDE]
     paper_is("a4", "0.4")
-    chosen("stock", "38x25")
+    choose("stock", "38x25")
     put("messages", "\n".join(messages))
     grids = [written(message) for message in messages]
     count.expect_soon("symbols on labels", lambda: drawn_in("#labels-are"), grids)
@@ -448,13 +442,13 @@ def on_one_label():
     count.expect("on paper", run(LABELS, "#paper"), labels)
     run("dispatchEvent(new Event('afterprint'))")
     paper_is("a4", "1")
-    chosen("stock", "25x25")
+    choose("stock", "25x25")
     length = grids[1].index("\n") + 4
     why = f"Message 2 takes {length} × {length} mm and "
     count.expect_soon("what doesn't fit", lambda: [it.startswith(why) for it in run(TOLD, "#labels-are p")],
                       [False, True])
     paper_is("a4", "0.5")
-    chosen("stock", "none")
+    choose("stock", "none")
 
 
 def shown_pages():
@@ -515,8 +509,8 @@ def saved_as_shown():
     unfold("sheet")
     paper_is("a4", "0.4")
     for name, kind, text, stock, texts in SAVED:
-        chosen("stock", stock)
-        chosen("lines-as", kind)
+        choose("stock", stock)
+        choose("lines-as", kind)
         put("messages", text)
         wait_for(lambda: find("labels").is_displayed() and shown_pages())
         pdf = pages_of(saved("symbols.pdf", "many-pdf"))
@@ -545,8 +539,8 @@ def saved_as_shown():
             pixels = [int.from_bytes(picture[at : at + 4], "big") for at in (16, 20)]
             count.expect(f"{name}: pixels", pixels, [round(float(length) * 25) for length in (across, down)])
     not_whole()
-    chosen("lines-as", "messages")
-    chosen("stock", "none")
+    choose("lines-as", "messages")
+    choose("stock", "none")
     paper_is("a4", "0.5")
     put("messages", "")
 
@@ -564,16 +558,16 @@ NOT_WHOLE = [
 def not_whole():
     """What can't be shown whole, and rows that aren't labels, are named, and nothing is saved."""
     for name, kind, text, stock, why in NOT_WHOLE:
-        chosen("stock", stock)
-        chosen("lines-as", kind)
+        choose("stock", stock)
+        choose("lines-as", kind)
         put("messages", text)
         for file in files():
             (on.folder / file).unlink()
         for button in ("many-pdf", "many-png", "many-svg"):
             push(button)
             count.expect(f"{name}: {button}", (text_of("sheet-hint")[:len(why)], files()), (why, []))
-    chosen("stock", "none")
-    chosen("lines-as", "messages")
+    choose("stock", "none")
+    choose("lines-as", "messages")
     put("messages", "")
     put("messages", "gtin\tlot\n1\tA\n2\tB")
     count.expect("a table that is pasted", (find("lines-as").get_attribute("value"), text_of("sheet-hint")),
@@ -590,7 +584,7 @@ def serial_numbers():
     """Serial numbers are added to the list, and each line is had in copies."""
     write("123456")
     unfold("sheet", "serial")
-    chosen("stock", "50x30")
+    choose("stock", "50x30")
     paper_is("a4", "0.4")
     put("messages", "first")
     for name, value in (("before", "SN-"), ("behind", "/A"), ("first", "0998"), ("count", "3")):
@@ -619,11 +613,11 @@ def serial_numbers():
             push("serial-add")
             count.expect(f"{name} {value}", (text_of("sheet-hint"), lines()), (why, before))
     put("serial-count", "2")
-    chosen("lines-as", "csv")
+    choose("lines-as", "csv")
     push("serial-add")
     why = "Serial numbers are added to lines that are messages, and not to CSV."
     count.expect("in CSV", text_of("sheet-hint"), why)
-    chosen("lines-as", "messages")
+    choose("lines-as", "messages")
     put("messages", "")
     put("copies", "1")
 
@@ -635,9 +629,9 @@ def opened_again():
     lists = [("messages", "one\n(01)09506000134352\nthree", {}, "a4-3x7", "0.4"),
              ("csv", "place,part\nleft,A1\nright,B2", {0: "text", 1: "message"}, "own", "0.3")]
     for kind, text, columns, stock, millimetres in lists:
-        chosen("lines-as", kind)
+        choose("lines-as", kind)
         put("messages", text)
-        chosen("stock", stock)
+        choose("stock", stock)
         paper_is("a4", millimetres)
         put("label-width", "44.5")
         push("profile-1")
@@ -650,9 +644,9 @@ def opened_again():
         files = {"labels.json": saved("labels.json", "save-list"), "symbols.pdf": pdf,
                  "symbols-svg.zip": saved("symbols-svg.zip", "many-svg")}
         for name, body in files.items():
-            chosen("lines-as", "messages")
+            choose("lines-as", "messages")
             put("messages", "another list")
-            chosen("stock", "none")
+            choose("stock", "none")
             paper_is("letter", "1")
             put("label-width", "60")
             push("profile-0")
@@ -685,8 +679,8 @@ def opened_again():
                       find("stock").get_attribute("value"), find("shape").get_attribute("value")),
                       ("The labels of odd.json.", "own", "square"))
     push("profile-0")
-    chosen("lines-as", "messages")
-    chosen("stock", "none")
+    choose("lines-as", "messages")
+    choose("stock", "none")
     put("label-width", "60")
     paper_is("a4", "0.5")
     put("messages", "")
@@ -754,7 +748,7 @@ def other_letters():
     write("123456")
     push("kind-typed")
     unfold("sheet")
-    chosen("stock", "50x30")
+    choose("stock", "50x30")
     paper_is("a4", "0.4")
     message, text, file = "Größe 5 µm", "Maß – 5 €", on.folder / "other.csv"
     texts_below = lambda: [each for *_, some in pages_of(saved("symbols.pdf", "many-pdf")) for each in some]
@@ -767,11 +761,11 @@ def other_letters():
         count.expect(f"its text, in {coding}", texts_below(), [text])
         symbols = [rows for _, some, _ in pages_of(saved("symbols.pdf", "many-pdf")) for *_, rows in some]
         count.expect(f"its symbol, in {coding}", symbols, [written(spelled(message.encode("iso-8859-1")))])
-    chosen("lines-as", "messages")
+    choose("lines-as", "messages")
     put("messages", "plain\na → b\n→")
     count.expect("letters that are in no font of a printer", (texts_below(), text_of("sheet-hint")),
                  (["plain", "a → b", "→"], "3 symbols are in the PDF."))
-    chosen("stock", "none")
+    choose("stock", "none")
     paper_is("a4", "0.5")
     put("messages", "")
 

@@ -13,12 +13,11 @@ from tests.page.conduct import linked, started
 from tests.page.history import fields
 from tests.page.judge import (SMALLEST, asked_to_read, asked_to_write, in_lines, judged, letter_of, line_of_text,
                               written_in)
-from tests.page.labels import chosen, pages_of, saved
+from tests.page.labels import pages_of, saved
 from tests.page.photographs import CAMERA, LISTED
 from tests.page.pictures import opened, png
-from tests.page.stage import (choose, count, find, fill, fold, grid, on, push, put, run, settle, shown, text_of, unfold,
-                              unseen, usable, written)
-from tests.page.tasks import COLLECT
+from tests.page.stage import (COLLECT, choose, count, fill, find, fold, grid, head, on, push, put, run, settle, shown,
+                              text_of, unfold, unseen, usable, written)
 from tests.support import package
 
 
@@ -268,7 +267,7 @@ def labels_in_parts():
     choose("parts", "2")
     unfold("sheet")
     put("messages", "Größe 5 µm\nA second line of text")
-    chosen("stock", "50x30")
+    choose("stock", "50x30")
     pages = pages_of(saved("symbols.pdf", "many-pdf"))
     texts_below = [below for _, _, below in pages]
     wanted = [[f"{line} ({k}/2)"] for line in ("Größe 5 µm", "A second line of text") for k in (1, 2)]
@@ -287,7 +286,7 @@ def labels_in_parts():
         count.expect_soon(f"opened again, after {parts}", chosen_now, "2")
         settle()
     put("messages", "")
-    chosen("stock", "none")
+    choose("stock", "none")
     fold("sheet")
     as_usual()
 
@@ -441,7 +440,6 @@ def told_of_marks():
 
 # ---- Compared
 
-BOTH = "return [...document.querySelectorAll('#same strong, #same p')].map((it) => it.textContent)"
 
 
 def letters_compared():
@@ -464,14 +462,14 @@ def letters_compared():
         fill("a", a)
         fill("b", b)
         settle()
-        count.expect(name, run(BOTH), wanted)
+        count.expect(name, head(), wanted)
     fill("a", written_in("\\F", "square"))
     size = SIZE_OF[12, 12]
     modules = "".join(map(str, modules_of(size, codewords(size, padded([230, 10, 121, 254], size.data)))))
     fill("b", "\n".join(modules[k : k + 12] for k in range(0, 144, 12)))
     settle()
     said = [same, f"{plain}, though their symbology identifiers are ]d2 and ]d1:"]
-    count.expect("identifiers", run(BOTH), said)
+    count.expect("identifiers", head(), said)
     fold("comparison")
     as_usual()
 
@@ -522,7 +520,7 @@ def any_border():
     fill("a", torn(text, usual + 3))
     fill("b", line)
     settle()
-    count.expect("compared", run(BOTH)[0], "Yes, they say the same.")
+    count.expect("compared", head()[0], "Yes, they say the same.")
     fold("comparison")
     lines = torn(text, usual + 3).split("\n")
     opened("torn.png", png(lines, 1, 2))

@@ -5,10 +5,8 @@ import random
 import urllib.parse
 
 from tests.page.judge import asked_to_read, asked_to_write, in_lines, judged, line_of_items
-from tests.page.stage import (QUIET, SHOWN, Keys, acting, as_program, changed, count, find, fold, grid, offset, on,
-                              push, put, run, settle, shown, text_of, told, write, written)
-
-COLLECT = "globalThis.copied = []; navigator.clipboard.writeText = async (text) => { copied.push(text); }"
+from tests.page.stage import (COLLECT, QUIET, SHOWN, Keys, acting, as_program, changed, count, find, fold, grid, offset,
+                              on, push, put, run, settle, shown, text_of, told, write, written)
 
 
 # ---- Keys and the mouse, as quickly as the browser takes them

@@ -3,7 +3,7 @@ import base64
 import re
 import zlib
 
-from tests.page.stage import count, find, on, push, put, run, settle, text_of, write, written
+from tests.page.stage import choose, count, find, on, push, put, run, settle, text_of, write, written
 
 POINT = 25.4 / 72  # millimetres
 
@@ -43,9 +43,7 @@ def dark_width(content):
 
 
 def paper_is(name, millimetres):
-    run("""const choice = document.getElementById('paper-size');
-           choice.value = arguments[0];
-           choice.dispatchEvent(new Event('change', { bubbles: true }))""", name)
+    choose("paper-size", name)
     put("millimetres", millimetres)
 
 

@@ -6,9 +6,9 @@ import random
 
 from tests.page.conduct import linked, started
 from tests.page.pictures import LIKEST, QR, chunks, opened, png
-from tests.page.stage import (Keys, acting, choose, click, count, fill, find, fold, grid, metrics, on, processor_time,
-                              push, put, run, settle, shown, take_time, task, text_of, unfold, usable, usual_metrics,
-                              wait_for, write, written)
+from tests.page.stage import (Keys, acting, choose, click, count, fill, find, fold, grid, head, metrics, on,
+                              processor_time, push, put, run, settle, shown, take_time, task, text_of, unfold, usable,
+                              usual_metrics, wait_for, write, written)
 
 MOST_TIME, OPENING = 3000, 1500  # milliseconds for a picture, and for what is done before and after its search
 LIMIT = 27  # of wrong border modules of a side of 22, if each block leaves a correction unused; usually it is 5
@@ -232,7 +232,6 @@ def compared_in_pictures():
     said."""
     push("tab-read")
     unfold("comparison")
-    head = lambda: run("return [...document.querySelectorAll('#same strong, #same p')].map((it) => it.textContent)")
     messages = [f"label {k}" for k in range(6)]
     places = [(30 + 90 * (k % 3), 40 + 90 * (k // 3)) for k in range(6)]
     picture = on.folder / "six.png"

@@ -1,4 +1,4 @@
-"""Symbols of every size in the page: made in a size that is chosen, read as text and from pictures, damaged, with
+"""Symbols of every size in the page: made in a size that is read as text and from pictures, damaged, with
 modules that the reader is told to be doubtful, linked, compared, and measured on labels. The page's library judges,
 without the page; the marks that another encoder made in every size stand beside it."""
 import base64
@@ -13,11 +13,12 @@ from tests.page.conduct import linked, started
 from tests.page.history import fields
 from tests.page.judge import (SHAPES, asked_to_read, asked_to_write, in_lines, items_of, judged, letter_of, table,
                               written_in)
-from tests.page.labels import chosen, pages_of, saved
+from tests.page.labels import pages_of, saved
 from tests.page.paper import paper_is
 from tests.page.pictures import chunks, opened, png
-from tests.page.stage import (QUIET, acting, cells, changed, choose, click, coloured, count, drawn, find, flat, grid,
-                              offset, on, push, put, run, settle, shown, text_of, turned, unfold, write, written)
+from tests.page.stage import (QUIET, acting, cells, changed, choose, click, coloured, count, drawn, fill, find, flat,
+                              grid, head, offset, on, push, put, run, settle, shown, text_of, turned, unfold, write,
+                              written)
 
 
 def agree_with_judge(name, line=None):
@@ -311,19 +312,15 @@ def rectangles_are_compared():
     """A rectangle and a square, in the slots: whether they say the same."""
     push("tab-read")
     unfold("comparison")
-    verdict = lambda: run("return document.querySelector('#same strong').textContent")
     one, same = written_in("Rectangle", "8x32"), "Yes, they say the same."
     for a, b, wanted in (
         (one, written_in("Rectangle", "square"), same),
         (one, turned(written_in("Rectangle", "16x48"), 1, True, True), same),
         (one, written_in("Rectangles", "8x32"), "No, they say different things."),
     ):
-        for name, text in (("a", a), ("b", b)):
-            run("""const area = document.querySelector(arguments[0]);
-                   area.value = arguments[1];
-                   area.dispatchEvent(new Event('input', { bubbles: true }))""", f"#slot-{name} textarea", text)
-        settle()
-        count.expect(f"{name_of(a)} and {name_of(b)}", verdict(), wanted)
+        fill("a", a)
+        fill("b", b)
+        count.expect(f"{name_of(a)} and {name_of(b)}", head()[0], wanted)
     said = run("return document.querySelector('#slot-a svg').getAttribute('aria-label')")
     count.expect("what is said of the symbol", said, "Symbol A, of 8 × 32 modules")
     push("tab-make")
@@ -482,7 +479,7 @@ def labels_of_rectangles():
     lines = ["one", "Rectangle 2", "3333333333", "rectangle"]
     put("messages", "\n".join(lines))
     grids = [written_in(line, "rectangle") for line in lines]
-    chosen("stock", "50x30")
+    choose("stock", "50x30")
     pages = pages_of(saved("symbols.pdf", "many-pdf"))
     for line, text, (size, symbols, texts) in zip(lines, grids, pages):
         rows = text.split("\n")
@@ -493,7 +490,7 @@ def labels_of_rectangles():
         count.expect(f"a label of {line}: where it stands", [round(it, 2) for it in (left, top, module)],
                      [round(x, 2), round(y, 2), 0.4])
         count.expect(f"a label of {line}: its modules", drawn_there, text)
-    chosen("stock", "none")
+    choose("stock", "none")
     paper_is("label", "0.4")
     pages = pages_of(saved("symbols.pdf", "many-pdf"))
     length = lambda modules, more=0: round((modules + 4) * 0.4 + more, 2)

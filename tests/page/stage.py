@@ -223,17 +223,26 @@ def take_time(milliseconds=None):
     run("mitsubadoor.limits.time = arguments[0] ?? Infinity", milliseconds)
 
 
+# Has what is copied collected, in place of the clipboard.
+COLLECT = "globalThis.copied = []; navigator.clipboard.writeText = async (text) => { copied.push(text); }"
+
+
 def settle():
     """Waits until the page's workers have answered all that they were asked."""
     on.page.execute_async_script("mitsubadoor.idle().then(() => arguments[0]())")
 
 
-def put(name, text):
+def put_in(area, text):
     """Gives a field a value as typing does, but all at once."""
-    run("""const node = document.getElementById(arguments[0]);
-           node.value = arguments[1];
-           node.dispatchEvent(new Event('input', { bubbles: true }))""", name, text)
+    run("""const [area, text] = arguments, node = area instanceof Node ? area : document.getElementById(area);
+           node.value = text;
+           node.dispatchEvent(new Event('input', { bubbles: true }))""", area, text)
     settle()
+
+
+def put(name, text):
+    """The same, by the name of the field."""
+    put_in(name, text)
 
 
 def push(*names):
@@ -258,11 +267,19 @@ def forget():
         run("if ('mitsubadoor' in globalThis) localStorage.clear()")
 
 
+def area_of(slot):
+    """Where text is entered on one side of the comparison."""
+    return find(f"slot-{slot}").find_element(By.TAG_NAME, "textarea")
+
+
 def fill(slot, text):
     """Enters a text on one side of the comparison."""
-    run("""const area = document.querySelector(arguments[0]);
-           area.value = arguments[1];
-           area.dispatchEvent(new Event('input', { bubbles: true }))""", f"#slot-{slot} textarea", text)
+    put_in(area_of(slot), text)
+
+
+def head():
+    """What the comparison says: its head, and the words below."""
+    return run("return [...document.querySelectorAll('#same strong, #same p')].map((it) => it.textContent)")
 
 
 def write(message, profile=0, size="square"):

@@ -3,13 +3,12 @@ stands, what GS1 data looks like, and that only where one learns a symbol is dam
 from tests.page.conduct import linked, started, verdict
 from tests.page.history import afresh, fields
 from tests.page.judge import line_of_text, written_in
-from tests.page.stage import (acting, agree, changed, click, count, find, forget, grid, learn, offset, on, push, put,
-                              run, settle, shown, spelled, task, text_of, unfold, usable, write, written)
+from tests.page.stage import (COLLECT, acting, agree, changed, click, count, find, forget, grid, learn, offset, on,
+                              push, put, run, settle, shown, spelled, task, text_of, unfold, usable, write, written)
 
 ELEMENTS = "(01)09506000134352(17)271231(10)AB-42"
 LINE = "\\F010950600013435217271231" + "10AB-42"
 TEXT = "Gr\u00f6\u00dfe: 5 \u00b5m"
-COLLECT = "globalThis.copied = []; navigator.clipboard.writeText = async (text) => { copied.push(text); }"
 
 
 def seen_panes():

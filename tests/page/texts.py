@@ -1,8 +1,8 @@
 """Messages, profiles, grids as text, marks of other encoders, and two symbols compared."""
 from tests import corpus
 from tests.page.pictures import png
-from tests.page.stage import (By, Keys, agree, as_program, count, find, grid, is_wide, on, push, put, run, settle,
-                              shown, text_of, told, turned, unfold, unseen, write, written)
+from tests.page.stage import (By, Keys, agree, as_program, count, fill, find, grid, head, is_wide, on, push, put, run,
+                              settle, shown, text_of, told, turned, unfold, unseen, write, written)
 
 
 def spellings():
@@ -163,18 +163,11 @@ def wide_marks():
 
 
 def compared():
-    head = lambda: run("return [...document.querySelectorAll('#same strong, #same p')].map((it) => it.textContent)")
     push("tab-read")
     unfold("comparison")
     count.expect("same", head(),
                  ["Yes, they say the same.", "Their modules differ, but both have this one normal grid:"])
     count.expect("one normal grid", len(find("same").find_elements(By.TAG_NAME, "svg")), 1)
-    area = lambda slot: find(f"slot-{slot}").find_element(By.TAG_NAME, "textarea")
-
-    def fill(slot, text):
-        run("arguments[0].value = arguments[1]; arguments[0].dispatchEvent(new Event('input'))", area(slot), text)
-        settle()
-
     def take(slot):
         run("arguments[0].click()", find(f"slot-{slot}").find_element(By.TAG_NAME, "button"))
         settle()
