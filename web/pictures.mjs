@@ -28,7 +28,6 @@ import { ANY_TIME } from "./sampler.mjs";
     notes: string, left: number, width: number, height: number, view?: ImageBitmap }} Sights in a picture; how much of
     its time is left */
 const MOST_SAMPLED = 1.6e7; // pixels of what is looked at
-const BAND = 256; // rows of a picture that are drawn at once
 const SHOWN_LENGTH = 1024, LENGTH_OF_CODES = 1400; // pixels of the longer side: shown, and searched for other codes
 const MOST_TIME = 3000, TIME_OF_CODES = 200; // milliseconds for a picture, of which for other codes at least
 const MOST_SYMBOLS = 400, MOST_UNREAD = 8;
@@ -45,43 +44,33 @@ function sizeAt({ width, height }, share) {
 /** @type {(width: number, height: number) => any} */
 const penOf = (width, height) =>
   new OffscreenCanvas(width, height).getContext("2d", { willReadFrequently: true, alpha: false });
-// Draws a picture at a size, from a row of it on.
-/** @type {(pen: any, bitmap: ImageBitmap, size: { width: number, height: number }, top?: number) => void} */
-function draw(pen, bitmap, { width, height }, top = 0) {
+// A picture drawn at a size, on white paper where it is transparent. It is drawn once: each time takes WebKit as long,
+// however little of it is wanted.
+/** @type {(bitmap: ImageBitmap, size: { width: number, height: number }) => any} */
+function drawn(bitmap, { width, height }) {
+  const pen = penOf(width, height);
   [pen.imageSmoothingQuality, pen.fillStyle] = ["medium", "#fff"];
-  pen.fillRect(0, 0, width, height); // what is transparent is seen on white paper
-  pen.drawImage(bitmap, 0, -top, width, height);
+  pen.fillRect(0, 0, width, height);
+  pen.drawImage(bitmap, 0, 0, width, height);
+  return pen;
 }
-// The pixels of a picture, by bands of rows, which take little memory and time; if it is scaled, in one.
-/** @type {(bitmap: ImageBitmap, size: { width: number, height: number, scale: number }) => Generator<ImageData>} */
-function* bandsOf(bitmap, size) {
-  const { width, height, scale } = size, rows = Math.min(height, scale === 1 ? BAND : height);
-  const pen = penOf(width, rows);
-  for (let top = 0; top < height; top += rows) {
-    draw(pen, bitmap, size, top);
-    yield pen.getImageData(0, 0, width, Math.min(rows, height - top));
-  }
-}
-/** @type {(bitmap: ImageBitmap, size: { width: number, height: number, scale: number }) => Uint8Array} */
-function greyOf(bitmap, size) {
-  const grey = new Uint8Array(size.width * size.height);
-  let at = 0;
-  for (const band of bandsOf(bitmap, size)) {
-    grey.set(luminanceOf(band), at);
-    at += band.width * band.height;
-  }
-  return grey;
-}
-/** @type {(bitmap: ImageBitmap, size: { width: number, height: number, scale: number }) => boolean} */
-function isOneColour(bitmap, size) {
-  /** @type {number | undefined} */
-  let first;
-  for (const { data } of bandsOf(bitmap, size)) {
-    const pixels = new Uint32Array(data.buffer);
-    first ??= pixels[0];
-    if (pixels.some((pixel) => pixel !== first)) return false;
-  }
-  return true;
+const EVEN = 0xfefefefe, OPAQUE = 0xff000000; // of four bytes
+/** @type {(one: number, other: number) => number} */
+const mean = (one, other) => ((one & EVEN) >>> 1) + ((other & EVEN) >>> 1);
+// The picture as it is shown: where it is large, of every few pixels each way the mean of four.
+/** @type {(pen: any, pixels: Uint32Array, size: { width: number, height: number }) => ImageBitmap} */
+function viewOf(pen, pixels, { width, height }) {
+  const step = Math.ceil(Math.max(width, height) / SHOWN_LENGTH), half = step >> 1;
+  if (step === 1) return pen.canvas.transferToImageBitmap();
+  const across = Math.max(1, Math.floor(width / step)), down = Math.max(1, Math.floor(height / step));
+  const small = penOf(across, down), all = small.createImageData(across, down), to = new Uint32Array(all.data.buffer);
+  for (let r = 0, k = 0; r < down; r++)
+    for (let c = 0; c < across; c++, k++) {
+      const at = (r * width + c) * step, below = Math.min(at + half * width, pixels.length - 1 - half);
+      to[k] = mean(mean(pixels[at], pixels[at + half]), mean(pixels[below], pixels[below + half])) | OPAQUE;
+    }
+  small.putImageData(all, 0, 0);
+  return small.canvas.transferToImageBitmap();
 }
 // Spreads greys that differ little over the whole range; by how much they differed, and between which they are now.
 /** @type {(grey: Uint8Array) => { contrast: number, between: [number, number] }} */
@@ -95,12 +84,9 @@ function spread(grey) {
 /** @type {(bitmap: ImageBitmap, by: number) => Look} */
 function lookOf(bitmap, by) {
   const size = sizeAt(bitmap, Math.min(1, Math.sqrt(MOST_SAMPLED / (bitmap.width * bitmap.height))));
-  const grey = greyOf(bitmap, size), { contrast, between } = spread(grey);
-  const small = sizeAt(bitmap, Math.min(1, SHOWN_LENGTH / Math.max(bitmap.width, bitmap.height)));
-  const pen = penOf(small.width, small.height);
-  draw(pen, bitmap, small);
-  const view = pen.canvas.transferToImageBitmap();
-  const isOne = contrast === 0 && isOneColour(bitmap, size);
+  const pen = drawn(bitmap, size), picture = pen.getImageData(0, 0, size.width, size.height);
+  const pixels = new Uint32Array(picture.data.buffer), grey = luminanceOf(picture), { contrast, between } = spread(grey);
+  const isOne = contrast === 0 && pixels.every((pixel) => pixel === pixels[0]), view = viewOf(pen, pixels, size);
   return { ...size, scale: size.scale * by, grey, contrast, between, isOneColour: isOne, view };
 }
 /** @type {(look: Look) => string} */
