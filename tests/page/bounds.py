@@ -28,11 +28,9 @@ def much_is_refused():
         MANY_LINES,
     )
     count.expect("copied", copied, "")
-    for name, tab, area, said in (
-        ("slot-a", "tab-read", area_of("a"), lambda: text_of("slot-a")),
-        ("messages", "tab-make", find("messages"), lambda: text_of("sheet-hint")),
-        ("message", "tab-make", find("message"), lambda: text_of("message-hint")),
-    ):
+    for name, tab, area, said in (("slot-a", "tab-read", area_of("a"), lambda: text_of("slot-a")),
+                                  ("messages", "tab-make", find("messages"), lambda: text_of("sheet-hint")),
+                                  ("message", "tab-make", find("message"), lambda: text_of("message-hint"))):
         push(tab)
         before = area.get_attribute("value")
         taken = seconds_of(lambda: area.send_keys(Keys.CONTROL, "v", Keys.NULL))
@@ -101,15 +99,12 @@ def drawings():
     dots = "".join(f'<use href="#m" x="{c}" y="{r}"/>' for r, row in enumerate(large.split("\n"))
                    for c, module in enumerate(row) if module == "1")
     used = f'<defs><rect id="m" width="1" height="1"/></defs>{dots}'
-    paths = {
-        "rectangles": (svg_of(small), small),
-        "the largest": (svg_of(large), large),
-        "used modules": (svg_of(large, used), large),
-        "huge": (svg_of(small, size='width="90000" height="90000"'), small),
-        "tiny": (svg_of(small, size='width="14" height="14"'), small),
-        "without a size": (svg_of(small, size=" "), small),
-        "nested thrice": (svg_of(small, more=f'<g visibility="hidden">{nested(3)}</g>'), small),
-    }
+    paths = {"rectangles": (svg_of(small), small), "the largest": (svg_of(large), large),
+             "used modules": (svg_of(large, used), large),
+             "huge": (svg_of(small, size='width="90000" height="90000"'), small),
+             "tiny": (svg_of(small, size='width="14" height="14"'), small),
+             "without a size": (svg_of(small, size=" "), small),
+             "nested thrice": (svg_of(small, more=f'<g visibility="hidden">{nested(3)}</g>'), small)}
     for name, (body, text) in paths.items():
         taken, side = seconds_of(lambda: opened("drawing.svg", body)), text.index("\n")
         count.expect(f"a drawing of {name}",
@@ -128,21 +123,12 @@ def drawings():
         ("a chain", chain, many),
         ("layers", '<g opacity=".5"><path d="M0 0h1v1z"/></g>' * 400, many),
         ("texts", f'<defs><text id="t">{"word " * 1000}</text></defs>{USE_OF_TEXT * 20}', many),
-        (
-            "a filter",
-            "<filter id='f'/>",
-            "The drawing has an element ‘filter’, which isn’t drawn here. Save it as PNG, and open that.",
-        ),
-        (
-            "a picture",
-            '<image href="data:image/svg+xml,%3Csvg/%3E"/>',
-            "The drawing has an element ‘image’, which isn’t drawn here. Save it as PNG, and open that.",
-        ),
-        (
-            "styles",
-            "<style>path { filter: blur(9px) }</style>",
-            "The drawing has styles that aren’t drawn here. Save it as PNG, and open that.",
-        ),
+        ("a filter", "<filter id='f'/>",
+         "The drawing has an element ‘filter’, which isn’t drawn here. Save it as PNG, and open that."),
+        ("a picture", '<image href="data:image/svg+xml,%3Csvg/%3E"/>',
+         "The drawing has an element ‘image’, which isn’t drawn here. Save it as PNG, and open that."),
+        ("styles", "<style>path { filter: blur(9px) }</style>",
+         "The drawing has styles that aren’t drawn here. Save it as PNG, and open that."),
         ("no end", "<g>", "The file can’t be opened as a picture."),
     ):
         taken = seconds_of(lambda: opened("drawing.svg", svg_of(small, inner)))

@@ -190,11 +190,8 @@ def phones():
     push("tab-read", "example-c40")
     write("Hello")
     metrics(390, 844, True)
-    for task, acts in (
-        ("read", ["camera", "copy-message"]),
-        ("make", ["message", "save-png"]),
-        ("learn", ["to-limit"]),
-    ):
+    for task, acts in (("read", ["camera", "copy-message"]), ("make", ["message", "save-png"]),
+                       ("learn", ["to-limit"])):
         push(f"tab-{task}")
         run("scrollTo(0, 0)")
         ends = run(
@@ -234,14 +231,10 @@ def rows():
 
 def gs1():
     fine = "09506000134352"
-    for text, line in (
-        (f"(01){fine}(10)AB-42", f"\\F01{fine}10AB-42"),
-        (f"(10)AB-42(01){fine}", f"\\F10AB-42\\F01{fine}"),
-        ("(10)A\\x28B)\\x25", "\\F10A(B)%"),
-        ("(21)1(10)2(17)271231(37)5", "\\F211\\F102\\F1727123137" + "5"),
-        ("\\x2801)5", "(01)5"),
-        ("a(5)", "a(5)"),
-    ):
+    for text, line in ((f"(01){fine}(10)AB-42", f"\\F01{fine}10AB-42"),
+                       (f"(10)AB-42(01){fine}", f"\\F10AB-42\\F01{fine}"), ("(10)A\\x28B)\\x25", "\\F10A(B)%"),
+                       ("(21)1(10)2(17)271231(37)5", "\\F211\\F102\\F1727123137" + "5"), ("\\x2801)5", "(01)5"),
+                       ("a(5)", "a(5)")):
         write(text)
         count.expect(f"{text} as a symbol", grid(), written(line))
         agree(f"{text} read")
@@ -249,40 +242,26 @@ def gs1():
     count.expect(
         "table",
         rows(),
-        [
-            ["(01)", "GTIN", f"{fine} the check digit is right"],
-            ["(17)", "USE BY OR EXPIRY", "280200 the end of February 2028"],
-            ["(10)", "BATCH/LOT", "AB-42"],
-            ["(3103)", "NET WEIGHT (kg)", "001250 1.250"],
-        ],
+        [["(01)", "GTIN", f"{fine} the check digit is right"],
+         ["(17)", "USE BY OR EXPIRY", "280200 the end of February 2028"], ["(10)", "BATCH/LOT", "AB-42"],
+         ["(3103)", "NET WEIGHT (kg)", "001250 1.250"]],
     )
     count.expect("right", (shown()["state"], find("verdict").get_attribute("class")),
                  ("Read, as GS1 data", "card verdict good"))
-    for text, note in (
-        ("(3922)1099", "10.99"),
-        ("(3903)5", "0.005"),
-        ("(3912)978150", "1.50"),
-        ("(3930)978150", ""),
-        ("(3941)0125", "12.5"),
-        ("(3695)123456", "1.23456"),
-    ):
+    for text, note in (("(3922)1099", "10.99"), ("(3903)5", "0.005"), ("(3912)978150", "1.50"), ("(3930)978150", ""),
+                       ("(3941)0125", "12.5"), ("(3695)123456", "1.23456")):
         write(text)
         value = text.partition(")")[2]
         count.expect(f"decimals of {text}", rows()[0][2], f"{value} {note}".strip())
     write("(414)9506000134352")
     count.expect("a check digit over an even number of digits", (rows()[0][2], shown()["state"]),
                  ("9506000134352 the check digit is right", "Read, as GS1 data"))
-    for text, fault in (
-        ("(01)09506000134353", "wrong: the check digit 3 should be 2"),
-        ("(17)271301", "wrong: 13 is no month"),
-        ("(17)270230", "wrong: 30 is no day of that month"),
-        ("(01)0950600013435", "wrong: too short: 14 digits are due"),
-        ("(17)27AB01", "wrong: it has something other than digits"),
-        ("(11)271201(10)" + "A" * 21, "wrong: too long by 1 character"),
-        ("\\F0512", "wrong: unknown"),
-        ("\\F", "wrong: empty"),
-        ("(8010)ab", "wrong: it has a character that isn’t allowed here"),
-    ):
+    for text, fault in (("(01)09506000134353", "wrong: the check digit 3 should be 2"),
+                        ("(17)271301", "wrong: 13 is no month"), ("(17)270230", "wrong: 30 is no day of that month"),
+                        ("(01)0950600013435", "wrong: too short: 14 digits are due"),
+                        ("(17)27AB01", "wrong: it has something other than digits"),
+                        ("(11)271201(10)" + "A" * 21, "wrong: too long by 1 character"), ("\\F0512", "wrong: unknown"),
+                        ("\\F", "wrong: empty"), ("(8010)ab", "wrong: it has a character that isn’t allowed here")):
         write(text)
         said = " ".join(cell for row in rows() for cell in row)
         count.expect(f"{text[:20]} is wrong",
@@ -315,11 +294,8 @@ def links():
     second = grid()
     linked()
     address = on.page.current_url
-    for name, go in (
-        ("reload", on.page.refresh),
-        ("Back", lambda: (on.page.get("about:blank"), on.page.back())),
-        ("bookmark", lambda: (on.page.get("about:blank"), on.page.get(address))),
-    ):
+    for name, go in (("reload", on.page.refresh), ("Back", lambda: (on.page.get("about:blank"), on.page.back())),
+                     ("bookmark", lambda: (on.page.get("about:blank"), on.page.get(address)))):
         go()
         started()
         count.expect(f"{name}: the grid", (find("pane-read").is_displayed(), grid()), (True, second))

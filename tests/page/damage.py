@@ -19,8 +19,7 @@ def small_symbol():
                  run("return [...document.querySelectorAll('#facts dd, #facts dt')].map((it) => it.textContent)"),
                  ["modules", "10 × 10", "data codewords", "3", "check codewords", "5",
                   "wrong codewords can be corrected", "2", "symbology identifier", "]d1"])
-    count.expect("clean", [shown()[it] for it in ("state", "says", "why")],
-                 ["Read", "123456", ""])
+    count.expect("clean", [shown()[it] for it in ("state", "says", "why")], ["Read", "123456", ""])
     click(11)  # bit 1 of codeword 2
     agree("one module")
     count.expect("one module said", shown()["why"],
@@ -37,11 +36,9 @@ def small_symbol():
     count.expect(
         "three codewords said",
         (shown()["state"], shown()["why"], shown()["meters"][0]),
-        (
-            "Refused",
-            "More than 2 codewords are wrong. The 5 check codewords correct no more than that, and nothing is guessed.",
-            "more than 2 wrong, 2",
-        ),
+        ("Refused",
+         "More than 2 codewords are wrong. The 5 check codewords correct no more than that, and nothing is guessed.",
+         "more than 2 wrong, 2"),
     )
     count.expect("beyond correction by its pixels", drawn(10), grid())
     click(24)
@@ -229,12 +226,8 @@ def by_keys():
     find("words").send_keys(Keys.HOME, Keys.ARROW_RIGHT, Keys.ARROW_RIGHT)
     count.expect("codewords by keys", (text_of("about"), find("words").get_attribute("aria-activedescendant")),
                  ("Codeword 3 of 8: data. It is 186, 10111010. It stands for the digits 56.", "word-2"))
-    for key, tab in (
-        (Keys.ARROW_LEFT, "make"),
-        (Keys.ARROW_LEFT, "read"),
-        (Keys.ARROW_LEFT, "learn"),
-        (Keys.ARROW_RIGHT, "read"),
-    ):
+    for key, tab in ((Keys.ARROW_LEFT, "make"), (Keys.ARROW_LEFT, "read"), (Keys.ARROW_LEFT, "learn"),
+                     (Keys.ARROW_RIGHT, "read")):
         on.page.execute_script("document.getElementById(arguments[0]).focus()", f"tab-{task()}")
         on.page.switch_to.active_element.send_keys(key)
         panes = [find(f"pane-{each}").is_displayed() for each in ("read", "make", "learn")]

@@ -13,12 +13,10 @@ NOTHING = "Nothing is read"
 def misjoined():
     """What would be read otherwise than it is written, or begins no element, is said, and isn't taken; it can be
     respelled as plain text."""
-    for text, why in (
-        ("(01)0950600013435(21)0ABC", "(01) GTIN takes 14 digits, and has 13."),
-        ("(17)2712311(10)A", "(17) USE BY OR EXPIRY takes 6 digits, and has 7."),
-        ("(17)2712311", "(17) USE BY OR EXPIRY takes 6 digits, and has 7."),
-        ("(10)A\\F21B", "(10) BATCH/LOT has a separator in its value: FNC1 is put in where one is due."),
-    ):
+    for text, why in (("(01)0950600013435(21)0ABC", "(01) GTIN takes 14 digits, and has 13."),
+                      ("(17)2712311(10)A", "(17) USE BY OR EXPIRY takes 6 digits, and has 7."),
+                      ("(17)2712311", "(17) USE BY OR EXPIRY takes 6 digits, and has 7."),
+                      ("(10)A\\F21B", "(10) BATCH/LOT has a separator in its value: FNC1 is put in where one is due.")):
         write(text)
         count.expect(f"{text} isn't taken", (shown()["state"], text_of("message-hint").startswith(why)),
                      (NOTHING, True))
@@ -28,11 +26,8 @@ def misjoined():
         ("(05)123", "Column 1 begins (05), which is no identifier of GS1’s table.", "\\x2805)123"),
         ("[05]123", "Column 1 begins (05), which is no identifier of GS1’s table.", "\\x5B05]123"),
         ("(5)a", "Column 1 begins (5), which is no identifier of GS1’s table.", "\\x285)a"),
-        (
-            "(O1)09506000134352",
-            "Column 1 opens a bracket that holds no identifier, such as (01).",
-            "\\x28O1)09506000134352",
-        ),
+        ("(O1)09506000134352", "Column 1 opens a bracket that holds no identifier, such as (01).",
+         "\\x28O1)09506000134352"),
         ("(", "Column 1 opens a bracket that holds no identifier, such as (01).", "\\x28"),
         ("(01", "Column 1 opens a bracket that holds no identifier, such as (01).", "\\x2801"),
         ("(10)AB(17", "Column 7 opens a bracket that holds no identifier, such as (01).", "(10)AB\\x2817"),
@@ -46,14 +41,9 @@ def misjoined():
         count.expect(f"{text} respelled",
                      (find("message").get_attribute("value"), grid(), shown()["state"].split(",")[0]),
                      (plain, written(line), "Read"))
-    for text, line in (
-        ("(10)A\\(B)", "\\F10A(B)"),
-        ("(10)A\\x28B)", "\\F10A(B)"),
-        ("\\x28a)5", "(a)5"),
-        ("a(01)", "a(01)"),
-        ("[01]09506000134352[10]A(B)", "\\F010950600013435210A(B)"),
-        ("[a]5", "[a]5"),
-    ):
+    for text, line in (("(10)A\\(B)", "\\F10A(B)"), ("(10)A\\x28B)", "\\F10A(B)"), ("\\x28a)5", "(a)5"),
+                       ("a(01)", "a(01)"), ("[01]09506000134352[10]A(B)", "\\F010950600013435210A(B)"),
+                       ("[a]5", "[a]5")):
         write(text)
         count.expect(f"{text} is taken", (grid(), shown()["state"].split(",")[0]), (written(line), "Read"))
     write("123456")

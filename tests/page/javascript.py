@@ -90,9 +90,8 @@ def uses():
         "text": symbol("Gr\\xF6\\xDFe"),
         "bytes": symbol("Gr\\xC3\\xB6\\xC3\\x9Fe"),
         "gs1": said("10AB\x1d21C", GS1, True, [*b"10AB", 29, *b"21C"]),
-        "elements": [elements(each) for each in (
-            [("01", "09521234543213"), ("17", "251231"), ("10", "ABC123")], [("10", "A(B)"), ("21", "C")],
-            [("10", "A(01)B")])],
+        "elements": [elements(each) for each in ([("01", "09521234543213"), ("17", "251231"), ("10", "ABC123")],
+                                                 [("10", "A(B)"), ("21", "C")], [("10", "A(01)B")])],
         "no elements": [None] * 4,
         "elements in a picture": [elements([("10", "AB")])],
         "elements of parts": elements([("10", "AB")]),

@@ -164,11 +164,9 @@ def labels_printed():
 
 
 CSV = {
-    "headings of GS1": (
-        '(01);(17);10\n09506000134352;271231;AB-42\n09506000134352;;"x;""(1)"""\n',
-        ["\\F010950600013435217271231" + "10AB-42", "\\F0109506000134352" + '10x;"(1)"'],
-        ["(01)09506000134352(17)271231(10)AB-42", '(01)09506000134352(10)x;"\\(1)"'],
-    ),
+    "headings of GS1": ('(01);(17);10\n09506000134352;271231;AB-42\n09506000134352;;"x;""(1)"""\n',
+                        ["\\F010950600013435217271231" + "10AB-42", "\\F0109506000134352" + '10x;"(1)"'],
+                        ["(01)09506000134352(17)271231(10)AB-42", '(01)09506000134352(10)x;"\\(1)"']),
     "a column of messages": ('text,Message\nfirst,123\n"a, b","4""5"\n\n', ["123", '4"5'], ["first", "a, b"]),
     "identifiers with texts and copies": (
         "01,17,10,text,qty\n09506000134352,271231,AB-42,first,2\n09506000134352,,C,second,\n09506000134352,,D,none,0\n",
@@ -243,17 +241,15 @@ def by_columns():
         count.expect(f"{name}: symbols", symbols, [written(line) for line in lines])
         count.expect(f"{name}: texts", [each for *_, some in pages for each in some], texts)
     push("kind-message")
-    for text, why in (
-        ("(01)\n123", "Message 1: It isn’t right as GS1 data: (01) GTIN, too short: 14 digits are due."),
-        ("(01),(98)\n09506000134352,", ""),
-        ("message\n", "Enter headings, and below them a row for each message."),
-        ("message\ncaf\u00e9", "Message 1: column 4 is \u00e9, which has no spelling of its own"),
-        ("message,qty\nA,two", "Message 1: two is no number of copies."),
-        ("message,qty\nA,0", "Each row has 0 copies."),
-        ("message,qty\nA,9999\nB,2", "10,001 labels, and a list takes no more than 10,000."),
-        ("message,text\nA,1\n,2", "Message 2: its row has no message."),
-        ("message,qty\nA,1\nB,0", "1 symbol is in the PDF. 1 row wants 0 copies."),
-    ):
+    for text, why in (("(01)\n123", "Message 1: It isn’t right as GS1 data: (01) GTIN, too short: 14 digits are due."),
+                      ("(01),(98)\n09506000134352,", ""),
+                      ("message\n", "Enter headings, and below them a row for each message."),
+                      ("message\ncaf\u00e9", "Message 1: column 4 is \u00e9, which has no spelling of its own"),
+                      ("message,qty\nA,two", "Message 1: two is no number of copies."),
+                      ("message,qty\nA,0", "Each row has 0 copies."),
+                      ("message,qty\nA,9999\nB,2", "10,001 labels, and a list takes no more than 10,000."),
+                      ("message,text\nA,1\n,2", "Message 2: its row has no message."),
+                      ("message,qty\nA,1\nB,0", "1 symbol is in the PDF. 1 row wants 0 copies.")):
         put("messages", text)
         push("many-pdf")
         count.expect(f"{text!r} is said", text_of("sheet-hint"), why or "1 symbol is in the PDF.")
@@ -342,9 +338,8 @@ def asked_about_columns():
         (on.folder / "symbols.pdf").unlink()
     put("messages", "part,place\nA1,left")
     push("first-headings")
-    for column, role, why in ((0, "left out", "One column has to be the message."),
-                              (0, "message", ""), (1, "message", "One column has to be the message."),
-                              (1, "text", "")):
+    for column, role, why in ((0, "left out", "One column has to be the message."), (0, "message", ""),
+                              (1, "message", "One column has to be the message."), (1, "text", "")):
         run(CHOOSE, column, role)
         if find("columns-taken").is_displayed():
             push("columns-taken")
@@ -381,15 +376,13 @@ def labels_shown():
         push("labels-on")
     push("labels-back")
     count.expect_soon("and back", lambda: text_of("labels-shown"), "4 to 6 of 8")
-    for name, change in (
-        ("a line is added", lambda: put("messages", "\n".join([*lines, "one more"]))),
-        ("the lines become CSV", lambda: choose("lines-as", "csv")),
-        ("they become messages again", lambda: choose("lines-as", "messages")),
-        ("the text goes", lambda: run("document.getElementById('label-text').click()")),
-        ("it comes back", lambda: run("document.getElementById('label-text').click()")),
-        ("labels are chosen", lambda: choose("stock", "50x30")),
-        ("none are", lambda: choose("stock", "none")),
-    ):
+    for name, change in (("a line is added", lambda: put("messages", "\n".join([*lines, "one more"]))),
+                         ("the lines become CSV", lambda: choose("lines-as", "csv")),
+                         ("they become messages again", lambda: choose("lines-as", "messages")),
+                         ("the text goes", lambda: run("document.getElementById('label-text').click()")),
+                         ("it comes back", lambda: run("document.getElementById('label-text').click()")),
+                         ("labels are chosen", lambda: choose("stock", "50x30")),
+                         ("none are", lambda: choose("stock", "none"))):
         saved("symbols.pdf", "many-pdf") if name != "they become messages again" else None
         change()
         count.expect(f"what was given, when {name}", text_of("sheet-hint"), "")
@@ -600,13 +593,10 @@ def serial_numbers():
     wanted = [written(line) for line in lines() for _ in range(2)]
     count.expect("copies of each", ([rows for _, some, _ in pages for *_, rows in some], text_of("sheet-hint")),
                  (wanted, "14 symbols are in the PDF."))
-    for name, value, why in (
-        ("serial-first", "12a", "The first number has 1 to 30 digits."),
-        ("serial-first", "9", ""),
-        ("serial-count", "10001", "From 1 to 10,000 can be added."),
-        ("serial-count", "0", "From 1 to 10,000 can be added."),
-        ("serial-count", "10000", "10,007 lines, and no more than 10,000 are taken."),
-    ):
+    for name, value, why in (("serial-first", "12a", "The first number has 1 to 30 digits."), ("serial-first", "9", ""),
+                             ("serial-count", "10001", "From 1 to 10,000 can be added."),
+                             ("serial-count", "0", "From 1 to 10,000 can be added."),
+                             ("serial-count", "10000", "10,007 lines, and no more than 10,000 are taken.")):
         put(name, value)
         before = lines()
         if why:
@@ -729,11 +719,8 @@ def in_archives():
                  [([length] * 2, []) for length in lengths])
     run("document.getElementById('label-text').click()")
     ((size, [(x, y, module, rows)], texts),) = pages_of(saved("symbol-10.pdf", "save-pdf"))
-    count.expect(
-        "a PDF of one",
-        (size, round(x, 3), round(y, 3), round(module, 3), rows, texts),
-        ([5.6, 5.6], 0.8, 0.8, 0.4, written("123456"), []),
-    )
+    count.expect("a PDF of one", (size, round(x, 3), round(y, 3), round(module, 3), rows, texts),
+                 ([5.6, 5.6], 0.8, 0.8, 0.4, written("123456"), []))
     put("messages", "")
     paper_is("a4", "0.5")
 

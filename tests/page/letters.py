@@ -412,13 +412,11 @@ TOLD = "return mitsubadoor.mark.seen.told.map(({ brief }) => brief)"
 
 def told_of_marks():
     """Designators and heads in the codewords and in the lesson."""
-    for line, head, briefs in (
-        ("\\E{26}\\xC3\\xA9", None, ["ECI", "26", "+128", "\\xC3", "+128"]),
-        ("A\\E{200}B", None, ["A", "ECI", "200", "\u21b2", "B"]),
-        ("\\E{20000}B", None, ["ECI", "20000", "\u21b2", "\u21b2", "B"]),
-        ("AB", {"part": 2, "parts": 5, "file": [7, 9]}, ["SA", "2/5", "#7", "#9", "A", "B"]),
-        ("AB", "programming", ["RP", "A", "B"]),
-    ):
+    for line, head, briefs in (("\\E{26}\\xC3\\xA9", None, ["ECI", "26", "+128", "\\xC3", "+128"]),
+                               ("A\\E{200}B", None, ["A", "ECI", "200", "\u21b2", "B"]),
+                               ("\\E{20000}B", None, ["ECI", "20000", "\u21b2", "\u21b2", "B"]),
+                               ("AB", {"part": 2, "parts": 5, "file": [7, 9]}, ["SA", "2/5", "#7", "#9", "A", "B"]),
+                               ("AB", "programming", ["RP", "A", "B"])):
         push("tab-read")
         put("grid", written_in(line, "square", 0, head))
         count.expect(f"{line} {head}", run(TOLD)[: len(briefs)], briefs)

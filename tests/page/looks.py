@@ -78,13 +78,8 @@ def words_and_looks():
     find("message-hint").find_element(By.TAG_NAME, "button").click()
     settle()
     count.expect("so is one that begins no head", find("message").get_attribute("value"), "\\\\A{1/2}")
-    for text, name in (
-        ("a\u200bb", "the invisible character U+200B"),
-        ("a\u00a0b", "the invisible character U+00A0"),
-        ("a\x01b", "the control character U+0001"),
-        ("a\u20acb", "\u20ac"),
-        ("a\tb", "a tab"),
-    ):
+    for text, name in (("a\u200bb", "the invisible character U+200B"), ("a\u00a0b", "the invisible character U+00A0"),
+                       ("a\x01b", "the control character U+0001"), ("a\u20acb", "\u20ac"), ("a\tb", "a tab")):
         write(text)
         count.expect(f"{text!r} is named",
                      text_of("message-hint").startswith(f"Column 2 is {name}, which has no spelling of its own."), True)
@@ -93,12 +88,8 @@ def words_and_looks():
         count.expect(f"{len(text)} of {text[0]} are too long", f"It is {more} too long." in text_of("message-hint"),
                      True)
     write("123456")
-    for name, bad, good in (
-        ("millimetres", "0", "0.5"),
-        ("millimetres", "99", "0.5"),
-        ("border-limit", "-1", "2"),
-        ("border-limit", "70000", "2"),
-    ):
+    for name, bad, good in (("millimetres", "0", "0.5"), ("millimetres", "99", "0.5"), ("border-limit", "-1", "2"),
+                            ("border-limit", "70000", "2")):
         put(name, bad)
         marked = find(name).get_attribute("aria-invalid")
         put(name, good)

@@ -118,19 +118,8 @@ def fields(fragment):
 # ---- Random bursts
 
 BURSTS, WITH_WAITS, MOST_ACTS = 1000, 100, 8  # in each up to so many acts; in the last ones with waits between
-MESSAGES = [
-    "",
-    "12",
-    "123456",
-    "A1",
-    "7x",
-    "999999",
-    "0123456789",
-    "Ab1cd",
-    "hello",
-    "ABCDEFGH",
-    "1234567812345678",
-]  # of sides 10, 12 and 14
+MESSAGES = ["", "12", "123456", "A1", "7x", "999999", "0123456789", "Ab1cd", "hello", "ABCDEFGH",
+            "1234567812345678"]  # of sides 10, 12 and 14
 BYTES = "\\xE9\\xE8\\xEA"  # of which both profiles make other symbols
 SIZES = ["square", "square", "rectangle", "any", "8x18", "12x26", "24"]
 COLUMNS = (10, 12, 14, 18, 24, 26, 32)  # of all symbols that these make

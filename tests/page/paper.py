@@ -61,13 +61,9 @@ def printed_at_its_size():
     """On sheets and on labels each symbol has the size that is said, or it isn't printed, and that is said."""
     run("globalThis.printed = 0; window.print = () => { printed++; }")
     write("123456")
-    for name, millimetres, page in (
-        ("a4", "0.5", [210, 297]),
-        ("a4", "12.8", [210, 297]),
-        ("letter", "13.2", [215.9, 279.4]),
-        ("label", "0.5", [7, 7]),
-        ("label", "20", [280, 280]),
-    ):
+    for name, millimetres, page in (("a4", "0.5", [210, 297]), ("a4", "12.8", [210, 297]),
+                                    ("letter", "13.2", [215.9, 279.4]), ("label", "0.5", [7, 7]),
+                                    ("label", "20", [280, 280])):
         paper_is(name, millimetres)
         before = asked()
         push("print")
@@ -78,11 +74,8 @@ def printed_at_its_size():
                        for box in boxes], widths), (1, [page], [round(10 * float(millimetres), 2)]))
         count.expect(f"{millimetres} mm on {name}: it is said", text_of("print-size"),
                      f"{length_of(millimetres)} × {length_of(millimetres)} mm with 2 modules of quiet zone")
-    for name, millimetres, room in (
-        ("a4", "20", "A4 has room for 180 mm"),
-        ("a4", "12.9", "A4 has room for 180 mm"),
-        ("letter", "13.3", "Letter has room for 185.9 mm"),
-    ):
+    for name, millimetres, room in (("a4", "20", "A4 has room for 180 mm"), ("a4", "12.9", "A4 has room for 180 mm"),
+                                    ("letter", "13.3", "Letter has room for 185.9 mm")):
         paper_is(name, millimetres)
         before = asked()
         push("print")
@@ -123,12 +116,8 @@ def sheets():
     write("123456")
     for name, millimetres, text, why in (
         ("a4", "0.5", "12\n(01)0950600013435(21)0ABC", "Message 2: (01) GTIN takes 14 digits, and has 13."),
-        (
-            "a4",
-            "0.5",
-            "(01)09506000134353",
-            "Message 1: It isn’t right as GS1 data: (01) GTIN, the check digit 3 should be 2.",
-        ),
+        ("a4", "0.5", "(01)09506000134353",
+         "Message 1: It isn’t right as GS1 data: (01) GTIN, the check digit 3 should be 2."),
         ("a4", "0.5", "12\n(05)123", "Message 2: column 1 begins (05), which is no identifier of GS1’s table"),
         (
             "a4",

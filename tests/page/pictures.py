@@ -46,16 +46,14 @@ LIKEST = " What looks most like one is outlined, and listed with the reason."
 def pictures():
     push("tab-read")
     short, long = written("Mitsubadoor"), written("Pictures of larger symbols are opened too. " * 4)
-    for name, text, scale, around, light, dark, stand in [
-        ("a.png", short, 1, 0, 255, 0, (0, False, False)),
-        ("b.png", short, 3, 2, 255, 0, (0, False, False)),
-        ("c.png", short, 8, 4, 200, 90, (1, False, False)),
-        ("d.png", short, 5, 1, 255, 0, (2, True, False)),
-        ("e.png", short, 4, 3, 255, 0, (3, False, True)),
-        ("f.png", long, 1, 2, 255, 0, (0, False, False)),
-        ("g.png", long, 4, 2, 255, 0, (1, True, True)),
-        ("h.png", long, 2, 0, 255, 0, (2, False, False)),
-    ]:
+    for name, text, scale, around, light, dark, stand in [("a.png", short, 1, 0, 255, 0, (0, False, False)),
+                                                          ("b.png", short, 3, 2, 255, 0, (0, False, False)),
+                                                          ("c.png", short, 8, 4, 200, 90, (1, False, False)),
+                                                          ("d.png", short, 5, 1, 255, 0, (2, True, False)),
+                                                          ("e.png", short, 4, 3, 255, 0, (3, False, True)),
+                                                          ("f.png", long, 1, 2, 255, 0, (0, False, False)),
+                                                          ("g.png", long, 4, 2, 255, 0, (1, True, True)),
+                                                          ("h.png", long, 2, 0, 255, 0, (2, False, False))]:
         quarters, mirrored, inverted = stand
         grey = (dark, light) if inverted else (light, dark)
         said = opened(name, png(turned(text, quarters, mirrored, False).split("\n"), scale, around, *grey))
@@ -136,15 +134,12 @@ def other_codes():
     push("tab-read")
     code = "\n".join(f"{int(row, 16):024b}"[:21] for row in QR.split())
     told = "No symbol that can be read was found in the picture."
-    for name, scale, around, light, dark, quarters in (
-        ("as zint draws it", 4, 4, 255, 0, 0),
-        ("small and grey", 2, 2, 200, 90, 1),
-        ("large and upside down", 17, 1, 255, 0, 2),
-    ):
+    for name, scale, around, light, dark, quarters in (("as zint draws it", 4, 4, 255, 0, 0),
+                                                       ("small and grey", 2, 2, 200, 90, 1),
+                                                       ("large and upside down", 17, 1, 255, 0, 2)):
         rows = turned(code, quarters, False, False).split("\n")
         said = opened("qr.png", png(rows, scale, around, light, dark))
-        count.expect(f"a QR code {name}", said,
-                     f"qr.png: {told} It shows a QR code, which isn’t a Data Matrix symbol.")
+        count.expect(f"a QR code {name}", said, f"qr.png: {told} It shows a QR code, which isn’t a Data Matrix symbol.")
     without = code.split("\n")
     for row in range(7):  # without the pattern in the first corner
         without[row] = "0" * 7 + without[row][7:]

@@ -128,9 +128,8 @@ def all_symbols():
         count.expect("how many", (text_of("found-title"), text_of("found-hint")), ("6 symbols are read", ""))
         chosen = [says for says, _, is_chosen in listed if is_chosen == "true"]
         count.expect("one is at hand", chosen, [shown()["says"]])
-        far = [abs(one - other) for (_, points), (left, top), rows in zip(run(OUTLINED), places, grids)
-               for corner, wanted in zip(points, corners_of(left, top, 4 * len(rows), turn)) for one, other in
-               zip(corner, wanted)]
+        far = [abs(one - other) for (_, points), (left, top), rows in zip(run(OUTLINED), places, grids) for corner,
+               wanted in zip(points, corners_of(left, top, 4 * len(rows), turn)) for one, other in zip(corner, wanted)]
         count.expect(f"{name}: outlines", (len(far), [each for each in far if each > 2]), (48, []))
         view = run("const { width, height } = document.getElementById('view'); return [width, height]")
         count.expect("the picture", (find("scene").is_displayed(), view), (True, [430, 290]))

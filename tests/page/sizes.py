@@ -211,14 +211,10 @@ def at_an_angle():
     """Rectangles in pictures that stand at an angle, some of them mirrored or inverted."""
     push("tab-read")
     mirror, inverse = "mirrored left to right", "inverted, light for dark"
-    for name, line, degrees, how in (
-        ("12x36", "At an angle", 8, ""),
-        ("16x48", "A longer one at an angle", -20, ""),
-        ("8x32", "Rectangle", 5, ""),
-        ("16x36", "Mirrored", 12, mirror),
-        ("12x26", "Inverted", -7, inverse),
-        ("26x48", "Both of these", 100, f"{inverse}, and {mirror}"),
-    ):
+    for name, line, degrees, how in (("12x36", "At an angle", 8, ""), ("16x48", "A longer one at an angle", -20, ""),
+                                     ("8x32", "Rectangle", 5, ""), ("16x36", "Mirrored", 12, mirror),
+                                     ("12x26", "Inverted", -7, inverse),
+                                     ("26x48", "Both of these", 100, f"{inverse}, and {mirror}")):
         text = written_in(line, name)
         rows = turned(text, 0, mirror in how, inverse in how).split("\n")
         said = opened(f"{name}.png", slanted(rows, 9, degrees, 20 if inverse in how else 235))
@@ -313,11 +309,9 @@ def rectangles_are_compared():
     push("tab-read")
     unfold("comparison")
     one, same = written_in("Rectangle", "8x32"), "Yes, they say the same."
-    for a, b, wanted in (
-        (one, written_in("Rectangle", "square"), same),
-        (one, turned(written_in("Rectangle", "16x48"), 1, True, True), same),
-        (one, written_in("Rectangles", "8x32"), "No, they say different things."),
-    ):
+    for a, b, wanted in ((one, written_in("Rectangle", "square"), same),
+                         (one, turned(written_in("Rectangle", "16x48"), 1, True, True), same),
+                         (one, written_in("Rectangles", "8x32"), "No, they say different things.")):
         fill("a", a)
         fill("b", b)
         count.expect(f"{name_of(a)} and {name_of(b)}", head()[0], wanted)

@@ -49,15 +49,13 @@ def damaged(named, symbol, modules):
 
     none, last = [0] * blocks, blocks - 1
     one_more = lambda count: [count] * last + [count + 1]
-    return [
-        row("as it is written", none, none, read(0, 0)),
-        row("as much as can be", [limit] * blocks, none, read(limit, 0)),
-        row("one more", one_more(limit), none, refused(last)),
-        row("as many doubtful as can be", none, [checks] * blocks, read(0, checks)),
-        row("one more doubtful", none, one_more(checks), refused(last)),
-        row("one wrong and as many doubtful as can be", [1] * blocks, [checks - 2] * blocks, read(1, checks - 2)),
-        row("one wrong and one more doubtful", [1] * blocks, [checks - 1] * blocks, refused(0)),
-    ]
+    return [row("as it is written", none, none, read(0, 0)),
+            row("as much as can be", [limit] * blocks, none, read(limit, 0)),
+            row("one more", one_more(limit), none, refused(last)),
+            row("as many doubtful as can be", none, [checks] * blocks, read(0, checks)),
+            row("one more doubtful", none, one_more(checks), refused(last)),
+            row("one wrong and as many doubtful as can be", [1] * blocks, [checks - 2] * blocks, read(1, checks - 2)),
+            row("one wrong and one more doubtful", [1] * blocks, [checks - 1] * blocks, refused(0))]
 
 
 @needs.library

@@ -9,17 +9,15 @@ from tests.support.case import Case
 
 HERE, WEB = pathlib.Path(places.path("tests", "page")), pathlib.Path(places.path("web"))
 # Each a module, a text of it, and what stands there instead in a copy that has to be refused.
-WRONG = [
-    ("flow.mjs", "it.limit = limit;", "it.limits = limit;"),
-    ("link.mjs", 'fromLetters(fields.get("grid") ?? "")', "fromLetters(7)"),
-    ("order.mjs", "it.changed = own;", "it.changed = 'own';"),
-    ("gs1.mjs", "name: entry.name, items: value", "name: entry.title, items: value"),
-    ("paper.mjs", 'PAPERS[field("paper-size").value]', 'PAPERS[$("paper-size").value]'),
-    ("desk.mjs", "failed: messageOf(why) }", "failed: why.message }"),
-    ("pixels.mjs", "gridIn(dark, width, frame)", "gridIn(grey, frame, width)"),
-    ("state.mjs", "return { modules: there(this.modules),", "return { modules: this.modules,"),
-    ("pdf.mjs", "/** @type {(value: number) => string} */\n", ""),
-]
+WRONG = [("flow.mjs", "it.limit = limit;", "it.limits = limit;"),
+         ("link.mjs", 'fromLetters(fields.get("grid") ?? "")', "fromLetters(7)"),
+         ("order.mjs", "it.changed = own;", "it.changed = 'own';"),
+         ("gs1.mjs", "name: entry.name, items: value", "name: entry.title, items: value"),
+         ("paper.mjs", 'PAPERS[field("paper-size").value]', 'PAPERS[$("paper-size").value]'),
+         ("desk.mjs", "failed: messageOf(why) }", "failed: why.message }"),
+         ("pixels.mjs", "gridIn(dark, width, frame)", "gridIn(grey, frame, width)"),
+         ("state.mjs", "return { modules: there(this.modules),", "return { modules: this.modules,"),
+         ("pdf.mjs", "/** @type {(value: number) => string} */\n", "")]
 
 
 def said(folder):

@@ -21,11 +21,8 @@ def spellings():
             count.expect(name, grid(), line)
             agree(f"{name} read")
             count.expect(f"{name} isn't marked", find("message").get_attribute("aria-invalid"), None)
-    for text, spelt in (
-        ("caf\u00e9", {"as Latin-1": "caf\\xE9", "as UTF-8": "caf\\xC3\\xA9"}),
-        ("100 \u20ac", {"as UTF-8": "100 \\xE2\\x82\\xAC"}),
-        ("a\nb", {"as bytes": "a\\x0Ab"}),
-    ):
+    for text, spelt in (("caf\u00e9", {"as Latin-1": "caf\\xE9", "as UTF-8": "caf\\xC3\\xA9"}),
+                        ("100 \u20ac", {"as UTF-8": "100 \\xE2\\x82\\xAC"}), ("a\nb", {"as bytes": "a\\x0Ab"})):
         for way, wanted in spelt.items():
             write(text)
             buttons = {button.text: button for button in find("message-hint").find_elements(By.TAG_NAME, "button")}
@@ -73,15 +70,13 @@ def pasted():
     count.expect("EDIFACT", (shown()["state"], shown()["says"]), ("Read", "GOODS"))
     briefs = run("return mitsubadoor.mark.seen.told.map((it) => it.brief)")
     count.expect("codewords of EDIFACT", briefs, ["EDI", "GOOD", "↲", "↲", "S"])
-    for text, why in [
-        ("10\n1x0", "Row 1 has a character other than #, X, . and space."),
-        ("10\n12", "Row 2 has a character other than 0 and 1."),
-        ("111\n11", "Not a rectangle: row 1 has 3 modules, and row 2 has 2 modules."),
-        ("1\n0\n1", "There are 3 rows of 1 module, and no size has these, upright or on its side."),
-        ("11\n11", "There are 2 rows of 2 modules, and no size has these, upright or on its side."),
-        ("1" * 145, "More than 144 rows or 144 columns, and no symbol has as many."),
-        ("1\n" * 145, "More than 144 rows or 144 columns, and no symbol has as many."),
-    ]:
+    for text, why in [("10\n1x0", "Row 1 has a character other than #, X, . and space."),
+                      ("10\n12", "Row 2 has a character other than 0 and 1."),
+                      ("111\n11", "Not a rectangle: row 1 has 3 modules, and row 2 has 2 modules."),
+                      ("1\n0\n1", "There are 3 rows of 1 module, and no size has these, upright or on its side."),
+                      ("11\n11", "There are 2 rows of 2 modules, and no size has these, upright or on its side."),
+                      ("1" * 145, "More than 144 rows or 144 columns, and no symbol has as many."),
+                      ("1\n" * 145, "More than 144 rows or 144 columns, and no symbol has as many.")]:
         put("grid", text)
         count.expect(f"grid refused: {why}", (text_of("grid-hint"), find("grid").get_attribute("aria-invalid")),
                      (why, "true"))
