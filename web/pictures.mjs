@@ -85,7 +85,8 @@ function spread(grey) {
 function lookOf(bitmap, by) {
   const size = sizeAt(bitmap, Math.min(1, Math.sqrt(MOST_SAMPLED / (bitmap.width * bitmap.height))));
   const pen = drawn(bitmap, size), picture = pen.getImageData(0, 0, size.width, size.height);
-  const pixels = new Uint32Array(picture.data.buffer), grey = luminanceOf(picture), { contrast, between } = spread(grey);
+  const pixels = new Uint32Array(picture.data.buffer), grey = luminanceOf(picture);
+  const { contrast, between } = spread(grey);
   const isOne = contrast === 0 && pixels.every((pixel) => pixel === pixels[0]), view = viewOf(pen, pixels, size);
   return { ...size, scale: size.scale * by, grey, contrast, between, isOneColour: isOne, view };
 }
