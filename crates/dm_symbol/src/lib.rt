@@ -11,8 +11,8 @@
 //! said by [`ReadOptions`]: the [`Extent`], the limit of wrong border modules, and which modules are doubtful. How it
 //! is written is said by [`WriteOptions`]: the [`Profile`] and the [`SizeChoice`]. [`write_smallest_letter_to()`], and
 //! [`write_smallest_to()`] for items alone, write one than which no smaller symbol says the same, and
-//! [`restore_symbol_to()`] does the first steps of reading alone. A [`Dealing`] says how the check codewords of 144 x
-//! 144 were dealt into blocks, which some encoders do otherwise than the standard. Their results and the codewords
+//! [`restore_symbol_to()`] does the first steps of reading alone. A [`Dealing`] says how the check codewords of
+//! 144 x 144 were dealt into blocks, which some encoders do otherwise than the standard. Their results and codewords
 //! stand in targets, memory that the caller hands in and that serves any number of symbols. Each has a room; those that
 //! serve every symbol are [`Symbol`], [`SymbolWords`], [`LetterReading`] and [`SymbolInspection`].
 //!
