@@ -120,6 +120,9 @@ def checks_of_names():
         for name in sorted(set(QUOTED.findall(plain))):
             if re.fullmatch(r"\w+(?:::\w+)+|[a-z]\w*_\w+|[A-Z][a-z]\w+", name) and not name.startswith("rattle_"):
                 yield f"docs/{page}.md, name {name}", is_file(name) or all(part in words for part in name.split("::"))
+    for picture in re.findall(r"```text\n(.*?)```", text(places.path("docs", "MAP.md")), re.S):
+        for name in sorted(set(re.findall(r"\b[a-z]\w*_\w+", picture))):
+            yield f"docs/MAP.md, name {name} of a picture", name in words
 
 
 def checks_of_passages():
