@@ -115,11 +115,13 @@ def checks_of_names():
     found = [path for pattern in patterns
              for path in glob.glob(places.path(pattern), recursive=True) if os.path.isfile(path)]
     words = set().union(*(re.findall(r"\w+", text(path)) for path in found))
-    for page in ("DECISIONS", "MAP", "LIBRARY", "NOTATION", "GATE"):
-        plain = re.sub(r"```.*?```", "", text(places.path("docs", page + ".md")), flags=re.S)
+    pages = [places.path("docs", f"{name}.md") for name in ("DECISIONS", "MAP", "LIBRARY", "NOTATION", "GATE")]
+    for page in [*pages, *glob.glob(places.path("crates", "*", "README.md"))]:
+        plain = re.sub(r"```.*?```", "", text(page), flags=re.S)
         for name in sorted(set(QUOTED.findall(plain))):
             if re.fullmatch(r"\w+(?:::\w+)+|[a-z]\w*_\w+|[A-Z][a-z]\w+", name) and not name.startswith("rattle_"):
-                yield f"docs/{page}.md, name {name}", is_file(name) or all(part in words for part in name.split("::"))
+                is_there = is_file(name) or all(part in words for part in name.split("::"))
+                yield f"{os.path.relpath(page, places.TOP)}, name {name}", is_there
     for picture in re.findall(r"```text\n(.*?)```", text(places.path("docs", "MAP.md")), re.S):
         for name in sorted(set(re.findall(r"\b[a-z]\w*_\w+", picture))):
             yield f"docs/MAP.md, name {name} of a picture", name in words
