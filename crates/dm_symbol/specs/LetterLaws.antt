@@ -86,6 +86,12 @@ LightDoubtNormalisesLettersAlike =
     → NormalLetterResult extent profile modules None limit result
     → NormalLetterResult extent profile modules (Some doubtful) limit result
 
+-- What is read in the extent `Usual` is a message: it has neither a head nor marks.
+abbrev pub UsualLettersAreMessages : Type 0
+UsualLettersAreMessages =
+    (modules : SymbolView) (doubtful : Option SymbolView) (limit : ℕ) (letter : LetterView)
+    → ReadsLetter Usual modules doubtful limit letter → letter ≡ as_letter letter.items
+
 -- What is read in the extent `Usual` is read in `Wide` with the same result.
 abbrev pub WideReadsTheUsualLetter : Type 0
 WideReadsTheUsualLetter =

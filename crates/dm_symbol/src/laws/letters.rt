@@ -3,8 +3,8 @@
 
 ghost use Rattle.dm_symbol.specs.LetterLaws.{OneSymbolLetter, ReadLettersAreRight, LetterReadResultIsThere};
 ghost use Rattle.dm_symbol.specs.LetterLaws.{LetterReadResultIsOne, NormalLetterResultIsThere, NormalLetterResultIsOne};
-ghost use Rattle.dm_symbol.specs.LetterLaws.{WideReadsTheUsualLetter, AWrittenLetterIsThere, WrittenLetterIsRead};
-ghost use Rattle.dm_symbol.specs.LetterLaws.{WrittenSymbolsTellLetters, RoomForEachServesLetters};
+ghost use Rattle.dm_symbol.specs.LetterLaws.{UsualLettersAreMessages, WideReadsTheUsualLetter, AWrittenLetterIsThere};
+ghost use Rattle.dm_symbol.specs.LetterLaws.{WrittenLetterIsRead, WrittenSymbolsTellLetters, RoomForEachServesLetters};
 ghost use Rattle.dm_symbol.specs.LetterLaws.{MostRoomServesLetters, NormalLetterTwiceIsOnce};
 ghost use Rattle.dm_symbol.specs.LetterLaws.{EqualNormalSymbolsMeanEqualLetters, AMacroIsItsText};
 
@@ -61,6 +61,11 @@ pub fn equal_normal_symbols_mean_equal_letters()
 /// read, have equal normal symbols under one profile.
 pub fn a_macro_is_its_text()
     ensures { AMacroIsItsText }
+{}
+
+/// What is read in the usual extent is a message: it has neither a head nor marks.
+pub fn usual_letters_are_messages()
+    ensures { UsualLettersAreMessages }
 {}
 
 /// What is read as a letter in the usual extent has the same result in the wide one.
