@@ -131,13 +131,13 @@ extern "C" {
 
 /* The version of this interface. It changes when a program that was built with this file would no longer work with the
  * library. */
-#define ECC200_ABI 4
+#define ECC200_ABI 1
 
 /* The version of the library's interface, to be compared with ECC200_ABI if the library is loaded at run time. */
 uint16_t ecc200_abi(void);
 
 /* The version of the library, by Semantic Versioning: docs/LIBRARY.md says what may change with which number. */
-#define ECC200_VERSION "2.0.0"
+#define ECC200_VERSION "1.0.0"
 
 /* The same of the library that is linked or loaded. */
 const char *ecc200_version(void);

@@ -21,7 +21,7 @@ pub const ANY_LIMIT: u16 = 65535;
 // ecc200.h: end
 
 // ecc200.h: constants
-const ABI: u16 = 4;
+const ABI: u16 = 1;
 const MOST_MODULES: usize = 20736;
 const MOST_ITEMS: usize = 3123;
 const MOST_MARKS: usize = 779;

@@ -50,7 +50,7 @@ extern "C" {
 
 /* The version of this interface. It changes when a program that was built with this file would no longer work with the
  * library. */
-#define ECC200_SAMPLE_ABI 3
+#define ECC200_SAMPLE_ABI 1
 
 /* The version of the library's interface, to be compared with ECC200_SAMPLE_ABI if the library is loaded at run
  * time. */

@@ -1,6 +1,6 @@
 // What both the page and its worker know: numbers of the library's interface, and small helpers.
 
-export const ABI = 4, FNC1 = 256, BEYOND = 255;
+export const ABI = 1, FNC1 = 256, BEYOND = 255;
 export const MOST_ROWS = 144, MOST_COLUMNS = 144, MOST_ITEMS = 3123, MOST_MARKS = 779;
 export const SIZE_COUNT = 48;
 export const WIDE = 1, ASCII = 0, SHORTER = 1, SMALLEST = 2;

@@ -34,7 +34,7 @@ export const LAYOUT = {
 };
 export const SAMPLER = {
 // ecc200.h: sampler
-  ABI: 3,
+  ABI: 1,
   MOST_SIDE: 32767,
   USUAL_TIME: 1000,
   OK: 0,

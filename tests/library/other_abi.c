@@ -2,7 +2,7 @@
 #include <stddef.h>
 #include <stdint.h>
 
-uint16_t ecc200_abi(void) { return 1; }
+uint16_t ecc200_abi(void) { return 2; }
 const char *ecc200_version(void) { return "0.0.0"; }
 const char *ecc200_code_words(uint16_t code) { return code ? "a fault" : "no fault"; }
 uint16_t ecc200_usual_limit(uint16_t side) { return side; }

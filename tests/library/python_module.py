@@ -446,7 +446,7 @@ def loading_from(folder):
         done = subprocess.run(words, env=found, capture_output=True, text=True, cwd="/", check=False)
         return done.stdout.strip() or done.stderr.strip().split("\n")[-1]
 
-    wrong = f"has version 1 of the interface, but this module needs version {INTERFACE.abi}"
+    wrong = f"has version 2 of the interface, but this module needs version {INTERFACE.abi}"
     yield "the library that is named", loads(ECC200_LIBRARY=own), f"10 {own}"
     yield "another interface", loads(ECC200_LIBRARY=other), f"ImportError: {other} {wrong}"
     raised = loads(ECC200_LIBRARY="/nonexistent/libecc200.so").split(":")[0]

@@ -151,7 +151,7 @@ class JavaScript(Case):
         header = top / "sampler" / "ecc200_sample.h"
         text = header.read_text("utf-8")
         for old, new in (("    uint16_t rows, columns; ", "    uint16_t columns, rows; "),
-                         ("#define ECC200_SAMPLE_ABI 3", "#define ECC200_SAMPLE_ABI 4")):
+                         ("#define ECC200_SAMPLE_ABI 1", "#define ECC200_SAMPLE_ABI 2")):
             self.assertEqual(text.count(old), 1, old)
             header.write_text(text.replace(old, new), "utf-8")
             self.row(new, "web/layouts.mjs isn't what" in commands.said(check)[1], True)

@@ -130,7 +130,7 @@ pub extern "C" fn ecc200_usual_limit(rows: u16, columns: u16) -> u16
 /// Gives the version of the interface: `ECC200_ABI` of the header that declares it.
 #[unsafe(no_mangle)]
 pub extern "C" fn ecc200_abi() -> u16
-    ensures { result ≡ 4 }
+    ensures { result ≡ 1 }
 {
     ecc200_calls::abi()
 }

@@ -66,7 +66,7 @@ __all__ = ["ABI", "BorderLimit", "Code", "Corners", "End", "Extent", "FNC1", "Fi
            "version", "write"]
 
 # ecc200.h: constants
-ABI = 4
+ABI = 1
 _MOST_MODULES = 20736
 MOST_ITEMS = 3123
 _MOST_MARKS = 779
@@ -1145,7 +1145,7 @@ def letter_of(text: str, charset: Optional[str] = None) -> Tuple[bytes, Tuple[Ma
 
 # ---- Symbols in pictures, which the library ecc200_sample finds: the structs are those of ecc200_sample.h.
 
-_SAMPLE_ABI = 3
+_SAMPLE_ABI = 1
 _MOST_FOUND = 64  # symbols of one picture, unless a caller says otherwise
 _MOST_UNREAD = 32  # symbols of one picture that aren't read
 _ANY_TIME = 0xFFFFFFFF
