@@ -40,6 +40,7 @@ class Archives(Packed):
             for name in (SOURCES, PREBUILT):
                 with tarfile.open(os.path.join(OUT, f"{name}.tar.xz")) as file:
                     file.extractall(self.folder_here)
+            kind.bytecode = bytecode(self.prebuilt)
 
     def at(self, *path):
         return os.path.join(self.prebuilt, *path)
@@ -58,10 +59,10 @@ class Archives(Packed):
 
     def test_what_is_prebuilt(self):
         self.row("its checksums", check_sums(self.prebuilt), [])
-        self.row("bytecode in it", bytecode(self.prebuilt), [])
+        self.row("bytecode in it", self.bytecode, [])
         self.row("links in its documents that lead to nothing", broken_links(self.prebuilt), [])
         told = read(self.at("README.md")).decode()
-        self.holds("links in its README", told.count("](") > 15, f"there are {told.count('](')}")
+        self.holds("links in its README", told.count("](") > 9, f"there are {told.count('](')}")
         if self.has_all(("readelf", "dpkg-query"), "what the prebuilt files need"):
             libraries = glob.glob(f"{glob.escape(self.prebuilt)}/lib/*.so")
             needed = needed_packages([self.at("bin", "dm_sample"), *libraries])
