@@ -6,7 +6,9 @@ from tests.page import (bounds, conduct, damage, elements, endurance, everyone, 
                         tasks, texts)
 from tests.page.stage import Failed, count, forget, on, run, settle, take_time, text_of, to_top, unfold, wait_for
 
-# (the longest last)
+# The longest begin first, where parts are shared out.
+LONGEST = ["bursts", "without_growth", "texts_of_all_scripts", "photographs", "other_encoders", "sizes", "doubted",
+           "each_is_made", "sizes_by_shape", "marks_of_every_size", "in_all_ways", "much_damage"]
 PARTS = [everyone.one_file, damage.codewords, damage.by_keys, damage.dragged, damage.touched, damage.border,
          damage.fixed_square, damage.another_message, texts.pasted, pictures.pictures, pictures.other_codes,
          pictures.printed, texts.compared, pictures.saved, texts.spellings, damage.small_symbol,
@@ -15,6 +17,7 @@ PARTS = [everyone.one_file, damage.codewords, damage.by_keys, damage.dragged, da
          *sights.PARTS, *several.PARTS, *installed.PARTS, *sizes.PARTS, *letters.PARTS, *bounds.PARTS, damage.blocks,
          damage.sizes, *endurance.PARTS,
          damage.much_damage, *photographs.PARTS, texts.other_encoders, everyone.old_browser]
+PARTS.sort(key=lambda part: LONGEST.index(part.__name__) if part.__name__ in LONGEST else len(LONGEST))
 
 
 def load(file):
