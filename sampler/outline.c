@@ -6,7 +6,7 @@
 
 enum { LEAST_STEPS = 40, MOST_STEPS = 1 << 20, MOST_PENDING = 64 };
 enum { WORK_OF_A_STEP = 10, PIECES_AT_A_UNIT = 3 }; /* along an outline; of those that are passed over, to be joined */
-static const double BEND = 1.4; /* pixels by which a straight piece may leave its chord */
+static const double BEND = 1.4;                     /* pixels by which a straight piece may leave its chord */
 
 struct corner {
     int x, y;
@@ -14,17 +14,13 @@ struct corner {
 
 struct tracing {
     const struct plane *dark;
-    uint8_t *seen;           /* for each pixel, whether its left side was passed on the way up */
+    uint8_t *seen; /* for each pixel, whether its left side was passed on the way up */
     struct corner *path;
     int count, room;
     double least;
     struct limit *limit;
     struct lines *lines;
 };
-
-static bool is_dark(const struct plane *dark, int x, int y) {
-    return *pixel_of(dark, x, y) != 0;
-}
 
 static bool push(struct tracing *tracing, int x, int y) {
     if (tracing->count == tracing->room) {
@@ -39,30 +35,32 @@ static bool push(struct tracing *tracing, int x, int y) {
 }
 
 /* Goes around a dark area along the sides of its pixels, the area on the right, from the lower left corner of pixel (x,
- * y) upwards. */
+ * y) upwards. Behind the last corner of the path the first one stands once more. */
 static bool trace(struct tracing *tracing, int x, int y) {
-    static const int step_x[] = {0, 1, 0, -1}, step_y[] = {-1, 0, 1, 0};       /* up, right, down, left */
-    static const int left_x[] = {-1, 0, 0, -1}, left_y[] = {-1, -1, 0, 0};      /* the pixel ahead on the left */
-    static const int right_x[] = {0, 0, -1, -1}, right_y[] = {-1, 0, 0, -1};    /* the pixel ahead on the right */
+    ptrdiff_t row = (ptrdiff_t)tracing->dark->stride;
+    const int step_x[] = {0, 1, 0, -1}, step_y[] = {-1, 0, 1, 0}; /* up, right, down, left */
+    const ptrdiff_t step[] = {-row, 1, row, -1};
+    const ptrdiff_t left[] = {-row - 1, -row, 0, -1}, right[] = {-row, 0, -1, -row - 1}; /* the pixels ahead */
+    const uint8_t *at = pixel_of(tracing->dark, x, y + 1); /* the pixel to the lower right of the corner */
     int at_x = x, at_y = y + 1, way = 0;
     tracing->count = 0;
     do {
         if (way == 0)
             tracing->seen[(size_t)(at_y - 1) * (size_t)tracing->dark->width + (size_t)at_x] = 1;
-        at_x += step_x[way], at_y += step_y[way];
+        at_x += step_x[way], at_y += step_y[way], at += step[way];
         if (tracing->count < MOST_STEPS && !push(tracing, at_x, at_y))
             return false;
-        if (is_dark(tracing->dark, at_x + left_x[way], at_y + left_y[way]))
+        if (at[left[way]] != 0)
             way = (way + 3) % 4;
-        else if (!is_dark(tracing->dark, at_x + right_x[way], at_y + right_y[way]))
+        else if (at[right[way]] == 0)
             way = (way + 1) % 4;
     } while (at_x != x || at_y != y + 1 || way != 0);
     limit_spend(tracing->limit, WORK_OF_A_STEP * (int64_t)tracing->count);
-    return true;
+    return push(tracing, tracing->path[0].x, tracing->path[0].y) && tracing->count-- > 0;
 }
 
 static struct point place(const struct tracing *tracing, int k) {
-    struct corner corner = tracing->path[k % tracing->count];
+    struct corner corner = tracing->path[k];
     return point_at(corner.x, corner.y);
 }
 
@@ -119,13 +117,12 @@ static bool keep(struct lines *lines, struct line line) {
 
 /* Where the path from `first` to `last` is farthest from its chord, and how far. */
 static double farthest(const struct tracing *tracing, int first, int last, int *where) {
-    int count = tracing->count;
-    struct corner from = tracing->path[first % count], to = tracing->path[last % count];
+    struct corner from = tracing->path[first], to = tracing->path[last];
     int64_t chord_x = to.x - from.x, chord_y = to.y - from.y, most = 0;
     bool is_closed = chord_x == 0 && chord_y == 0;
     *where = (first + last) / 2;
     for (int k = first + 1; k < last; k++) {
-        struct corner at = tracing->path[k % count];
+        struct corner at = tracing->path[k];
         int64_t x = at.x - from.x, y = at.y - from.y, away = is_closed ? x * x + y * y : chord_x * y - chord_y * x;
         away = away < 0 ? -away : away;
         if (away > most)
@@ -211,9 +208,9 @@ struct range {
 static struct range range_around(double middle, double reach) {
     enum { SLACK = 2, MOST_REACH = 16000 };
     struct range all = {0, UINT16_MAX / 2};
-    return reach < MOST_REACH ? (struct range){(uint16_t)((int)(middle - reach) - SLACK),
-                                               (uint16_t)(2 * ((int)reach + SLACK) + 1)}
-                              : all;
+    return reach < MOST_REACH
+               ? (struct range){(uint16_t)((int)(middle - reach) - SLACK), (uint16_t)(2 * ((int)reach + SLACK) + 1)}
+               : all;
 }
 
 static int is_within(struct range range, uint16_t at) {
@@ -247,8 +244,9 @@ static struct line joined_from(const struct lines *lines, const struct starts *s
         const struct line *piece = &lines->items[k];
         if (!continues(&strip, piece))
             continue;
-        bool is_before = dot(strip.unit, difference(piece->from, joined.from)) < 0,
-             is_behind = dot(strip.unit, difference(piece->to, joined.to)) > 0;
+        bool is_before = dot(
+            strip.unit,
+            difference(piece->from, joined.from))<0, is_behind = dot(strip.unit, difference(piece->to, joined.to))> 0;
         if (is_before)
             joined.from = piece->from;
         if (is_behind)
