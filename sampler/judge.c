@@ -15,14 +15,13 @@ static const struct rule RULES[] = {
     {0.12, -0.25, true, 0, false},  {0.00, 0.00, false, 3, false},  {0.12, 0.00, false, 2, false},
     {0.12, 0.00, false, 4, false},  {0.12, 0.00, false, 0, true}};
 /* Those by which modules are told apart where some are doubtful. */
-static const struct rule DOUBT_RULES[] = {{0.00, 0.00, false, 0, false}, {0.12, 0.00, true, 0, false},
-                                          {0.00, 0.00, false, 3, false}, {0.12, 0.00, false, 0, true}};
+static const struct rule DOUBT_RULES[] = {{0.00, 0.00, false, 0, false},
+                                          {0.12, 0.00, true, 0, false},
+                                          {0.00, 0.00, false, 3, false},
+                                          {0.12, 0.00, false, 0, true}};
 /* That of the first guess where light has run from module to module. */
 static const struct rule SMEAR_RULE = {0.12, 0.00, true, 0, false};
-enum {
-    RULE_COUNT = sizeof RULES / sizeof *RULES,
-    DOUBT_RULE_COUNT = sizeof DOUBT_RULES / sizeof *DOUBT_RULES
-};
+enum { RULE_COUNT = sizeof RULES / sizeof *RULES, DOUBT_RULE_COUNT = sizeof DOUBT_RULES / sizeof *DOUBT_RULES };
 enum { CHECKS_OF_A_CORRECTION = 2 };
 /* Checks that tell a symbol with doubtful modules from chance, which meets each of them one time in 256. */
 enum { LEAST_EVIDENCE = 3 };
@@ -100,8 +99,9 @@ struct trials {
     const struct layout *layout;
     const struct warp *warp;
     ecc200_sample *best;
-    int best_cost;          /* -1: none was read yet */
-    double score;           /* of the placement */
+    int best_cost;   /* -1: none was read yet */
+    double score;    /* of the placement */
+    bool has_border; /* whether a candidate had a symbol's border */
 };
 
 /* Keeps the candidate, unless one with no more corrections is kept. */
@@ -178,6 +178,7 @@ static bool try_rules(struct trials *trials, const struct brightnesses *brightne
             continue;
         }
         bool has_border = trial->reading.fault.code != ECC200_BORDER;
+        trials->has_border |= has_border;
         if (RULES[k].around == 0)
             hand_on_refused(trials);
         if (!has_border || !is_square(layout->extent))
@@ -260,6 +261,14 @@ static bool try_doubt(struct trials *trials, const struct brightnesses *brightne
 }
 
 /* ---- The samplings of a placement */
+
+/* Tries modules by their darkest quarters, where gleams may lie across them. */
+static void try_gleams(struct trials *trials, struct brightnesses *brightnesses) {
+    if (trials->best_cost >= 0 || !trials->has_border || limit_reached(trials->judge->limit))
+        return;
+    take_darkest(brightnesses);
+    try_rules(trials, brightnesses, RULE_COUNT);
+}
 
 /* Fits each region by its own border. */
 static void try_regions(struct trials *trials, struct lie *lie, struct brightnesses *brightnesses) {
@@ -358,13 +367,14 @@ bool judge_placement(struct judge *judge, const struct placement *placement, ecc
     }
     if (was_tried(&judge->tried, &smeared.at))
         return false;
-    struct trials trials = {judge, layout, &warp, out, -1, share};
+    struct trials trials = {judge, layout, &warp, out, -1, share, false};
     struct brightnesses brightnesses;
     struct lie lie = {.region = layout->extent, .warps = {warp}};
     spend(judge, layout, WORK_OF_SAMPLING);
     sample_modules(judge->picture, layout, &lie, &brightnesses);
     if (!try_rules(&trials, &brightnesses, RULE_COUNT))
         return false;
+    try_gleams(&trials, &brightnesses);
     try_regions(&trials, &lie, &brightnesses);
     try_bent(&trials, &lie, &brightnesses);
     if (trials.best_cost < 0 && !judge->is_thick)
@@ -390,7 +400,7 @@ bool judge_smeared(struct judge *judge, const struct smeared *smeared, ecc200_sa
         judge->has_no_memory = true;
     if (layout == NULL || shorter_side(smeared->at.extent) < judge->least_side)
         return false;
-    struct trials trials = {judge, layout, &smeared->warp, out, -1, smeared->score};
+    struct trials trials = {judge, layout, &smeared->warp, out, -1, smeared->score, false};
     struct lie lie = {.region = smeared->at.extent, .warps = {smeared->warp}};
     struct brightnesses brightnesses;
     spend(judge, layout, WORK_OF_SAMPLING + WORK_OF_A_RULE + 2 * WORK_OF_READING);

@@ -1,8 +1,9 @@
 #include "sampling.h"
 
 #include <math.h>
+#include <string.h>
 
-enum { POINTS = 4 };
+enum { POINTS = 4, QUARTERS = 4 };
 static const double FIRST = -0.27, APART = 0.18; /* modules: where the points of a module are */
 static const double LEAST_AROUND = 0.15; /* of the contrast of the symbol, below which a window shows one colour only */
 
@@ -13,14 +14,22 @@ void sample_modules(const struct plane *plane, const struct layout *layout, cons
     for (int row = 0; row < high; row++)
         for (int column = 0; column < wide; column++) {
             const struct warp *warp = &lie->warps[row / lie->region.high * across + column / lie->region.wide];
-            double total = 0;
+            double quarters[QUARTERS] = {0};
             for (int k = 0; k < POINTS * POINTS; k++) {
-                double right = column + 0.5 + FIRST + APART * (k % POINTS),
-                       down = row + 0.5 + FIRST + APART * (k / POINTS);
-                total += brightness(plane, warp_point(warp, right, down));
+                int x = k % POINTS, y = k / POINTS;
+                struct point at = warp_point(warp, column + 0.5 + FIRST + APART * x, row + 0.5 + FIRST + APART * y);
+                quarters[2 * (y / 2) + x / 2] += brightness(plane, at);
             }
-            out->of[row * wide + column] = (float)(total / (POINTS * POINTS));
+            double darkest = fmin(fmin(quarters[0], quarters[1]), fmin(quarters[2], quarters[3]));
+            out->of[row * wide + column] =
+                (float)((quarters[0] + quarters[1] + quarters[2] + quarters[3]) / (POINTS * POINTS));
+            out->darkest[row * wide + column] = (float)(darkest * QUARTERS / (POINTS * POINTS));
         }
+}
+
+void take_darkest(struct brightnesses *brightnesses) {
+    size_t count = (size_t)brightnesses->extent.wide * (size_t)brightnesses->extent.high;
+    memcpy(brightnesses->of, brightnesses->darkest, count * sizeof *brightnesses->of);
 }
 
 /* A level of brightness that changes evenly over the symbol: a + b x + c y, from -0.5 to 0.5. */
@@ -54,7 +63,7 @@ static bool fit_level(const float *of, struct extent extent, const uint8_t *clas
     struct sums sums = {0};
     for (int row = 0; row < extent.high; row++) {
         double y = place_of(extent.high, row);
-        for (int column = 0; column < extent.wide; column++, of++, class++) {
+        for (int column = 0; column < extent.wide; column++, of++, class ++) {
             double x = place_of(extent.wide, column);
             if (*class == wanted && (before == NULL || fabs(*of - before->a - before->b * x - before->c * y) <= most))
                 add_module(&sums, x, y, *of);
