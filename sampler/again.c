@@ -28,16 +28,23 @@ static bool turn_to(struct search *search, const struct plane *picture) {
 
 /* Searches what a picture was made into, of which `scale` pixels are one of it, for symbols that weren't found. The
  * plane is freed. */
-static void search_remade(struct search *search, struct plane *remade, int scale) {
+static void search_remade(struct search *search, struct plane *remade, int scale, enum depth depth) {
     struct unread *unread = &search->judge.unread;
     scale_symbols(search->found, search->count, scale);
     scale_symbols(unread->items, unread->count, scale);
     if (turn_to(search, remade))
-        search_picture(search, remade, BY_SHAPE);
+        search_picture(search, remade, depth);
     else
         plane_free(remade);
     scale_symbols(search->found, search->count, 1.0 / scale);
     scale_symbols(unread->items, unread->count, 1.0 / scale);
+}
+
+/* The picture as it is. */
+static bool as_it_is(const struct plane *picture, struct limit *limit, struct plane *out) {
+    (void)limit;
+    *out = *picture;
+    return true;
 }
 
 /* The picture flat, and then twice as large. */
@@ -61,15 +68,18 @@ static bool is_drawn(const struct plane *picture) {
     return is_of_two;
 }
 
-/* What pictures are made into, how many pixels of that are one of the picture, how much work that is worth, and which
- * pictures are. */
+/* What pictures are made into, how many pixels of that are one of the picture, how it is searched, how much work that is
+ * worth, and which pictures are. */
 static const struct {
     bool (*make)(const struct plane *picture, struct limit *limit, struct plane *out);
-    int scale, percent, most_pixels; /* percent of the usual work */
+    int scale;
+    enum depth depth;
+    int percent, most_pixels;          /* percent of the usual work */
     bool is_for_drawings, is_for_more; /* of drawings only; also where something has been found */
-} LOOKS[] = {{plane_flatten, 1, 50, INT32_MAX, false, true},
-             {flat_doubled, 2, 30, MOST_DOUBLED, false, false},
-             {plane_join_dots, JOINED, 50, MOST_JOINED, true, false}};
+} LOOKS[] = {{plane_flatten, 1, BY_SHAPE, 50, INT32_MAX, false, true},
+             {as_it_is, 1, BY_BORDERS, 30, INT32_MAX, false, true},
+             {flat_doubled, 2, BY_SHAPE, 30, MOST_DOUBLED, false, false},
+             {plane_join_dots, JOINED, BY_SHAPE, 50, MOST_JOINED, true, false}};
 
 /* Looks at a picture in one of these ways, if it is of those. */
 static void look_again(struct search *search, const struct plane *picture, size_t k) {
@@ -83,7 +93,7 @@ static void look_again(struct search *search, const struct plane *picture, size_
     bool is_made = LOOKS[k].make(picture, limit, &remade);
     note_lack(search, is_made);
     if (is_made)
-        search_remade(search, &remade, LOOKS[k].scale);
+        search_remade(search, &remade, LOOKS[k].scale, LOOKS[k].depth);
 }
 
 void search_anew(struct search *search, const struct plane *picture) {

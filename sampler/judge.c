@@ -15,13 +15,14 @@ static const struct rule RULES[] = {
     {0.12, -0.25, true, 0, false},  {0.00, 0.00, false, 3, false},  {0.12, 0.00, false, 2, false},
     {0.12, 0.00, false, 4, false},  {0.12, 0.00, false, 0, true}};
 /* Those by which modules are told apart where some are doubtful. */
-static const struct rule DOUBT_RULES[] = {{0.00, 0.00, false, 0, false},
-                                          {0.12, 0.00, true, 0, false},
-                                          {0.00, 0.00, false, 3, false},
-                                          {0.12, 0.00, false, 0, true}};
+static const struct rule DOUBT_RULES[] = {{0.00, 0.00, false, 0, false}, {0.12, 0.00, true, 0, false},
+                                          {0.00, 0.00, false, 3, false}, {0.12, 0.00, false, 0, true}};
 /* That of the first guess where light has run from module to module. */
 static const struct rule SMEAR_RULE = {0.12, 0.00, true, 0, false};
-enum { RULE_COUNT = sizeof RULES / sizeof *RULES, DOUBT_RULE_COUNT = sizeof DOUBT_RULES / sizeof *DOUBT_RULES };
+enum {
+    RULE_COUNT = sizeof RULES / sizeof *RULES,
+    DOUBT_RULE_COUNT = sizeof DOUBT_RULES / sizeof *DOUBT_RULES
+};
 enum { CHECKS_OF_A_CORRECTION = 2 };
 /* Checks that tell a symbol with doubtful modules from chance, which meets each of them one time in 256. */
 enum { LEAST_EVIDENCE = 3 };
@@ -99,9 +100,9 @@ struct trials {
     const struct layout *layout;
     const struct warp *warp;
     ecc200_sample *best;
-    int best_cost;   /* -1: none was read yet */
-    double score;    /* of the placement */
-    bool has_border; /* whether a candidate had a symbol's border */
+    int best_cost;          /* -1: none was read yet */
+    double score;           /* of the placement */
+    bool has_border;        /* whether a candidate had a symbol's border */
 };
 
 /* Keeps the candidate, unless one with no more corrections is kept. */

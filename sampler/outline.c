@@ -6,7 +6,7 @@
 
 enum { LEAST_STEPS = 40, MOST_STEPS = 1 << 20, MOST_PENDING = 64 };
 enum { WORK_OF_A_STEP = 10, PIECES_AT_A_UNIT = 3 }; /* along an outline; of those that are passed over, to be joined */
-static const double BEND = 1.4;                     /* pixels by which a straight piece may leave its chord */
+static const double BEND = 1.4; /* pixels by which a straight piece may leave its chord */
 
 struct corner {
     int x, y;
@@ -14,7 +14,7 @@ struct corner {
 
 struct tracing {
     const struct plane *dark;
-    uint8_t *seen; /* for each pixel, whether its left side was passed on the way up */
+    uint8_t *seen;           /* for each pixel, whether its left side was passed on the way up */
     struct corner *path;
     int count, room;
     double least;
@@ -208,9 +208,9 @@ struct range {
 static struct range range_around(double middle, double reach) {
     enum { SLACK = 2, MOST_REACH = 16000 };
     struct range all = {0, UINT16_MAX / 2};
-    return reach < MOST_REACH
-               ? (struct range){(uint16_t)((int)(middle - reach) - SLACK), (uint16_t)(2 * ((int)reach + SLACK) + 1)}
-               : all;
+    return reach < MOST_REACH ? (struct range){(uint16_t)((int)(middle - reach) - SLACK),
+                                               (uint16_t)(2 * ((int)reach + SLACK) + 1)}
+                              : all;
 }
 
 static int is_within(struct range range, uint16_t at) {
@@ -244,9 +244,8 @@ static struct line joined_from(const struct lines *lines, const struct starts *s
         const struct line *piece = &lines->items[k];
         if (!continues(&strip, piece))
             continue;
-        bool is_before = dot(
-            strip.unit,
-            difference(piece->from, joined.from))<0, is_behind = dot(strip.unit, difference(piece->to, joined.to))> 0;
+        bool is_before = dot(strip.unit, difference(piece->from, joined.from)) < 0,
+             is_behind = dot(strip.unit, difference(piece->to, joined.to)) > 0;
         if (is_before)
             joined.from = piece->from;
         if (is_behind)

@@ -208,7 +208,7 @@ enum { STRIP = 64, DIRECTIONS = 4, GAIN = 3 };
 /* Some rows of a plane, with a rim of the nearest pixels, and room for what comes of them. */
 struct strip {
     int wide, rim, rows;
-    size_t count;              /* pixels, the rim included */
+    size_t count; /* pixels, the rim included */
     uint8_t *kept, *lines[2];
 };
 
@@ -307,15 +307,27 @@ bool plane_dots(const struct plane *from, int reach, struct limit *limit, struct
 
 /* ---- Darker than the surroundings: than the middle between the lightest and the darkest pixel of the tiles around. */
 
-enum { TILE = 8, LEAST_CONTRAST = 24 };
-
-static int tiles_in(int pixels) {
-    return (pixels + TILE - 1) / TILE;
-}
+enum { LEAST_CONTRAST = 24, SHARE_OF_MOST = 10 }; /* levels of 255; one of so many of the contrast near by */
 
 struct range {
     uint8_t least, most;
 };
+
+/* The least and the most of all tiles of a plane, row by row, then those of the squares of tiles around each, and room
+ * for a row. */
+struct tiles {
+    struct surroundings by;
+    int across, down;
+    struct range *ranges, *squares, *columns;
+};
+
+static bool tiles_make(const struct plane *from, struct surroundings by, struct tiles *out) {
+    *out = (struct tiles){by, (from->width + by.tile - 1) / by.tile, (from->height + by.tile - 1) / by.tile, 0, 0, 0};
+    size_t across = (size_t)out->across, count = across * (size_t)out->down;
+    out->ranges = malloc((2 * count + across) * sizeof *out->ranges);
+    out->squares = out->ranges + count, out->columns = out->squares + count;
+    return out->ranges != NULL;
+}
 
 /* What a row of tiles shows in each column of pixels. */
 struct columns {
@@ -330,63 +342,84 @@ static void widen(const uint8_t *restrict row, int width, uint8_t *restrict leas
     }
 }
 
-static struct range range_of(const struct columns *columns, int tile) {
-    struct range range = {255, 0};
-    for (int x = tile * TILE; x < (tile + 1) * TILE; x++) {
-        range.least = least_of(range.least, columns->least[x]);
-        range.most = most_of(range.most, columns->most[x]);
-    }
-    return range;
+static struct range both_of(struct range one, struct range other) {
+    return (struct range){least_of(one.least, other.least), most_of(one.most, other.most)};
 }
 
 /* The ranges of a row of tiles. */
-static void find_row(const struct plane *from, int row, int across, const struct columns *columns,
-                     struct range *ranges) {
-    memset(columns->least, 255, (size_t)across * TILE);
-    memset(columns->most, 0, (size_t)across * TILE);
-    for (int y = row * TILE; y < (row + 1) * TILE && y < from->height; y++)
+static void find_row(const struct plane *from, const struct tiles *tiles, int row, const struct columns *columns) {
+    int side = tiles->by.tile, last = (row + 1) * side < from->height ? (row + 1) * side : from->height;
+    struct range *ranges = tiles->ranges + (size_t)row * (size_t)tiles->across;
+    size_t wide = (size_t)(tiles->across * side);
+    memset(columns->least, 255, wide);
+    memset(columns->most, 0, wide);
+    for (int y = row * side; y < last; y++)
         widen(pixel_of(from, 0, y), from->width, columns->least, columns->most);
-    for (int tile = 0; tile < across; tile++)
-        ranges[tile] = range_of(columns, tile);
+    for (int tile = 0; tile < tiles->across; tile++) {
+        ranges[tile] = (struct range){255, 0};
+        for (int x = tile * side; x < (tile + 1) * side; x++)
+            ranges[tile] = both_of(ranges[tile], (struct range){columns->least[x], columns->most[x]});
+    }
 }
 
-static bool find_ranges(const struct plane *from, struct limit *limit, int across, int down, struct range *ranges) {
-    uint8_t *room = malloc(2 * (size_t)across * TILE);
+static bool find_ranges(const struct plane *from, struct limit *limit, const struct tiles *tiles) {
+    size_t wide = (size_t)(tiles->across * tiles->by.tile);
+    uint8_t *room = malloc(2 * wide);
     int row = 0;
-    for (; room != NULL && row < down && leaves(limit, row * TILE, from->width); row++)
-        find_row(from, row, across, &(struct columns){room, room + (size_t)across * TILE},
-                 ranges + (size_t)row * (size_t)across);
+    for (; room != NULL && row < tiles->down && leaves(limit, row * tiles->by.tile, from->width); row++)
+        find_row(from, tiles, row, &(struct columns){room, room + wide});
     free(room);
-    return row == down;
+    return row == tiles->down;
 }
-
-/* The least and the most of all tiles of a plane, row by row, and how many tiles around one are its surroundings. */
-struct tiles {
-    int across, down, around;
-    struct range *ranges;
-};
 
 /* The range of some ranges, `step` after one another: of those from `first` to `last` that are there. */
 static struct range joined(const struct range *ranges, size_t step, int first, int last, int count) {
     struct range all = {255, 0};
-    for (int k = first < 0 ? 0 : first; k <= last && k < count; k++) {
-        struct range one = ranges[(size_t)k * step];
-        all = (struct range){least_of(all.least, one.least), most_of(all.most, one.most)};
-    }
+    for (int k = first < 0 ? 0 : first; k <= last && k < count; k++)
+        all = both_of(all, ranges[(size_t)k * step]);
     return all;
 }
 
-/* The ranges of the surroundings of a row of tiles, but for those of its rows: of each column of tiles around it. */
-static void join_columns(const struct tiles *tiles, int row, struct range *out) {
+/* The ranges of the squares of tiles around all tiles. */
+static void join_squares(const struct tiles *tiles) {
     size_t across = (size_t)tiles->across;
-    for (size_t column = 0; column < across; column++)
-        out[column] = joined(tiles->ranges + column, across, row - tiles->around, row + tiles->around, tiles->down);
+    int around = tiles->by.around;
+    for (int row = 0; row < tiles->down; row++) {
+        for (size_t column = 0; column < across; column++)
+            tiles->columns[column] = joined(tiles->ranges + column, across, row - around, row + around, tiles->down);
+        for (int column = 0; column < tiles->across; column++)
+            tiles->squares[(size_t)row * across + (size_t)column] =
+                joined(tiles->columns, 1, column - around, column + around, tiles->across);
+    }
 }
 
-/* The pixels of a tile below this are dark. `columns`: what join_columns makes of its row. */
-static uint8_t limit_of(const struct tiles *tiles, const struct range *columns, int column) {
-    struct range all = joined(columns, 1, column - tiles->around, column + tiles->around, tiles->across);
-    return (uint8_t)(all.most - all.least < LEAST_CONTRAST ? 0 : (all.most + all.least) / 2);
+static int contrast_of(struct range range) {
+    return range.most - range.least;
+}
+
+/* Of the squares that a tile lies in, and that show enough, the one whose lightest pixel is darkest. */
+static struct range darkest_of(const struct tiles *tiles, int row, int column) {
+    int around = tiles->by.around, first = column < around ? 0 : column - around, contrast = 0;
+    int last = column + around < tiles->across ? column + around : tiles->across - 1;
+    struct range best = {255, 255};
+    for (int round = 0; round < 2; round++)
+        for (int y = row < around ? 0 : row - around; y <= row + around && y < tiles->down; y++) {
+            const struct range *squares = tiles->squares + (size_t)y * (size_t)tiles->across;
+            for (int x = first; x <= last; x++)
+                if (round == 0)
+                    contrast = contrast_of(squares[x]) > contrast ? contrast_of(squares[x]) : contrast;
+                else if (squares[x].most < best.most && contrast_of(squares[x]) >= LEAST_CONTRAST &&
+                         contrast_of(squares[x]) * SHARE_OF_MOST >= contrast)
+                    best = squares[x];
+        }
+    return best;
+}
+
+/* The pixels of a tile below this are dark. */
+static uint8_t limit_of(const struct tiles *tiles, int row, int column) {
+    struct range all = tiles->by.is_darkest ? darkest_of(tiles, row, column)
+                                            : tiles->squares[(size_t)row * (size_t)tiles->across + (size_t)column];
+    return (uint8_t)(contrast_of(all) < LEAST_CONTRAST ? 0 : (all.most + all.least) / 2);
 }
 
 /* Marks what is dark in a row of pixels, by a limit for each. */
@@ -395,34 +428,28 @@ static void mark_row(const uint8_t *restrict row, const uint8_t *restrict limits
         to[x] = row[x] < limits[x];
 }
 
-/* The limits of the pixels of a row of tiles. `columns` has room for a range for each. */
-static void find_limits(const struct tiles *tiles, int row, struct range *columns, uint8_t *limits) {
-    join_columns(tiles, row, columns);
-    for (int column = 0; column < tiles->across; column++)
-        memset(limits + column * TILE, limit_of(tiles, columns, column), TILE);
-}
-
-/* Marks what is dark by the limits of the tiles. `limits` has room for those of a row, `columns` for a range for each
- * of its tiles; `to` is light all over. */
-static bool mark_dark(const struct plane *from, struct limit *limit, const struct tiles *tiles, struct range *columns,
-                      uint8_t *limits, uint8_t *to, size_t stride) {
+/* Marks what is dark by the limits of the tiles. `limits` has room for those of a row; `to` is light all over. */
+static bool mark_dark(const struct plane *from, struct limit *limit, const struct tiles *tiles, uint8_t *limits,
+                      uint8_t *to, size_t stride) {
+    enum { WORK_OF_THE_DARKEST = 4 }; /* for a pixel */
+    int side = tiles->by.tile, width = from->width, work = tiles->by.is_darkest ? WORK_OF_THE_DARKEST * width : width;
     int y = 0;
-    for (; y < from->height && leaves(limit, y, from->width); y++, to += stride) {
-        if (y % TILE == 0)
-            find_limits(tiles, y / TILE, columns, limits);
-        mark_row(pixel_of(from, 0, y), limits, from->width, to);
+    for (; y < from->height && leaves(limit, y, work); y++, to += stride) {
+        for (int column = 0; y % side == 0 && column < tiles->across; column++)
+            memset(limits + column * side, limit_of(tiles, y / side, column), (size_t)side);
+        mark_row(pixel_of(from, 0, y), limits, width, to);
     }
     return y == from->height;
 }
 
-bool plane_darken(const struct plane *from, int around, struct limit *limit, struct plane *out) {
-    struct tiles tiles = {.across = tiles_in(from->width), .down = tiles_in(from->height), .around = around};
-    uint8_t *to = plane_make(from->width, from->height, 1, out), *limits = malloc((size_t)tiles.across * TILE);
-    size_t count = (size_t)tiles.across * (size_t)tiles.down;
-    tiles.ranges = malloc((count + (size_t)tiles.across) * sizeof *tiles.ranges); /* and one more row */
-    bool is_whole = to != NULL && limits != NULL && tiles.ranges != NULL &&
-                    find_ranges(from, limit, tiles.across, tiles.down, tiles.ranges) &&
-                    mark_dark(from, limit, &tiles, tiles.ranges + count, limits, to, out->stride);
+bool plane_darken(const struct plane *from, struct surroundings by, struct limit *limit, struct plane *out) {
+    struct tiles tiles;
+    bool has_room = tiles_make(from, by, &tiles);
+    uint8_t *to = plane_make(from->width, from->height, 1, out), *limits = malloc((size_t)(tiles.across * by.tile));
+    bool is_whole = has_room && to != NULL && limits != NULL && find_ranges(from, limit, &tiles);
+    if (is_whole)
+        join_squares(&tiles);
+    is_whole = is_whole && mark_dark(from, limit, &tiles, limits, to, out->stride);
     free(limits);
     free(tiles.ranges);
     return is_made(is_whole, out);

@@ -47,9 +47,16 @@ bool plane_dots(const struct plane *from, int reach, struct limit *limit, struct
 /* How much each four pixels differ along the diagonals between them; kept as the upper left one's. */
 bool plane_steepen(const struct plane *from, struct limit *limit, struct plane *out);
 
-/* 1 where a pixel is darker than its surroundings, else 0, and in the frame. The surroundings are `around` tiles of
- * eight pixels each way. */
-bool plane_darken(const struct plane *from, int around, struct limit *limit, struct plane *out);
+/* What a pixel is compared with, by squares of tiles of so many pixels each way: the square around its own tile, so many
+ * to each side; or, of all as large that its tile lies in and that show about as much, the one whose lightest pixel is
+ * darkest: so what stands on a dark ground is seen though a lighter one is near. */
+struct surroundings {
+    int tile, around;
+    bool is_darkest;
+};
+
+/* 1 where a pixel is darker than its surroundings, else 0, and in the frame. */
+bool plane_darken(const struct plane *from, struct surroundings by, struct limit *limit, struct plane *out);
 
 void plane_free(struct plane *plane);
 

@@ -63,7 +63,7 @@ static bool fit_level(const float *of, struct extent extent, const uint8_t *clas
     struct sums sums = {0};
     for (int row = 0; row < extent.high; row++) {
         double y = place_of(extent.high, row);
-        for (int column = 0; column < extent.wide; column++, of++, class ++) {
+        for (int column = 0; column < extent.wide; column++, of++, class++) {
             double x = place_of(extent.wide, column);
             if (*class == wanted && (before == NULL || fabs(*of - before->a - before->b * x - before->c * y) <= most))
                 add_module(&sums, x, y, *of);

@@ -16,7 +16,7 @@ struct brightnesses {
  * left. */
 enum { MOST_REGIONS = 36 };
 struct lie {
-    struct extent region; /* that each warp is for: the layout's extent, if there is one for all */
+    struct extent region;  /* that each warp is for: the layout's extent, if there is one for all */
     struct warp warps[MOST_REGIONS];
 };
 
@@ -30,11 +30,11 @@ void take_darkest(struct brightnesses *brightnesses);
 
 /* How dark modules are told from light ones. */
 struct rule {
-    double sharpening; /* how much of the difference to the four neighbours is added: undoes blur */
-    double offset;     /* of the threshold, as a share of the contrast: above 0, more modules are dark */
-    bool is_by_all;    /* whether the levels are those of all modules; else of the border alone */
-    int around;        /* not 0: each module's threshold is that of a square of modules, so many around it each way */
-    bool is_cleanest;  /* whether that is the clearest square that the module lies in, not the one around it */
+    double sharpening;     /* how much of the difference to the four neighbours is added: undoes blur */
+    double offset;         /* of the threshold, as a share of the contrast: above 0, more modules are dark */
+    bool is_by_all;        /* whether the levels are those of all modules; else of the border alone */
+    int around; /* not 0: each module's threshold is that of a square of modules, so many around it each way */
+    bool is_cleanest;      /* whether that is the clearest square that the module lies in, not the one around it */
 };
 
 /* Writes 1 for each dark module. `colour`: of each module, as a layout has it. False if those that are known show no

@@ -4,7 +4,8 @@
 #include <math.h>
 #include <stdlib.h>
 
-enum { CALM_LEVELS = 3, LATTICE_LEVELS = 4, LEAST_LEVEL = 24, AROUND = 2, CLOSE_AROUND = 1 };
+enum { CALM_LEVELS = 3, LATTICE_LEVELS = 4, LEAST_LEVEL = 24 };
+static const struct surroundings WIDE = {8, 2, false}, CLOSE = {8, 1, false}, DARKEST = {4, 2, true};
 static const double LEAST_LINE = 10; /* pixels of a level */
 
 /* At which level dots are looked for that have at most so many pixels to both sides of each of theirs. */
@@ -37,8 +38,9 @@ void blank_found(const struct search *search, int level, struct plane *plane) {
 }
 
 /* Marks what is dark in a level, as plane_darken does, but for what has been found. */
-static bool darken(const struct search *search, const struct plane *grey, int level, int around, struct plane *out) {
-    bool is_made = plane_darken(grey, around, search->judge.limit, out);
+static bool darken(const struct search *search, const struct plane *grey, int level, struct surroundings by,
+                   struct plane *out) {
+    bool is_made = plane_darken(grey, by, search->judge.limit, out);
     if (is_made)
         blank_found(search, level, out);
     return is_made;
@@ -110,7 +112,7 @@ static void search_lively(struct search *search, struct sight *sight, int level)
     struct plane dark;
     int of_picture = sight->level + level;
     bool is_made =
-        darken(search, grey, of_picture, search->around, &dark) && find_all_elbows(search, of_picture, &dark, elbows);
+        darken(search, grey, of_picture, search->by, &dark) && find_all_elbows(search, of_picture, &dark, elbows);
     struct scene scene = {grey, &dark, search->judge.limit};
     if (is_made)
         search_elbows(search, sight, level, scene, elbows, elbows->whole);
@@ -126,7 +128,7 @@ static void search_again(struct search *search, struct sight *sight, int level, 
     struct plane dark;
     if (sight->elbows[level].tried >= last)
         return;
-    bool is_made = darken(search, grey, level, search->around, &dark);
+    bool is_made = darken(search, grey, level, search->by, &dark);
     if (is_made)
         search_elbows(search, sight, level, (struct scene){grey, &dark, search->judge.limit}, &sight->elbows[level],
                       last);
@@ -152,7 +154,7 @@ static void search_calm(struct search *search, struct sight *sight, int level) {
     if (level >= CALM_LEVELS || search->count > 0)
         return;
     bool is_made = plane_calm(&sight->levels[level], search->judge.limit, &grey) &&
-                   darken(search, &grey, level, CLOSE_AROUND, &dark) && find_all_elbows(search, level, &dark, elbows);
+                   darken(search, &grey, level, CLOSE, &dark) && find_all_elbows(search, level, &dark, elbows);
     if (is_made)
         search_elbows(search, sight, level, (struct scene){&grey, &dark, search->judge.limit}, elbows, elbows->lively);
     note_lack(search, is_made);
@@ -267,7 +269,7 @@ static void search_dots(struct search *search, const struct sight *sight) {
 
 /* What shows a symbol as it is: first by solid borders beside which it looks like one, dark on light and then light on
  * dark, and then by lattices, which show both. */
-static void search_clearly(struct search *search) {
+static void search_clearly(struct search *search, enum depth depth) {
     struct sight *plain = &search->sights[0], *inverted = &search->sights[1];
     search_levels(search, plain, search_lively);
     search_levels(search, plain, search_joined);
@@ -279,7 +281,8 @@ static void search_clearly(struct search *search) {
     search_levels(search, inverted, search_lively);
     search_levels(search, inverted, search_joined);
     search_rows(search);
-    search_levels(search, plain, search_woven);
+    if (depth > BY_BORDERS)
+        search_levels(search, plain, search_woven);
 }
 
 /* By the solid borders of a calm picture, and then by other solid borders. What is left of the limit is for smears, and
@@ -298,9 +301,9 @@ static void search_deeply(struct search *search) {
 void search_picture(struct search *search, const struct plane *picture, enum depth depth) {
     struct sight *plain = &search->sights[0], *inverted = &search->sights[1];
     plain->picture = *picture, inverted->is_inverted = true;
-    search->around = depth == BY_ALL ? AROUND : CLOSE_AROUND;
+    search->by = depth == BY_ALL ? WIDE : depth == BY_SHAPE ? CLOSE : DARKEST;
     note_lack(search, make_levels(plain, search->judge.limit));
-    search_clearly(search);
+    search_clearly(search, depth);
     if (depth == BY_ALL && !is_over(search))
         search_deeply(search);
     sight_free(plain);

@@ -26,7 +26,7 @@ struct search {
     ecc200_sample *found;
     size_t count, room;
     struct known known;   /* where they are */
-    int around;           /* how many tiles each way are what is darker than its surroundings compared with */
+    struct surroundings by; /* what is dark is darker than these */
 };
 
 /* Whether there are enough symbols, or no memory, or no time. */
@@ -47,8 +47,9 @@ bool judge_all(struct search *search, const struct sight *sight, struct placemen
  * than they are, which is searched at fewer places. */
 void search_lattices(struct search *search, const struct sight *sight, const struct sight *inverted, int level);
 
-/* How a picture is searched: for what it shows clearly, or for all that can be made out as well. */
-enum depth { BY_SHAPE, BY_ALL };
+/* How a picture is searched: for solid borders on dark grounds; for all that it shows clearly; or for all that can be
+ * made out as well. */
+enum depth { BY_BORDERS, BY_SHAPE, BY_ALL };
 
 /* Searches a picture, and frees it if it is owned. */
 void search_picture(struct search *search, const struct plane *picture, enum depth depth);
