@@ -77,7 +77,7 @@ static const struct {
     int percent, most_pixels;          /* percent of the usual work */
     bool is_for_drawings, is_for_more; /* of drawings only; also where something has been found */
 } LOOKS[] = {{plane_flatten, 1, BY_SHAPE, 50, INT32_MAX, false, true},
-             {as_it_is, 1, BY_BORDERS, 30, INT32_MAX, false, true},
+             {as_it_is, 1, BY_BORDERS, 20, INT32_MAX, false, true},
              {flat_doubled, 2, BY_SHAPE, 30, MOST_DOUBLED, false, false},
              {plane_join_dots, JOINED, BY_SHAPE, 50, MOST_JOINED, true, false}};
 

@@ -267,22 +267,21 @@ static void search_dots(struct search *search, const struct sight *sight) {
     }
 }
 
-/* What shows a symbol as it is: first by solid borders beside which it looks like one, dark on light and then light on
- * dark, and then by lattices, which show both. */
+/* What shows a symbol as it is: first by solid borders beside which it looks like one, dark on light; and then, but for
+ * a search by these alone, light on dark, and by lattices, which show both. */
 static void search_clearly(struct search *search, enum depth depth) {
     struct sight *plain = &search->sights[0], *inverted = &search->sights[1];
     search_levels(search, plain, search_lively);
     search_levels(search, plain, search_joined);
     search_rows(search);
-    if (is_over(search))
+    if (is_over(search) || depth == BY_BORDERS)
         return;
     note_lack(search, plane_invert(&plain->picture, search->judge.limit, &inverted->picture) &&
                           make_levels(inverted, search->judge.limit));
     search_levels(search, inverted, search_lively);
     search_levels(search, inverted, search_joined);
     search_rows(search);
-    if (depth > BY_BORDERS)
-        search_levels(search, plain, search_woven);
+    search_levels(search, plain, search_woven);
 }
 
 /* By the solid borders of a calm picture, and then by other solid borders. What is left of the limit is for smears, and
