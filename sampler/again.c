@@ -68,13 +68,13 @@ static bool is_drawn(const struct plane *picture) {
     return is_of_two;
 }
 
-/* What pictures are made into, how many pixels of that are one of the picture, how it is searched, how much work that is
- * worth, and which pictures are. */
+/* What pictures are made into, how many pixels of that are one of the picture, how it is searched, how much work that
+ * is worth, and which pictures are. */
 static const struct {
     bool (*make)(const struct plane *picture, struct limit *limit, struct plane *out);
     int scale;
     enum depth depth;
-    int percent, most_pixels;          /* percent of the usual work */
+    int percent, most_pixels; /* percent of the usual work */
     bool is_for_drawings, is_for_more; /* of drawings only; also where something has been found */
 } LOOKS[] = {{plane_flatten, 1, BY_SHAPE, 50, INT32_MAX, false, true},
              {as_it_is, 1, BY_BORDERS, 20, INT32_MAX, false, true},

@@ -47,8 +47,8 @@ bool plane_dots(const struct plane *from, int reach, struct limit *limit, struct
 /* How much each four pixels differ along the diagonals between them; kept as the upper left one's. */
 bool plane_steepen(const struct plane *from, struct limit *limit, struct plane *out);
 
-/* What a pixel is compared with, by squares of tiles of so many pixels each way: the square around its own tile, so many
- * to each side; or, of all as large that its tile lies in and that show about as much, the one whose lightest pixel is
+/* What a pixel is compared with, by squares of tiles of so many pixels each way: the square around its own tile, with
+ * so many to each side; or, of all as large that its tile lies in and that show enough, the one whose lightest pixel is
  * darkest: so what stands on a dark ground is seen though a lighter one is near. */
 struct surroundings {
     int tile, around;

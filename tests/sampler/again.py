@@ -1,4 +1,5 @@
-"""What only a second sight of a picture shows: faint symbols, small dots, and drawings with a pixel or two a module."""
+"""What only a second look at a picture shows: faint symbols, those on dark labels, with gleams across them, small dots,
+and drawings with a pixel or two a module."""
 import json
 
 from tests.sampler.pictures import grid_of, pgm, pixels_of, run
@@ -22,6 +23,21 @@ def faint(message, pixels):
     return pixels_of(grid_of(message), pixels, 3, LIGHT - 8, LIGHT)
 
 
+def on_dark(message, pixels):
+    """A symbol on a dark label that ends two modules beside it, on a light ground."""
+    rows = pixels_of(grid_of(message), pixels, 2, DARK, 80)
+    beyond, wide = 10 * pixels, len(rows[0])
+    edge = [[240] * (wide + 2 * beyond)] * beyond
+    return edge + [[240] * beyond + list(row) + [240] * beyond for row in rows] + edge
+
+
+def gleaming(message, pixels, apart, thick):
+    """A symbol with bright lines across it, so many modules apart along rows and so many half pixels thick."""
+    rows = pixels_of(grid_of(message), pixels, 3, 110, 170)
+    return [[255 if (2 * x + y) % (apart * pixels) < thick else level for x, level in enumerate(row)]
+            for y, row in enumerate(rows)]
+
+
 def bound(grid, module, across):
     """A symbol whose dark modules are drawn as `module`, between bars above and below, as zint binds it."""
     side, blank = len(module), [[LIGHT] * len(module)] * len(module)
@@ -40,6 +56,18 @@ class Again:
         clear, other = pixels_of(grid_of("CLEAR1"), 5), faint("FAINT2", 5)
         self.row("beside a clear one", messages(self.sampler, [one + two for one, two in zip(clear, other)], "--all"),
                  (["CLEAR1", "FAINT2"], 0))
+
+    def test_on_dark(self):
+        """What stands on a dark label is read though a lighter ground is near."""
+        for pixels in (4, 5, 6):
+            self.row(f"{pixels} pixels a module", messages(self.sampler, on_dark("DARK LABEL", pixels)),
+                     (["DARK LABEL"], 0))
+
+    def test_gleaming(self):
+        """Thin gleams across modules leave these as they are."""
+        for pixels, apart, thick in ((5, 5, 4), (5, 7, 5), (6, 5, 4), (6, 7, 5)):
+            said = messages(self.sampler, gleaming("GLEAMING", pixels, apart, thick))
+            self.row(f"{thick / 2} pixels, {apart} modules apart, of {pixels} pixels", said, (["GLEAMING"], 0))
 
     def test_bound_dots(self):
         """Dots as zint draws them at its smallest, with binding bars: of three pixels and of one."""

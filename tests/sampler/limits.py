@@ -3,7 +3,7 @@ import os
 import random
 import shutil
 
-from tests.sampler.pictures import grid_of, pgm, pixels_of, record, run
+from tests.sampler.pictures import CAREFUL, grid_of, pgm, pixels_of, record, run
 from tests.support import places, work
 
 EXPORTS = ["ecc200_sample_abi", "ecc200_sample_find", "ecc200_sample_measure", "ecc200_sample_picture",
@@ -48,6 +48,17 @@ class Limits:
         for wide, high in ((1, 1), (1, 300), (300, 1), (2, 2), (7, 9), (23, 24), (48, 49), (90, 70)):
             noise = [[chance.choice((0, 255)) for _ in range(wide)] for _ in range(high)]
             self.tame(f"noise of {wide} by {high}", run([self.careful, "--time=300", "--all", "--unread"], pgm(noise)))
+
+    def test_nothing(self):
+        """In small pictures of any form with nothing to be read the sanitisers find nothing, and nothing is read."""
+        made, careful = os.path.join(self.room, "nothing.out"), os.path.dirname(self.careful)
+        words = ["cc", "-std=c11", "-O1", "-Wall", "-Wextra", "-Werror", *CAREFUL, f"-I{places.path('sampler')}",
+                 f"-I{places.path('library')}", places.path("tests", "sampler", "nothing.c"), "-o", made]
+        done = run([*words, os.path.join(careful, "libecc200_sample.so"), os.path.join(places.BUILT, "libecc200.so"),
+                    "-lm"])
+        self.row("nothing.c compiles", done.stderr.decode(), "")
+        done = run([made, "0", "64", "1"], env=paths_for(self.folder(), careful, places.BUILT))
+        self.row("64 pictures", (done.returncode, done.stdout, done.stderr.decode()[:1500]), (0, b"", ""))
 
     def tame(self, name, done):
         said = done.stderr.decode(errors="replace")

@@ -56,7 +56,8 @@ static int is_followed(struct hidden hidden) {
         point_at(first, last), point_at(first, first), point_at(last, last), MODULE, MODULE, false, false, true, 1};
     list_shapes(&shapes);
     draw(hidden, pixels);
-    if (!plane_smooth(&picture, &limit, &grey) || !plane_darken(&grey, (struct surroundings){8, 2, false}, &limit, &dark))
+    if (!plane_smooth(&picture, &limit, &grey) ||
+        !plane_darken(&grey, (struct surroundings){8, 2, false}, &limit, &dark))
         return 0;
     int count = placements_of(&(struct scene){&grey, &dark, &limit}, &shapes, &elbow, out);
     plane_free(&grey);
