@@ -1,8 +1,10 @@
 """Runs cases side by side. Those of a subject are a lane: one after another, in a process of its own. So many lanes run
 at a time as there are processors, and what becomes of each is told in the order in which they stand."""
+import contextlib
 import json
 import os
 import queue
+import signal
 import subprocess
 import sys
 import unittest
@@ -70,7 +72,8 @@ class Lanes:
             except KeyboardInterrupt:
                 pool.shutdown(wait=False, cancel_futures=True)
                 for process in self.processes:
-                    process.terminate()
+                    with contextlib.suppress(ProcessLookupError):
+                        os.killpg(process.pid, signal.SIGTERM)  # what it has started ends with it
                 raise
 
     def run_lane(self, name):
