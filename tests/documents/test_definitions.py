@@ -12,8 +12,8 @@ import re
 
 from tests.documents.pages import (bodies, calls_without_a_promise, is_part, lemmas_of_clauses, listed, printed,
                                    promises_of_clauses, promises_of_page)
-from tests.documents.tree import (QUOTED, clauses_of, crates, definitions, is_declared, modules, public_functions,
-                                  sources, text)
+from tests.documents.tree import (clauses_of, crates, definitions, is_declared, modules, public_functions, sources,
+                                  text)
 from tests.support import places
 from tests.support.case import Case
 
