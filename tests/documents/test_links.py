@@ -22,8 +22,8 @@ WRITTEN = (".py", ".c", ".h", ".cpp", ".rs", ".java", ".rt", ".antt", ".mjs", ".
            ".toml", ".in", ".1", ".3", "CMakeLists.txt", ".editorconfig", "command_line")
 
 
-# How many words a page has at most, these three as yet, and all pages together.
-MOST_WORDS, MOST_WORDS_OF, MOST_WORDS_IN_ALL = 2500, {"GATE.md": 4100, "PAGE.md": 5800, "PICTURES.md": 5900}, 41000
+# How many words a page has at most, and all pages together.
+MOST_WORDS, MOST_WORDS_IN_ALL = 2500, 31000
 
 
 def documents():
@@ -94,8 +94,7 @@ def checks_of_width():
 def checks_of_lengths():
     counts = {path: len(text(path).split()) for path in [*documents(), places.path("library", "python", "README.md")]}
     for path, count in counts.items():
-        most = MOST_WORDS_OF.get(os.path.basename(path), MOST_WORDS)
-        yield f"{os.path.relpath(path, places.TOP)}, {count} words, at most {most}", count <= most
+        yield f"{os.path.relpath(path, places.TOP)}, {count} words", count <= MOST_WORDS
     yield f"all pages, {sum(counts.values())} words", sum(counts.values()) <= MOST_WORDS_IN_ALL
     for choice in items(places.path("docs", "DECISIONS.md")):
         yield f"docs/DECISIONS.md, at most 60 words: {choice:.40}", len(choice.split()) <= 60
