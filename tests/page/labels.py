@@ -539,7 +539,8 @@ def saved_as_shown():
 
 
 NOT_WHOLE = [
-    ("a text without room", "csv", f"message,text\nA1,{'0' * 400}\n", "25x25", "Message 1 takes 5.6 × 5.6 mm and 30 mm"),
+    ("a text without room", "csv", f"message,text\nA1,{'0' * 400}\n", "25x25",
+     "Message 1 takes 5.6 × 5.6 mm and 30 mm"),
     ("a letter that can't be drawn", "messages", "plain\n\U000F0000", "50x30",
      "Message 2: the text below has the invisible character U+F0000, which can’t be drawn. "),
     ("a quotation mark that none ends", "csv", 'message\nA1\n"B2\nC3\nD4\n', "50x30",

@@ -226,11 +226,11 @@ def made_in_parts():
 def spelled_heads():
     """A head in front of what is spelled, and one that there isn't; so many symbols are made of it as it says."""
     choose("parts", "3")
-    for line, head, state in (("\\A{2/5:007209}AB", {"part": 2, "parts": 5, "file": [7, 209]}, "Read, as part 2 of 5"),
+    for line, said, state in (("\\A{2/5:007209}AB", {"part": 2, "parts": 5, "file": [7, 209]}, "Read, as part 2 of 5"),
                               ("\\P\\E{26}AB", "programming", "Read, as reader programming")):
         type_in(line, "message")
         marks = [{"place": 0, "number": 26}] if "E{" in line else []
-        wanted = state, {"items": [65, 66], "marks": marks, "head": head}
+        wanted = state, {"items": [65, 66], "marks": marks, "head": said}
         count.expect(line, (shown()["state"], run(READ)), wanted)
     choose("parts", "1")
     for line in ("\\A{6/5:001001}A", "\\A{1/17:001001}A", "\\A{1/2:000001}A", "\\A{1/2:001255}A"):
@@ -412,14 +412,14 @@ TOLD = "return mitsubadoor.mark.seen.told.map(({ brief }) => brief)"
 
 def told_of_marks():
     """Designators and heads in the codewords and in the lesson."""
-    for line, head, briefs in (("\\E{26}\\xC3\\xA9", None, ["ECI", "26", "+128", "\\xC3", "+128"]),
+    for line, said, briefs in (("\\E{26}\\xC3\\xA9", None, ["ECI", "26", "+128", "\\xC3", "+128"]),
                                ("A\\E{200}B", None, ["A", "ECI", "200", "\u21b2", "B"]),
                                ("\\E{20000}B", None, ["ECI", "20000", "\u21b2", "\u21b2", "B"]),
                                ("AB", {"part": 2, "parts": 5, "file": [7, 9]}, ["SA", "2/5", "#7", "#9", "A", "B"]),
                                ("AB", "programming", ["RP", "A", "B"])):
         push("tab-read")
-        put("grid", written_in(line, "square", 0, head))
-        count.expect(f"{line} {head}", run(TOLD)[: len(briefs)], briefs)
+        put("grid", written_in(line, "square", 0, said))
+        count.expect(f"{line} {said}", run(TOLD)[: len(briefs)], briefs)
     push("tab-read")
     put("grid", written_in("AB\\E{7}\\xBF", "square", 0, {"part": 2, "parts": 5, "file": [7, 9]}))
     push("tab-learn")
@@ -437,7 +437,6 @@ def told_of_marks():
 
 
 # ---- Compared
-
 
 
 def letters_compared():

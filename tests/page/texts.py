@@ -163,6 +163,7 @@ def compared():
     count.expect("same", head(),
                  ["Yes, they say the same.", "Their modules differ, but both have this one normal grid:"])
     count.expect("one normal grid", len(find("same").find_elements(By.TAG_NAME, "svg")), 1)
+
     def take(slot):
         run("arguments[0].click()", find(f"slot-{slot}").find_element(By.TAG_NAME, "button"))
         settle()
