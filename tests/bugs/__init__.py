@@ -46,23 +46,17 @@ class Bug(NamedTuple):
 
 def bugs_of(subject):
     """Gives the bugs of a subject."""
-    bugs, begun, right = [], "", None  # (pairs of lines with - and + say it too)
+    bugs, begun = [], ""
     for line in places.text_of("tests", subject, "bugs.txt").splitlines():
         line = begun + line
         begun = line if line.count("⟦") > line.count("⟧") else ""
         if begun or line.startswith("#"):
             continue
-        if line[:2] == "- ":
-            right = line[2:].replace("⏎", "\n")
-        elif line[:2] == "+ ":
-            bugs[-1].changes.append((right, line[2:].replace("⏎", "\n")))
-        elif line.startswith("= "):
+        if line.startswith("= "):
             bugs[-1].changes.append(change(line[2:]))
-            right = bugs[-1].changes[-1][0]
         else:
             name, where, *texts = line.split(" | ", 2)
             bugs.append(Bug(name, where, [change(text) for text in texts]))
-            right = bugs[-1].changes[-1][0] if texts else right
     return bugs
 
 
