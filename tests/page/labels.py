@@ -196,7 +196,7 @@ def one_after_another():
     run("window.print = () => {}")
     write("123456")
     unfold("sheet")
-    paper_is("a4", "0.5")
+    paper_is("a4", "1")
     choose("stock", "none")
     lines = [f"label {k}" + "0" * (k % 7 * 12) for k in range(150)]
     put("messages", "\n".join(lines))
@@ -206,12 +206,14 @@ def one_after_another():
     run("dispatchEvent(new Event('afterprint'))")
     count.expect("pages", [(box, len(places)) for box, places in there],
                  [("0 0 210 297", len(symbols)) for _, symbols, _ in pages])
-    apart = [abs(x + 1 - left) + abs(y + 1 - top) for (_, places), (_, symbols, _) in zip(there, pages)
+    apart = [abs(x + 2 - left) + abs(y + 2 - top) for (_, places), (_, symbols, _) in zip(there, pages)
              for (x, y), (left, top, *_) in zip(places, symbols)]
     count.expect("places", max(apart) < 0.01, True)
     count.expect("texts", [text for *_, texts in pages for text in texts], lines)
-    inside = [15 <= x < 195 and 15 <= y < 282 for _, symbols, _ in pages for x, y, *_ in symbols]
+    inside = [15 <= x and x + module * rows.index("\n") < 195 and 15 <= y < 282
+              for _, symbols, _ in pages for x, y, module, rows in symbols]
     count.expect("within the margins", (len(pages) > 1, len(inside), all(inside)), (True, 150, True))
+    paper_is("a4", "0.5")
     choose("stock", "25x25")
     put("messages", "\n".join(str(k) for k in range(1200)))
     body = saved("symbols.pdf", "many-pdf")

@@ -58,7 +58,6 @@ def in_order():
     count.expect("the JSON", [it["picture"] for it in told["symbols"]], ["two.png", "two.png", "one.png", "one.png"])
     find("saved").send_keys(str(on.folder / "found.json"))
     count.expect_soon("the list opened again", lambda: [it[0] for it in run(LISTED)][:3], ["first", "second", "third"])
-    put("grid", "")
     none = [name for name, _ in files[1:3]]
     find("picture").send_keys("\n".join(str(on.folder / name) for name in none))
     count.expect_soon("nothing in any", lambda: (shown()["state"], shown()["why"].split(". ")[0], run(
