@@ -1,4 +1,4 @@
-/* The library ecc200 2.0.0, made by library/build of the proved source with rattle-kit-13f logic dac8208d650f15bf. Not written by hand: `make compiled` makes it anew. */
+/* The library ecc200 1.0.0, made by library/build of the proved source with rattle-kit-13f logic dac8208d650f15bf. Not written by hand: `make compiled` makes it anew. */
 	.text
 	.p2align	2
 	.type	"ecc200_calls::inspection::inspect_given::<=32,=98,=131,=31>",@function
@@ -44692,15 +44692,15 @@
 	strh	w9, [sp, #12]
 	b.eq	.LBB106_5
 	mov	w11, wzr
-	cbz	x1, .LBB106_23
+	cbz	x1, .LBB106_22
 	and	w12, w10, #0xff
 	cmp	w12, #4
-	b.eq	.LBB106_23
+	b.eq	.LBB106_22
 	cmp	x1, #8
-	b.hs	.LBB106_12
+	b.hs	.LBB106_11
 	mov	w11, wzr
 	mov	x12, xzr
-	b	.LBB106_21
+	b	.LBB106_20
 .LBB106_5:
 	lsl	x8, x1, #1
 	cmp	x1, #62
@@ -44712,32 +44712,28 @@
 	ccmp	x8, x10, #2, hi
 	cset	w10, lo
 	cmp	x8, #63
-	b.lo	.LBB106_11
-	tbnz	w9, #0, .LBB106_11
-	tbnz	w10, #0, .LBB106_11
-	cbz	x1, .LBB106_42
+	b.lo	.LBB106_55
+	tbnz	w9, #0, .LBB106_55
+	tbnz	w10, #0, .LBB106_55
+	cbz	x1, .LBB106_56
 	cmp	x1, #8
-	b.hs	.LBB106_45
+	b.hs	.LBB106_43
 	mov	w9, wzr
 	mov	x8, xzr
-	b	.LBB106_54
+	b	.LBB106_52
 .LBB106_11:
-	cmp	x8, #63
-	b.lo	.LBB106_42
-	b	.LBB106_44
-.LBB106_12:
 	cmp	x1, #16
-	b.hs	.LBB106_17
+	b.hs	.LBB106_16
 	mov	x12, xzr
 	mov	w11, wzr
-.LBB106_14:
+.LBB106_13:
 	movi	v0.2d, #0000000000000000
 	mov	x13, x12
 	and	x12, x1, #0xfffffffffffffff8
 	mov	v0.h[0], w11
 	add	x11, x0, x13, lsl #1
 	sub	x13, x13, x12
-.LBB106_15:
+.LBB106_14:
 	ld2	{ v1.8b, v2.8b }, [x11], #16
 	movi	v4.8b, #1
 	movi	v5.8h, #2
@@ -44752,19 +44748,19 @@
 	mvn	v1.16b, v1.16b
 	sub	v1.8h, v2.8h, v1.8h
 	add	v0.8h, v1.8h, v0.8h
-	b.ne	.LBB106_15
+	b.ne	.LBB106_14
 	addv	h0, v0.8h
 	cmp	x1, x12
 	fmov	w11, s0
-	b.ne	.LBB106_21
-	b	.LBB106_23
-.LBB106_17:
+	b.ne	.LBB106_20
+	b	.LBB106_22
+.LBB106_16:
 	movi	v0.2d, #0000000000000000
 	movi	v1.2d, #0000000000000000
 	and	x12, x1, #0xfffffffffffffff0
 	mov	x11, x0
 	and	x13, x1, #0xfffffffffffffff0
-.LBB106_18:
+.LBB106_17:
 	ld2	{ v2.16b, v3.16b }, [x11], #32
 	movi	v5.16b, #1
 	movi	v6.8h, #2
@@ -44787,18 +44783,18 @@
 	sub	v2.8h, v4.8h, v2.8h
 	add	v0.8h, v2.8h, v0.8h
 	add	v1.8h, v3.8h, v1.8h
-	b.ne	.LBB106_18
+	b.ne	.LBB106_17
 	add	v0.8h, v1.8h, v0.8h
 	cmp	x1, x12
 	addv	h0, v0.8h
 	fmov	w11, s0
-	b.eq	.LBB106_23
-	tbnz	w1, #3, .LBB106_14
-.LBB106_21:
+	b.eq	.LBB106_22
+	tbnz	w1, #3, .LBB106_13
+.LBB106_20:
 	add	x13, x0, x12, lsl #1
 	sub	x12, x1, x12
 	add	x13, x13, #1
-.LBB106_22:
+.LBB106_21:
 	ldrsb	w14, [x13]
 	ldurb	w15, [x13, #-1]
 	add	x13, x13, #2
@@ -44809,17 +44805,17 @@
 	csinc	w14, w14, wzr, eq
 	subs	x12, x12, #1
 	add	w11, w14, w11
-	b.ne	.LBB106_22
-.LBB106_23:
+	b.ne	.LBB106_21
+.LBB106_22:
 	and	w10, w10, #0xff
 	cmp	w10, #2
-	b.gt	.LBB106_29
+	b.gt	.LBB106_28
 	cmp	w10, #1
-	b.eq	.LBB106_36
+	b.eq	.LBB106_35
 	cmp	w10, #2
-	b.ne	.LBB106_44
+	b.ne	.LBB106_41
 	mov	x8, xzr
-.LBB106_27:
+.LBB106_26:
 	adrp	x9, .Lstatic.0
 	add	x9, x9, :lo12:.Lstatic.0
 	add	x9, x9, x8
@@ -44828,92 +44824,84 @@
 	ldrh	w9, [x9, #2]
 	cmp	w10, w11, uxth
 	ccmp	w12, w9, #4, hs
-	b.ne	.LBB106_41
+	b.ne	.LBB106_40
 	add	x8, x8, #20
 	cmp	x8, #960
-	b.ne	.LBB106_27
-	b	.LBB106_44
-.LBB106_29:
+	b.ne	.LBB106_26
+	b	.LBB106_41
+.LBB106_28:
 	cmp	w10, #3
-	b.eq	.LBB106_43
+	b.eq	.LBB106_42
 	cmp	w10, #4
-	b.ne	.LBB106_44
+	b.ne	.LBB106_41
 	adrp	x12, .Lstatic.0
 	add	x12, x12, :lo12:.Lstatic.0
 	mov	x13, #-48
-	b	.LBB106_33
-.LBB106_32:
+	b	.LBB106_32
+.LBB106_31:
 	adds	x13, x13, #1
 	add	x12, x12, #20
-	b.hs	.LBB106_44
-.LBB106_33:
+	b.hs	.LBB106_41
+.LBB106_32:
 	ldrh	w10, [x12, #12]
 	cmp	w10, w11, uxth
-	b.lo	.LBB106_32
+	b.lo	.LBB106_31
 	ldrh	w14, [x12]
 	cmp	w14, w8
-	b.ne	.LBB106_32
+	b.ne	.LBB106_31
 	ldrh	w14, [x12, #2]
 	cmp	w14, w9
-	b.ne	.LBB106_32
-	b	.LBB106_41
-.LBB106_36:
+	b.ne	.LBB106_31
+	b	.LBB106_40
+.LBB106_35:
 	adrp	x8, .Lstatic.0
 	add	x8, x8, :lo12:.Lstatic.0
 	mov	x9, #-48
-	b	.LBB106_38
-.LBB106_37:
+	b	.LBB106_37
+.LBB106_36:
 	adds	x9, x9, #1
 	add	x8, x8, #20
-	b.hs	.LBB106_44
-.LBB106_38:
+	b.hs	.LBB106_41
+.LBB106_37:
 	ldrh	w10, [x8, #12]
 	cmp	w10, w11, uxth
-	b.lo	.LBB106_37
+	b.lo	.LBB106_36
 	ldrh	w12, [x8, #2]
 	ldrh	w13, [x8]
 	cmp	w13, w12
-	b.eq	.LBB106_37
+	b.eq	.LBB106_36
 	ldrh	w12, [x8, #18]
 	cmp	w12, #1
-	b.eq	.LBB106_37
-.LBB106_41:
+	b.eq	.LBB106_36
+.LBB106_40:
 	cmp	w10, #62
-	b.hi	.LBB106_44
-.LBB106_42:
+	b.ls	.LBB106_56
+.LBB106_41:
 	add	x3, sp, #8
-	bl	"ecc200_calls::smallest_writing::write_symbol::<=62,=32,=98>"
+	bl	"ecc200_calls::smallest_writing::write_symbol::<=144,=2178>"
 	ldr	x30, [sp], #16
 	.cfi_def_cfa_offset 0
 	.cfi_restore w30
 	ret
-.LBB106_43:
+.LBB106_42:
 	.cfi_restore_state
-	.cfi_remember_state
 	and	w8, w11, #0xffff
 	cmp	w8, #62
-	b.ls	.LBB106_42
-.LBB106_44:
-	add	x3, sp, #8
-	bl	"ecc200_calls::smallest_writing::write_symbol::<=1558,=144,=2178>"
-	ldr	x30, [sp], #16
-	.cfi_def_cfa_offset 0
-	.cfi_restore w30
-	ret
-.LBB106_45:
-	.cfi_restore_state
+	b.hi	.LBB106_41
+	b	.LBB106_56
+.LBB106_43:
 	cmp	x1, #16
-	b.hs	.LBB106_50
+	b.hs	.LBB106_48
 	mov	x8, xzr
 	mov	w9, wzr
-.LBB106_47:
+.LBB106_45:
 	movi	v0.2d, #0000000000000000
 	mov	x10, x8
 	and	x8, x1, #0xfffffffffffffff8
 	mov	v0.h[0], w9
 	add	x9, x0, x10, lsl #1
 	sub	x10, x10, x8
-.LBB106_48:
+.LBB106_46:
 	ld2	{ v1.8b, v2.8b }, [x9], #16
 	movi	v4.8b, #1
 	movi	v5.8h, #2
@@ -44928,19 +44916,19 @@
 	mvn	v1.16b, v1.16b
 	sub	v1.8h, v2.8h, v1.8h
 	add	v0.8h, v1.8h, v0.8h
-	b.ne	.LBB106_48
+	b.ne	.LBB106_46
 	addv	h0, v0.8h
 	cmp	x1, x8
 	fmov	w9, s0
-	b.ne	.LBB106_54
-	b	.LBB106_56
-.LBB106_50:
+	b.ne	.LBB106_52
+	b	.LBB106_54
+.LBB106_48:
 	movi	v0.2d, #0000000000000000
 	movi	v1.2d, #0000000000000000
 	and	x8, x1, #0xfffffffffffffff0
 	mov	x9, x0
 	and	x10, x1, #0xfffffffffffffff0
-.LBB106_51:
+.LBB106_49:
 	ld2	{ v2.16b, v3.16b }, [x9], #32
 	movi	v5.16b, #1
 	movi	v6.8h, #2
@@ -44963,18 +44951,18 @@
 	sub	v2.8h, v4.8h, v2.8h
 	add	v0.8h, v3.8h, v0.8h
 	add	v1.8h, v2.8h, v1.8h
-	b.ne	.LBB106_51
+	b.ne	.LBB106_49
 	add	v0.8h, v1.8h, v0.8h
 	cmp	x1, x8
 	addv	h0, v0.8h
 	fmov	w9, s0
-	b.eq	.LBB106_56
-	tbnz	w1, #3, .LBB106_47
-.LBB106_54:
+	b.eq	.LBB106_54
+	tbnz	w1, #3, .LBB106_45
+.LBB106_52:
 	add	x10, x0, x8, lsl #1
 	sub	x8, x1, x8
 	add	x10, x10, #1
-.LBB106_55:
+.LBB106_53:
 	ldurb	w11, [x10, #-1]
 	ldrsb	w12, [x10]
 	add	x10, x10, #2
@@ -44986,12 +44974,19 @@
 	csinc	w11, w12, wzr, eq
 	subs	x8, x8, #1
 	add	w9, w11, w9
-	b.ne	.LBB106_55
+	b.ne	.LBB106_53
+.LBB106_54:
+	and	x8, x9, #0xffff
+.LBB106_55:
+	cmp	x8, #63
+	b.hs	.LBB106_41
 .LBB106_56:
-	and	w8, w9, #0xffff
-	cmp	w8, #63
-	b.lo	.LBB106_42
-	b	.LBB106_44
+	add	x3, sp, #8
+	bl	"ecc200_calls::smallest_writing::write_symbol::<=32,=98>"
+	ldr	x30, [sp], #16
+	.cfi_def_cfa_offset 0
+	.cfi_restore w30
+	ret
 .Lfunc_end106:
 	.size	"ecc200_calls::smallest_writing::write_smallest_message", .Lfunc_end106-"ecc200_calls::smallest_writing::write_smallest_message"
 	.cfi_endproc
@@ -45043,8 +45038,8 @@
 	.byte	128
 	.text
 	.p2align	2
-	.type	"ecc200_calls::smallest_writing::write_symbol::<=62,=32,=98>",@function
-"ecc200_calls::smallest_writing::write_symbol::<=62,=32,=98>":
+	.type	"ecc200_calls::smallest_writing::write_symbol::<=32,=98>",@function
+"ecc200_calls::smallest_writing::write_symbol::<=32,=98>":
 	.cfi_startproc
 	str	x29, [sp, #-96]!
 	.cfi_def_cfa_offset 96
@@ -45404,7 +45399,7 @@
 	bl	memset
 	b	.LBB107_6
 .Lfunc_end107:
-	.size	"ecc200_calls::smallest_writing::write_symbol::<=62,=32,=98>", .Lfunc_end107-"ecc200_calls::smallest_writing::write_symbol::<=62,=32,=98>"
+	.size	"ecc200_calls::smallest_writing::write_symbol::<=32,=98>", .Lfunc_end107-"ecc200_calls::smallest_writing::write_symbol::<=32,=98>"
 	.cfi_endproc
 
 	.p2align	2
@@ -47584,8 +47579,8 @@
 	.byte	128
 	.text
 	.p2align	2
-	.type	"ecc200_calls::smallest_writing::write_symbol::<=1558,=144,=2178>",@function
-"ecc200_calls::smallest_writing::write_symbol::<=1558,=144,=2178>":
+	.type	"ecc200_calls::smallest_writing::write_symbol::<=144,=2178>",@function
+"ecc200_calls::smallest_writing::write_symbol::<=144,=2178>":
 	.cfi_startproc
 	stp	x29, x30, [sp, #-96]!
 	.cfi_def_cfa_offset 96
@@ -47983,7 +47978,7 @@
 	bl	memset
 	b	.LBB116_6
 .Lfunc_end116:
-	.size	"ecc200_calls::smallest_writing::write_symbol::<=1558,=144,=2178>", .Lfunc_end116-"ecc200_calls::smallest_writing::write_symbol::<=1558,=144,=2178>"
+	.size	"ecc200_calls::smallest_writing::write_symbol::<=144,=2178>", .Lfunc_end116-"ecc200_calls::smallest_writing::write_symbol::<=144,=2178>"
 	.cfi_endproc
 
 	.p2align	2
@@ -50440,7 +50435,7 @@
 	.type	ecc200_abi,@function
 ecc200_abi:
 	.cfi_startproc
-	mov	w0, #4
+	mov	w0, #1
 	ret
 .Lfunc_end134:
 	.size	ecc200_abi, .Lfunc_end134-ecc200_abi

@@ -1,4 +1,4 @@
-/* The library ecc200 2.0.0, made by library/build of the proved source with rattle-kit-13f logic dac8208d650f15bf. Not written by hand: `make compiled` makes it anew. */
+/* The library ecc200 1.0.0, made by library/build of the proved source with rattle-kit-13f logic dac8208d650f15bf. Not written by hand: `make compiled` makes it anew. */
 	.text
 	.p2align	1
 	.type	"ecc200_calls::inspection::inspect_given::<=32,=98,=131,=31>",@function
@@ -89140,7 +89140,6 @@
 	.cfi_def_cfa_offset 16
 	sd	ra, 8(sp)
 	.cfi_offset ra, -8
-	.cfi_remember_state
 	lbu	a6, 0(a3)
 	lbu	t0, 3(a3)
 	lbu	a7, 2(a3)
@@ -89180,9 +89179,9 @@
 	li	a3, 2
 	blt	a3, t0, .LBB112_22
 	li	a3, 1
-	beq	t0, a3, .LBB112_30
+	beq	t0, a3, .LBB112_29
 	li	a3, 2
-	bne	t0, a3, .LBB112_38
+	bne	t0, a3, .LBB112_35
 .Lpcrel_hi140:
 	auipc	a5, %pcrel_hi(.Lstatic.0)
 	addi	a5, a5, %pcrel_lo(.Lpcrel_hi140)
@@ -89191,7 +89190,7 @@
 .LBB112_11:
 	addi	a6, a6, 1
 	addi	a5, a5, 20
-	beqz	a6, .LBB112_38
+	beqz	a6, .LBB112_35
 .LBB112_12:
 	lbu	a3, 13(a5)
 	lbu	a7, 12(a5)
@@ -89209,44 +89208,44 @@
 	slli	a3, a3, 8
 	or	a3, a3, t3
 	beq	a7, a3, .LBB112_11
-	j	.LBB112_35
+	j	.LBB112_34
 .LBB112_14:
 	slli	a3, a1, 1
 	li	a6, 63
-	bltu	a3, a6, .LBB112_29
+	bltu	a3, a6, .LBB112_38
 	sltiu	a5, a1, 63
 	not	a7, a5
 	sltiu	a5, a3, 205
 	and	a5, a7, a5
-	bnez	a5, .LBB112_29
+	bnez	a5, .LBB112_38
 	sltiu	a5, a1, 205
 	not	a7, a5
 	sltiu	a5, a3, 817
 	and	a5, a7, a5
-	bnez	a5, .LBB112_29
-	beqz	a1, .LBB112_36
-	li	a6, 0
-	addi	t1, a0, 1
-	mv	a3, a1
+	bnez	a5, .LBB112_38
+	beqz	a1, .LBB112_39
+	li	a7, 0
+	addi	t2, a0, 1
+	mv	a5, a1
 	j	.LBB112_20
 .LBB112_19:
-	add	a6, a6, a7
-	addi	a3, a3, -1
-	addi	t1, t1, 2
-	beqz	a3, .LBB112_40
+	add	a7, a7, t0
+	addi	a5, a5, -1
+	addi	t2, t2, 2
+	beqz	a5, .LBB112_37
 .LBB112_20:
-	lbu	t0, -1(t1)
-	li	a7, 1
-	bne	t0, a7, .LBB112_19
-	lb	a5, 0(t1)
-	srli	a5, a5, 63
-	addi	a7, a5, 1
+	lbu	t1, -1(t2)
+	li	t0, 1
+	bne	t1, t0, .LBB112_19
+	lb	a3, 0(t2)
+	srli	a3, a3, 63
+	addi	t0, a3, 1
 	j	.LBB112_19
 .LBB112_22:
 	li	a3, 3
-	beq	t0, a3, .LBB112_37
+	beq	t0, a3, .LBB112_36
 	li	a3, 4
-	bne	t0, a3, .LBB112_38
+	bne	t0, a3, .LBB112_35
 .Lpcrel_hi142:
 	auipc	a5, %pcrel_hi(.Lstatic.0)
 	addi	a5, a5, %pcrel_lo(.Lpcrel_hi142)
@@ -89255,7 +89254,7 @@
 .LBB112_25:
 	addi	t1, t1, 1
 	addi	a5, a5, 20
-	beqz	t1, .LBB112_38
+	beqz	t1, .LBB112_35
 .LBB112_26:
 	lbu	a3, 13(a5)
 	lbu	t0, 12(a5)
@@ -89274,28 +89273,25 @@
 	slli	a3, a3, 8
 	or	a3, a3, t3
 	bne	a3, a6, .LBB112_25
-	j	.LBB112_35
+	j	.LBB112_34
 .LBB112_29:
-	bltu	a3, a6, .LBB112_36
-	j	.LBB112_38
-.LBB112_30:
 .Lpcrel_hi141:
 	auipc	a5, %pcrel_hi(.Lstatic.0)
 	addi	a5, a5, %pcrel_lo(.Lpcrel_hi141)
 	li	a6, -48
-	j	.LBB112_32
-.LBB112_31:
+	j	.LBB112_31
+.LBB112_30:
 	addi	a6, a6, 1
 	addi	a5, a5, 20
-	beqz	a6, .LBB112_38
-.LBB112_32:
+	beqz	a6, .LBB112_35
+.LBB112_31:
 	lbu	a3, 13(a5)
 	lbu	a7, 12(a5)
 	slli	a3, a3, 8
 	or	t0, a3, a7
 	slli	a3, t2, 48
 	srli	a3, a3, 48
-	bltu	t0, a3, .LBB112_31
+	bltu	t0, a3, .LBB112_30
 	lbu	t1, 3(a5)
 	lbu	a7, 2(a5)
 	lbu	t4, 1(a5)
@@ -89304,48 +89300,47 @@
 	or	a7, t1, a7
 	slli	t4, t4, 8
 	or	a3, t4, t3
-	beq	a3, a7, .LBB112_31
+	beq	a3, a7, .LBB112_30
 	lbu	a3, 19(a5)
 	lbu	a7, 18(a5)
 	slli	a3, a3, 8
 	or	a7, a3, a7
 	li	a3, 1
-	beq	a7, a3, .LBB112_31
-.LBB112_35:
+	beq	a7, a3, .LBB112_30
+.LBB112_34:
 	li	a3, 62
-	bltu	a3, t0, .LBB112_38
-.LBB112_36:
+	bgeu	a3, t0, .LBB112_39
+.LBB112_35:
 	addi	a3, sp, 2
-	call	"ecc200_calls::smallest_writing::write_symbol::<=62,=32,=98>"
-	j	.LBB112_39
-.LBB112_37:
+	call	"ecc200_calls::smallest_writing::write_symbol::<=144,=2178>"
+	j	.LBB112_40
+.LBB112_36:
 	slli	t2, t2, 48
 	srli	a3, t2, 48
 	li	a5, 62
-	bgeu	a5, a3, .LBB112_36
+	bltu	a5, a3, .LBB112_35
+	j	.LBB112_39
+.LBB112_37:
+	slli	a3, a7, 48
+	srli	a3, a3, 48
 .LBB112_38:
-	addi	a3, sp, 2
-	call	"ecc200_calls::smallest_writing::write_symbol::<=1558,=144,=2178>"
+	bgeu	a3, a6, .LBB112_35
 .LBB112_39:
+	addi	a3, sp, 2
+	call	"ecc200_calls::smallest_writing::write_symbol::<=32,=98>"
+.LBB112_40:
 	ld	ra, 8(sp)
 	.cfi_restore ra
 	addi	sp, sp, 16
 	.cfi_def_cfa_offset 0
 	ret
-.LBB112_40:
-	.cfi_restore_state
-	slli	a6, a6, 48
-	srli	a3, a6, 48
-	li	a5, 63
-	bltu	a3, a5, .LBB112_36
-	j	.LBB112_38
 .Lfunc_end112:
 	.size	"ecc200_calls::smallest_writing::write_smallest_message", .Lfunc_end112-"ecc200_calls::smallest_writing::write_smallest_message"
 	.cfi_endproc
 
 	.p2align	1
-	.type	"ecc200_calls::smallest_writing::write_symbol::<=62,=32,=98>",@function
-"ecc200_calls::smallest_writing::write_symbol::<=62,=32,=98>":
+	.type	"ecc200_calls::smallest_writing::write_symbol::<=32,=98>",@function
+"ecc200_calls::smallest_writing::write_symbol::<=32,=98>":
 	.cfi_startproc
 	addi	sp, sp, -496
 	.cfi_def_cfa_offset 496
@@ -89892,7 +89887,7 @@
 	call	memset
 	j	.LBB113_8
 .Lfunc_end113:
-	.size	"ecc200_calls::smallest_writing::write_symbol::<=62,=32,=98>", .Lfunc_end113-"ecc200_calls::smallest_writing::write_symbol::<=62,=32,=98>"
+	.size	"ecc200_calls::smallest_writing::write_symbol::<=32,=98>", .Lfunc_end113-"ecc200_calls::smallest_writing::write_symbol::<=32,=98>"
 	.cfi_endproc
 
 	.p2align	1
@@ -92433,8 +92428,8 @@
 	.cfi_endproc
 
 	.p2align	1
-	.type	"ecc200_calls::smallest_writing::write_symbol::<=1558,=144,=2178>",@function
-"ecc200_calls::smallest_writing::write_symbol::<=1558,=144,=2178>":
+	.type	"ecc200_calls::smallest_writing::write_symbol::<=144,=2178>",@function
+"ecc200_calls::smallest_writing::write_symbol::<=144,=2178>":
 	.cfi_startproc
 	addi	sp, sp, -496
 	.cfi_def_cfa_offset 496
@@ -93021,7 +93016,7 @@
 	call	memset
 	j	.LBB123_8
 .Lfunc_end123:
-	.size	"ecc200_calls::smallest_writing::write_symbol::<=1558,=144,=2178>", .Lfunc_end123-"ecc200_calls::smallest_writing::write_symbol::<=1558,=144,=2178>"
+	.size	"ecc200_calls::smallest_writing::write_symbol::<=144,=2178>", .Lfunc_end123-"ecc200_calls::smallest_writing::write_symbol::<=144,=2178>"
 	.cfi_endproc
 
 	.p2align	1
@@ -96316,7 +96311,7 @@
 	.type	ecc200_abi,@function
 ecc200_abi:
 	.cfi_startproc
-	li	a0, 4
+	li	a0, 1
 	ret
 .Lfunc_end141:
 	.size	ecc200_abi, .Lfunc_end141-ecc200_abi

@@ -1,4 +1,4 @@
-/* The library ecc200 2.0.0, made by library/build of the proved source with rattle-kit-13f logic dac8208d650f15bf. Not written by hand: `make compiled` makes it anew. */
+/* The library ecc200 1.0.0, made by library/build of the proved source with rattle-kit-13f logic dac8208d650f15bf. Not written by hand: `make compiled` makes it anew. */
 	.text
 	.p2align	5
 	.text
@@ -46134,30 +46134,30 @@
 	je	.LBB106_1
 	xorl	%eax, %eax
 	testq	%rsi, %rsi
-	je	.LBB106_22
+	je	.LBB106_23
 	cmpb	$4, %r11b
-	je	.LBB106_22
+	je	.LBB106_23
 	cmpq	$8, %rsi
-	jae	.LBB106_18
+	jae	.LBB106_19
 	xorl	%eax, %eax
 	xorl	%r11d, %r11d
-	jmp	.LBB106_17
+	jmp	.LBB106_18
 .LBB106_1:
 	leaq	(%rsi,%rsi), %rax
 	cmpq	$63, %rsi
-	setae	%r9b
-	cmpq	$205, %rax
-	setb	%r11b
-	cmpq	$205, %rsi
 	setae	%cl
-	cmpq	$817, %rax
+	cmpq	$205, %rax
 	setb	%r10b
+	cmpq	$205, %rsi
+	setae	%r9b
+	cmpq	$817, %rax
+	setb	%r11b
 	cmpq	$63, %rax
-	jb	.LBB106_51
-	andb	%r11b, %r9b
-	jne	.LBB106_51
+	jb	.LBB106_13
 	andb	%r10b, %cl
-	jne	.LBB106_51
+	jne	.LBB106_13
+	andb	%r11b, %r9b
+	jne	.LBB106_13
 	testq	%rsi, %rsi
 	je	.LBB106_50
 	cmpq	$8, %rsi
@@ -46165,17 +46165,13 @@
 	xorl	%ecx, %ecx
 	xorl	%eax, %eax
 	jmp	.LBB106_7
-.LBB106_51:
-	cmpq	$63, %rax
-	jb	.LBB106_50
-	jmp	.LBB106_52
-.LBB106_18:
+.LBB106_19:
 	movq	%rsi, %r11
 	andq	$-8, %r11
 	pxor	%xmm1, %xmm1
 	xorl	%eax, %eax
 	.p2align	4
-.LBB106_19:
+.LBB106_20:
 	movzbl	(%rdi,%rax,2), %ebx
 	movd	%ebx, %xmm0
 	pinsrb	$1, 2(%rdi,%rax,2), %xmm0
@@ -46205,7 +46201,7 @@
 	paddw	%xmm3, %xmm1
 	addq	$8, %rax
 	cmpq	%rax, %r11
-	jne	.LBB106_19
+	jne	.LBB106_20
 	pshufd	$238, %xmm1, %xmm0
 	paddw	%xmm1, %xmm0
 	pshufd	$85, %xmm0, %xmm1
@@ -46214,7 +46210,7 @@
 	psrld	$16, %xmm0
 	paddw	%xmm1, %xmm0
 	movd	%xmm0, %eax
-	jmp	.LBB106_21
+	jmp	.LBB106_22
 .LBB106_8:
 	movq	%rsi, %rax
 	andq	$-8, %rax
@@ -46274,10 +46270,12 @@
 .LBB106_11:
 	cmpq	%rax, %rsi
 	jne	.LBB106_7
-	cmpw	$63, %cx
+	movzwl	%cx, %eax
+.LBB106_13:
+	cmpq	$63, %rax
 	jb	.LBB106_50
 	jmp	.LBB106_52
-.LBB106_17:
+.LBB106_18:
 	xorl	%ebx, %ebx
 	cmpb	$0, 1(%rdi,%r11,2)
 	sets	%bl
@@ -46287,10 +46285,10 @@
 	cmovel	%ebx, %ebp
 	addl	%ebp, %eax
 	incq	%r11
-.LBB106_21:
-	cmpq	%r11, %rsi
-	jne	.LBB106_17
 .LBB106_22:
+	cmpq	%r11, %rsi
+	jne	.LBB106_18
+.LBB106_23:
 	decl	%r10d
 	cmpl	$3, %r10d
 	ja	.LBB106_52
@@ -46326,7 +46324,7 @@
 	cmpw	$1, 38(%rcx,%r9)
 	je	.LBB106_40
 	jmp	.LBB106_49
-.LBB106_24:
+.LBB106_51:
 	cmpw	$62, %ax
 	jbe	.LBB106_50
 	jmp	.LBB106_52
@@ -46392,12 +46390,12 @@
 .LBB106_50:
 	movzbl	%dl, %edx
 	leaq	2(%rsp), %rcx
-	callq	"ecc200_calls::smallest_writing::write_symbol::<=62,=32,=98>"
+	callq	"ecc200_calls::smallest_writing::write_symbol::<=32,=98>"
 	jmp	.LBB106_53
 .LBB106_52:
 	movzbl	%dl, %edx
 	leaq	2(%rsp), %rcx
-	callq	"ecc200_calls::smallest_writing::write_symbol::<=1558,=144,=2178>"
+	callq	"ecc200_calls::smallest_writing::write_symbol::<=144,=2178>"
 .LBB106_53:
 	addq	$8, %rsp
 	.cfi_def_cfa_offset 24
@@ -46414,7 +46412,7 @@
 .LJTI106_0:
 	.long	.LBB106_33-.LJTI106_0
 	.long	.LBB106_41-.LJTI106_0
-	.long	.LBB106_24-.LJTI106_0
+	.long	.LBB106_51-.LJTI106_0
 	.long	.LBB106_25-.LJTI106_0
 
 	.section	.rodata.cst16,"aM",@progbits,16
@@ -46483,8 +46481,8 @@
 	.byte	3
 	.text
 	.p2align	4
-	.type	"ecc200_calls::smallest_writing::write_symbol::<=62,=32,=98>",@function
-"ecc200_calls::smallest_writing::write_symbol::<=62,=32,=98>":
+	.type	"ecc200_calls::smallest_writing::write_symbol::<=32,=98>",@function
+"ecc200_calls::smallest_writing::write_symbol::<=32,=98>":
 	.cfi_startproc
 	pushq	%rbp
 	.cfi_def_cfa_offset 16
@@ -46905,7 +46903,7 @@
 	callq	memset@PLT
 	jmp	.LBB107_28
 .Lfunc_end107:
-	.size	"ecc200_calls::smallest_writing::write_symbol::<=62,=32,=98>", .Lfunc_end107-"ecc200_calls::smallest_writing::write_symbol::<=62,=32,=98>"
+	.size	"ecc200_calls::smallest_writing::write_symbol::<=32,=98>", .Lfunc_end107-"ecc200_calls::smallest_writing::write_symbol::<=32,=98>"
 	.cfi_endproc
 
 	.p2align	4
@@ -49176,8 +49174,8 @@
 	.byte	3
 	.text
 	.p2align	4
-	.type	"ecc200_calls::smallest_writing::write_symbol::<=1558,=144,=2178>",@function
-"ecc200_calls::smallest_writing::write_symbol::<=1558,=144,=2178>":
+	.type	"ecc200_calls::smallest_writing::write_symbol::<=144,=2178>",@function
+"ecc200_calls::smallest_writing::write_symbol::<=144,=2178>":
 	.cfi_startproc
 	pushq	%rbp
 	.cfi_def_cfa_offset 16
@@ -49598,7 +49596,7 @@
 	callq	memset@PLT
 	jmp	.LBB116_28
 .Lfunc_end116:
-	.size	"ecc200_calls::smallest_writing::write_symbol::<=1558,=144,=2178>", .Lfunc_end116-"ecc200_calls::smallest_writing::write_symbol::<=1558,=144,=2178>"
+	.size	"ecc200_calls::smallest_writing::write_symbol::<=144,=2178>", .Lfunc_end116-"ecc200_calls::smallest_writing::write_symbol::<=144,=2178>"
 	.cfi_endproc
 
 	.p2align	4
@@ -52425,7 +52423,7 @@
 	.type	ecc200_abi,@function
 ecc200_abi:
 	.cfi_startproc
-	movw	$4, %ax
+	movw	$1, %ax
 	retq
 .Lfunc_end134:
 	.size	ecc200_abi, .Lfunc_end134-ecc200_abi

@@ -1,4 +1,4 @@
-/* The library ecc200 2.0.0, made by library/build of the proved source with rattle-kit-13f logic dac8208d650f15bf. Not written by hand: `make compiled` makes it anew. */
+/* The library ecc200 1.0.0, made by library/build of the proved source with rattle-kit-13f logic dac8208d650f15bf. Not written by hand: `make compiled` makes it anew. */
 	.def	@feat.00;
 	.scl	3;
 	.type	0;
@@ -45471,30 +45471,30 @@
 	je	.LBB106_1
 	xorl	%r9d, %r9d
 	testq	%rdx, %rdx
-	je	.LBB106_22
+	je	.LBB106_23
 	cmpb	$4, %bl
-	je	.LBB106_22
+	je	.LBB106_23
 	cmpq	$8, %rdx
-	jae	.LBB106_18
+	jae	.LBB106_19
 	xorl	%r9d, %r9d
 	xorl	%edi, %edi
-	jmp	.LBB106_17
+	jmp	.LBB106_18
 .LBB106_1:
 	leaq	(%rdx,%rdx), %r9
 	cmpq	$63, %rdx
-	setae	%r11b
-	cmpq	$205, %r9
-	setb	%sil
-	cmpq	$205, %rdx
 	setae	%r10b
-	cmpq	$817, %r9
+	cmpq	$205, %r9
 	setb	%bl
+	cmpq	$205, %rdx
+	setae	%r11b
+	cmpq	$817, %r9
+	setb	%sil
 	cmpq	$63, %r9
-	jb	.LBB106_51
-	andb	%sil, %r11b
-	jne	.LBB106_51
+	jb	.LBB106_13
 	andb	%bl, %r10b
-	jne	.LBB106_51
+	jne	.LBB106_13
+	andb	%sil, %r11b
+	jne	.LBB106_13
 	testq	%rdx, %rdx
 	je	.LBB106_50
 	cmpq	$8, %rdx
@@ -45502,17 +45502,13 @@
 	xorl	%r10d, %r10d
 	xorl	%r9d, %r9d
 	jmp	.LBB106_7
-.LBB106_51:
-	cmpq	$63, %r9
-	jb	.LBB106_50
-	jmp	.LBB106_52
-.LBB106_18:
+.LBB106_19:
 	movq	%rdx, %rdi
 	andq	$-8, %rdi
 	pxor	%xmm1, %xmm1
 	xorl	%r9d, %r9d
 	.p2align	4
-.LBB106_19:
+.LBB106_20:
 	movzbl	(%rcx,%r9,2), %ebx
 	movd	%ebx, %xmm0
 	pinsrb	$1, 2(%rcx,%r9,2), %xmm0
@@ -45542,7 +45538,7 @@
 	paddw	%xmm3, %xmm1
 	addq	$8, %r9
 	cmpq	%r9, %rdi
-	jne	.LBB106_19
+	jne	.LBB106_20
 	pshufd	$238, %xmm1, %xmm0
 	paddw	%xmm1, %xmm0
 	pshufd	$85, %xmm0, %xmm1
@@ -45551,7 +45547,7 @@
 	psrld	$16, %xmm0
 	paddw	%xmm1, %xmm0
 	movd	%xmm0, %r9d
-	jmp	.LBB106_21
+	jmp	.LBB106_22
 .LBB106_8:
 	movq	%rdx, %r9
 	andq	$-8, %r9
@@ -45611,10 +45607,12 @@
 .LBB106_11:
 	cmpq	%r9, %rdx
 	jne	.LBB106_7
-	cmpw	$63, %r10w
+	movzwl	%r10w, %r9d
+.LBB106_13:
+	cmpq	$63, %r9
 	jb	.LBB106_50
 	jmp	.LBB106_52
-.LBB106_17:
+.LBB106_18:
 	xorl	%ebx, %ebx
 	cmpb	$0, 1(%rcx,%rdi,2)
 	sets	%bl
@@ -45624,10 +45622,10 @@
 	cmovel	%ebx, %ebp
 	addl	%ebp, %r9d
 	incq	%rdi
-.LBB106_21:
-	cmpq	%rdi, %rdx
-	jne	.LBB106_17
 .LBB106_22:
+	cmpq	%rdi, %rdx
+	jne	.LBB106_18
+.LBB106_23:
 	decl	%esi
 	cmpl	$3, %esi
 	ja	.LBB106_52
@@ -45663,7 +45661,7 @@
 	cmpw	$1, 38(%r10,%r11)
 	je	.LBB106_40
 	jmp	.LBB106_49
-.LBB106_24:
+.LBB106_51:
 	cmpw	$62, %r9w
 	jbe	.LBB106_50
 	jmp	.LBB106_52
@@ -45729,12 +45727,12 @@
 .LBB106_50:
 	movq	%rax, 32(%rsp)
 	leaq	50(%rsp), %r9
-	callq	"ecc200_calls::smallest_writing::write_symbol::<=62,=32,=98>"
+	callq	"ecc200_calls::smallest_writing::write_symbol::<=32,=98>"
 	jmp	.LBB106_53
 .LBB106_52:
 	movq	%rax, 32(%rsp)
 	leaq	50(%rsp), %r9
-	callq	"ecc200_calls::smallest_writing::write_symbol::<=1558,=144,=2178>"
+	callq	"ecc200_calls::smallest_writing::write_symbol::<=144,=2178>"
 	nop
 .LBB106_53:
 	addq	$56, %rsp
@@ -45748,12 +45746,12 @@
 .LJTI106_0:
 	.long	.LBB106_33-.LJTI106_0
 	.long	.LBB106_41-.LJTI106_0
-	.long	.LBB106_24-.LJTI106_0
+	.long	.LBB106_51-.LJTI106_0
 	.long	.LBB106_25-.LJTI106_0
 	.text
 	.seh_endproc
 
-	.def	"ecc200_calls::smallest_writing::write_symbol::<=62,=32,=98>";
+	.def	"ecc200_calls::smallest_writing::write_symbol::<=32,=98>";
 	.scl	3;
 	.type	32;
 	.endef
@@ -45823,8 +45821,8 @@
 	.byte	3
 	.text
 	.p2align	4
-"ecc200_calls::smallest_writing::write_symbol::<=62,=32,=98>":
-.seh_proc "ecc200_calls::smallest_writing::write_symbol::<=62,=32,=98>"
+"ecc200_calls::smallest_writing::write_symbol::<=32,=98>":
+.seh_proc "ecc200_calls::smallest_writing::write_symbol::<=32,=98>"
 	pushq	%r15
 	.seh_pushreg %r15
 	pushq	%r14
@@ -48329,7 +48327,7 @@
 	jmp	.LBB115_16
 	.seh_endproc
 
-	.def	"ecc200_calls::smallest_writing::write_symbol::<=1558,=144,=2178>";
+	.def	"ecc200_calls::smallest_writing::write_symbol::<=144,=2178>";
 	.scl	3;
 	.type	32;
 	.endef
@@ -48399,8 +48397,8 @@
 	.byte	3
 	.text
 	.p2align	4
-"ecc200_calls::smallest_writing::write_symbol::<=1558,=144,=2178>":
-.seh_proc "ecc200_calls::smallest_writing::write_symbol::<=1558,=144,=2178>"
+"ecc200_calls::smallest_writing::write_symbol::<=144,=2178>":
+.seh_proc "ecc200_calls::smallest_writing::write_symbol::<=144,=2178>"
 	pushq	%r15
 	.seh_pushreg %r15
 	pushq	%r14
@@ -51474,7 +51472,7 @@
 	.globl	ecc200_abi
 	.p2align	4
 ecc200_abi:
-	movw	$4, %ax
+	movw	$1, %ax
 	retq
 
 	.def	ecc200_inspect;
