@@ -63,7 +63,7 @@ LAYOUT = {
 
 class Interface:
     """The interface, and the library's own version."""
-    abi = 4
+    abi = 1
     codes, constants, layout, extent_names = CODES, CONSTANTS, LAYOUT, EXTENTS
 
     def __init__(self, version):

@@ -85,7 +85,7 @@ static int is_kept(int has_one_meaning_now) {
     }
     has_one_meaning = has_one_meaning_now, readings = 0;
     judge.picture = judge.smooth = &plane, judge.layouts = &layouts, judge.limit = &limit, judge.trial = &trial;
-    struct trials trials = {&judge, layout, &warp, &best, -1, 1};
+    struct trials trials = {&judge, layout, &warp, &best, -1, 1, false};
     try_known_damage(&trials, &lie, &brightnesses);
     layouts_free(&layouts);
     return trials.best_cost >= 0 && readings > 1;
