@@ -23,6 +23,8 @@ enum {
     RULE_COUNT = sizeof RULES / sizeof *RULES,
     DOUBT_RULE_COUNT = sizeof DOUBT_RULES / sizeof *DOUBT_RULES
 };
+/* The first of them are enough where gleams lie across modules; all would leave less work for what comes next. */
+enum { RULES_FOR_GLEAMS = 4 };
 enum { CHECKS_OF_A_CORRECTION = 2 };
 /* Checks that tell a symbol with doubtful modules from chance, which meets each of them one time in 256. */
 enum { LEAST_EVIDENCE = 3 };
@@ -268,7 +270,7 @@ static void try_gleams(struct trials *trials, struct brightnesses *brightnesses)
     if (trials->best_cost >= 0 || !trials->has_border || limit_reached(trials->judge->limit))
         return;
     take_darkest(brightnesses);
-    try_rules(trials, brightnesses, RULE_COUNT);
+    try_rules(trials, brightnesses, RULES_FOR_GLEAMS);
 }
 
 /* Fits each region by its own border. */
