@@ -1,12 +1,11 @@
 -- The designator that is found first is the one of the definition, and each number has one.
-use Rattle.std.proofs.Common.{◌≡◌, ℕ, ◌+◌, ◌-◌, ◌*◌, ◌/◌, ◌%◌, ◌<◌, ◌≤◌, List, [], ◌∷◌, ◌++◌, length, drop}
-use Rattle.std.proofs.Common.{refl, sym, ap, subst, ◌∙◌, arith, length-append, Bool, true, false, cond, leb, ltb}
+use Rattle.std.proofs.Common.{◌≡◌, ℕ, ◌+◌, ◌-◌, ◌*◌, ◌/◌, ◌%◌, ◌<◌, ◌≤◌, List, [], ◌∷◌, ◌++◌, length}
+use Rattle.std.proofs.Common.{refl, sym, ap, subst, ◌∙◌, arith, Bool, true, false, cond, leb, ltb}
 use Rattle.std.proofs.Common.{◌&&◌, Option, Some, None}
-use Rattle.std.specs.Prelude.{◌↔◌, slice_get, IfSome, IfNone, ◌==◌}
+use Rattle.std.specs.Prelude.{◌↔◌, slice_get, ◌==◌}
 use Rattle.std.proofs.lemmas.Bool.Decides.{nat_tests}
-use Rattle.std.proofs.lemmas.List.{drop_at}
 use Rattle.dm_words.specs.declared.letters.designator.Designator.{Designator}
-use Rattle.dm_words.specs.Designators.{most_assigned, IsDesignator, one, two, three, BeginsDesignator}
+use Rattle.dm_words.specs.Designators.{most_assigned, IsDesignator, one, two, three}
 use Rattle.dm_words.specs.Designators.{BeginsNoDesignator, designator}
 use Rattle.dm_words.specs.inner.LetterScan.{is_further, two_words, three_words}
 use Rattle.dm_words.specs.inner.LetterScan.{first_designator}
@@ -129,15 +128,6 @@ none_found words (Some d) e none =
     (let f = found words d e in absurd
     (none d.number f.more (record { first = f.first; is_designator = f.is_designator; whole = f.whole })))
 
--- What is found begins the words, and these follow it.
-pub begins : (words : List ℕ) (d : Designator) → Found words d → BeginsDesignator words d.number (drop d.count words)
-begins words d f = record {
-  first = f.first;
-  is_designator = f.is_designator;
-  whole = (let rest : drop d.count words ≡ f.more = ap (drop d.count) f.whole
-      ∙ drop_at f.first f.more d.count (sym f.count) in f.whole ∙ ap (λ (r : List ℕ). f.first ++ r) (sym rest));
-}
-
 -- The designator of a number says it.
 pub designator_says : (number : ℕ) → number ≤ most_assigned → IsDesignator (designator number) number
 designator_says n le = by_test (ltb n 127) (ltb n 16383) refl refl where
@@ -192,24 +182,3 @@ pub designator_is : (words : List ℕ) (number : ℕ) → number ≤ most_assign
     → IsDesignator words number ↔ (words ≡ designator number)
 designator_is words n le =
     ((λ d. designator_only words n d), (λ e. subst (λ (w : List ℕ). IsDesignator w n) (sym e) (designator_says n le)))
-
--- What a call gives that gives what is found.
-pub record Answered (words : List ℕ) (o : Option Designator) : Type 0 where
-  pub some : IfSome o (λ d. BeginsDesignator words d.number (drop d.count words))
-  pub within : IfSome o (λ d. d.count ≤ length words)
-  pub few : IfSome o (λ d. (1 ≤ d.count) × (d.count ≤ 3))
-  pub assigned : IfSome o (λ d. d.number ≤ most_assigned)
-  pub none : IfNone o (BeginsNoDesignator words)
-
--- What is found answers the call.
-pub answered : (words : List ℕ) (o : Option Designator) → o ≡ first_designator words → Answered words o
-answered words None e = record { some = tt; within = tt; few = tt; assigned = tt; none = none_begins words (sym e) }
-answered words (Some d) e =
-    let f = found words d (sym e) in
-    record {
-      some = begins words d f;
-      within = omega (arith, ap length f.whole, f.count, length-append f.first f.more);
-      few = (f.some, f.few);
-      assigned = f.assigned;
-      none = tt;
-    }

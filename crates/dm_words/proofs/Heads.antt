@@ -1,14 +1,13 @@
 -- The head that is found first is the one of the definition, and what is written for a head says it.
 use Rattle.std.proofs.Common.{◌≡◌, ℕ, ◌+◌, ◌-◌, ◌*◌, ◌/◌, ◌%◌, ◌≤◌, List, [], ◌∷◌, ◌++◌, length}
-use Rattle.std.proofs.Common.{drop, refl, sym, ap, subst, ◌∙◌, arith, Bool, true, false, cond}
+use Rattle.std.proofs.Common.{refl, sym, ap, subst, ◌∙◌, arith, Bool, true, false, cond}
 use Rattle.std.proofs.Common.{Option, Some, None}
-use Rattle.std.specs.Prelude.{slice_get, IfSome, IfNone, ◌==◌}
+use Rattle.std.specs.Prelude.{slice_get, ◌==◌}
 use Rattle.std.proofs.lemmas.Bool.Decides.{nat_tests}
-use Rattle.std.proofs.lemmas.List.{drop_at}
 use Rattle.dm_words.specs.declared.letters.head.Appended.{Appended}
 use Rattle.dm_words.specs.declared.letters.head.Head.{Head}
 use Rattle.dm_words.specs.declared.letters.head.Head.TheVariants as head
-use Rattle.dm_words.specs.Heads.{IsAppended, IsHead, SpellsHead, programming, appended, BeginsHead, BeginsNoHead}
+use Rattle.dm_words.specs.Heads.{IsAppended, IsHead, SpellsHead, programming, appended, BeginsNoHead}
 use Rattle.dm_words.specs.Heads.{head_words}
 use Rattle.dm_words.specs.inner.LetterScan.{is_appended, appended_symbol, append_by, first_head, head_length}
 
@@ -108,22 +107,6 @@ none_found words None e none = e
 none_found words (Some said) e none =
     (let f = found words said e in absurd
     (none said f.more (record { first = f.first; spells = f.spells; whole = f.whole })))
-
--- What is found begins the words, and these follow it.
-pub begins : (words : List ℕ) (said : Head) → Found words said → BeginsHead words said (drop (head_length said) words)
-begins words said f = record {
-  first = f.first;
-  spells = f.spells;
-  whole = (let rest : drop (head_length said) words ≡ f.more = ap (drop (head_length said)) f.whole
-      ∙ drop_at f.first f.more (head_length said) (sym f.count) in f.whole
-      ∙ ap (λ (r : List ℕ). f.first ++ r) (sym rest));
-}
-
--- What a call gives that gives what is found.
-pub answered : (words : List ℕ) (o : Option Head) → o ≡ first_head words
-    → IfSome o (λ said. (more : List ℕ) × BeginsHead words said more) × IfNone o (BeginsNoHead words)
-answered words None e = (tt, none_begins words (sym e))
-answered words (Some said) e = ((drop (head_length said) words, begins words said (found words said (sym e))), tt)
 
 -- The codewords of a head say it.
 pub head_says : (said : Head) → IsHead (Some said) → SpellsHead (head_words (Some said)) said

@@ -14,10 +14,9 @@
 //!
 //! Letters: [`letter_to_as()`] reads the [`Letter`] that a list says in an extent into a target, which is a [`Head`] or
 //! none, items and [`Mark`]s, or gives the [`LetterFault`] with which the list is refused. [`letter_words_in()`] writes
-//! the codewords of a letter, and [`smallest_letter_words_to()`] those of the smallest size of a choice. [`head_of()`],
-//! [`head_words()`], [`designator_of()`] and [`designator_words()`] read and write a head or a designator alone.
-//! [`designations_to()`] tells where the designators of a letter stand among its codewords, and [`eci_count()`] how
-//! many there may be.
+//! the codewords of a letter, and [`smallest_letter_words_to()`] those of the smallest size of a choice. [`head_words()`]
+//! and [`designator_words()`] write a head or a designator alone. [`designations_to()`] tells where the designators of a
+//! letter stand among its codewords, and [`eci_count()`] how many there may be.
 //!
 //! Limits: up to [`MOST_DATA`] codewords are read and written. A square has up to [`MOST_GRID_DATA`], for which a
 //! [`Message`] or a [`Letter`] serves: it has room for [`MESSAGE_ROOM`] items, of which the usual extent takes
@@ -55,11 +54,9 @@ pub use extent::Extent;
 pub use fault::{TooLong, WordFault};
 pub use item::Item;
 pub use letters::designation::{designations_to, eci_count, has_eci};
-pub use letters::designator::{
-    DESIGNATOR_ROOM, Designator, MOST_ASSIGNED, designator_of, designator_words,
-};
+pub use letters::designator::{DESIGNATOR_ROOM, MOST_ASSIGNED, designator_words};
 pub use letters::fault::LetterFault;
-pub use letters::head::{Appended, HEAD_ROOM, Head, head_of, head_words};
+pub use letters::head::{Appended, HEAD_ROOM, Head, head_words};
 pub use letters::letter::{Letter, LetterIn};
 pub use letters::mark::Mark;
 pub use letters::normal_form::{content_words_in, letter_words_in};

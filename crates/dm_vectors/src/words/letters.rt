@@ -353,20 +353,11 @@ fn long_letters_are_read_back(rt: HostRuntime) {
 }
 
 #[test]
-fn heads_and_designators_are_read_alone(rt: HostRuntime) {
-    let head = head_of(&[233, 28, 1, 2, 66]);
-    holds(&rt, head == symbol(2, 5, 1, 2));
-    holds(&rt, head_of(&[66, 233, 28, 1, 2]) == None);
+fn heads_and_designators_are_written_alone(rt: HostRuntime) {
     holds(
         &rt,
-        head_words(head).as_slice() == [233, 28, 1, 2].as_slice(),
+        head_words(Some(Head::Programming)).as_slice() == [234].as_slice(),
     );
-    let found = Designator {
-        count: 2,
-        number: 200,
-    };
-    holds(&rt, designator_of(&[128, 74, 66]) == Some(found));
-    holds(&rt, designator_of(&[128]) == None);
     holds(
         &rt,
         designator_words(20_000).as_slice() == [192, 15, 62].as_slice(),

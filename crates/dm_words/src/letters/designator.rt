@@ -1,7 +1,7 @@
 //! ECI designators: the number of an assignment in one codeword, two or three (ISO/IEC 16022, ECI encodation).
 
-ghost use Rattle.std.specs.Prelude.{◌≡◌, ◌≤◌, length, drop, slice_get, IfSome, IfNone};
-ghost use Rattle.dm_words.specs.Designators.{BeginsDesignator, BeginsNoDesignator, designator};
+ghost use Rattle.std.specs.Prelude.{◌≡◌, ◌≤◌, slice_get};
+ghost use Rattle.dm_words.specs.Designators.{designator};
 ghost use Rattle.dm_words.specs.inner.LetterScan.{first_designator, is_further, two_words, three_words};
 
 use arrayvec::ArrayVec;
@@ -99,18 +99,6 @@ pub(crate) fn word_at(words: &[u8], at: usize) -> Option<u8>
     ensures { result ≡ slice_get words.now at }
 {
     words.get(at).copied()
-}
-
-/// Gives the designator with which the words begin, `None` where they begin with none. ISO/IEC 16022, ECI encodation.
-pub fn designator_of(words: &[u8]) -> Option<Designator>
-    ensures some { IfSome result
-        (λ d. BeginsDesignator words.now d.number (drop d.count words.now)) }
-    ensures within { IfSome result (λ d. d.count ≤ length words.now) }
-    ensures few { IfSome result (λ d. (1 ≤ d.count) × (d.count ≤ DESIGNATOR_ROOM)) }
-    ensures assigned { IfSome result (λ d. d.number ≤ MOST_ASSIGNED) }
-    ensures none { IfNone result (BeginsNoDesignator words.now) }
-{
-    first_designator(words)
 }
 
 /// Gives the designator of a number of 0 to 999999. ISO/IEC 16022, ECI encodation.

@@ -1,7 +1,7 @@
 //! Heads: structured append and reader programming.
 
-ghost use Rattle.std.specs.Prelude.{◌≡◌, List, ℕ, IsTrue, ◌↔◌, IfSome, IfNone};
-ghost use Rattle.dm_words.specs.Heads.{IsAppended, IsHead, BeginsHead, BeginsNoHead, head_words};
+ghost use Rattle.std.specs.Prelude.{◌≡◌, IsTrue, ◌↔◌};
+ghost use Rattle.dm_words.specs.Heads.{IsAppended, IsHead, head_words};
 ghost use Rattle.dm_words.specs.inner.LetterScan.{first_head, append_by, head_length, is_appended};
 
 use crate::letters::designator::word_at;
@@ -94,15 +94,6 @@ pub(crate) fn head_length(head: Head) -> usize
         Head::Programming => 1,
         Head::Appended(_) => 4,
     }
-}
-
-/// Gives the head with which the words begin, `None` where they begin with none. It has one codeword for
-/// [`Head::Programming`], and four for [`Head::Appended`]. ISO/IEC 16022, structured append, reader programming.
-pub fn head_of(words: &[u8]) -> Option<Head>
-    ensures some { IfSome result (λ said. (more : List ℕ) × BeginsHead words.now said more) }
-    ensures none { IfNone result (BeginsNoHead words.now) }
-{
-    first_head(words)
 }
 
 /// Gives the codewords of a head: its sequence indicator is 16 times one less than `index`, and 17 less `count`.
