@@ -9,7 +9,6 @@ int main(int count, char **words) {
     ecc200_how how = {0};
     if (count != 4) return 2;
     how.form = (uint16_t)atoi(words[1]);
-    how.extent = ECC200_WIDE;
     for (int times = atoi(words[2]); times > 0; times--)
         if (ecc200_write_bytes((const uint8_t *)words[3], strlen(words[3]), &how, &symbol)) return 1;
     return 0;

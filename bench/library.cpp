@@ -55,9 +55,14 @@ static uint16_t write(const Mark &mark) {
     return ecc200_write(mark.items.data(), mark.items.size(), nullptr, 0, &how, &symbol);
 }
 
-static uint16_t read(const std::vector<uint8_t> &modules, const Mark &mark, uint16_t border_limit) {
-    return ecc200_read(modules.data(), modules.size(), nullptr, 0, mark.rows, mark.columns, border_limit, ECC200_USUAL,
-                       &reading);
+// How a symbol of a mark is read: with a border limit, in the usual extent.
+static ecc200_scan scan_of(const Mark &mark, uint16_t limit) {
+    return {mark.rows, mark.columns, limit, 0, ECC200_USUAL};
+}
+
+static uint16_t read(const std::vector<uint8_t> &modules, const Mark &mark, uint16_t limit) {
+    const ecc200_scan scan = scan_of(mark, limit);
+    return ecc200_read(modules.data(), modules.size(), nullptr, 0, &scan, &reading);
 }
 
 // Whether the smallest square that holds the text of a mark is its own size, so that its symbol is the normal grid.
@@ -113,7 +118,7 @@ template <class Work> static void timed(const char *work, const char *who, const
 }
 
 static void read_right(const std::vector<uint8_t> &modules, const Mark &mark) {
-    if (read(modules, mark, ecc200_usual_limit(mark.rows, mark.columns)) || reading.item_count != mark.items.size() ||
+    if (read(modules, mark, ECC200_USUAL_LIMIT) || reading.item_count != mark.items.size() ||
         !std::equal(mark.items.begin(), mark.items.end(), reading.items))
         die("ecc200 reads something else");
 }
@@ -123,8 +128,8 @@ static void time_ours(const std::vector<Mark> &marks) {
     timed("read, damaged", "ecc200", marks, [](const Mark &mark) { read_right(mark.damaged, mark); });
     timed("normal, damaged", "ecc200", marks, [](const Mark &mark) {
         const auto &damaged = mark.damaged;
-        if (ecc200_normal(damaged.data(), damaged.size(), nullptr, 0, mark.rows, mark.columns, 0, ECC200_USUAL,
-                          ECC200_ASCII, &symbol) ||
+        const ecc200_scan scan = scan_of(mark, ECC200_GIVEN_LIMIT);
+        if (ecc200_normal(damaged.data(), damaged.size(), nullptr, 0, &scan, ECC200_ASCII, &symbol) ||
             (mark.rows == mark.columns && std::memcmp(symbol.modules, mark.clean.data(), mark.clean.size())))
             die("ecc200 normalises to something else");
     });
@@ -245,7 +250,7 @@ struct Encoder {
 
 template <uint16_t form, uint16_t shape> static size_t ours(const std::string &message) {
     ecc200_how how = {};
-    how.form = form, how.shape = shape, how.extent = ECC200_WIDE;
+    how.form = form, how.shape = shape;
     bool is_written = !ecc200_write_bytes((const uint8_t *)message.data(), message.size(), &how, &symbol);
     return is_written ? (size_t)symbol.rows * symbol.columns : 0;
 }

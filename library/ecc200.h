@@ -22,14 +22,15 @@
  *         static ecc200_symbol symbol;
  *         static ecc200_reading reading;
  *         const uint16_t items[] = {'1', '2', '3', '4', '5', '6'};
- *         const ecc200_how how = {.form = ECC200_SMALLEST, .shape = ECC200_SQUARE, .extent = ECC200_WIDE};
+ *         const ecc200_how how = {.form = ECC200_SMALLEST};
  *         if (ecc200_write(items, 6, NULL, 0, &how, &symbol) != ECC200_OK)
  *             return 1;
  *         for (int row = 0; row < symbol.rows; row++, puts(""))
  *             for (int column = 0; column < symbol.columns; column++)
  *                 fputs(symbol.modules[row * symbol.columns + column] ? "##" : "  ", stdout);
  *         symbol.modules[11] ^= 1;
- *         if (ecc200_read(symbol.modules, 100, NULL, 0, 10, 10, ECC200_ANY_LIMIT, ECC200_WIDE, &reading) != ECC200_OK)
+ *         const ecc200_scan scan = {.rows = 10, .columns = 10};
+ *         if (ecc200_read(symbol.modules, 100, NULL, 0, &scan, &reading) != ECC200_OK)
  *             return 2;
  *         printf("%d items, %d codeword corrected\n", reading.item_count, reading.corrected[0]);
  *     }
@@ -89,7 +90,7 @@
  *
  * WHAT A CALLER OWES, since C can't check it:
  *  - a pointer points to as many elements as the call says, aligned for their type. It may be NULL if the count is 0;
- *    `how` and `out` may not;
+ *    `scan`, `how` and `out` may not;
  *  - `out` overlaps no input, and during the call nobody else writes either of them or reads `out`.
  *
  * WHAT IS PROVED, for every call whose caller does what is owed: that it returns, that it touches nothing but its
@@ -152,12 +153,12 @@ enum {
     ECC200_MOST_BLOCKS = 10,
     ECC200_SIZE_COUNT = 48,
     ECC200_FNC1 = 256,            /* an item */
-    ECC200_ANY_LIMIT = 65535,     /* a border limit that refuses nothing */
     ECC200_BEYOND = 255,          /* in ecc200_inspection.corrected: this block is beyond correction */
     ECC200_STACK = 49152          /* bytes */
 };
 
-/* What is read. USUAL: ASCII, C40, Text, X12 and Base 256, as the program reads. WIDE: these, and
+/* What is read, and for whose readers something is written. USUAL: ASCII, C40, Text, X12 and Base 256, as the program
+ * reads. WIDE: these, and
  *  - EDIFACT (240);
  *  - a macro 05 (236) or 06 (237) as the first codeword, or behind nothing but empty runs of C40, Text or X12, which
  *    stands for the header [)> RS 0 5 GS or [)> RS 0 6 GS and the trailer RS EOT; the places of marks count the header;
@@ -168,8 +169,8 @@ enum {
  *    block is beyond correction by the standard's, and none by that one.
  * What USUAL reads WIDE reads as the same, with the same corrections. */
 enum ECC200_SMALL ecc200_extent {
-    ECC200_USUAL = 0,
-    ECC200_WIDE = 1
+    ECC200_WIDE = 0,
+    ECC200_USUAL = 1
 };
 
 /* The normal form of what is said. */
@@ -238,7 +239,10 @@ enum ECC200_SMALL ecc200_code {
     /* What stands beside the items isn't written. */
     ECC200_MARK = 22, /* a mark with a number above 999999, with a place below that of the mark before it, or above
                          the number of items; place: its index from 0, or 65535 if that is larger */
-    ECC200_HEAD = 23  /* a head of no kind that there is, or with numbers that its kind doesn't have */
+    ECC200_HEAD = 23, /* a head of no kind that there is, or with numbers that its kind doesn't have */
+
+    /* An argument stands for nothing. */
+    ECC200_LIMIT = 24 /* a limit above 3; value: the limit */
 };
 
 typedef struct ecc200_fault {
@@ -248,6 +252,24 @@ typedef struct ecc200_fault {
 } ecc200_fault;
 
 /* ---- Reading */
+
+/* How many border modules that aren't doubtful may have the wrong colour. */
+enum ECC200_SMALL ecc200_limit {
+    ECC200_USUAL_LIMIT = 0, /* as many as ecc200_usual_limit says */
+    ECC200_SURE_LIMIT = 1,  /* any number where each block leaves a correction unused, two of its check codewords, which
+                               shows that it is a symbol; else as many as usual */
+    ECC200_ANY_LIMIT = 2,   /* any number */
+    ECC200_GIVEN_LIMIT = 3  /* as many as are given */
+};
+
+/* How a symbol is read. All 0 but the rows and columns: with the usual limit, in ECC200_WIDE. */
+typedef struct ecc200_scan {
+    uint16_t rows;
+    uint16_t columns;
+    uint16_t limit;        /* an ecc200_limit: how many border modules may have the wrong colour */
+    uint16_t border_limit; /* for ECC200_GIVEN_LIMIT, how many; else of no account */
+    uint16_t extent;       /* an ecc200_extent: what is read */
+} ecc200_scan;
 
 /* What a head is. */
 enum ECC200_SMALL ecc200_head_kind {
@@ -290,17 +312,16 @@ typedef struct ecc200_reading {
     uint16_t items[ECC200_MOST_ITEMS];     /* the first item_count count */
 } ecc200_reading;
 
-/* Reads a symbol, as far as the extent goes. `border_limit`: how many border modules may have the wrong colour, usually
- * ecc200_usual_limit(rows, columns). A block with k check codewords is restored if twice the number of its wrong
+/* Reads a symbol, as `scan` says. A block with k check codewords is restored if twice the number of its wrong
  * codewords and the number of its erased ones are together at most k: with no module doubtful, if at most `limit` of
  * its codewords are wrong (ecc200_sizes). Neither the fixed square nor what follows the first pad is looked at.
  * A symbol with more damage than that is refused, unless it has come near the codewords of another message, and is then
  * read as that message. If a wrong message is worse than none, refuse a symbol in which little of a block is `left`:
  * where codewords are erased and nothing is left, a block is read whatever it held.
- * Returns the first fault that applies: EXTENT, SHAPE, SIZE, DOUBT, BORDER, BLOCK, the one of APPEND, RESERVED to
- * UNFINISHED and DESIGNATOR whose codewords come first. */
+ * Returns the first fault that applies: EXTENT, LIMIT, SHAPE, SIZE, DOUBT, BORDER, BLOCK, the one of APPEND, RESERVED
+ * to UNFINISHED and DESIGNATOR whose codewords come first. */
 uint16_t ecc200_read(const uint8_t *ECC200_RESTRICT modules, size_t count, const uint8_t *ECC200_RESTRICT doubtful,
-                     size_t doubtful_count, uint16_t rows, uint16_t columns, uint16_t border_limit, uint16_t extent,
+                     size_t doubtful_count, const ecc200_scan *ECC200_RESTRICT scan,
                      ecc200_reading *ECC200_RESTRICT out);
 
 /* The sum of the rows and the columns, divided by 8 and rounded down: a quarter of the side of a square. */
@@ -349,12 +370,12 @@ uint16_t ecc200_write(const uint16_t *ECC200_RESTRICT items, size_t count, const
 uint16_t ecc200_write_bytes(const uint8_t *ECC200_RESTRICT bytes, size_t count, const ecc200_how *ECC200_RESTRICT how,
                             ecc200_symbol *ECC200_RESTRICT out);
 
-/* Writes the normal grid of what a symbol says in an extent, whatever its size and encodation, and whatever damage
- * was corrected.
- * Returns the first fault that applies: EXTENT, PROFILE, those of ecc200_read, TOO_LONG. */
+/* Writes the normal grid of what a symbol says, read as `scan` says, whatever its size and encodation, and whatever
+ * damage was corrected. `profile`: an ecc200_profile.
+ * Returns the first fault that applies: EXTENT, LIMIT, PROFILE, those of ecc200_read, TOO_LONG. */
 uint16_t ecc200_normal(const uint8_t *ECC200_RESTRICT modules, size_t count, const uint8_t *ECC200_RESTRICT doubtful,
-                       size_t doubtful_count, uint16_t rows, uint16_t columns, uint16_t border_limit, uint16_t extent,
-                       uint16_t profile, ecc200_symbol *ECC200_RESTRICT out);
+                       size_t doubtful_count, const ecc200_scan *ECC200_RESTRICT scan, uint16_t profile,
+                       ecc200_symbol *ECC200_RESTRICT out);
 
 /* ---- Showing and mending */
 
@@ -492,6 +513,7 @@ static inline const char *ecc200_words(uint16_t code) {
     case ECC200_APPEND: return "a structured append that is no part of a file";
     case ECC200_MARK: return "a mark out of order, behind the items, or with a number above 999999";
     case ECC200_HEAD: return "no such head";
+    case ECC200_LIMIT: return "no such border limit";
     default: return "not a code of this library";
     }
 }
@@ -513,6 +535,12 @@ ECC200_ASSERT(offsetof(ecc200_head, file) == 6 && ECC200_SIZE_OF(ecc200_head, fi
 ECC200_ASSERT(sizeof(ecc200_mark) == 8);
 ECC200_ASSERT(offsetof(ecc200_mark, number) == 0 && ECC200_SIZE_OF(ecc200_mark, number) == 4);
 ECC200_ASSERT(offsetof(ecc200_mark, place) == 4 && ECC200_SIZE_OF(ecc200_mark, place) == 4);
+ECC200_ASSERT(sizeof(ecc200_scan) == 10);
+ECC200_ASSERT(offsetof(ecc200_scan, rows) == 0 && ECC200_SIZE_OF(ecc200_scan, rows) == 2);
+ECC200_ASSERT(offsetof(ecc200_scan, columns) == 2 && ECC200_SIZE_OF(ecc200_scan, columns) == 2);
+ECC200_ASSERT(offsetof(ecc200_scan, limit) == 4 && ECC200_SIZE_OF(ecc200_scan, limit) == 2);
+ECC200_ASSERT(offsetof(ecc200_scan, border_limit) == 6 && ECC200_SIZE_OF(ecc200_scan, border_limit) == 2);
+ECC200_ASSERT(offsetof(ecc200_scan, extent) == 8 && ECC200_SIZE_OF(ecc200_scan, extent) == 2);
 ECC200_ASSERT(sizeof(ecc200_reading) == 12540);
 ECC200_ASSERT(offsetof(ecc200_reading, fault) == 0 && ECC200_SIZE_OF(ecc200_reading, fault) == 6);
 ECC200_ASSERT(offsetof(ecc200_reading, rows) == 6 && ECC200_SIZE_OF(ecc200_reading, rows) == 2);

@@ -15,10 +15,6 @@ use std::fmt;
 // ecc200.h: fnc1
 pub const FNC1: u16 = 256;
 // ecc200.h: end
-/// A border limit that refuses nothing.
-// ecc200.h: any_limit
-pub const ANY_LIMIT: u16 = 65535;
-// ecc200.h: end
 
 // ecc200.h: constants
 const ABI: u16 = 1;
@@ -37,9 +33,9 @@ const BEYOND: u8 = 255;
 #[derive(Clone, Copy, Debug, Default, PartialEq, Eq)]
 pub enum Extent {
     // ecc200.h: extents
-    Usual = 0,
     #[default]
-    Wide = 1,
+    Wide = 0,
+    Usual = 1,
     // ecc200.h: end
 }
 
@@ -63,7 +59,25 @@ const ONE: u16 = 4;
 const NO_HEAD: u16 = 0;
 const PART: u16 = 1;
 const PROGRAMMING: u16 = 2;
+const USUAL_LIMIT: u16 = 0;
+const SURE_LIMIT: u16 = 1;
+const ANY_LIMIT: u16 = 2;
+const GIVEN_LIMIT: u16 = 3;
 // ecc200.h: end
+
+/// How many border modules that aren't doubtful may have the wrong colour.
+#[derive(Clone, Copy, Debug, Default, PartialEq, Eq)]
+pub enum BorderLimit {
+    /// As many as [`usual_limit`] says.
+    #[default]
+    Usual,
+    /// Any number where each block leaves a correction unused, which shows that it is a symbol; else as many as usual.
+    Sure,
+    /// Any number.
+    Any,
+    /// So many modules.
+    Modules(u16),
+}
 
 /// The form in which something is written: as a profile has it; or in the encodations by which it fits the smallest
 /// size, of those that the readers of an extent read.
@@ -148,6 +162,8 @@ pub mod code {
     pub const MARK: u16 = 22;
     /// No such head.
     pub const HEAD: u16 = 23;
+    /// No such border limit.
+    pub const LIMIT: u16 = 24;
     // ecc200.h: end
 }
 
@@ -188,6 +204,7 @@ impl fmt::Display for Fault {
             code::APPEND => "a structured append that is no part of a file",
             code::MARK => "a mark out of order, behind the items, or with a number above 999999",
             code::HEAD => "no such head",
+            code::LIMIT => "no such border limit",
             // ecc200.h: end
             _ => "not a code of this library",
         })
@@ -346,6 +363,15 @@ mod sys {
 
     // ecc200.h: structs
     #[repr(C)]
+    pub struct ScanIn {
+        pub rows: u16,
+        pub columns: u16,
+        pub limit: u16,
+        pub border_limit: u16,
+        pub extent: u16,
+    }
+
+    #[repr(C)]
     #[derive(Clone, Copy)]
     pub struct HeadNumbers {
         pub kind: u16,
@@ -439,10 +465,7 @@ mod sys {
             count: usize,
             doubtful: *const u8,
             doubtful_count: usize,
-            rows: u16,
-            columns: u16,
-            border_limit: u16,
-            extent: u16,
+            scan: *const ScanIn,
             out: *mut ReadingOut,
         ) -> u16;
         pub safe fn ecc200_version() -> *const c_char;
@@ -460,10 +483,7 @@ mod sys {
             count: usize,
             doubtful: *const u8,
             doubtful_count: usize,
-            rows: u16,
-            columns: u16,
-            border_limit: u16,
-            extent: u16,
+            scan: *const ScanIn,
             profile: u16,
             out: *mut SymbolOut,
         ) -> u16;
@@ -485,6 +505,12 @@ mod sys {
     const _: () = assert!(offset_of!(Fault, code) == 0);
     const _: () = assert!(offset_of!(Fault, value) == 2);
     const _: () = assert!(offset_of!(Fault, place) == 4);
+    const _: () = assert!(size_of::<ScanIn>() == 10);
+    const _: () = assert!(offset_of!(ScanIn, rows) == 0);
+    const _: () = assert!(offset_of!(ScanIn, columns) == 2);
+    const _: () = assert!(offset_of!(ScanIn, limit) == 4);
+    const _: () = assert!(offset_of!(ScanIn, border_limit) == 6);
+    const _: () = assert!(offset_of!(ScanIn, extent) == 8);
     const _: () = assert!(size_of::<HeadNumbers>() == 8);
     const _: () = assert!(offset_of!(HeadNumbers, kind) == 0);
     const _: () = assert!(offset_of!(HeadNumbers, part) == 2);
@@ -592,27 +618,27 @@ pub fn usual_limit(rows: u16, columns: u16) -> u16 {
     sys::ecc200_usual_limit(rows, columns)
 }
 
-/// What a symbol says, in the extent `Wide`. `border_limit`: how many border modules may have the wrong colour.
-pub fn read(grid: Grid<'_>, border_limit: u16) -> Result<Reading, Fault> {
+fn scan(extent: Extent, grid: Grid<'_>, border_limit: BorderLimit) -> sys::ScanIn {
+    let (limit, border_limit) = match border_limit {
+        BorderLimit::Usual => (USUAL_LIMIT, 0),
+        BorderLimit::Sure => (SURE_LIMIT, 0),
+        BorderLimit::Any => (ANY_LIMIT, 0),
+        BorderLimit::Modules(count) => (GIVEN_LIMIT, count),
+    };
+    sys::ScanIn { rows: grid.rows, columns: grid.columns, limit, border_limit, extent: extent as u16 }
+}
+
+/// What a symbol says, in the extent `Wide`.
+pub fn read(grid: Grid<'_>, border_limit: BorderLimit) -> Result<Reading, Fault> {
     read_as(Extent::Wide, grid, border_limit)
 }
 
 /// What a symbol says, in an extent.
-pub fn read_as(extent: Extent, grid: Grid<'_>, border_limit: u16) -> Result<Reading, Fault> {
+pub fn read_as(extent: Extent, grid: Grid<'_>, border_limit: BorderLimit) -> Result<Reading, Fault> {
     let mut out = unsafe { zeros::<sys::ReadingOut>() };
-    let (modules, doubtful) = (grid.modules, grid.doubtful);
+    let (modules, doubtful, scan) = (grid.modules, grid.doubtful, scan(extent, grid, border_limit));
     let code = unsafe {
-        sys::ecc200_read(
-            modules.as_ptr(),
-            modules.len(),
-            doubtful.as_ptr(),
-            doubtful.len(),
-            grid.rows,
-            grid.columns,
-            border_limit,
-            extent as u16,
-            &mut *out,
-        )
+        sys::ecc200_read(modules.as_ptr(), modules.len(), doubtful.as_ptr(), doubtful.len(), &scan, &mut *out)
     };
     let blocks = usize::from(out.block_count);
     match code {
@@ -688,24 +714,26 @@ pub fn write_bytes(bytes: &[u8], how: How) -> Result<Symbol, Fault> {
 }
 
 /// The normal grid of what a symbol says, read in the extent `Wide`.
-pub fn normal(grid: Grid<'_>, border_limit: u16, profile: Profile) -> Result<Symbol, Fault> {
+pub fn normal(grid: Grid<'_>, border_limit: BorderLimit, profile: Profile) -> Result<Symbol, Fault> {
     normal_as(Extent::Wide, grid, border_limit, profile)
 }
 
 /// The normal grid of what a symbol says, read in an extent.
-pub fn normal_as(extent: Extent, grid: Grid<'_>, border_limit: u16, profile: Profile) -> Result<Symbol, Fault> {
+pub fn normal_as(
+    extent: Extent,
+    grid: Grid<'_>,
+    border_limit: BorderLimit,
+    profile: Profile,
+) -> Result<Symbol, Fault> {
     let mut out = unsafe { zeros::<sys::SymbolOut>() };
-    let (modules, doubtful) = (grid.modules, grid.doubtful);
+    let (modules, doubtful, scan) = (grid.modules, grid.doubtful, scan(extent, grid, border_limit));
     let code = unsafe {
         sys::ecc200_normal(
             modules.as_ptr(),
             modules.len(),
             doubtful.as_ptr(),
             doubtful.len(),
-            grid.rows,
-            grid.columns,
-            border_limit,
-            extent as u16,
+            &scan,
             profile as u16,
             &mut *out,
         )

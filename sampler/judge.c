@@ -49,8 +49,8 @@ static int usual_limit(const ecc200_sample *trial) {
 /* Reads the candidate. `doubtful`: which of its modules are, or NULL if none is. */
 static uint16_t read(ecc200_sample *trial, const uint8_t *doubtful, int limit) {
     size_t count = (size_t)trial->rows * (size_t)trial->columns;
-    uint16_t code = ecc200_read(trial->modules, count, doubtful, doubtful != NULL ? count : 0, trial->rows,
-                                trial->columns, (uint16_t)limit, ECC200_WIDE, &trial->reading);
+    const ecc200_scan scan = {trial->rows, trial->columns, ECC200_GIVEN_LIMIT, (uint16_t)limit, ECC200_WIDE};
+    uint16_t code = ecc200_read(trial->modules, count, doubtful, doubtful != NULL ? count : 0, &scan, &trial->reading);
     bool is_usual = code == ECC200_OK && trial->reading.border_faults <= usual_limit(trial);
     trial->border_limit = (uint16_t)(is_usual ? usual_limit(trial) : limit);
     return code;

@@ -3,7 +3,7 @@
 export const ABI = 1, FNC1 = 256, BEYOND = 255;
 export const MOST_ROWS = 144, MOST_COLUMNS = 144, MOST_ITEMS = 3123, MOST_MARKS = 779;
 export const SIZE_COUNT = 48;
-export const WIDE = 1, ASCII = 0, SHORTER = 1, SMALLEST = 2;
+export const WIDE = 0, GIVEN_LIMIT = 3, ASCII = 0, SHORTER = 1, SMALLEST = 2;
 // The sizes of which a symbol that is written may have the smallest, or the one that it is to have.
 export const SQUARE = 0, RECTANGLE = 1, EXTENDED = 2, ANY = 3, ONE = 4;
 export const BORDER_FAULT = 5, BLOCK_FAULT = 6, TOO_LONG = 14;

@@ -5,6 +5,7 @@
 export const LAYOUT = {
 // ecc200.h: layouts
   fault: { size: 6, code: 0, value: 2, place: 4 },
+  scan: { size: 10, rows: 0, columns: 2, limit: 4, border_limit: 6, extent: 8 },
   head: { size: 8, kind: 0, part: 2, parts: 4, file: 6 },
   mark: { size: 8, number: 0, place: 4 },
   reading: { size: 12540, fault: 0, rows: 6, columns: 8, border_faults: 10, block_count: 12, item_count: 14,
@@ -75,5 +76,6 @@ export const CODE_WORDS = {
   21: "a structured append that is no part of a file",
   22: "a mark out of order, behind the items, or with a number above 999999",
   23: "no such head",
+  24: "no such border limit",
 // ecc200.h: end
 };

@@ -2,7 +2,7 @@
 // lengths stay 64 bits wide, so they are BigInts; pages of its memory are counted in ordinary numbers. For everything
 // about Data Matrix symbols (sizes, places, codewords, correction, messages, borders, normal forms) the page asks it.
 import {
-  ABI, AUTO, BIT, BORDER_FAULT, MOST_COLUMNS, MOST_ITEMS, MOST_MARKS, MOST_ROWS, SIZE_COUNT, WIDE, there,
+  ABI, AUTO, BIT, BORDER_FAULT, GIVEN_LIMIT, MOST_COLUMNS, MOST_ITEMS, MOST_MARKS, MOST_ROWS, SIZE_COUNT, WIDE, there,
 } from "./common.mjs";
 import { LAYOUT } from "./layouts.mjs";
 import { headOf, kindOfHead, partOf } from "./letters.mjs";
@@ -27,12 +27,13 @@ import { headOf, kindOfHead, partOf } from "./letters.mjs";
 /** @typedef {{ kind: Uint8Array, word: Uint16Array, bit: Uint8Array, modules: number[][] }} Places */
 
 // In the memory that the caller adds: after the modules of a symbol come its doubtful ones, how something is written,
-// marks and items, one more of each than a symbol has, and then what a call writes, of which a table of places is the
-// largest.
+// how a symbol is read, marks and items, one more of each than a symbol has, and then what a call writes, of which a
+// table of places is the largest.
 const MOST_MODULES = MOST_ROWS * MOST_COLUMNS, DOUBTFUL = MOST_MODULES, HOW = 2 * MOST_MODULES, WORD = 4, PAGE = 65536;
 /** @type {(at: number) => number} */
 const aligned = (at) => Math.ceil(at / WORD) * WORD;
-const MARKS = aligned(HOW + LAYOUT.how.size), ITEMS = MARKS + LAYOUT.mark.size * (MOST_MARKS + 1);
+const SCAN = HOW + LAYOUT.how.size, MARKS = aligned(SCAN + LAYOUT.scan.size);
+const ITEMS = MARKS + LAYOUT.mark.size * (MOST_MARKS + 1);
 const OUT = aligned(ITEMS + 2 * (MOST_ITEMS + 1)), PAGES = Math.ceil((OUT + LAYOUT.place_table.size) / PAGE);
 const CHECKS_OF_A_CORRECTION = 2; // codewords
 const NO_PART = { part: 0, parts: 0, file: [0, 0] };
@@ -62,6 +63,7 @@ export class Library {
     this.modulesAt = start;
     this.doubtfulAt = start + DOUBTFUL;
     this.howAt = start + HOW;
+    this.scanAt = start + SCAN;
     this.marksAt = start + MARKS;
     this.itemsAt = start + ITEMS;
     this.outAt = start + OUT;
@@ -83,6 +85,13 @@ export class Library {
     if (doubtful) this.bytes(this.doubtfulAt, doubtful.length).set(doubtful);
     return [BigInt(this.modulesAt), BigInt(modules.length), BigInt(this.doubtfulAt), BigInt(doubtful?.length ?? 0),
       rows, columns];
+  }
+  // The arguments of a call that reads a symbol, at most so many of whose border modules have the wrong colour.
+  /** @type {(grid: Grid, limit: number, doubtful: Uint8Array | null) => bigint[]} */
+  scanned({ modules, rows, columns }, limit, doubtful) {
+    const [at, count, doubtfulAt, doubtfulCount] = this.given({ modules, rows, columns }, doubtful);
+    this.numbers(this.scanAt, 5).set([rows, columns, GIVEN_LIMIT, limit, WIDE]);
+    return [at, count, doubtfulAt, doubtfulCount, BigInt(this.scanAt)];
   }
   /** @type {() => Grid} */
   symbol() {
@@ -126,7 +135,7 @@ export class Library {
   }
   /** @type {(grid: Grid, limit: number, doubtful?: Uint8Array | null) => Answer} */
   read(grid, limit, doubtful = null) {
-    if (this.c.ecc200_read(...this.given(grid, doubtful), limit, WIDE, this.out)) return this.fault();
+    if (this.c.ecc200_read(...this.scanned(grid, limit, doubtful), this.out)) return this.fault();
     const { reading } = LAYOUT, at = this.outAt;
     const [border, blocks, count, marks, identifier, dealing] = this.numbers(at + reading.border_faults, 6);
     const items = Array.from(this.numbers(at + reading.items, count));
@@ -183,9 +192,8 @@ export class Library {
   /** @type {(grid: Grid, limit: number, profile: number, doubtful?: Uint8Array | null) =>
       Partial<Grid> & { fault?: Fault }} */
   normal(grid, limit, profile, doubtful = null) {
-    const symbol = this.given(grid, doubtful), form = within(profile, SHORTS, SHORTS);
-    const isFault = this.c.ecc200_normal(...symbol, limit, WIDE, form, this.out);
-    return isFault ? this.fault() : this.symbol();
+    const scanned = this.scanned(grid, limit, doubtful), form = within(profile, SHORTS, SHORTS);
+    return this.c.ecc200_normal(...scanned, form, this.out) ? this.fault() : this.symbol();
   }
   // The grid has a size that there is, so that there is no fault.
   /** @type {(grid: Grid, doubtful?: Uint8Array | null) => Inspection} */

@@ -22,7 +22,7 @@ import { qualityAt } from "./quality.mjs";
     margin?: number, quality?: boolean }} Search how many symbols to find at most, and to tell of that aren't read; how
     long to try by the clock, or if that isn't said, how much work to do, in percent of the usual; the fewest modules of
     a side; how many corrections each block must leave unused; and whether the print is measured */
-const { sample: SAMPLE, sample_search: SEARCH, reading: READING, fault: FAULT, head: HEAD_AT, mark: MARK_AT,
+const { sample: SAMPLE, sample_search: SEARCH, scan: SCAN, reading: READING, fault: FAULT, head: HEAD_AT, mark: MARK_AT,
   sample_quality: QUALITY, place_table: TABLE, place: PLACE, size_table: SIZES, sample_point: POINT } = LAYOUT;
 const { READ, REFUSED, WHOLE } = SAMPLER;
 const NANOSECONDS = 1e6; // of a millisecond
@@ -63,11 +63,12 @@ export class Sampler {
     const itemsOf = () => library.numbers(library.outAt + READING.item_count, 1)[0];
     /** @type {Record<string, (...given: number[]) => any>} */
     const calls = {
-      ecc200_read: (modules, count, doubtful, doubtfulCount, rows, columns, limit, extent, out) => {
+      ecc200_read: (modules, count, doubtful, doubtfulCount, scan, out) => {
         given(library.modulesAt, modules, count);
         given(library.doubtfulAt, doubtful, doubtfulCount);
+        given(library.scanAt, scan, SCAN.size);
         const code = c.ecc200_read(BigInt(library.modulesAt), BigInt(count), BigInt(library.doubtfulAt),
-          BigInt(doubtfulCount), rows, columns, limit, extent, library.out);
+          BigInt(doubtfulCount), BigInt(library.scanAt), library.out);
         taken(out, code ? FAULT.size : READING.items + 2 * itemsOf());
         return code;
       },

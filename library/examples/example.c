@@ -20,8 +20,8 @@ static void print(const ecc200_symbol *symbol) {
 /* What a symbol says, with no module doubtful. */
 static uint16_t read(const ecc200_symbol *symbol, ecc200_reading *reading) {
     uint16_t rows = symbol->rows, columns = symbol->columns;
-    return ecc200_read(symbol->modules, (size_t)rows * columns, NULL, 0, rows, columns,
-                       ecc200_usual_limit(rows, columns), ECC200_WIDE, reading);
+    const ecc200_scan scan = {.rows = rows, .columns = columns};
+    return ecc200_read(symbol->modules, (size_t)rows * columns, NULL, 0, &scan, reading);
 }
 
 int main(void) {
@@ -57,7 +57,7 @@ int main(void) {
     /* a text with its charset: ECI 26 is UTF-8 */
     const char *word = "caf\xC3\xA9";
     const ecc200_mark mark = {26, 0};
-    const ecc200_how smallest = {.form = ECC200_SMALLEST, .shape = ECC200_ANY, .extent = ECC200_WIDE};
+    const ecc200_how smallest = {.form = ECC200_SMALLEST, .shape = ECC200_ANY};
     count = ecc200_items((const uint8_t *)word, strlen(word), 0, items, ECC200_MOST_ITEMS);
     if (ecc200_write(items, count, &mark, 1, &smallest, &symbol) != ECC200_OK || read(&symbol, &reading) != ECC200_OK)
         return 4;

@@ -30,10 +30,10 @@ static Symbol write(std::string_view text, const ecc200_how &how = {}, const std
 }
 
 static Reading read(const ecc200_symbol &symbol) {
-    uint16_t rows = symbol.rows, columns = symbol.columns;
+    ecc200_scan scan = {};
+    scan.rows = symbol.rows, scan.columns = symbol.columns;
     auto reading = std::make_unique<ecc200_reading>();
-    if (ecc200_read(symbol.modules, size_t{rows} * columns, nullptr, 0, rows, columns,
-                    ecc200_usual_limit(rows, columns), ECC200_WIDE, reading.get()) != ECC200_OK)
+    if (ecc200_read(symbol.modules, size_t{scan.rows} * scan.columns, nullptr, 0, &scan, reading.get()) != ECC200_OK)
         throw Refused(reading->fault);
     return reading;
 }
@@ -79,7 +79,7 @@ int main() {
 
     // a text with its charset: ECI 26 is UTF-8
     ecc200_how smallest = {};
-    smallest.form = ECC200_SMALLEST, smallest.shape = ECC200_ANY, smallest.extent = ECC200_WIDE;
+    smallest.form = ECC200_SMALLEST, smallest.shape = ECC200_ANY;
     symbol = write("caf\xC3\xA9", smallest, {{26, 0}});
     reading = read(*symbol);
     std::cout << symbol->rows << " x " << symbol->columns << ": ]d" << reading->identifier << ", "

@@ -4,7 +4,7 @@
 #[path = "../ecc200.rs"]
 mod ecc200;
 
-use ecc200::{Extent, Fault, Form, How, Mark, Shape, Symbol};
+use ecc200::{BorderLimit, Extent, Fault, Form, How, Mark, Shape, Symbol};
 
 /// A symbol with a quiet zone of one module on all sides.
 fn print(symbol: &Symbol) {
@@ -24,11 +24,10 @@ fn main() -> Result<(), Fault> {
 
     // a damaged symbol: four modules in one corner
     let side = usize::from(symbol.columns);
-    let limit = ecc200::usual_limit(symbol.rows, symbol.columns);
     for at in 1..5 {
         symbol.modules[at * side + at] ^= 1;
     }
-    let reading = ecc200::read(symbol.grid(), limit)?;
+    let reading = ecc200::read(symbol.grid(), BorderLimit::Usual)?;
     let (text, _) = reading.text();
     println!(
         "{}: {} codewords corrected, {} border modules wrong",
@@ -39,7 +38,7 @@ fn main() -> Result<(), Fault> {
 
     // a refusal: a symbol that is cut off below
     symbol.modules[(side - 1) * side..].fill(0);
-    if let Err(why) = ecc200::read(symbol.grid(), limit) {
+    if let Err(why) = ecc200::read(symbol.grid(), BorderLimit::Usual) {
         println!("refused with {}: {why} ({})", why.code, why.value);
     }
 
@@ -47,7 +46,7 @@ fn main() -> Result<(), Fault> {
     let items: Vec<u16> = "caf\u{E9}".bytes().map(u16::from).collect();
     let smallest = How { form: Form::Smallest(Extent::Wide), shape: Shape::Any, head: None };
     let symbol = ecc200::write(&items, &[Mark { number: 26, place: 0 }], smallest)?;
-    let reading = ecc200::read(symbol.grid(), 0)?;
+    let reading = ecc200::read(symbol.grid(), BorderLimit::Modules(0))?;
     let Mark { number, place } = reading.marks[0];
     let (size, count) = (format!("{} x {}", symbol.rows, symbol.columns), reading.items.len());
     println!("{size}: ]d{}, {count} bytes, ECI {number} at {place}", reading.identifier);

@@ -169,6 +169,21 @@ typedef struct {
     size_t count, doubtful_count;
 } grid;
 
+/* a limit that is written as its kind and its number with a colon between them */
+static void set_limit(ecc200_scan *scan) {
+    char *text = word();
+    scan->limit = (uint16_t)strtoul(text, &text, 10);
+    scan->border_limit = (uint16_t)strtoul(text + 1, NULL, 10);
+}
+
+/* what is given for reading stands before an inaccessible page too */
+static const ecc200_scan *scan_of(ecc200_scan scan, const grid *given) {
+    ecc200_scan *placed = (ecc200_scan *)(void *)place_of(bytes_area, sizeof scan);
+    scan.rows = given->rows, scan.columns = given->columns;
+    *placed = scan;
+    return placed;
+}
+
 static grid grid_given(void) {
     grid given;
     given.rows = number(), given.columns = number();
@@ -207,11 +222,12 @@ static void print_said(const ecc200_reading *said) {
 }
 
 static void answer_read(void) {
-    uint16_t extent = number(), limit = number();
+    ecc200_scan scan;
+    scan.extent = number(), set_limit(&scan);
     grid given = grid_given();
     ecc200_reading *out = (ecc200_reading *)(void *)place_of(out_area, sizeof *out);
-    uint16_t code = ecc200_read(given.modules, given.count, given.doubtful, given.doubtful_count, given.rows,
-                                given.columns, limit, extent, out);
+    uint16_t code =
+        ecc200_read(given.modules, given.count, given.doubtful, given.doubtful_count, scan_of(scan, &given), out);
     if (is_fault(code, out, offsetof(ecc200_reading, corrected), sizeof *out))
         return;
     printf("rows %d columns %d border %d blocks %d ", out->rows, out->columns, out->border_faults, out->block_count);
@@ -234,11 +250,14 @@ static void print_symbol(uint16_t code, const ecc200_symbol *out) {
 static ecc200_symbol *symbol_place(void) { return (ecc200_symbol *)(void *)place_of(out_area, sizeof(ecc200_symbol)); }
 
 static void answer_normal(void) {
-    uint16_t extent = number(), profile = number(), limit = number();
+    ecc200_scan scan;
+    scan.extent = number();
+    uint16_t profile = number();
+    set_limit(&scan);
     grid given = grid_given();
     ecc200_symbol *out = symbol_place();
-    print_symbol(ecc200_normal(given.modules, given.count, given.doubtful, given.doubtful_count, given.rows,
-                               given.columns, limit, extent, profile, out),
+    print_symbol(ecc200_normal(given.modules, given.count, given.doubtful, given.doubtful_count, scan_of(scan, &given),
+                               profile, out),
                  out);
 }
 
@@ -274,9 +293,11 @@ static void answer_smallest(void) {
     }
     uint16_t rows = symbol.rows, columns = symbol.columns;
     size_t all = (size_t)rows * columns;
-    int is_usual = !ecc200_read(symbol.modules, all, NULL, 0, rows, columns, 0, ECC200_USUAL, out);
+    ecc200_scan scan = {rows, columns, ECC200_GIVEN_LIMIT, 0, ECC200_USUAL};
+    int is_usual = !ecc200_read(symbol.modules, all, NULL, 0, &scan, out);
     printf("rows %d columns %d usual %d ", rows, columns, is_usual);
-    if (ecc200_read(symbol.modules, all, NULL, 0, rows, columns, 0, how.extent, out))
+    scan.extent = how.extent;
+    if (ecc200_read(symbol.modules, all, NULL, 0, &scan, out))
         printf("not read: %d", out->fault.code);
     else
         print_said(out);

@@ -28,6 +28,12 @@ def head_of(text):
 NOT_SAID = object()
 
 
+def limit_of(text):
+    """A border limit as the module takes it; any number is said by one that is larger than all."""
+    kind, number = map(int, text.split(":"))
+    return {0: None, 1: "auto", 2: 10 ** 6, 3: number}.get(kind, NOT_SAID)
+
+
 def said(got):
     """Items, marks and head."""
     head = got.head if isinstance(got.head, str) or got.head is None else (1, *got.head)
@@ -63,6 +69,8 @@ class Answers:
         name, *words = request.split()
         if name in ("read", "inspect", "normal") and not self.is_grid(*words[-4:-1]):
             return None
+        if name in ("read", "normal") and limit_of(words[-5]) is NOT_SAID:
+            return None
         if name in ("write", "write_bytes") and not self.is_choice(*words[1:4]):
             return None
         if name in ("write", "write_bytes") and head_of(words[5]) is NOT_SAID:
@@ -91,13 +99,13 @@ class Answers:
 
     def to_read(self, extent, limit, *given):
         grid, doubt = self.grid(*given)
-        got = self.ecc200.read(grid, int(limit), int(extent), **doubt)
+        got = self.ecc200.read(grid, limit_of(limit), int(extent), **doubt)
         number = {f"]d{digit}": digit for digit in range(1, 7)}[got.symbology]
         return f"{counts_of(got.rows, got.columns, got)} {said(got)} identifier {number} dealing {got.dealing}"
 
     def to_normal(self, extent, profile, limit, *given):
         grid, doubt = self.grid(*given)
-        return symbol(self.ecc200.normal(grid, int(limit), int(profile), int(extent), **doubt))
+        return symbol(self.ecc200.normal(grid, limit_of(limit), int(profile), int(extent), **doubt))
 
     def to_write(self, form, shape, rows, columns, extent, head, marks, items):
         return symbol(self.ecc200.write(items_of(items), form=int(form), extent=int(extent), head=head_of(head),

@@ -2,7 +2,8 @@
 //! each. `tests/library/cases.py` has the requests and the answers that are wanted.
 mod ecc200;
 
-use ecc200::{Extent, Fault, Form, Grid, Head, How, Inspection, Mark, Place, Profile, Reading, Shape, Size, Symbol};
+use ecc200::{BorderLimit, Extent, Fault, Form, Grid, Head, How, Inspection, Mark};
+use ecc200::{Place, Profile, Reading, Shape, Size, Symbol};
 use std::error::Error;
 use std::io::{self, BufRead, Write};
 
@@ -34,8 +35,19 @@ impl Words<'_> {
     /// An extent that exists: no other can be given to a function.
     fn extent(&mut self) -> Extent {
         match self.number() {
-            0 => Extent::Usual,
-            _ => Extent::Wide,
+            0 => Extent::Wide,
+            _ => Extent::Usual,
+        }
+    }
+
+    /// A border limit that exists, written as its kind and its number with a colon between them.
+    fn limit(&mut self) -> BorderLimit {
+        let (kind, number) = self.word().split_once(':').expect("a limit");
+        match kind {
+            "0" => BorderLimit::Usual,
+            "1" => BorderLimit::Sure,
+            "2" => BorderLimit::Any,
+            _ => BorderLimit::Modules(number.parse().expect("a number")),
         }
     }
 
@@ -141,8 +153,9 @@ fn smallest(words: &mut Words) -> Result<String, Fault> {
     let marks = words.marks();
     let how = How { form: Form::Smallest(extent), shape, head };
     let symbol = ecc200::write(&words.items(), &marks, how)?;
-    let usual = u8::from(ecc200::read_as(Extent::Usual, symbol.grid(), 0).is_ok());
-    let got = ecc200::read_as(extent, symbol.grid(), 0)?;
+    let none = BorderLimit::Modules(0);
+    let usual = u8::from(ecc200::read_as(Extent::Usual, symbol.grid(), none).is_ok());
+    let got = ecc200::read_as(extent, symbol.grid(), none)?;
     Ok(format!("rows {} columns {} usual {usual} {}", symbol.rows, symbol.columns, said(&got)))
 }
 
@@ -188,8 +201,8 @@ fn size(row: &Size) -> String {
 
 fn constants() -> String {
     use ecc200::code::*;
-    let mut shown = format!("FNC1={} ANY_LIMIT={} ", ecc200::FNC1, ecc200::ANY_LIMIT);
-    let extents = [("USUAL", Extent::Usual), ("WIDE", Extent::Wide)];
+    let mut shown = format!("FNC1={} ", ecc200::FNC1);
+    let extents = [("WIDE", Extent::Wide), ("USUAL", Extent::Usual)];
     shown.extend(extents.map(|(name, extent)| format!("{name}={} ", extent as u16)));
     let profiles = [("ASCII", Profile::Ascii), ("SHORTER", Profile::Shorter)];
     shown.extend(profiles.map(|(name, profile)| format!("{name}={} ", profile as u16)));
@@ -197,7 +210,7 @@ fn constants() -> String {
     shown += &format!("LEFT_OUT={LEFT_OUT} UPPER_SHIFT={UPPER_SHIFT} TRIPLET={TRIPLET} VALUE={VALUE} ");
     shown += &format!("LENGTH={LENGTH} UNFINISHED={UNFINISHED} TOO_LONG={TOO_LONG} ITEM={ITEM} PROFILE={PROFILE} ");
     shown += &format!("EXTENT={EXTENT} CHOICE={CHOICE} DOUBT={DOUBT} DESIGNATOR={DESIGNATOR} APPEND={APPEND} ");
-    shown + &format!("MARK={MARK} HEAD={HEAD} ")
+    shown + &format!("MARK={MARK} HEAD={HEAD} LIMIT={LIMIT} ")
 }
 
 /// The bytes of items as a reading gives them, and whether FNC1 stands in front.
@@ -236,10 +249,10 @@ impl Given {
 }
 
 fn answer_read(words: &mut Words) -> String {
-    let (extent, limit) = (words.extent(), words.number());
+    let (extent, limit) = (words.extent(), words.limit());
     let given = Given::of(words);
     let got = ecc200::read_as(extent, given.grid(), limit);
-    assert_eq!(Extent::default(), Extent::Wide);
+    assert_eq!((Extent::default(), BorderLimit::default()), (Extent::Wide, BorderLimit::Usual));
     if extent == Extent::Wide {
         assert_eq!(ecc200::read(given.grid(), limit), got);
     }
@@ -247,7 +260,7 @@ fn answer_read(words: &mut Words) -> String {
 }
 
 fn answer_normal(words: &mut Words) -> String {
-    let (extent, profile, limit) = (words.extent(), words.profile(), words.number());
+    let (extent, profile, limit) = (words.extent(), words.profile(), words.limit());
     let given = Given::of(words);
     let got = ecc200::normal_as(extent, given.grid(), limit, profile);
     if extent == Extent::Wide {

@@ -20,6 +20,7 @@ WORDS = {
     17: "no such extent", 18: "no such shape", 19: "the doubtful modules aren't as many as the modules",
     20: "an ECI without the designator of a number", 21: "a structured append that is no part of a file",
     22: "a mark out of order, behind the items, or with a number above 999999", 23: "no such head",
+    24: "no such border limit",
 }
 
 
@@ -56,12 +57,22 @@ def shown(grid, named, doubt):
     return f"{rows} {columns} {hexadecimal(grid)} {hexadecimal(doubt)}"
 
 
-def read(grid, limit=65535, extent=USUAL, named=None, doubt=()):
-    return f"read {extent} {limit} {shown(grid, named, doubt)}"
+# Border limits by their kinds, with a number that is of no account.
+USUAL_LIMIT, SURE_LIMIT, ANY_LIMIT, GIVEN_LIMIT = (0, 9), (1, 65535), (2, 0), 3
 
 
-def normal(grid, profile, limit=65535, extent=USUAL, named=None, doubt=()):
-    return f"normal {extent} {profile} {limit} {shown(grid, named, doubt)}"
+def limited(limit):
+    """A border limit as its kind and its number."""
+    kind, number = (GIVEN_LIMIT, limit) if isinstance(limit, int) else limit
+    return f"{kind}:{number}"
+
+
+def read(grid, limit=ANY_LIMIT, extent=USUAL, named=None, doubt=()):
+    return f"read {extent} {limited(limit)} {shown(grid, named, doubt)}"
+
+
+def normal(grid, profile, limit=ANY_LIMIT, extent=USUAL, named=None, doubt=()):
+    return f"normal {extent} {profile} {limited(limit)} {shown(grid, named, doubt)}"
 
 
 def inspect(grid, named=None, doubt=()):
@@ -235,7 +246,11 @@ def faults():
         for call in (read, lambda *given, **more: normal(*given, 1, **more)):
             yield call(light, limit=26, extent=extent), no(5, 27)
             yield call(hurt(good, 0, 5), extent=extent), no(6, 0, 0)
-        yield read(light, limit=27, extent=extent), no(7, 0, 1)
+        for limit in (27, 65535, SURE_LIMIT, ANY_LIMIT):
+            yield read(light, limit, extent), no(7, 0, 1)
+        for kind in (4, 5, 65535):
+            yield read([], (kind, 2), extent, named=(11, 11)), no(24, kind)
+            yield normal(good, 2, (kind, 0), extent), no(24, kind)
         yield normal(good, 2, extent=extent), no(16, 2)
         yield normal([], 65535, extent=extent, named=(7, 7)), no(16, 65535)
     yield write([65], 3), no(16, 3)
@@ -271,7 +286,7 @@ def wide():
         yield normal(grid, 0, extent=WIDE), symbol(items)
         yield normal(grid, 1, extent=WIDE), symbol(items, 1)
     for extent in (2, 65535):
-        yield read([], extent=extent, named=(11, 11)), no(17, extent)
+        yield read([], (9, 0), extent, named=(11, 11)), no(17, extent)
         yield normal([], 2, extent=extent, named=(11, 11)), no(17, extent)
         yield normal(grid_of(TEN, 142), 0, extent=extent), no(17, extent)
     yield normal([], 2, extent=WIDE, named=(11, 11)), no(16, 2)
@@ -352,15 +367,39 @@ def sizes():
         usual = sum(named) // 8
         for wrong in (1, usual, usual + 1):
             bad = with_bad_border(grid, wrong)
-            yield read(bad, usual, extent), reading(named, items, None, wrong) if wrong <= usual else no(5, wrong)
-            yield read(bad, 65535, extent), reading(named, items, None, wrong)
-            yield normal(bad, 0, usual, extent), symbol(items) if wrong <= usual else no(5, wrong)
+            told = reading(named, items, None, wrong)
+            for limit in (usual, USUAL_LIMIT):
+                yield read(bad, limit, extent), told if wrong <= usual else no(5, wrong)
+                yield normal(bad, 0, limit, extent), symbol(items) if wrong <= usual else no(5, wrong)
+            for limit in (65535, ANY_LIMIT, SURE_LIMIT):
+                yield read(bad, limit, extent), told
+            yield normal(bad, 0, SURE_LIMIT, extent), symbol(items)
+        yield from sure(grid, items, usual, extent)
         yield read(with_bad_border(grid, 1), 0, extent), no(5, 1)
         yield normal(with_bad_border(grid, 2), 1, 1, extent), no(5, 2)
         counts = [(size.limit + b) % (size.limit + 1) for b in range(size.blocks)]
         yield from damage(grid, items, counts, extent)
         yield from damage(grid, items, [size.limit] * size.blocks, extent)
         yield from doubt(grid, items, extent)
+
+
+def sure(grid, items, usual, extent):
+    """Any border is taken where each block leaves a correction unused, and else the usual one; here in the last block
+    one is left, as two check codewords, and then one check codeword, or none."""
+    size, named, block = grid.size, grid.named, grid.size.blocks - 1
+    checks = size.checks_of_a_block
+    for spent, is_sure in ((checks - 2, True), (checks - 1, False), (checks, False)):
+        bad, marks = hurt(grid, block, spent), doubt_of(grid, words_of(size, block, spent))
+        lost = [spent if b == block else 0 for b in range(size.blocks)]
+        for wrong in (usual, usual + 1, usual + 9):
+            worse = with_bad_border(bad, wrong)
+            taken = is_sure or wrong <= usual
+            told = reading(named, items, None, wrong, lost) if taken else no(5, wrong)
+            yield read(worse, SURE_LIMIT, extent, doubt=marks), told
+            yield normal(worse, 0, SURE_LIMIT, extent, doubt=marks), symbol(items) if taken else no(5, wrong)
+    worse = with_bad_border(hurt(grid, block, max(5, size.limit + 2)), usual + 1)
+    yield read(worse, SURE_LIMIT, extent), no(5, usual + 1)
+    yield read(worse, ANY_LIMIT, extent), no(6, 0, block)
 
 
 def damage(grid, items, counts, extent):
@@ -441,7 +480,7 @@ def modules():
 
 def words(codes):
     """Each code in words."""
-    for code in [*range(25), 255, 256, 65535]:
+    for code in [*range(26), 255, 256, 65535]:
         yield f"words {code}", WORDS[code] if code in codes else "not a code of this library"
 
 

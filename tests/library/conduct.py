@@ -15,12 +15,14 @@ STACK = 49_152
 MEASURED = 17
 # The code of each call that written.c makes, and how many bytes of its arrays are written.
 # A part of a file, two marks and an A are 11 codewords.
-WRITTEN = {"read": (0, 3 + 2 * 6), "read, refused": (5, 0), "read, marks and a head": (0, 3 + 2 * 8 + 2),
+WRITTEN = {"read": (0, 3 + 2 * 6), "read, refused": (5, 0), "read, no limit": (24, 0),
+           "read, marks and a head": (0, 3 + 2 * 8 + 2),
            "read, marks and a head, refused": (8, 0), "inspect": (0, 3 + 2 * 8), "inspect, refused": (3, 0),
            "write": (0, 100), "write, refused": (15, 0), "write, marks": (0, 196), "write, smallest": (0, 256),
            "write, wrong marks": (22, 0), "write, no extent": (17, 0), "write, no head": (23, 0),
            "write_bytes": (0, 144), "write_bytes, refused": (16, 0), "write_bytes, no head": (23, 0),
-           "normal": (0, 100), "normal, refused": (17, 0), "normal, marks and a head": (0, 256),
+           "normal": (0, 100), "normal, refused": (17, 0), "normal, no limit": (24, 0),
+           "normal, marks and a head": (0, 256),
            "places": (0, 4 * 8 * 32), "places, refused": (4, 0), "sizes": (0, 48 * 26)}
 EXPORTS = sorted(f"ecc200_{name}" for name in ("abi", "code_words", "inspect", "normal", "places", "read", "sizes",
                                                "usual_limit", "version", "write", "write_bytes"))

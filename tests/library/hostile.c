@@ -78,13 +78,19 @@ static const ecc200_mark *any_marks(size_t items_count, size_t *mark_count) {
     return *mark_count ? marks : NULL;
 }
 
+/* how the symbol that was written is read: without a wrong border module */
+static ecc200_scan clean_scan(void) {
+    ecc200_scan scan = {symbol->rows, symbol->columns, ECC200_GIVEN_LIMIT, 0, extent};
+    return scan;
+}
+
 /* what was written is read as it, and nothing else */
 static int is_read_back(const uint16_t *items, size_t count, const ecc200_mark *marks, size_t mark_count,
                         const ecc200_how *how) {
     static ecc200_reading got;
-    uint16_t wanted = how->form == ECC200_SMALLEST ? how->extent : ECC200_WIDE;
-    if (ecc200_read(symbol->modules, (size_t)symbol->rows * symbol->columns, NULL, 0, symbol->rows, symbol->columns, 0,
-                    wanted, &got))
+    ecc200_scan scan = clean_scan();
+    scan.extent = how->form == ECC200_SMALLEST ? how->extent : (uint16_t)ECC200_WIDE;
+    if (ecc200_read(symbol->modules, (size_t)symbol->rows * symbol->columns, NULL, 0, &scan, &got))
         return 0;
     return got.item_count == count && !memcmp(got.items, items, 2 * count) && got.mark_count == mark_count &&
            (!mark_count || !memcmp(got.marks, marks, mark_count * sizeof *marks)) &&
@@ -204,10 +210,10 @@ static int check_normal(uint16_t profile) {
     memset(again, 0xEE, sizeof *again);
     if (symbol->rows != symbol->columns)
         return fail("a normal symbol is no square");
-    if (ecc200_normal(symbol->modules, count, NULL, 0, symbol->rows, symbol->columns, 0, extent, profile, again) ||
-        memcmp(symbol, again, sizeof *symbol))
+    const ecc200_scan scan = clean_scan();
+    if (ecc200_normal(symbol->modules, count, NULL, 0, &scan, profile, again) || memcmp(symbol, again, sizeof *symbol))
         return fail("normalising twice isn't once");
-    uint16_t code = ecc200_read(symbol->modules, count, NULL, 0, symbol->rows, symbol->columns, 0, extent, reading);
+    uint16_t code = ecc200_read(symbol->modules, count, NULL, 0, &scan, reading);
     if (code || !say_the_same(reading, &first) || reading->dealing)
         return fail("the normal symbol says something else");
     return 0;
@@ -237,6 +243,23 @@ static int blocks_agree(void) {
            inspection->border_faults == reading->border_faults;
 }
 
+/* whether as many border faults are taken as are sure: any number, if each block leaves a correction unused, or else as
+ * many as usual */
+static int is_sure(const uint8_t *modules, size_t count, const uint8_t *marks, size_t marked, ecc200_scan scan) {
+    static ecc200_reading one, other;
+    int is_spent = ecc200_inspect(modules, count, marks, marked, scan.rows, scan.columns, inspection) != ECC200_OK;
+    for (int i = 0; i < inspection->block_count; i++)
+        is_spent |= inspection->corrected[i] == ECC200_BEYOND || inspection->left[i] < 2;
+    is_spent |= inspection->dealing && scan.extent == ECC200_USUAL;
+    memset(&one, 0xEE, sizeof one), memset(&other, 0xEE, sizeof other);
+    scan.limit = ECC200_SURE_LIMIT;
+    ecc200_read(modules, count, marks, marked, &scan, &one);
+    scan.limit = is_spent ? ECC200_GIVEN_LIMIT : ECC200_ANY_LIMIT;
+    scan.border_limit = ecc200_usual_limit(scan.rows, scan.columns);
+    ecc200_read(modules, count, marks, marked, &scan, &other);
+    return !memcmp(&one, &other, sizeof one);
+}
+
 static int round_of(void) {
     static ecc200_reading second;
     dimensions size = any_size();
@@ -248,15 +271,18 @@ static int round_of(void) {
         return fail("what was written is read as something else");
     const uint8_t *marks = doubt(count, &marked);
     uint16_t rows = size.rows, columns = size.columns;
-    uint16_t limit = chance() % 2 ? ECC200_ANY_LIMIT : ecc200_usual_limit(rows, columns);
+    ecc200_scan scan = {rows, columns, (uint16_t)(chance() % 4), (uint16_t)(chance() % 50), extent};
     memset(reading, 0xEE, sizeof *reading), memset(&second, 0xEE, sizeof second);
-    uint16_t code = ecc200_read(modules, count, marks, marked, rows, columns, limit, extent, reading);
-    ecc200_read(modules, count, marks, marked, rows, columns, limit, extent, &second);
+    uint16_t code = ecc200_read(modules, count, marks, marked, &scan, reading);
+    ecc200_read(modules, count, marks, marked, &scan, &second);
     if (memcmp(reading, &second, sizeof second) || code != reading->fault.code)
         return fail("a reading isn't a function of its input");
+    if (!is_sure(modules, count, marks, marked, scan))
+        return fail("as many border faults are taken as aren't sure");
     memset(&second, 0xEE, sizeof second);
-    uint16_t other = ecc200_read(modules, count, marks, marked, rows, columns, limit,
-                                 extent == ECC200_WIDE ? ECC200_USUAL : ECC200_WIDE, &second);
+    scan.extent = extent == ECC200_WIDE ? ECC200_USUAL : ECC200_WIDE;
+    uint16_t other = ecc200_read(modules, count, marks, marked, &scan, &second);
+    scan.extent = extent;
     reads += code == ECC200_OK, both += code == ECC200_OK && other == ECC200_OK;
     doubts += code == ECC200_OK && marked > 0;
     letters += code == ECC200_OK && (reading->mark_count || reading->head.kind);
@@ -269,7 +295,7 @@ static int round_of(void) {
     if (!code && !blocks_agree())
         return fail("an inspection and a reading differ");
     memset(symbol, 0xEE, sizeof *symbol);
-    uint16_t normal = ecc200_normal(modules, count, marks, marked, rows, columns, limit, extent, profile, symbol);
+    uint16_t normal = ecc200_normal(modules, count, marks, marked, &scan, profile, symbol);
     if (normal && normal != ECC200_TOO_LONG && memcmp(&symbol->fault, &reading->fault, sizeof symbol->fault))
         return fail("a reading and a normal symbol are refused differently");
     memset(table, 0xEE, sizeof *table);
@@ -288,8 +314,10 @@ int main(int argc, char **argv) {
     memset(&how, 0, sizeof how), memset(symbol, 0xEE, sizeof *symbol), memset(again, 0xEE, sizeof *again);
     if (ecc200_write(NULL, 0, NULL, 0, &how, symbol) || symbol->rows != 10 || symbol->columns != 10)
         return fail("the empty message isn't written");
-    if (ecc200_read(NULL, 0, NULL, 0, 0, 0, 0, extent, reading) != ECC200_SIZE ||
-        ecc200_read(NULL, 0, NULL, 0, 10, 10, 0, extent, reading) != ECC200_SHAPE)
+    ecc200_scan scan = {0, 0, ECC200_USUAL_LIMIT, 0, extent};
+    uint16_t code = ecc200_read(NULL, 0, NULL, 0, &scan, reading);
+    scan.rows = scan.columns = 10;
+    if (code != ECC200_SIZE || ecc200_read(NULL, 0, NULL, 0, &scan, reading) != ECC200_SHAPE)
         return fail("no modules are read");
     if (ecc200_inspect(NULL, 0, NULL, 0, 0, 0, inspection) != ECC200_SIZE)
         return fail("no modules make a symbol");

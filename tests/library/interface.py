@@ -11,19 +11,20 @@ from tests.library.model import ANY, BIT, EXTENDED, FNC1, NO_MODULE, ONE, RECTAN
 CONSTANTS = {
     "MOST_ROWS": 144, "MOST_COLUMNS": 144, "MOST_MODULES": MOST_MODULES, "MOST_ITEMS": 2 * MOST_DATA + 7,
     "MOST_MARKS": MOST_DATA // 2, "MOST_CODEWORDS": MOST_CODEWORDS,
-    "MOST_BLOCKS": max(size.blocks for size in SIZES), "SIZE_COUNT": len(SIZES), "FNC1": 256, "ANY_LIMIT": 65535,
-    "BEYOND": 255, "STACK": 49152,
+    "MOST_BLOCKS": max(size.blocks for size in SIZES), "SIZE_COUNT": len(SIZES), "FNC1": 256, "BEYOND": 255,
+    "STACK": 49152,
 }
-EXTENTS = {"USUAL": USUAL, "WIDE": WIDE}
+EXTENTS = {"WIDE": WIDE, "USUAL": USUAL}
 PROFILES = {"ASCII": 0, "SHORTER": 1}
 FORMS = {"SMALLEST": SMALLEST}
 SHAPES = {"SQUARE": SQUARE, "RECTANGLE": RECTANGLE, "EXTENDED": EXTENDED, "ANY": ANY, "ONE": ONE}
 CODES = {
     "OK": 0, "SHAPE": 3, "SIZE": 4, "BORDER": 5, "BLOCK": 6, "RESERVED": 7, "LEFT_OUT": 8, "UPPER_SHIFT": 9,
     "TRIPLET": 10, "VALUE": 11, "LENGTH": 12, "UNFINISHED": 13, "TOO_LONG": 14, "ITEM": 15, "PROFILE": 16, "EXTENT": 17,
-    "CHOICE": 18, "DOUBT": 19, "DESIGNATOR": 20, "APPEND": 21, "MARK": 22, "HEAD": 23,
+    "CHOICE": 18, "DOUBT": 19, "DESIGNATOR": 20, "APPEND": 21, "MARK": 22, "HEAD": 23, "LIMIT": 24,
 }
 HEAD_KINDS = {"NO_HEAD": 0, "PART": 1, "PROGRAMMING": 2}
+LIMITS = {"USUAL_LIMIT": 0, "SURE_LIMIT": 1, "ANY_LIMIT": 2, "GIVEN_LIMIT": 3}
 KINDS = {"NO_MODULE": NO_MODULE, "BIT": BIT, "BORDER_LIGHT": 2, "BORDER_DARK": 3, "FIXED_LIGHT": 4, "FIXED_DARK": 5}
 BLOCKS, ITEMS, MARKS = CONSTANTS["MOST_BLOCKS"], CONSTANTS["MOST_ITEMS"], CONSTANTS["MOST_MARKS"]
 
@@ -42,6 +43,7 @@ LAYOUT = {
     "fault": laid(("code", 2), ("value", 2), ("place", 2)),
     "head": laid(("kind", 2), ("part", 2), ("parts", 2), ("file", 2)),
     "mark": laid(("number", 4), ("place", 4)),
+    "scan": laid(("rows", 2), ("columns", 2), ("limit", 2), ("border_limit", 2), ("extent", 2)),
     "reading": laid(("fault", 6), ("rows", 2), ("columns", 2), ("border_faults", 2), ("block_count", 2),
                     ("item_count", 2), ("mark_count", 2), ("identifier", 2), ("dealing", 2), ("head", 8),
                     ("corrected", BLOCKS), ("erased", BLOCKS), ("left", BLOCKS), ("marks", 8 * MARKS),
@@ -78,7 +80,8 @@ class Interface:
 
     def shown_constants(self):
         """As answers.c prints them."""
-        every = {"ABI": self.abi, **CONSTANTS, **EXTENTS, **PROFILES, **FORMS, **SHAPES, **CODES, **HEAD_KINDS, **KINDS}
+        every = {"ABI": self.abi, **CONSTANTS, **EXTENTS, **PROFILES, **FORMS, **SHAPES, **CODES, **HEAD_KINDS,
+                 **LIMITS, **KINDS}
         return "".join(f"{name}={value} " for name, value in every.items())
 
     @staticmethod
@@ -118,16 +121,17 @@ class Interface:
         yield from conveniences()
 
     def of_rust(self):
-        """Requests for ecc200.rs, whose profiles, extents, forms, shapes and heads are types that have no others."""
+        """Requests for ecc200.rs, whose profiles, extents, limits, forms, shapes and heads are types without others."""
         written = [{**PROFILES, **FORMS}, SHAPES]
         kinds = {"read": [EXTENTS], "normal": [EXTENTS, PROFILES], "write": written, "write_bytes": written,
                  "smallest": [EXTENTS, SHAPES]}
         for request, wanted in self.calls():
             name, *given = request.split()
             is_said = all(int(word) in kind.values() for word, kind in zip(given, kinds.get(name, [])))
+            is_said &= name not in ("read", "normal") or is_limit(given[-5])
             if is_said and (name not in ("write", "write_bytes") or is_written(*given[:6])):
                 yield request, wanted
-        names = ["FNC1", "ANY_LIMIT", *EXTENTS, *PROFILES, *CODES]
+        names = ["FNC1", *EXTENTS, *PROFILES, *CODES]
         every = {**CONSTANTS, **EXTENTS, **PROFILES, **CODES}
         yield "constants", "".join(f"{name}={every[name]} " for name in names)
         yield "version", self.version
@@ -135,11 +139,16 @@ class Interface:
             yield f"text {numbers(items)}", f"{len(said)} gs1 {gs1} bytes {numbers(said)}"
 
 
+def is_limit(limit):
+    """Whether there is a limit of this kind."""
+    return int(limit.partition(":")[0]) in LIMITS.values()
+
+
 def is_written(form, shape, rows, columns, extent, head):
     """Whether types that have no other values can say this extent and this head: an extent is said with SMALLEST alone,
     and but for a part a head has no numbers."""
     kind, *others = map(int, head.split(":"))
-    extents = EXTENTS.values() if int(form) == SMALLEST else [USUAL]
+    extents = EXTENTS.values() if int(form) == SMALLEST else [WIDE]
     return int(extent) in extents and (kind == HEAD_KINDS["PART"] or kind in HEAD_KINDS.values() and not any(others))
 
 

@@ -7,7 +7,7 @@ from collections import namedtuple
 from tests.library.model import (FNC1, LATCH_BASE_256, PAD, SIZES, SQUARE, UPPER_SHIFT, ascii_words, base_256_words,
                                  codewords, modules_of, padded)
 
-USUAL, WIDE = 0, 1
+WIDE, USUAL = 0, 1
 APPEND, PROGRAMMING, EDIFACT, ECI, UNLATCH = 233, 234, 240, 241, 254
 C40, X12, TEXT = 230, 238, 239
 SETS = (C40, X12, TEXT)

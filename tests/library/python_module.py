@@ -100,8 +100,8 @@ def names():
 
 def layout():
     """Where the members of the structs stand."""
-    structs = {"fault": "_Fault", "head": "_Head", "mark": "_Mark", "reading": "_ReadingOut", "how": "_How",
-               "symbol": "_SymbolOut", "inspection": "_InspectionOut", "place": "_PlaceOut",
+    structs = {"fault": "_Fault", "head": "_Head", "mark": "_Mark", "scan": "_Scan", "reading": "_ReadingOut",
+               "how": "_How", "symbol": "_SymbolOut", "inspection": "_InspectionOut", "place": "_PlaceOut",
                "place_table": "_PlacesOut", "size": "_SizeOut", "size_table": "_SizesOut"}
     yield "structs", set(structs), set(INTERFACE.layout)
     for name, struct in structs.items():
@@ -120,7 +120,7 @@ def exceptions():
             got = isinstance(why, ValueError), int(why.code), why.value, why.place, str(why)
             yield f"code {code}", got, (True, code, 7, 9, shown)
             yield f"code {code} by itself", (ecc200.Refused(code).value, ecc200.Refused(code).place), (0, 0)
-    for code in (0, 1, 2, 24, -1):
+    for code in (0, 1, 2, 25, -1):
         yield f"no code {code}", said_by(lambda: ecc200.Refused(code)), "ValueError"
 
 
@@ -167,8 +167,8 @@ BESIDE = [
       for extent in (2, -1, 65535, 65536, 65537)),
     ("a form of a text", {"form": "smallest"}, "TypeError", None),
     ("an extent of a text", {"form": 2, "extent": "wide"}, "TypeError", None),
-    ("marks for the usual extent", {"form": 2, "extent": 0, "marks": [(0, 26)]}, refused("TOO_LONG"), None),
-    ("a head for the usual extent", {"form": 2, "extent": 0, "head": "programming"}, refused("TOO_LONG"), None),
+    ("marks for the usual extent", {"form": 2, "extent": 1, "marks": [(0, 26)]}, refused("TOO_LONG"), None),
+    ("a head for the usual extent", {"form": 2, "extent": 1, "head": "programming"}, refused("TOO_LONG"), None),
     ("the smallest", {"form": 2, "marks": [(1, 26)], "head": (1, 2, 3, 4)}, ((1, 26),), (1, 2, 3, 4)),
 ]
 

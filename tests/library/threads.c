@@ -37,10 +37,11 @@ static size_t most_data; /* codewords of the largest size */
 /* what the calls say of an example, with nothing from before in the elements that don't count */
 static void answer(const example *e, ecc200_reading *reading, ecc200_symbol *normal, ecc200_inspection *inspection) {
     size_t count = (size_t)e->rows * e->columns, marked = e->rows % 4 ? count : 0;
-    uint16_t limit = ecc200_usual_limit(e->rows, e->columns), extent = e->rows % 3 ? ECC200_WIDE : ECC200_USUAL;
+    const ecc200_scan scan = {e->rows, e->columns, (uint16_t)(e->columns % 4), 2,
+                              (uint16_t)(e->rows % 3 ? ECC200_WIDE : ECC200_USUAL)};
     memset(reading, 0, sizeof *reading), memset(normal, 0, sizeof *normal), memset(inspection, 0, sizeof *inspection);
-    ecc200_read(e->modules, count, e->doubtful, marked, e->rows, e->columns, limit, extent, reading);
-    ecc200_normal(e->modules, count, e->doubtful, marked, e->rows, e->columns, limit, extent, e->rows % 4 == 0, normal);
+    ecc200_read(e->modules, count, e->doubtful, marked, &scan, reading);
+    ecc200_normal(e->modules, count, e->doubtful, marked, &scan, e->rows % 4 == 0, normal);
     ecc200_inspect(e->modules, count, e->doubtful, marked, e->rows, e->columns, inspection);
 }
 
@@ -103,20 +104,21 @@ static int threads_agree(size_t kib) {
 
 static const ecc200_how in_ascii = {.form = ECC200_ASCII, .shape = ECC200_ANY};
 static const ecc200_how shorter = {.form = ECC200_SHORTER, .shape = ECC200_SQUARE};
-static const ecc200_how smallest = {.form = ECC200_SMALLEST, .shape = ECC200_ANY, .extent = ECC200_WIDE};
+static const ecc200_how smallest = {.form = ECC200_SMALLEST, .shape = ECC200_ANY};
 static ecc200_mark marks[ECC200_MOST_MARKS];
 
-static void read_of(example *e, size_t doubtful) {
-    ecc200_read(e->modules, ECC200_MOST_MODULES, e->doubtful, doubtful, ECC200_MOST_ROWS, ECC200_MOST_COLUMNS,
-                ECC200_ANY_LIMIT, ECC200_WIDE, &e->reading);
+static ecc200_scan scan = {ECC200_MOST_ROWS, ECC200_MOST_COLUMNS, ECC200_ANY_LIMIT, 0, ECC200_WIDE};
+
+static void read_of(example *e, size_t doubtful, uint16_t limit) {
+    scan.limit = limit;
+    ecc200_read(e->modules, ECC200_MOST_MODULES, e->doubtful, doubtful, &scan, &e->reading);
 }
 static void inspect(example *e) {
     ecc200_inspect(e->modules, ECC200_MOST_MODULES, e->doubtful, ECC200_MOST_MODULES, ECC200_MOST_ROWS,
                    ECC200_MOST_COLUMNS, &e->inspection);
 }
 static void normal_of(example *e, uint16_t profile) {
-    ecc200_normal(e->modules, ECC200_MOST_MODULES, e->doubtful, ECC200_MOST_MODULES, ECC200_MOST_ROWS,
-                  ECC200_MOST_COLUMNS, ECC200_ANY_LIMIT, ECC200_WIDE, profile, &e->normal);
+    ecc200_normal(e->modules, ECC200_MOST_MODULES, e->doubtful, ECC200_MOST_MODULES, &scan, profile, &e->normal);
 }
 
 /* makes the call with a number, or none, and gives its name, or NULL if there is no such call; in the first two the
@@ -135,9 +137,9 @@ static NOT_INLINE const char *make_call(int number) {
     case 4: return ecc200_write(items, 0, marks, most, &in_ascii, out), "ecc200_write, marks";
     case 5: return ecc200_write(items, 9, marks, most - 9, &smallest, out), "ecc200_write, smallest, marks";
     case 6: return ecc200_write_bytes(many, few, &shorter, out), "ecc200_write_bytes";
-    case 7: return read_of(&largest, 0), "ecc200_read";
-    case 8: return read_of(&largest, ECC200_MOST_MODULES), "ecc200_read, doubtful modules";
-    case 9: return read_of(&marked, ECC200_MOST_MODULES), "ecc200_read, marks";
+    case 7: return read_of(&largest, 0, ECC200_ANY_LIMIT), "ecc200_read";
+    case 8: return read_of(&largest, ECC200_MOST_MODULES, ECC200_SURE_LIMIT), "ecc200_read, doubtful modules";
+    case 9: return read_of(&marked, ECC200_MOST_MODULES, ECC200_ANY_LIMIT), "ecc200_read, marks";
     case 10: return inspect(&largest), "ecc200_inspect";
     case 11: return inspect(&marked), "ecc200_inspect, marks";
     case 12: return normal_of(&largest, ECC200_ASCII), "ecc200_normal";

@@ -37,11 +37,9 @@ int main(void) {
         return 2;
     for (size_t i = 0; i < sizeof refusals / sizeof *refusals; i++) {
         const refusal *it = &refusals[i];
-        wrong |= told("read", it,
-                      ecc200_read(at, it->count, at, it->marked, it->rows, it->columns, 0, ECC200_WIDE, &reading));
-        wrong |= told(
-            "normal", it,
-            ecc200_normal(at, it->count, at, it->marked, it->rows, it->columns, 0, ECC200_WIDE, ECC200_ASCII, &symbol));
+        const ecc200_scan scan = {.rows = it->rows, .columns = it->columns, .limit = ECC200_SURE_LIMIT};
+        wrong |= told("read", it, ecc200_read(at, it->count, at, it->marked, &scan, &reading));
+        wrong |= told("normal", it, ecc200_normal(at, it->count, at, it->marked, &scan, ECC200_ASCII, &symbol));
         wrong |= told("inspect", it, ecc200_inspect(at, it->count, at, it->marked, it->rows, it->columns, &inspection));
     }
     return wrong;

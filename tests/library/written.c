@@ -15,7 +15,7 @@ static const char *worked = "101010101011001011011100000100110001110111000010001
 static uint8_t grid[ALL], light[ALL];
 static const uint16_t usual_items[] = {65}, wrong_items[] = {65, 300};
 static const ecc200_how usual = {0}, small = {.form = 1, .shape = 4, .rows = 8, .columns = 18}, none = {.form = 7};
-static const ecc200_how smallest = {.form = 2, .extent = 1, .head = {1, 2, 5, {1, 2}}};
+static const ecc200_how smallest = {.form = 2, .head = {1, 2, 5, {1, 2}}};
 static const ecc200_how no_extent = {.form = 2, .extent = 2}, no_head = {.head = {.kind = 3}};
 static const ecc200_mark marks[] = {{26, 0}, {999999, 1}}, wrong_marks[] = {{26, 1}, {26, 0}};
 
@@ -48,21 +48,24 @@ static void tell(const char *name, uint16_t (*call)(void *), size_t size, size_t
         free(outs[i]);
 }
 
-static uint16_t do_read(void *out) { return ecc200_read(grid, ALL, NULL, 0, SIDE, SIDE, 2, 1, out); }
-static uint16_t read_light(void *out) { return ecc200_read(light, ALL, NULL, 0, SIDE, SIDE, 2, 0, out); }
+static const ecc200_scan scan = {.rows = SIDE, .columns = SIDE}, usual_scan = {SIDE, SIDE, 0, 0, 1};
+static const ecc200_scan scan_no_extent = {SIDE, SIDE, 4, 0, 7}, scan_no_limit = {SIDE, SIDE, 4, 0, 0};
+static uint16_t do_read(void *out) { return ecc200_read(grid, ALL, NULL, 0, &scan, out); }
+static uint16_t read_light(void *out) { return ecc200_read(light, ALL, NULL, 0, &usual_scan, out); }
+static uint16_t read_no_limit(void *out) { return ecc200_read(grid, ALL, NULL, 0, &scan_no_limit, out); }
 static uint16_t do_inspect(void *out) { return ecc200_inspect(grid, ALL, NULL, 0, SIDE, SIDE, out); }
 static uint16_t inspect_less(void *out) { return ecc200_inspect(grid, ALL - 1, NULL, 0, SIDE, SIDE, out); }
 static uint8_t letter[ECC200_MOST_MODULES];
 static uint16_t letter_rows, letter_columns;
-static uint16_t read_letter(void *out) {
-    return ecc200_read(letter, (size_t)letter_rows * letter_columns, NULL, 0, letter_rows, letter_columns, 0, 1, out);
+static uint16_t read_letter_in(uint16_t extent, void *out) {
+    const ecc200_scan how = {letter_rows, letter_columns, 3, 0, extent};
+    return ecc200_read(letter, (size_t)letter_rows * letter_columns, NULL, 0, &how, out);
 }
-static uint16_t read_letter_usual(void *out) {
-    return ecc200_read(letter, (size_t)letter_rows * letter_columns, NULL, 0, letter_rows, letter_columns, 0, 0, out);
-}
+static uint16_t read_letter(void *out) { return read_letter_in(0, out); }
+static uint16_t read_letter_usual(void *out) { return read_letter_in(1, out); }
 static uint16_t normal_letter(void *out) {
-    return ecc200_normal(letter, (size_t)letter_rows * letter_columns, NULL, 0, letter_rows, letter_columns, 0, 1, 1,
-                         out);
+    const ecc200_scan how = {letter_rows, letter_columns, 3, 0, 0};
+    return ecc200_normal(letter, (size_t)letter_rows * letter_columns, NULL, 0, &how, 1, out);
 }
 static uint16_t do_write(void *out) { return ecc200_write(usual_items, 1, NULL, 0, &usual, out); }
 static uint16_t write_wrong(void *out) { return ecc200_write(wrong_items, 2, NULL, 0, &small, out); }
@@ -74,8 +77,9 @@ static uint16_t write_no_head(void *out) { return ecc200_write(usual_items, 1, m
 static uint16_t write_bytes_no_head(void *out) { return ecc200_write_bytes((const uint8_t *)"AB", 2, &no_head, out); }
 static uint16_t do_write_bytes(void *out) { return ecc200_write_bytes((const uint8_t *)"AB", 2, &small, out); }
 static uint16_t write_bytes_no_profile(void *out) { return ecc200_write_bytes((const uint8_t *)"AB", 2, &none, out); }
-static uint16_t do_normal(void *out) { return ecc200_normal(grid, ALL, NULL, 0, SIDE, SIDE, 2, 0, 1, out); }
-static uint16_t normal_no_extent(void *out) { return ecc200_normal(grid, ALL, NULL, 0, SIDE, SIDE, 2, 7, 1, out); }
+static uint16_t do_normal(void *out) { return ecc200_normal(grid, ALL, NULL, 0, &usual_scan, 1, out); }
+static uint16_t normal_no_extent(void *out) { return ecc200_normal(grid, ALL, NULL, 0, &scan_no_extent, 1, out); }
+static uint16_t normal_no_limit(void *out) { return ecc200_normal(grid, ALL, NULL, 0, &scan_no_limit, 9, out); }
 static uint16_t do_places(void *out) { return ecc200_places(8, 32, out); }
 static uint16_t places_no_size(void *out) { return ecc200_places(32, 8, out); }
 static uint16_t do_sizes(void *out) { return ecc200_sizes(out), 0; }
@@ -89,6 +93,7 @@ int main(void) {
         grid[i] = (uint8_t)(worked[i] - '0');
     tell("read", do_read, reading, arrays);
     tell("read, refused", read_light, reading, arrays);
+    tell("read, no limit", read_no_limit, reading, arrays);
     ecc200_symbol *made = (ecc200_symbol *)malloc(symbol);
     if (!made || ecc200_write(usual_items, 1, marks, 2, &smallest, made))
         exit(2);
@@ -111,6 +116,7 @@ int main(void) {
     tell("write_bytes, refused", write_bytes_no_profile, symbol, modules);
     tell("normal", do_normal, symbol, modules);
     tell("normal, refused", normal_no_extent, symbol, modules);
+    tell("normal, no limit", normal_no_limit, symbol, modules);
     tell("places", do_places, table, places);
     tell("places, refused", places_no_size, table, places);
     tell("sizes", do_sizes, sizeof(ecc200_size_table), 0);

@@ -10,7 +10,7 @@ uint16_t in_extent(const uint8_t *modules, uint16_t rows, uint16_t columns, enum
                    ecc200_reading *out);
 
 uint16_t in_profile(const uint16_t *items, size_t count, enum ecc200_profile profile, ecc200_symbol *out) {
-    ecc200_how how = {ECC200_ASCII, ECC200_SQUARE, 0, 0, ECC200_USUAL, {ECC200_NO_HEAD, 0, 0, {0, 0}}};
+    ecc200_how how = {ECC200_ASCII, ECC200_SQUARE, 0, 0, ECC200_WIDE, {ECC200_NO_HEAD, 0, 0, {0, 0}}};
     how.form = profile;
     return ecc200_write(items, count, NULL, 0, &how, out);
 }
@@ -30,6 +30,9 @@ int is_bit(const ecc200_place *place) { return place->kind == ECC200_BIT; }
 
 uint16_t in_extent(const uint8_t *modules, uint16_t rows, uint16_t columns, enum ecc200_extent extent,
                    ecc200_reading *out) {
-    return ecc200_read(modules, ECC200_CAST(size_t, rows) * columns, NULL, 0, rows, columns,
-                       ecc200_usual_limit(rows, columns), extent, out);
+    ecc200_scan scan = {0, 0, ECC200_SURE_LIMIT, 0, ECC200_WIDE};
+    scan.rows = rows;
+    scan.columns = columns;
+    scan.extent = extent;
+    return ecc200_read(modules, ECC200_CAST(size_t, rows) * columns, NULL, 0, &scan, out);
 }

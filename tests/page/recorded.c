@@ -50,21 +50,22 @@ static void record(head made, input first, input second, const void *output) {
 }
 
 static uint16_t recorded_read(const uint8_t *modules, size_t count, const uint8_t *doubtful, size_t doubtful_count,
-                              uint16_t rows, uint16_t columns, uint16_t limit, uint16_t extent, ecc200_reading *out) {
+                              const ecc200_scan *scan, ecc200_reading *out) {
     memset(out, FILLED, sizeof *out);
-    uint16_t code = ecc200_read(modules, count, doubtful, doubtful_count, rows, columns, limit, extent, out);
-    head made = {"ecc200_read", {0}, {0}, {1, 1}, 4, {rows, columns, limit, extent}, code, sizeof *out};
-    record(made, (input){modules, 1, count}, (input){doubtful, 1, doubtful_count}, out);
+    uint16_t code = ecc200_read(modules, count, doubtful, doubtful_count, scan, out);
+    head made = {"ecc200_read", {0}, {0}, {1, 1, 0}, 0, {0}, code, sizeof *out};
+    record_three(made, (input){modules, 1, count}, (input){doubtful, 1, doubtful_count}, (input){scan, sizeof *scan, 1},
+                 out);
     return code;
 }
 
 static uint16_t recorded_normal(const uint8_t *modules, size_t count, const uint8_t *doubtful, size_t doubtful_count,
-                                uint16_t rows, uint16_t columns, uint16_t limit, uint16_t extent, uint16_t profile,
-                                ecc200_symbol *out) {
+                                const ecc200_scan *scan, uint16_t profile, ecc200_symbol *out) {
     memset(out, FILLED, sizeof *out);
-    uint16_t code = ecc200_normal(modules, count, doubtful, doubtful_count, rows, columns, limit, extent, profile, out);
-    head made = {"ecc200_normal", {0}, {0}, {1, 1}, 5, {rows, columns, limit, extent, profile}, code, sizeof *out};
-    record(made, (input){modules, 1, count}, (input){doubtful, 1, doubtful_count}, out);
+    uint16_t code = ecc200_normal(modules, count, doubtful, doubtful_count, scan, profile, out);
+    head made = {"ecc200_normal", {0}, {0}, {1, 1, 0}, 1, {profile}, code, sizeof *out};
+    record_three(made, (input){modules, 1, count}, (input){doubtful, 1, doubtful_count}, (input){scan, sizeof *scan, 1},
+                 out);
     return code;
 }
 

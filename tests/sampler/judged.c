@@ -54,9 +54,8 @@ static int readings, has_one_meaning;
 
 /* In the place of the reader: takes any grid, for the same message each time, or each time for another. */
 uint16_t read_anything(const uint8_t *modules, size_t module_count, const uint8_t *doubtful, size_t doubtful_count,
-                       uint16_t rows, uint16_t columns, uint16_t limit, uint16_t extent, ecc200_reading *out) {
-    (void)modules, (void)module_count, (void)doubtful, (void)doubtful_count;
-    (void)rows, (void)columns, (void)limit, (void)extent;
+                       const ecc200_scan *scan, ecc200_reading *out) {
+    (void)modules, (void)module_count, (void)doubtful, (void)doubtful_count, (void)scan;
     *out = (ecc200_reading){.item_count = 1, .block_count = 1, .left = {9}};
     out->items[0] = (uint16_t)('A' + (has_one_meaning ? 0 : readings));
     readings++;

@@ -75,8 +75,8 @@ static void draw_chance(struct drawing *drawing) {
 
 static int is_read(const uint8_t *modules, int rows, int columns) {
     static ecc200_reading reading;
-    return ecc200_read(modules, (size_t)rows * (size_t)columns, NULL, 0, (uint16_t)rows, (uint16_t)columns,
-                       ECC200_ANY_LIMIT, ECC200_WIDE, &reading) == ECC200_OK;
+    const ecc200_scan scan = {.rows = (uint16_t)rows, .columns = (uint16_t)columns, .limit = ECC200_ANY_LIMIT};
+    return ecc200_read(modules, (size_t)rows * (size_t)columns, NULL, 0, &scan, &reading) == ECC200_OK;
 }
 
 /* A symbol of one of the smallest sizes, damaged until it isn't read. False if it can't be written. */
@@ -90,9 +90,9 @@ static int draw_damaged(struct drawing *drawing, ecc200_reading *was) {
     ecc200_how how = {.rows = size->rows, .columns = size->columns, .shape = ECC200_ONE};
     for (int k = 0; k < count; k++)
         text[k] = (uint8_t)('A' + below(26));
+    const ecc200_scan scan = {.rows = size->rows, .columns = size->columns, .limit = ECC200_GIVEN_LIMIT};
     if (ecc200_write_bytes(text, (size_t)count, &how, &symbol) != ECC200_OK ||
-        ecc200_read(symbol.modules, (size_t)symbol.rows * symbol.columns, NULL, 0, symbol.rows, symbol.columns, 0,
-                    ECC200_WIDE, was) != ECC200_OK)
+        ecc200_read(symbol.modules, (size_t)symbol.rows * symbol.columns, NULL, 0, &scan, was) != ECC200_OK)
         return 0;
     while (is_read(symbol.modules, symbol.rows, symbol.columns))
         symbol.modules[(1 + below(symbol.rows - 2)) * symbol.columns + 1 + below(symbol.columns - 2)] ^= 1;

@@ -25,8 +25,8 @@ static void print_reading(const ecc200_reading *reading) {
 static int is_said_again(const ecc200_sample *symbol) {
     static ecc200_reading again;
     size_t count = (size_t)symbol->rows * symbol->columns;
-    uint16_t code = ecc200_read(symbol->modules, count, symbol->doubtful, count, symbol->rows, symbol->columns,
-                                symbol->border_limit, ECC200_WIDE, &again);
+    const ecc200_scan scan = {symbol->rows, symbol->columns, ECC200_GIVEN_LIMIT, symbol->border_limit, ECC200_WIDE};
+    uint16_t code = ecc200_read(symbol->modules, count, symbol->doubtful, count, &scan, &again);
     return code == ECC200_OK && again.item_count == symbol->reading.item_count &&
            again.mark_count == symbol->reading.mark_count && again.head.kind == symbol->reading.head.kind;
 }

@@ -8,8 +8,8 @@ use crate::digest::Digest;
 use dm_layout::symbols::{MOST_BLOCKS, MOST_MODULES};
 use dm_words::{LARGEST_MARKS, LARGEST_ROOM};
 use ecc200_calls::{
-    Fault, HeadNumbers, How, MarkNumbers, ReadingOut, SymbolOut, normal as normalise, read,
-    usual_limit, write,
+    Fault, HeadNumbers, How, MarkNumbers, ReadingOut, Scan, SymbolOut, normal as normalise, read,
+    write,
 };
 
 /// No fault.
@@ -48,6 +48,9 @@ pub(crate) fn exact(rows: u16, columns: u16) -> How {
         head: NO_HEAD,
     }
 }
+
+/// The number of the extent `Usual`.
+const USUAL: u16 = 1;
 
 /// What a caller of the library keeps.
 #[derive(Drop)]
@@ -129,6 +132,17 @@ impl Caller {
         self.symbol.columns
     }
 
+    /// Gives how its scan is read: with the usual limit, in the extent `Usual`.
+    fn scan(&self) -> Scan {
+        Scan {
+            rows: self.rows(),
+            columns: self.columns(),
+            limit: 0,
+            border_limit: 0,
+            extent: USUAL,
+        }
+    }
+
     /// Gives how many modules it has.
     pub(crate) fn area(&self) -> usize
         ensures { result ≤ MOST_MODULES }
@@ -194,33 +208,23 @@ impl Caller {
 
     /// Reads the scan, of which no module is doubtful.
     pub(crate) fn read(&mut self, digest: &mut Digest) {
-        let (rows, columns, area) = (self.rows(), self.columns(), self.area());
-        let limit = usual_limit(rows, columns);
+        let (how, area) = (self.scan(), self.area());
         let Caller { scan, reading, .. } = self;
-        let code = read(&scan[..area], &[], rows, columns, limit, 0, reading);
+        let code = read(&scan[..area], &[], &how, reading);
         digest.add_code(code);
         self.add_reading(digest);
     }
 
     /// Reads the scan, given which of its modules are doubtful.
     pub(crate) fn read_doubtful(&mut self, digest: &mut Digest) {
-        let (rows, columns, area) = (self.rows(), self.columns(), self.area());
-        let limit = usual_limit(rows, columns);
+        let (how, area) = (self.scan(), self.area());
         let Caller {
             scan,
             doubtful,
             reading,
             ..
         } = self;
-        let code = read(
-            &scan[..area],
-            &doubtful[..area],
-            rows,
-            columns,
-            limit,
-            0,
-            reading,
-        );
+        let code = read(&scan[..area], &doubtful[..area], &how, reading);
         digest.add_code(code);
         self.add_reading(digest);
     }
@@ -250,10 +254,9 @@ impl Caller {
 
     /// Normalises the scan.
     pub(crate) fn normalise(&mut self, digest: &mut Digest) {
-        let (rows, columns, area) = (self.rows(), self.columns(), self.area());
-        let limit = usual_limit(rows, columns);
+        let (how, area) = (self.scan(), self.area());
         let Caller { scan, normal, .. } = self;
-        let code = normalise(&scan[..area], &[], rows, columns, limit, 0, 0, normal);
+        let code = normalise(&scan[..area], &[], &how, 0, normal);
         digest.add_code(code);
         let area = (usize::from(normal.rows) * usize::from(normal.columns)).min(MOST_MODULES);
         digest.add_bytes(&normal.modules[..area]);

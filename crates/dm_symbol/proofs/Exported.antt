@@ -5,7 +5,8 @@ pub use Rattle.dm_symbol.proofs.GridNormals.{normal_result_is_there, one_normal_
 pub use Rattle.dm_symbol.proofs.Grids.{no_more_items_are_read, one_given, read_is_message, read_result_is_there}
 pub use Rattle.dm_symbol.proofs.Grids.{usual_fault}
 pub use Rattle.dm_symbol.proofs.LetterReadings.{read_letter_right, reads_letter_by_result}
-pub use Rattle.dm_symbol.proofs.LightDoubt.{light_rows, shown_alike}
+pub use Rattle.dm_symbol.proofs.LightDoubt.{faults_alike, light_rows, restored_alike, restored_back, said_alike}
+pub use Rattle.dm_symbol.proofs.LightDoubt.{shown_alike}
 pub use Rattle.dm_symbol.proofs.LetterDoubt.{letter_read_alike, letter_normal_alike}
 pub use Rattle.dm_symbol.proofs.LetterReadSteps.{refused_letter_result, said_letter_result, restored_reads}
 pub use Rattle.dm_symbol.proofs.NormalLetters.{one_normal_letter_result}
@@ -13,4 +14,5 @@ pub use Rattle.dm_symbol.proofs.PlainSymbols.{smallest_is_plain, written_is_plai
 pub use Rattle.dm_symbol.proofs.Rooms.{room_for_each, room_for_most, smallest_room_for_most}
 pub use Rattle.dm_symbol.proofs.SmallestLetterSymbols.{no_letter_written}
 pub use Rattle.dm_symbol.proofs.SquareSizes.{has_that_side}
+pub use Rattle.dm_symbol.proofs.SymbolReadings.{none_lost, restored_is_one}
 pub use Rattle.dm_symbol.proofs.WrittenWords.{no_words_written}

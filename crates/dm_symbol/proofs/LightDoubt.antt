@@ -164,7 +164,7 @@ module _ (doubtful : SymbolView) (light : AreLight doubtful) where
         → AreRestored extent modules (Some doubtful) d words codewords
     restored_alike = restored_moves modules None (Some doubtful) erased_alike
 
-    restored_back : (d : Dealing) (extent : Extent) (words codewords : List ℕ)
+    pub restored_back : (d : Dealing) (extent : Extent) (words codewords : List ℕ)
         → AreRestored extent modules (Some doubtful) d words codewords
         → AreRestored extent modules None d words codewords
     restored_back = restored_moves modules (Some doubtful) None (λ d b hb. sym (erased_alike d b hb))

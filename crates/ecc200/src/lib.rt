@@ -10,29 +10,28 @@ ghost use Rattle.std.specs.Prelude.{◌≡◌, [], map};
 ghost use Rattle.dm_layout.specs.symbols.Sizes.{size_table};
 ghost use Rattle.ecc200_calls.specs.Inspections.{IsInspectResult};
 ghost use Rattle.ecc200_calls.specs.Places.{IsPlacesResult};
-ghost use Rattle.ecc200_calls.specs.Readings.{IsReadResult, usual_limit};
+ghost use Rattle.ecc200_calls.specs.Readings.{IsReadResult};
+ghost use Rattle.ecc200_calls.specs.Scans.{usual_limit};
 ghost use Rattle.ecc200_calls.specs.Sizes.{size_shown};
 ghost use Rattle.ecc200_calls.specs.Symbols.{IsNormalResult};
 ghost use Rattle.ecc200_calls.specs.Writings.{IsWriteResult};
 
-use ecc200_calls::{How, InspectionOut, MarkNumbers, PlacesOut, ReadingOut, SizesOut, SymbolOut};
+use ecc200_calls::{
+    How, InspectionOut, MarkNumbers, PlacesOut, ReadingOut, Scan, SizesOut, SymbolOut,
+};
 
-/// Reads the symbol of these modules, of which these are doubtful, in an extent.
+/// Reads the symbol of these modules, of which these are doubtful, by the numbers of a scan.
 #[unsafe(no_mangle)]
 pub extern "C" fn ecc200_read(
     modules: &[u8],
     doubtful: &[u8],
-    rows: u16,
-    columns: u16,
-    border_limit: u16,
-    extent: u16,
+    scan: &Scan,
     out: &mut ReadingOut,
 ) -> u16
-    ensures out { IsReadResult rows columns modules.now doubtful.now border_limit extent out.old
-        out.new }
+    ensures out { IsReadResult modules.now doubtful.now scan.now out.old out.new }
     ensures code { result ≡ out.new.fault.code }
 {
-    ecc200_calls::read(modules, doubtful, rows, columns, border_limit, extent, out)
+    ecc200_calls::read(modules, doubtful, scan, out)
 }
 
 /// Writes the symbol of the letter with the items and the marks of these numbers.
@@ -59,32 +58,20 @@ pub extern "C" fn ecc200_write_bytes(bytes: &[u8], how: &How, out: &mut SymbolOu
     ecc200_calls::write_bytes(bytes, how, out)
 }
 
-/// Writes the normal symbol of what the symbol of these modules, of which these are doubtful, says in an extent.
+/// Writes the normal symbol of what the symbol of these modules, of which these are doubtful, says by the numbers of a
+/// scan.
 #[unsafe(no_mangle)]
 pub extern "C" fn ecc200_normal(
     modules: &[u8],
     doubtful: &[u8],
-    rows: u16,
-    columns: u16,
-    border_limit: u16,
-    extent: u16,
+    scan: &Scan,
     profile: u16,
     out: &mut SymbolOut,
 ) -> u16
-    ensures out { IsNormalResult rows columns modules.now doubtful.now border_limit extent profile
-        out.old out.new }
+    ensures out { IsNormalResult modules.now doubtful.now scan.now profile out.old out.new }
     ensures code { result ≡ out.new.fault.code }
 {
-    ecc200_calls::normal(
-        modules,
-        doubtful,
-        rows,
-        columns,
-        border_limit,
-        extent,
-        profile,
-        out,
-    )
+    ecc200_calls::normal(modules, doubtful, scan, profile, out)
 }
 
 /// Inspects the symbol of these modules, of which these are doubtful.

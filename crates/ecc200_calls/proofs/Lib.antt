@@ -2,6 +2,7 @@ pub mod Packing
 pub mod Unpacking
 pub mod Rows
 pub mod MadeSymbols
+pub mod Limits
 pub mod OfGiven
 pub mod Rooms
 pub mod ReadLetters

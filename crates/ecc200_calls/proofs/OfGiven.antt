@@ -3,7 +3,6 @@ use Rattle.std.proofs.Common.{◌≡◌, ℕ, zero, suc, ◌*◌, ◌<◌, Bool,
 use Rattle.std.proofs.Common.{◌≢◌, Option, None, refl, ◌∙◌, ap, arith, subst}
 use Rattle.std.proofs.Common.{nat_eq, ◌&&◌}
 use Rattle.std.proofs.lemmas.Bool.{and_parts, eqb-true}
-use Rattle.dm_symbol.specs.declared.Extent.{Extent}
 use Rattle.dm_symbol.specs.declared.Profile.{Profile}
 use Rattle.dm_symbol.specs.SymbolLaws.{AreLight}
 use Rattle.dm_symbol.proofs.Exported.{letter_normal_alike, letter_read_alike, light_rows}
@@ -13,13 +12,15 @@ use Rattle.dm_layout.proofs.symbols.Exported.{found_passes}
 use Rattle.dm_layout.specs.symbols.Symbols.{SymbolView, is_dark_number, rows_of}
 use Rattle.ecc200_calls.specs.declared.inspection.InspectionOut.{InspectionOut}
 use Rattle.ecc200_calls.specs.declared.reading.ReadingOut.{ReadingOut}
+use Rattle.ecc200_calls.specs.declared.scan.Sought.{Sought}
 use Rattle.ecc200_calls.specs.declared.symbol.SymbolOut.{SymbolOut}
 use Rattle.ecc200_calls.specs.Modules.{AreDoubtful, AreGiven, AreModulesOf, IsGivenFault}
 use Rattle.ecc200_calls.specs.Faults.{wrong_doubt}
-use Rattle.ecc200_calls.specs.Readings.{ExtentResult, IsReadingGiven}
-use Rattle.ecc200_calls.specs.Symbols.{IsNormalGiven, NormalisedResult}
+use Rattle.ecc200_calls.specs.Readings.{IsReadingSought, SoughtResult}
+use Rattle.ecc200_calls.specs.Symbols.{IsNormalSought, NormalisedResult}
 use Rattle.ecc200_calls.specs.Inspections.{IsInspectResult, IsInspectionGiven}
 use Rattle.ecc200_calls.specs.inner.Given.{AreZero, IsKnown, IsOfGiven}
+use Rattle.ecc200_calls.proofs.Limits.{limit_alike}
 
 -- The size with these rows and columns has them.
 pub sides_found : (rows columns : ℕ) (size : SizeEntry) → entry_with rows columns ≡ Some size
@@ -90,37 +91,46 @@ given_by rows columns modules doubt size some Result Whole of_symbol alike known
 module _ (rows columns : ℕ) (modules doubt : List ℕ) (size : SizeEntry) (some : Bool)
     (known : IsKnown rows columns modules doubt size some) where
   -- What reading the symbol gives is what the call gives.
-  pub read_of_given : (extent : Extent) (limit : ℕ) (before after : ReadingOut)
+  pub read_of_given : (sought : Sought) (before after : ReadingOut)
       → IsOfGiven size modules doubt some (λ symbol doubtful.
-      IsReadingGiven extent size.rows size.columns symbol doubtful limit before after)
-      → ExtentResult extent rows columns modules doubt limit before after
-  read_of_given extent limit before after of =
+      IsReadingSought sought size.rows size.columns symbol doubtful before after)
+      → SoughtResult sought rows columns modules doubt before after
+  read_of_given sought before after of =
       given_by rows columns modules doubt size some
-      (λ symbol doubtful. IsReadingGiven extent size.rows size.columns symbol doubtful limit before after)
-      (ExtentResult extent rows columns modules doubt limit before after)
-      (λ symbol doubtful are given. ExtentResult.of_symbol symbol doubtful are
-      (subst (λ r. IsReadingGiven extent r columns symbol doubtful limit before after) known.rows_are
-      (subst (λ c. IsReadingGiven extent size.rows c symbol doubtful limit before after) known.columns_are given)))
-      (λ symbol doubtful light given. record {
-        result = given.result;
-        result_is = letter_read_alike doubtful light symbol extent limit given.result given.result_is;
-        shown = given.shown;
+      (λ symbol doubtful. IsReadingSought sought size.rows size.columns symbol doubtful before after)
+      (SoughtResult sought rows columns modules doubt before after)
+      (λ symbol doubtful are r. SoughtResult.of_symbol symbol doubtful are
+      (subst (λ r. IsReadingSought sought r columns symbol doubtful before after) known.rows_are
+      (subst (λ c. IsReadingSought sought size.rows c symbol doubtful before after) known.columns_are r)))
+      (λ symbol doubtful light r. record {
+        limit = r.limit;
+        limit_is = limit_alike doubtful light symbol sought.extent sought.limit r.limit r.limit_is;
+        given = record {
+          result = r.given.result;
+          result_is = letter_read_alike doubtful light symbol sought.extent r.limit r.given.result r.given.result_is;
+          shown = r.given.shown;
+        };
       }) known of
 
   -- So it is where the symbol is normalised.
-  pub normal_of_given : (extent : Extent) (profile : Profile) (limit : ℕ) (before after : SymbolOut)
+  pub normal_of_given : (sought : Sought) (profile : Profile) (before after : SymbolOut)
       → IsOfGiven size modules doubt some (λ symbol doubtful.
-      IsNormalGiven extent profile symbol doubtful limit before after)
-      → NormalisedResult extent profile rows columns modules doubt limit before after
-  normal_of_given extent profile limit before after of =
+      IsNormalSought sought profile symbol doubtful before after)
+      → NormalisedResult sought profile rows columns modules doubt before after
+  normal_of_given sought profile before after of =
       given_by rows columns modules doubt size some
-      (λ symbol doubtful. IsNormalGiven extent profile symbol doubtful limit before after)
-      (NormalisedResult extent profile rows columns modules doubt limit before after)
-      (λ symbol doubtful are given. NormalisedResult.of_symbol symbol doubtful are given)
-      (λ symbol doubtful light given. record {
-        result = given.result;
-        result_is = letter_normal_alike doubtful light symbol extent limit profile given.result given.result_is;
-        shown = given.shown;
+      (λ symbol doubtful. IsNormalSought sought profile symbol doubtful before after)
+      (NormalisedResult sought profile rows columns modules doubt before after)
+      (λ symbol doubtful are r. NormalisedResult.of_symbol symbol doubtful are r)
+      (λ symbol doubtful light r. record {
+        limit = r.limit;
+        limit_is = limit_alike doubtful light symbol sought.extent sought.limit r.limit r.limit_is;
+        given = record {
+          result = r.given.result;
+          result_is = letter_normal_alike doubtful light symbol sought.extent r.limit profile r.given.result
+              r.given.result_is;
+          shown = r.given.shown;
+        };
       }) known of
 
   -- So it is where it is inspected.

@@ -79,6 +79,10 @@ no_such_profile number = fault 16 number 0
 abbrev pub no_such_extent : ℕ → Fault
 no_such_extent number = fault 17 number 0
 
+-- This number stands for no border limit.
+abbrev pub no_such_limit : ℕ → Fault
+no_such_limit number = fault 24 number 0
+
 -- This number stands for no choice of sizes.
 abbrev pub no_such_choice : ℕ → Fault
 no_such_choice number = fault 18 number 0

@@ -1,6 +1,7 @@
 pub mod Arrays
 pub mod Faults
 pub mod Extents
+pub mod Scans
 pub mod Choices
 pub mod Items
 pub mod Letters

@@ -1,5 +1,5 @@
 -- What the library gives for a symbol that is to be read.
-use Rattle.std.specs.Prelude.{◌≡◌, ℕ, ◌+◌, ◌/◌, List, length, map, Option, Some, None, Result, Ok, Err}
+use Rattle.std.specs.Prelude.{◌≡◌, ℕ, List, length, map, Option, None, Result, Ok, Err}
 use Rattle.dm_symbol.specs.declared.Extent.{Extent}
 use Rattle.dm_symbol.specs.declared.BlockReading.{BlockReading}
 use Rattle.dm_symbol.specs.declared.Dealing.{Dealing}
@@ -9,17 +9,14 @@ use Rattle.dm_layout.specs.symbols.Symbols.{SymbolView}
 use Rattle.dm_symbol.specs.LetterReading.{LetterReadingView, LetterReadResult}
 use Rattle.ecc200_calls.specs.declared.fault.Fault.{Fault}
 use Rattle.ecc200_calls.specs.declared.reading.ReadingOut.{ReadingOut}
+use Rattle.ecc200_calls.specs.declared.scan.Scan.{Scan}
+use Rattle.ecc200_calls.specs.declared.scan.Sought.{Sought}
 use Rattle.ecc200_calls.specs.Arrays.{over}
-use Rattle.ecc200_calls.specs.Extents.{extent_of}
-use Rattle.ecc200_calls.specs.Faults.{no_fault, no_such_extent, read_letter_fault}
+use Rattle.ecc200_calls.specs.Faults.{no_fault, read_letter_fault}
 use Rattle.ecc200_calls.specs.Items.{numbers_of}
 use Rattle.ecc200_calls.specs.Letters.{head_shown, marks_shown}
 use Rattle.ecc200_calls.specs.Modules.{AreGiven, IsGivenFault}
-
--- The usual border limit of a symbol is an eighth of its rows and columns together, rounded down, by a rule of this
--- project: a quarter of the side of a square.
-abbrev pub usual_limit : ℕ → ℕ → ℕ
-usual_limit rows columns = (rows + columns) / 8
+use Rattle.ecc200_calls.specs.Scans.{IsLimit, sought_of}
 
 -- These are the numbers of a block's wrong codewords, of its erased ones, and of the check codewords that neither use.
 abbrev pub corrected_in : BlockReading → ℕ
@@ -90,21 +87,28 @@ pub record IsReadingGiven (extent : Extent) (rows columns : ℕ) (symbol : Symbo
   pub result_is : LetterReadResult extent symbol doubtful limit result
   pub shown : after ≡ result_shown rows columns result before
 
--- Reading these modules in an extent gives the reason why they make no symbol, or the result of reading their symbol.
-pub data ExtentResult (extent : Extent) (rows columns : ℕ) (modules doubt : List ℕ) (limit : ℕ)
+-- What is sought in a symbol, with these of its modules doubtful, is given: the result of reading it in the extent at
+-- the border limit.
+pub record IsReadingSought (sought : Sought) (rows columns : ℕ) (symbol : SymbolView) (doubtful : Option SymbolView)
     (before after : ReadingOut) : Type 0 where
+  pub limit : ℕ
+  pub limit_is : IsLimit sought.limit sought.extent symbol doubtful limit
+  pub given : IsReadingGiven sought.extent rows columns symbol doubtful limit before after
+
+-- Reading these modules gives the reason why they make no symbol, or what is sought in their symbol.
+pub data SoughtResult (sought : Sought) (rows columns : ℕ) (modules doubt : List ℕ) (before after : ReadingOut)
+    : Type 0 where
   not_given : (why : Fault) → IsGivenFault rows columns modules doubt why → after ≡ no_reading why before
-      → ExtentResult extent rows columns modules doubt limit before after
+      → SoughtResult sought rows columns modules doubt before after
   of_symbol : (symbol : SymbolView) (doubtful : Option SymbolView)
       → AreGiven rows columns modules doubt symbol doubtful
-      → IsReadingGiven extent rows columns symbol doubtful limit before after
-      → ExtentResult extent rows columns modules doubt limit before after
+      → IsReadingSought sought rows columns symbol doubtful before after
+      → SoughtResult sought rows columns modules doubt before after
 
--- Reading these modules gives that there is no such extent, or the result in that extent.
-pub data IsReadResult (rows columns : ℕ) (modules doubt : List ℕ) (limit extent : ℕ) (before after : ReadingOut)
-    : Type 0 where
-  no_extent : extent_of extent ≡ None → after ≡ no_reading (no_such_extent extent) before
-      → IsReadResult rows columns modules doubt limit extent before after
-  in_extent : (chosen : Extent) → extent_of extent ≡ Some chosen
-      → ExtentResult chosen rows columns modules doubt limit before after
-      → IsReadResult rows columns modules doubt limit extent before after
+-- Reading these modules by the numbers of a scan gives why what they ask for can't be, or the result for it.
+pub data IsReadResult (modules doubt : List ℕ) (scan : Scan) (before after : ReadingOut) : Type 0 where
+  not_sought : (why : Fault) → sought_of scan ≡ Err why → after ≡ no_reading why before
+      → IsReadResult modules doubt scan before after
+  sought : (sought : Sought) → sought_of scan ≡ Ok sought
+      → SoughtResult sought sought.rows sought.columns modules doubt before after
+      → IsReadResult modules doubt scan before after

@@ -7,11 +7,13 @@ use Rattle.dm_symbol.specs.declared.LetterNormalFault.{LetterNormalFault}
 use Rattle.dm_layout.specs.symbols.Symbols.{SymbolView}
 use Rattle.dm_symbol.specs.LetterNormal.{NormalLetterResult}
 use Rattle.ecc200_calls.specs.declared.fault.Fault.{Fault}
+use Rattle.ecc200_calls.specs.declared.scan.Scan.{Scan}
+use Rattle.ecc200_calls.specs.declared.scan.Sought.{Sought}
 use Rattle.ecc200_calls.specs.declared.symbol.SymbolOut.{SymbolOut}
 use Rattle.ecc200_calls.specs.Arrays.{over}
-use Rattle.ecc200_calls.specs.Extents.{extent_of}
-use Rattle.ecc200_calls.specs.Faults.{no_fault, normal_letter_fault, no_such_profile, no_such_extent}
+use Rattle.ecc200_calls.specs.Faults.{no_fault, normal_letter_fault, no_such_profile}
 use Rattle.ecc200_calls.specs.Modules.{AreGiven, IsGivenFault, modules_of}
+use Rattle.ecc200_calls.specs.Scans.{IsLimit, sought_of}
 
 -- After a fault there is that fault, the modules are as they were before, and all else is 0.
 abbrev pub no_symbol : Fault → SymbolOut → SymbolOut
@@ -43,31 +45,37 @@ pub record IsNormalGiven (extent : Extent) (profile : Profile) (symbol : SymbolV
   pub result_is : NormalLetterResult extent profile symbol doubtful limit result
   pub shown : after ≡ normal_shown result before
 
--- The result for modules in an extent and under a profile is why they make no symbol, or the result of normalising
--- their symbol.
-pub data NormalisedResult (extent : Extent) (profile : Profile) (rows columns : ℕ) (modules doubt : List ℕ) (limit : ℕ)
+-- What is sought in a symbol, with these of its modules doubtful, is normalised and given: the result in the extent at
+-- the border limit.
+pub record IsNormalSought (sought : Sought) (profile : Profile) (symbol : SymbolView) (doubtful : Option SymbolView)
+    (before after : SymbolOut) : Type 0 where
+  pub limit : ℕ
+  pub limit_is : IsLimit sought.limit sought.extent symbol doubtful limit
+  pub given : IsNormalGiven sought.extent profile symbol doubtful limit before after
+
+-- The result for modules under a profile is why they make no symbol, or what is sought in their symbol, normalised.
+pub data NormalisedResult (sought : Sought) (profile : Profile) (rows columns : ℕ) (modules doubt : List ℕ)
     (before after : SymbolOut) : Type 0 where
   not_given : (why : Fault) → IsGivenFault rows columns modules doubt why → after ≡ no_symbol why before
-      → NormalisedResult extent profile rows columns modules doubt limit before after
+      → NormalisedResult sought profile rows columns modules doubt before after
   of_symbol : (symbol : SymbolView) (doubtful : Option SymbolView)
       → AreGiven rows columns modules doubt symbol doubtful
-      → IsNormalGiven extent profile symbol doubtful limit before after
-      → NormalisedResult extent profile rows columns modules doubt limit before after
+      → IsNormalSought sought profile symbol doubtful before after
+      → NormalisedResult sought profile rows columns modules doubt before after
 
--- Normalising these modules in an extent gives that there is no such profile, or the result under that profile.
-pub data ProfileResult (extent : Extent) (rows columns : ℕ) (modules doubt : List ℕ) (limit profile : ℕ)
+-- Normalising these modules gives that there is no such profile, or the result under that profile.
+pub data ProfileResult (sought : Sought) (rows columns : ℕ) (modules doubt : List ℕ) (profile : ℕ)
     (before after : SymbolOut) : Type 0 where
   no_profile : profile_of profile ≡ None → after ≡ no_symbol (no_such_profile profile) before
-      → ProfileResult extent rows columns modules doubt limit profile before after
+      → ProfileResult sought rows columns modules doubt profile before after
   under_profile : (chosen : Profile) → profile_of profile ≡ Some chosen
-      → NormalisedResult extent chosen rows columns modules doubt limit before after
-      → ProfileResult extent rows columns modules doubt limit profile before after
+      → NormalisedResult sought chosen rows columns modules doubt before after
+      → ProfileResult sought rows columns modules doubt profile before after
 
--- Normalising these modules gives that there is no such extent, or the result in that extent.
-pub data IsNormalResult (rows columns : ℕ) (modules doubt : List ℕ) (limit extent profile : ℕ)
-    (before after : SymbolOut) : Type 0 where
-  no_extent : extent_of extent ≡ None → after ≡ no_symbol (no_such_extent extent) before
-      → IsNormalResult rows columns modules doubt limit extent profile before after
-  in_extent : (chosen : Extent) → extent_of extent ≡ Some chosen
-      → ProfileResult chosen rows columns modules doubt limit profile before after
-      → IsNormalResult rows columns modules doubt limit extent profile before after
+-- Normalising these modules by the numbers of a scan gives why what they ask for can't be, or the result for it.
+pub data IsNormalResult (modules doubt : List ℕ) (scan : Scan) (profile : ℕ) (before after : SymbolOut) : Type 0 where
+  not_sought : (why : Fault) → sought_of scan ≡ Err why → after ≡ no_symbol why before
+      → IsNormalResult modules doubt scan profile before after
+  sought : (sought : Sought) → sought_of scan ≡ Ok sought
+      → ProfileResult sought sought.rows sought.columns modules doubt profile before after
+      → IsNormalResult modules doubt scan profile before after

@@ -1,7 +1,7 @@
 -- What the library gives for a letter that is to be written. A message is a letter without a head and marks.
 use Rattle.std.specs.Prelude.{◌≡◌, ℕ, ◌≤◌, List, length, nat_eq, if◌then◌else◌, Option, Some, None}
 use Rattle.std.specs.Prelude.{All, get_or, min, Result, Ok, Err, IfOk}
-use Rattle.dm_symbol.specs.declared.Extent.TheVariants.{Usual, Wide}
+use Rattle.dm_symbol.specs.declared.Extent.{Extent}
 use Rattle.dm_symbol.specs.declared.Head.{Head}
 use Rattle.dm_symbol.specs.declared.Profile.TheVariants.{Ascii, Shorter}
 use Rattle.dm_symbol.specs.declared.SizeChoice.{SizeChoice}
@@ -18,17 +18,17 @@ use Rattle.ecc200_calls.specs.declared.fault.Fault.{Fault}
 use Rattle.ecc200_calls.specs.declared.mark.MarkNumbers.{MarkNumbers}
 use Rattle.ecc200_calls.specs.declared.symbol.SymbolOut.{SymbolOut}
 use Rattle.ecc200_calls.specs.Choices.{choice_of}
+use Rattle.ecc200_calls.specs.Extents.{extent_of}
 use Rattle.ecc200_calls.specs.Faults.{too_long, foreign, no_such_choice, no_such_extent, no_such_head}
 use Rattle.ecc200_calls.specs.Faults.{no_such_profile, wrong_mark}
 use Rattle.ecc200_calls.specs.Items.{IsFirstForeign}
 use Rattle.ecc200_calls.specs.Letters.{AreOfHead, IsFirstWrong, IsLetterOf}
 use Rattle.ecc200_calls.specs.Symbols.{no_symbol, symbol_shown}
 
--- The numbers 0 and 1 stand for the smallest symbol for readers of the extents `Usual` and `Wide`.
-abbrev pub smallest_form : ℕ → Result Form Fault
-smallest_form extent =
-    if nat_eq extent 0 then Ok (Smallest Usual)
-    else (if nat_eq extent 1 then Ok (Smallest Wide) else Err (no_such_extent extent))
+-- The smallest symbol for readers of an extent is a form; a number that stands for no extent is a fault.
+abbrev pub smallest_form : ℕ → Option Extent → Result Form Fault
+smallest_form number (Some extent) = Ok (Smallest extent)
+smallest_form number None = Err (no_such_extent number)
 
 -- The form 0 stands for the profile `Ascii`, 1 for `Shorter`, 2 for the smallest symbol for readers of the extent that
 -- is given, and no other number for any.
@@ -36,7 +36,8 @@ abbrev pub form_of : How → Result Form Fault
 form_of how =
     if nat_eq how.form 0 then Ok (Profiled Ascii)
     else (if nat_eq how.form 1 then Ok (Profiled Shorter)
-    else (if nat_eq how.form 2 then smallest_form how.extent else Err (no_such_profile how.form)))
+    else (if nat_eq how.form 2 then smallest_form how.extent (extent_of how.extent)
+    else Err (no_such_profile how.form)))
 
 -- What the numbers of a caller ask for can't be: the first of these that there is. There is no such form; no choice of
 -- sizes has the number of the shape; or the numbers of a head are those of none.

@@ -1,4 +1,4 @@
-//! Extents of reading as numbers.
+//! Extents as numbers.
 
 ghost use Rattle.std.specs.Prelude.{◌≡◌};
 ghost use Rattle.ecc200_calls.specs.Extents.{extent_of};
@@ -10,8 +10,8 @@ pub(crate) fn extent_of(number: u16) -> Option<Extent>
     ensures { result ≡ extent_of number }
 {
     match number {
-        0 => Some(Extent::Usual),
-        1 => Some(Extent::Wide),
+        0 => Some(Extent::Wide),
+        1 => Some(Extent::Usual),
         _ => None,
     }
 }

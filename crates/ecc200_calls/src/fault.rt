@@ -2,7 +2,7 @@
 
 ghost use Rattle.std.specs.Prelude.{◌≡◌};
 ghost use Rattle.ecc200_calls.specs.Faults.{fault, foreign, letter_fault, no_fault, no_such_choice, no_such_extent};
-ghost use Rattle.ecc200_calls.specs.Faults.{no_such_head, no_such_profile, no_such_size};
+ghost use Rattle.ecc200_calls.specs.Faults.{no_such_head, no_such_limit, no_such_profile, no_such_size};
 ghost use Rattle.ecc200_calls.specs.Faults.{read_letter_fault, shape, too_long, word_fault, wrong_doubt, wrong_mark};
 
 use dm_symbol::{LetterFault, LetterReadFault, WordFault};
@@ -72,6 +72,13 @@ impl Fault {
         ensures { result ≡ no_such_extent number }
     {
         Fault::of(17, number, 0)
+    }
+
+    /// Says that this number stands for no border limit.
+    pub(crate) fn no_such_limit(number: u16) -> Fault
+        ensures { result ≡ no_such_limit number }
+    {
+        Fault::of(24, number, 0)
     }
 
     /// Says that this number stands for no choice of sizes.

@@ -1,8 +1,10 @@
 //! Forms of writing as numbers.
 
 ghost use Rattle.std.specs.Prelude.{◌≡◌};
+ghost use Rattle.ecc200_calls.specs.Extents.{extent_of};
 ghost use Rattle.ecc200_calls.specs.Writings.{form_of, smallest_form};
 
+use crate::extent::extent_of;
 use crate::fault::Fault;
 use crate::how::How;
 use dm_symbol::{Extent, Profile};
@@ -29,12 +31,11 @@ pub(crate) fn form_of(how: How) -> Result<Form, Fault>
 }
 
 /// Gives the smallest symbol for readers of the extent of a number.
-fn smallest_form(extent: u16) -> Result<Form, Fault>
-    ensures { result ≡ smallest_form extent }
+fn smallest_form(number: u16) -> Result<Form, Fault>
+    ensures { result ≡ smallest_form number (extent_of number) }
 {
-    match extent {
-        0 => Ok(Form::Smallest(Extent::Usual)),
-        1 => Ok(Form::Smallest(Extent::Wide)),
-        _ => Err(Fault::no_such_extent(extent)),
+    match extent_of(number) {
+        Some(extent) => Ok(Form::Smallest(extent)),
+        None => Err(Fault::no_such_extent(number)),
     }
 }

@@ -6,18 +6,19 @@ ghost use Rattle.dm_layout.specs.symbols.Symbols.{SymbolView};
 ghost use Rattle.dm_layout.specs.symbols.Words.{data_of};
 ghost use Rattle.dm_words.specs.Letters.{HasMarkRoom};
 ghost use Rattle.dm_words.specs.Messages.{most_spelled};
-ghost use Rattle.ecc200_calls.specs.Symbols.{IsNormalGiven, IsNormalResult, NormalisedResult, ProfileResult};
+ghost use Rattle.ecc200_calls.specs.Symbols.{IsNormalGiven, IsNormalResult, IsNormalSought, NormalisedResult};
+ghost use Rattle.ecc200_calls.specs.Symbols.{ProfileResult};
 ghost use Rattle.ecc200_calls.specs.declared.restoring.Restored.{Restored};
 ghost use Rattle.ecc200_calls.specs.inner.Given.{IsOfGiven};
 ghost use Rattle.ecc200_calls.specs.inner.Restored.{HasRoomToSay, IsRestored};
 ghost use Rattle.ecc200_calls.specs.inner.Rooms.{HasRoom};
 
-use crate::extent::extent_of;
 use crate::fault::{Fault, read_letter_fault};
 use crate::given::{Given, check_given};
 use crate::profile::profile_of;
 use crate::restoring::{Restored, has_few_marks, restore_given};
 use crate::room::*;
+use crate::scan::{Scan, Sought, check_scan};
 use crate::symbol::{SymbolOut, show_fault};
 use crate::writing::write_normal;
 use dm_layout::symbols::SymbolWordsIn;
@@ -27,112 +28,70 @@ use dm_symbol::{
 };
 use dm_words::letter_to_as;
 
-/// Writes the normal symbol of what the symbol of these modules, of which these are doubtful, says in an extent.
+/// Writes the normal symbol of what the symbol of these modules, of which these are doubtful, says by the numbers of a
+/// scan.
 pub fn normal(
     modules: &[u8],
     doubtful: &[u8],
-    rows: u16,
-    columns: u16,
-    border_limit: u16,
-    extent: u16,
+    scan: &Scan,
     profile: u16,
     out: &mut SymbolOut,
 ) -> u16
-    ensures out { IsNormalResult rows columns modules.now doubtful.now border_limit extent profile
-        out.old out.new }
+    ensures out { IsNormalResult modules.now doubtful.now scan.now profile out.old out.new }
     ensures code { result ≡ out.new.fault.code }
 {
-    match extent_of(extent) {
-        Some(extent) => normal_in_extent(
-            extent,
-            modules,
-            doubtful,
-            rows,
-            columns,
-            border_limit,
-            profile,
-            out,
-        ),
-        None => show_fault(out, Fault::no_such_extent(extent)),
+    match check_scan(*scan) {
+        Ok(sought) => normal_sought(sought, modules, doubtful, profile, out),
+        Err(why) => show_fault(out, why),
     }
     out.fault.code
 }
 
-/// Shows the normal symbol of what the symbol of these modules says in an extent, or why there is none.
-fn normal_in_extent(
-    extent: Extent,
-    modules: &[u8],
-    doubtful: &[u8],
-    rows: u16,
-    columns: u16,
-    border_limit: u16,
-    profile: u16,
-    out: &mut SymbolOut,
-)
-    ensures { ProfileResult extent rows columns modules.now doubtful.now border_limit profile
+/// Shows the normal symbol of what is sought in the symbol of these modules, or why there is none.
+fn normal_sought(sought: Sought, modules: &[u8], doubtful: &[u8], profile: u16, out: &mut SymbolOut)
+    ensures { ProfileResult sought sought.rows sought.columns modules.now doubtful.now profile
         out.old out.new }
 {
     match profile_of(profile) {
-        Some(profile) => normal_under_profile(
-            extent,
-            profile,
-            modules,
-            doubtful,
-            rows,
-            columns,
-            border_limit,
-            out,
-        ),
+        Some(profile) => normal_under_profile(sought, profile, modules, doubtful, out),
         None => show_fault(out, Fault::no_such_profile(profile)),
     }
 }
 
 /// Shows the normal symbol of what the symbol of these modules says, or why there is none.
 fn normal_under_profile(
-    extent: Extent,
+    sought: Sought,
     profile: Profile,
     modules: &[u8],
     doubtful: &[u8],
-    rows: u16,
-    columns: u16,
-    border_limit: u16,
     out: &mut SymbolOut,
 )
-    ensures { NormalisedResult extent profile rows columns modules.now doubtful.now border_limit
+    ensures { NormalisedResult sought profile sought.rows sought.columns modules.now doubtful.now
         out.old out.new }
 {
-    match check_given(modules, doubtful, rows, columns) {
-        Ok(given) => normal_known(extent, profile, modules, doubtful, given, border_limit, out),
+    match check_given(modules, doubtful, sought.rows, sought.columns) {
+        Ok(given) => normal_known(sought, profile, modules, doubtful, given, out),
         Err(why) => show_fault(out, why),
     }
 }
 
 /// Shows the normal symbol of what the symbol says, or why there is none, in a room that serves for the symbol.
 fn normal_known(
-    extent: Extent,
+    sought: Sought,
     profile: Profile,
     modules: &[u8],
     doubtful: &[u8],
     given: Given,
-    border_limit: u16,
     out: &mut SymbolOut,
 )
     requires modules { length modules.now ≡ area given.size }
     requires doubtful { IsTrue given.doubt → length doubtful.now ≡ area given.size }
     ensures { IsOfGiven given.size modules.now doubtful.now given.doubt (λ symbol doubtful.
-        IsNormalGiven extent profile symbol doubtful border_limit out.old out.new) }
+        IsNormalSought sought profile symbol doubtful out.old out.new) }
 {
     in_room!(
         Room::of(given.size),
-        normal_given::<ROWS, WORDS, ITEMS, MARKS>(
-            extent,
-            profile,
-            modules,
-            doubtful,
-            given,
-            border_limit,
-            out
-        )
+        normal_given::<ROWS, WORDS, ITEMS, MARKS>(sought, profile, modules, doubtful, given, out)
     )
 }
 
@@ -140,33 +99,31 @@ fn normal_known(
 /// stack.
 #[inline(never)]
 fn normal_given<const ROWS: usize, const WORDS: usize, const ITEMS: usize, const MARKS: usize>(
-    extent: Extent,
+    sought: Sought,
     profile: Profile,
     modules: &[u8],
     doubtful: &[u8],
     given: Given,
-    border_limit: u16,
     out: &mut SymbolOut,
 )
     requires room { HasRoom ROWS WORDS ITEMS MARKS given.size }
     requires modules { length modules.now ≡ area given.size }
     requires doubtful { IsTrue given.doubt → length doubtful.now ≡ area given.size }
     ensures { IsOfGiven given.size modules.now doubtful.now given.doubt (λ symbol doubtful.
-        IsNormalGiven extent profile symbol doubtful border_limit out.old out.new) }
+        IsNormalSought sought profile symbol doubtful out.old out.new) }
 {
     let mut words = SymbolWordsIn::<WORDS>::zeros(given.size);
     let mut restored = Restored::new();
     match restore_given::<ROWS, WORDS>(
-        extent,
+        sought,
         modules,
         doubtful,
         given,
-        border_limit,
         &mut words,
         &mut restored,
     ) {
         Ok(()) => {
-            normal_restored::<WORDS, ITEMS, MARKS>(extent, profile, &words, out);
+            normal_restored::<WORDS, ITEMS, MARKS>(sought.extent, profile, &words, out);
         }
         Err(why) => show_fault(out, read_letter_fault(why)),
     }

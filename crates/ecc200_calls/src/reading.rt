@@ -8,13 +8,14 @@ ghost use Rattle.dm_words.specs.Letters.{HasMarkRoom};
 ghost use Rattle.dm_words.specs.Messages.{most_spelled};
 ghost use Rattle.dm_symbol.specs.LetterReading.{letter_reading_of};
 ghost use Rattle.ecc200_calls.specs.Arrays.{over};
-ghost use Rattle.ecc200_calls.specs.Readings.{ExtentResult, IsReadResult, IsReadingGiven, corrected_in, erased_in};
-ghost use Rattle.ecc200_calls.specs.Readings.{dealing_shown, left_in, no_reading, reading_shown, usual_limit};
+ghost use Rattle.ecc200_calls.specs.Readings.{IsReadResult, IsReadingGiven, IsReadingSought, SoughtResult};
+ghost use Rattle.ecc200_calls.specs.Readings.{corrected_in, dealing_shown, erased_in, left_in, no_reading};
+ghost use Rattle.ecc200_calls.specs.Readings.{reading_shown};
+ghost use Rattle.ecc200_calls.specs.Scans.{usual_limit};
 ghost use Rattle.ecc200_calls.specs.inner.Given.{IsOfGiven};
 ghost use Rattle.ecc200_calls.specs.inner.Restored.{HasRoomToSay, IsRestored};
 ghost use Rattle.ecc200_calls.specs.inner.Rooms.{HasRoom};
 
-use crate::extent::extent_of;
 use crate::fault::{Fault, read_letter_fault};
 use crate::given::{Given, check_given};
 use crate::head::{HeadNumbers, head_shown};
@@ -22,6 +23,7 @@ use crate::mark::{MarkNumbers, put_marks};
 use crate::message::put_items;
 use crate::restoring::{Restored, has_few_marks, restore_given};
 use crate::room::*;
+use crate::scan::{Scan, Sought, check_scan};
 use dm_layout::symbols::{MOST_BLOCKS, SymbolSize, SymbolWordsIn};
 use dm_symbol::{
     BlockReading, Dealing, Extent, LARGEST_MARKS, LARGEST_ROOM, LetterIn, LetterReadFault,
@@ -49,25 +51,14 @@ pub struct ReadingOut {
     pub items: [u16; LARGEST_ROOM],
 }
 
-/// Reads the symbol of these modules, of which these are doubtful, in an extent.
-pub fn read(
-    modules: &[u8],
-    doubtful: &[u8],
-    rows: u16,
-    columns: u16,
-    border_limit: u16,
-    extent: u16,
-    out: &mut ReadingOut,
-) -> u16
-    ensures out { IsReadResult rows columns modules.now doubtful.now border_limit extent out.old
-        out.new }
+/// Reads the symbol of these modules, of which these are doubtful, by the numbers of a scan.
+pub fn read(modules: &[u8], doubtful: &[u8], scan: &Scan, out: &mut ReadingOut) -> u16
+    ensures out { IsReadResult modules.now doubtful.now scan.now out.old out.new }
     ensures code { result ≡ out.new.fault.code }
 {
-    match extent_of(extent) {
-        Some(extent) => {
-            read_in_extent(extent, modules, doubtful, rows, columns, border_limit, out)
-        }
-        None => show_fault(out, Fault::no_such_extent(extent)),
+    match check_scan(*scan) {
+        Ok(sought) => read_sought(sought, modules, doubtful, out),
+        Err(why) => show_fault(out, why),
     }
     out.fault.code
 }
@@ -80,43 +71,27 @@ pub fn usual_limit(rows: u16, columns: u16) -> u16
     ((u32::from(rows) + u32::from(columns)) / 8) as u16
 }
 
-/// Shows what the symbol of these modules says in an extent, or why it says nothing.
-fn read_in_extent(
-    extent: Extent,
-    modules: &[u8],
-    doubtful: &[u8],
-    rows: u16,
-    columns: u16,
-    border_limit: u16,
-    out: &mut ReadingOut,
-)
-    ensures { ExtentResult extent rows columns modules.now doubtful.now border_limit out.old
+/// Shows what is sought in the symbol of these modules, or why it says nothing.
+fn read_sought(sought: Sought, modules: &[u8], doubtful: &[u8], out: &mut ReadingOut)
+    ensures { SoughtResult sought sought.rows sought.columns modules.now doubtful.now out.old
         out.new }
 {
-    match check_given(modules, doubtful, rows, columns) {
-        Ok(given) => read_known(extent, modules, doubtful, given, border_limit, out),
+    match check_given(modules, doubtful, sought.rows, sought.columns) {
+        Ok(given) => read_known(sought, modules, doubtful, given, out),
         Err(why) => show_fault(out, why),
     }
 }
 
 /// Shows what the symbol says, or why it says nothing, in a room that serves for it.
-fn read_known(
-    extent: Extent,
-    modules: &[u8],
-    doubtful: &[u8],
-    given: Given,
-    border_limit: u16,
-    out: &mut ReadingOut,
-)
+fn read_known(sought: Sought, modules: &[u8], doubtful: &[u8], given: Given, out: &mut ReadingOut)
     requires modules { length modules.now ≡ area given.size }
     requires doubtful { IsTrue given.doubt → length doubtful.now ≡ area given.size }
     ensures { IsOfGiven given.size modules.now doubtful.now given.doubt (λ symbol doubtful.
-        IsReadingGiven extent given.size.rows given.size.columns symbol doubtful border_limit
-        out.old out.new) }
+        IsReadingSought sought given.size.rows given.size.columns symbol doubtful out.old out.new) }
 {
     in_room!(
         Room::of(given.size),
-        read_given::<ROWS, WORDS, ITEMS, MARKS>(extent, modules, doubtful, given, border_limit, out)
+        read_given::<ROWS, WORDS, ITEMS, MARKS>(sought, modules, doubtful, given, out)
     )
 }
 
@@ -124,32 +99,29 @@ fn read_known(
 /// stack.
 #[inline(never)]
 fn read_given<const ROWS: usize, const WORDS: usize, const ITEMS: usize, const MARKS: usize>(
-    extent: Extent,
+    sought: Sought,
     modules: &[u8],
     doubtful: &[u8],
     given: Given,
-    border_limit: u16,
     out: &mut ReadingOut,
 )
     requires room { HasRoom ROWS WORDS ITEMS MARKS given.size }
     requires modules { length modules.now ≡ area given.size }
     requires doubtful { IsTrue given.doubt → length doubtful.now ≡ area given.size }
     ensures { IsOfGiven given.size modules.now doubtful.now given.doubt (λ symbol doubtful.
-        IsReadingGiven extent given.size.rows given.size.columns symbol doubtful border_limit
-        out.old out.new) }
+        IsReadingSought sought given.size.rows given.size.columns symbol doubtful out.old out.new) }
 {
     let mut words = SymbolWordsIn::<WORDS>::zeros(given.size);
     let mut restored = Restored::new();
     match restore_given::<ROWS, WORDS>(
-        extent,
+        sought,
         modules,
         doubtful,
         given,
-        border_limit,
         &mut words,
         &mut restored,
     ) {
-        Ok(()) => read_restored::<WORDS, ITEMS, MARKS>(extent, &words, &restored, out),
+        Ok(()) => read_restored::<WORDS, ITEMS, MARKS>(sought.extent, &words, &restored, out),
         Err(why) => show_fault(out, read_letter_fault(why)),
     }
 }

@@ -1,20 +1,28 @@
 //! Restoring: the codewords of the symbol that is given to a call, in the room that serves for the symbol. What they
 //! say is then read in room that is chosen by them.
 
-ghost use Rattle.std.specs.Prelude.{◌≡◌, ◌≤◌, IfSome, IsTrue, OnOk, length, option_map};
+ghost use Rattle.std.specs.Prelude.{◌≡◌, ◌≤◌, All, Err, IfErr, IfSome, IsTrue, OnOk, false, length, option_map};
 ghost use Rattle.dm_layout.specs.symbols.Sizes.{area, codeword_count};
+ghost use Rattle.dm_symbol.specs.declared.LetterFault.{LetterFault};
+ghost use Rattle.dm_symbol.specs.Doubt.{sure_fault_count};
 ghost use Rattle.dm_words.specs.Letters.{eci_count};
+ghost use Rattle.ecc200_calls.specs.Scans.{LeavesCorrection, LeavesCorrections};
 ghost use Rattle.ecc200_calls.specs.inner.Given.{IsOfGiven};
-ghost use Rattle.ecc200_calls.specs.inner.Restored.{IsRestoredOr};
+ghost use Rattle.ecc200_calls.specs.inner.Restored.{IsRestored, IsRestoredFor, IsRestoredOr};
 ghost use Rattle.ecc200_calls.specs.inner.Rooms.{IsRoom};
 
 use crate::given::Given;
 use crate::modules::put_modules;
+use crate::reading::usual_limit;
 use crate::room::{FAIR_MARKS, SMALL_MARKS};
+use crate::scan::{BorderLimit, Sought};
 use arrayvec::ArrayVec;
 use dm_layout::symbols::{MOST_BLOCKS, MOST_DATA, SymbolIn, SymbolWordsIn};
 use dm_symbol::{BlockReading, Dealing, Extent, LetterReadFault, ReadOptions, restore_symbol_to};
 use dm_words::eci_count;
+
+/// How many check codewords a correction takes.
+const CHECKS_OF_A_CORRECTION: u8 = 2;
 
 /// What is known of a symbol whose codewords are restored, beside these.
 #[derive(Drop)]
@@ -39,11 +47,10 @@ impl Restored {
 /// stands by itself, so that the symbol takes no room on the stack when its codewords are read.
 #[inline(never)]
 pub(crate) fn restore_given<const ROWS: usize, const WORDS: usize>(
-    extent: Extent,
+    sought: Sought,
     modules: &[u8],
     doubtful: &[u8],
     given: Given,
-    border_limit: u16,
     words: &mut SymbolWordsIn<WORDS>,
     restored: &mut Restored,
 ) -> Result<(), LetterReadFault>
@@ -53,7 +60,7 @@ pub(crate) fn restore_given<const ROWS: usize, const WORDS: usize>(
     requires modules { length modules.now ≡ area given.size }
     requires doubtful { IsTrue given.doubt → length doubtful.now ≡ area given.size }
     ensures restored { IsOfGiven given.size modules.now doubtful.now given.doubt (λ symbol doubtful.
-        IsRestoredOr extent symbol doubtful border_limit result words.new restored.new) }
+        IsRestoredFor sought.limit sought.extent symbol doubtful result words.new restored.new) }
     ensures size { OnOk result (words.new.size ≡ given.size) }
 {
     let mut symbol = SymbolIn::<ROWS>::light(given.size);
@@ -61,21 +68,39 @@ pub(crate) fn restore_given<const ROWS: usize, const WORDS: usize>(
     if given.doubt {
         let mut marked = SymbolIn::<ROWS>::light(given.size);
         put_modules(&mut marked, doubtful);
-        restore_symbol(
-            extent,
-            &symbol,
-            Some(&marked),
-            border_limit,
-            words,
-            restored,
-        )
+        restore_symbol(sought, &symbol, Some(&marked), words, restored)
     } else {
-        restore_symbol(extent, &symbol, None, border_limit, words, restored)
+        restore_symbol(sought, &symbol, None, words, restored)
     }
 }
 
-/// Restores the codewords of a symbol, of whose modules these are doubtful, or says why there are none.
+/// Restores the codewords of a symbol, of whose modules these are doubtful, at the border limit that is sought, or says
+/// why there are none.
+#[inline]
 fn restore_symbol<const ROWS: usize, const WORDS: usize>(
+    sought: Sought,
+    symbol: &SymbolIn<ROWS>,
+    doubtful: Option<&SymbolIn<ROWS>>,
+    words: &mut SymbolWordsIn<WORDS>,
+    restored: &mut Restored,
+) -> Result<(), LetterReadFault>
+    requires doubtful { IfSome doubtful (λ doubtful. doubtful.now.size ≡ symbol.now.size) }
+    requires codewords { codeword_count symbol.now.size ≤ WORDS }
+    ensures restored { IsRestoredFor sought.limit sought.extent symbol.now
+        (option_map (λ d. d.now) doubtful.entry) result words.new restored.new }
+    ensures size { OnOk result (words.new.size ≡ symbol.now.size) }
+{
+    let extent = sought.extent;
+    match sought.limit {
+        BorderLimit::Modules(limit) => {
+            restore_within(extent, symbol, doubtful, limit, words, restored)
+        }
+        BorderLimit::Sure => restore_surely(extent, symbol, doubtful, words, restored),
+    }
+}
+
+/// Does so with at most so many border faults.
+fn restore_within<const ROWS: usize, const WORDS: usize>(
     extent: Extent,
     symbol: &SymbolIn<ROWS>,
     doubtful: Option<&SymbolIn<ROWS>>,
@@ -87,6 +112,7 @@ fn restore_symbol<const ROWS: usize, const WORDS: usize>(
     requires codewords { codeword_count symbol.now.size ≤ WORDS }
     ensures restored { IsRestoredOr extent symbol.now (option_map (λ d. d.now) doubtful.entry)
         border_limit result words.new restored.new }
+    ensures unsaid { (why : LetterFault) → result ≡ Err (LetterReadFault.Words why) → ⊥ }
     ensures size { OnOk result (words.new.size ≡ symbol.now.size) }
 {
     let how = ReadOptions {
@@ -102,6 +128,76 @@ fn restore_symbol<const ROWS: usize, const WORDS: usize>(
         &mut restored.blocks,
         &mut restored.border_faults,
     )
+}
+
+/// Does so with as many border faults as are sure: it begins with as many as usual.
+#[inline(never)]
+fn restore_surely<const ROWS: usize, const WORDS: usize>(
+    extent: Extent,
+    symbol: &SymbolIn<ROWS>,
+    doubtful: Option<&SymbolIn<ROWS>>,
+    words: &mut SymbolWordsIn<WORDS>,
+    restored: &mut Restored,
+) -> Result<(), LetterReadFault>
+    requires doubtful { IfSome doubtful (λ doubtful. doubtful.now.size ≡ symbol.now.size) }
+    requires codewords { codeword_count symbol.now.size ≤ WORDS }
+    ensures restored { IsRestoredFor BorderLimit.Sure extent symbol.now
+        (option_map (λ d. d.now) doubtful.entry) result words.new restored.new }
+    ensures size { OnOk result (words.new.size ≡ symbol.now.size) }
+{
+    let size = symbol.size();
+    let usual = usual_limit(size.rows(), size.columns());
+    match restore_within(extent, symbol, doubtful, usual, words, restored) {
+        Ok(()) => Ok(()),
+        Err(LetterReadFault::Border(count)) => {
+            restore_if_sure(extent, symbol, doubtful, count, words, restored)
+        }
+        Err(LetterReadFault::Block(index)) => Err(LetterReadFault::Block(index)),
+        Err(LetterReadFault::Words(why)) => Err(LetterReadFault::Words(why)),
+    }
+}
+
+/// Does so with as many border faults as there are, if each block then leaves a correction unused. Else these are too
+/// many.
+fn restore_if_sure<const ROWS: usize, const WORDS: usize>(
+    extent: Extent,
+    symbol: &SymbolIn<ROWS>,
+    doubtful: Option<&SymbolIn<ROWS>>,
+    count: u16,
+    words: &mut SymbolWordsIn<WORDS>,
+    restored: &mut Restored,
+) -> Result<(), LetterReadFault>
+    requires doubtful { IfSome doubtful (λ doubtful. doubtful.now.size ≡ symbol.now.size) }
+    requires codewords { codeword_count symbol.now.size ≤ WORDS }
+    requires count { count ≡ sure_fault_count symbol.now (option_map (λ d. d.now) doubtful) }
+    ensures sure { OnOk result (LeavesCorrections extent symbol.now
+        (option_map (λ d. d.now) doubtful.entry)) }
+    ensures restored { OnOk result (IsRestored extent symbol.now
+        (option_map (λ d. d.now) doubtful.entry) count words.new restored.new) }
+    ensures unsure { IfErr result (λ why. (why ≡ LetterReadFault.Border count)
+        × (LeavesCorrections extent symbol.now (option_map (λ d. d.now) doubtful.entry) → ⊥)) }
+    ensures size { OnOk result (words.new.size ≡ symbol.now.size) }
+{
+    match restore_within(extent, symbol, doubtful, count, words, restored) {
+        Ok(()) => {
+            if leave_corrections(&restored.blocks) {
+                Ok(())
+            } else {
+                Err(LetterReadFault::Border(count))
+            }
+        }
+        Err(_) => Err(LetterReadFault::Border(count)),
+    }
+}
+
+/// Whether each block leaves a correction unused.
+fn leave_corrections(blocks: &[BlockReading]) -> bool
+    ensures all { IsTrue result → All LeavesCorrection blocks.now }
+    ensures some { result ≡ false → All LeavesCorrection blocks.now → ⊥ }
+{
+    blocks
+        .iter()
+        .all(|block| block.left >= CHECKS_OF_A_CORRECTION)
 }
 
 /// Whether the marks that data codewords say have room in the small room, where it is for fewer than this one. To count

@@ -79,6 +79,9 @@ _ONE = 4
 _NO_HEAD = 0
 _PART = 1
 _PROGRAMMING = 2
+_USUAL_LIMIT = 0
+_SURE_LIMIT = 1
+_GIVEN_LIMIT = 3
 # ecc200.h: end
 _GS = 0x1D
 
@@ -143,8 +146,8 @@ class Extent(enum.IntEnum):
     that waits at the end of a run, marks, heads, and the other dealing of 144 x 144. What USUAL reads WIDE reads as the
     same."""
     # ecc200.h: extents
-    USUAL = 0
-    WIDE = 1
+    WIDE = 0
+    USUAL = 1
     # ecc200.h: end
 
 
@@ -172,6 +175,7 @@ class Code(enum.IntEnum):
     APPEND = 21
     MARK = 22
     HEAD = 23
+    LIMIT = 24
     # ecc200.h: end
 
 
@@ -313,6 +317,10 @@ class _Fault(ctypes.Structure):
     _fields_ = [("code", _u16), ("value", _u16), ("place", _u16)]
 
 
+class _Scan(ctypes.Structure):
+    _fields_ = [("rows", _u16), ("columns", _u16), ("limit", _u16), ("border_limit", _u16), ("extent", _u16)]
+
+
 class _Head(ctypes.Structure):
     _fields_ = [("kind", _u16), ("part", _u16), ("parts", _u16), ("file", _u8 * 2)]
 
@@ -416,12 +424,12 @@ def _load(processor: str = "/proc/cpuinfo") -> ctypes.CDLL:
     library = _opened("ecc200", ABI, ImportError)
     # (a number takes a register as a pointer does, and that is what ctypes makes of it soonest)
     octets, number, out, words = ctypes.c_char_p, ctypes.c_void_p, ctypes.c_void_p, ctypes.c_char_p
-    symbol = [octets, number, octets, number, number, number]
+    symbol = [octets, number, octets, number]
     for name, result, given in (
         ("version", words, []), ("code_words", words, [_u16]), ("abi", _u16, []),
         ("usual_limit", _u16, [number, number]), ("sizes", None, [out]), ("places", _u16, [number, number, out]),
-        ("read", _u16, [*symbol, number, number, out]), ("normal", _u16, [*symbol, number, number, number, out]),
-        ("inspect", _u16, [*symbol, out]),
+        ("read", _u16, [*symbol, octets, out]), ("normal", _u16, [*symbol, octets, number, out]),
+        ("inspect", _u16, [*symbol, number, number, out]),
         ("write", _u16, [out, number, octets, number, octets, out]),
         ("write_bytes", _u16, [octets, number, octets, out]),
     ):
@@ -451,14 +459,15 @@ def _room(rooms: List[_Room], kind: Type[ctypes.Structure]) -> _Room:
         return memoryview(made), ctypes.addressof(ctypes.c_char.from_buffer(made))
 
 
-# The beginning of a reading, with its head and its three counts for each block, and of a symbol.
+# How a symbol is read; and the beginning of a reading, with its head and its three counts for each block, and of a
+# symbol.
+_packed_scan = struct.Struct("=5H").pack
 _read_head = struct.Struct("=14H2B" + f"{_MOST_BLOCKS}s" * 3).unpack_from
 _drawn_head = struct.Struct("=5H").unpack_from
 _ITEMS, _MODULES, _PLACES = _ReadingOut.items.offset, _SymbolOut.modules.offset, _PlacesOut.places.offset
 _MARKS, _MARK_SIZE = _ReadingOut.marks.offset, ctypes.sizeof(_Mark)
 _IDENTIFIERS = tuple(f"]d{number}" for number in range(7))
 _DIGITS = bytes(byte == 0x31 for byte in range(256))
-_CHECKS_OF_A_CORRECTION = 2
 _TURNS = {2: 0, 3: 3, 4: 1, 5: 5, 6: 4, 7: 6, 8: 2}  # for each orientation of EXIF, Pillow's way of transposing
 
 
@@ -637,10 +646,13 @@ def _whole(name: str, number: Any, least: int, most: Optional[int] = None) -> in
                      f"{number!r}")
 
 
-def _limit(rows: int, columns: int, border_limit: Optional[int]) -> int:
+def _limit(border_limit: BorderLimit) -> Tuple[int, int]:
+    """The kind of a border limit, and the number of one that is given."""
     if border_limit is None:
-        return (rows + columns) // 8
-    return min(_whole("border_limit", border_limit, 0), 65535)
+        return _USUAL_LIMIT, 0
+    if border_limit == "auto":
+        return _SURE_LIMIT, 0
+    return _GIVEN_LIMIT, min(_whole("border_limit", border_limit, 0), 65535)
 
 
 def _bytes_of(items: Iterable[int]) -> bytes:
@@ -708,33 +720,6 @@ def usual_limit(rows: int, columns: Optional[int] = None) -> int:
     return sum(_dimensions(rows, rows if columns is None else columns)) // 8
 
 
-def _read(modules: bytes, rows: int, columns: int, marks: Tuple[Optional[bytes], int], limit: int,
-          extent: Extent) -> Reading:
-    answer, address = room = _room(_readings, _ReadingOut)
-    try:
-        _call_read(modules, len(modules), marks[0], marks[1], rows, columns, limit, extent, address)
-        return _said(answer)
-    finally:
-        _readings.append(room)
-
-
-def _read_any_border(modules: bytes, rows: int, columns: int, marks: Tuple[Optional[bytes], int],
-                     extent: Extent) -> Reading:
-    """What a symbol says, if its border is as usual or if each block leaves a correction unused."""
-    try:
-        return _read(modules, rows, columns, marks, usual_limit(rows, columns), extent)
-    except Refused as why:
-        if why.code != Code.BORDER:
-            raise
-        try:
-            reading = _read(modules, rows, columns, marks, why.value, extent)
-        except Refused:
-            raise why from None
-        if min(reading.left) < _CHECKS_OF_A_CORRECTION:
-            raise
-        return reading
-
-
 def read(grid: Grid, border_limit: BorderLimit = None, extent: Extent = Extent.WIDE,
          doubtful: Optional[Grid] = None) -> Reading:
     """What a symbol says. `border_limit`: how many border modules may have the wrong colour, by default the usual
@@ -747,9 +732,13 @@ def read(grid: Grid, border_limit: BorderLimit = None, extent: Extent = Extent.W
     modules, rows, columns = _modules(grid)
     extent = extent if extent is _WIDE else _number(Code.EXTENT, extent)
     marks = (None, 0) if doubtful is None else _doubtful(doubtful, rows, columns)
-    if border_limit == "auto":
-        return _read_any_border(modules, rows, columns, marks, extent)
-    return _read(modules, rows, columns, marks, _limit(rows, columns, border_limit), extent)
+    scan = _packed_scan(rows, columns, *_limit(border_limit), extent)
+    answer, address = room = _room(_readings, _ReadingOut)
+    try:
+        _call_read(modules, len(modules), marks[0], marks[1], scan, address)
+        return _said(answer)
+    finally:
+        _readings.append(room)
 
 
 def read_many(grids: Iterable[Grid], border_limit: BorderLimit = None,
@@ -904,12 +893,10 @@ def normal(grid: Grid, border_limit: BorderLimit = None, profile: Profile = Prof
     modules, rows, columns = _modules(grid)
     wanted, form = _number(Code.EXTENT, extent), _number(Code.PROFILE, profile)
     marks = _doubtful(doubtful, rows, columns)
-    if border_limit == "auto":
-        border_limit = _read_any_border(modules, rows, columns, marks, wanted).border_faults
+    scan = _packed_scan(rows, columns, *_limit(border_limit), wanted)
     answer, address = room = _room(_symbols, _SymbolOut)
     try:
-        _library.ecc200_normal(modules, len(modules), *marks, rows, columns, _limit(rows, columns, border_limit),
-                               wanted, form, address)
+        _library.ecc200_normal(modules, len(modules), *marks, scan, form, address)
         return _drawn(answer)
     finally:
         _symbols.append(room)
@@ -1620,8 +1607,7 @@ def decode(picture: Any, most: int = _MOST_FOUND, milliseconds: Optional[int] = 
     ecc200_sample isn't installed, SamplerMissing is raised. A page that can't be opened is a warning where something is
     read on another, and else ValueError is raised."""
     asked = _Asked(most, _MOST_UNREAD if unread else 0, milliseconds).checked()
-    if border_limit != "auto":
-        _limit(0, 0, border_limit)  # what a picture has no use for is named, too
+    _limit(border_limit)  # what a picture has no use for is named, too
     given = _loaded(picture)
     answers: Findings[Union[Reading, Refused]] = Findings()
     if isinstance(given, list) or hasattr(given, "rows") or not hasattr(given, "__array_interface__"):

@@ -17,8 +17,8 @@ int main(void) {
     }
     symbol.modules[symbol.columns + 1] ^= 1;
     size_t modules = (size_t)symbol.rows * symbol.columns;
-    if (ecc200_read(symbol.modules, modules, NULL, 0, symbol.rows, symbol.columns,
-                    ecc200_usual_limit(symbol.rows, symbol.columns), ECC200_USUAL, &reading) != ECC200_OK)
+    const ecc200_scan scan = {.rows = symbol.rows, .columns = symbol.columns, .extent = ECC200_USUAL};
+    if (ecc200_read(symbol.modules, modules, NULL, 0, &scan, &reading) != ECC200_OK)
         return 2;
     size_t count = ecc200_text(&reading, bytes, sizeof bytes, NULL);
     printf("%s %.*s %d\n", ecc200_version(), (int)count, (const char *)bytes, reading.corrected[0]);

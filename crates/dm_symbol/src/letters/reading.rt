@@ -4,6 +4,7 @@ ghost use Rattle.std.specs.Prelude.{◌≡◌, ◌≤◌, ◌*◌, ℕ, List, On
 ghost use Rattle.dm_layout.specs.symbols.Sizes.{codeword_count};
 ghost use Rattle.dm_words.specs.Messages.{most_spelled};
 ghost use Rattle.dm_words.specs.Outcomes.{outcome};
+ghost use Rattle.dm_words.specs.declared.letters.fault.LetterFault.{LetterFault};
 ghost use Rattle.dm_symbol.specs.SymbolReading.{AreRestored};
 ghost use Rattle.dm_symbol.specs.LetterReading.{IsLetterRead, LetterReadResult, letter_reading_in};
 ghost use Rattle.dm_symbol.specs.Restored.{IsRestored};
@@ -34,6 +35,7 @@ pub fn restore_symbol_to<const ROWS: usize, const WORDS: usize>(
         blocks.new.items faults.new) }
     ensures lost { IfErr result (λ why. LetterReadResult how.entry.extent symbol.now
         (option_map (λ d. d.now) how.entry.doubtful) how.entry.border_limit (Err why)) }
+    ensures unsaid { (why : LetterFault) → result ≡ Err (LetterReadFault.Words why) → ⊥ }
     ensures same { (count : ℕ) → result ≡ Err (LetterReadFault.Border count)
         → (dealing.new ≡ dealing.old) × (blocks.new ≡ blocks.old) × (faults.new ≡ faults.old) }
 {

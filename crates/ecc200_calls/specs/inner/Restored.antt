@@ -9,6 +9,8 @@ use Rattle.dm_symbol.specs.LetterReading.{LetterReadResult}
 use Rattle.dm_symbol.specs.Messages.{most_data, most_spelled}
 use Rattle.dm_symbol.specs.Restored as whole
 use Rattle.ecc200_calls.specs.declared.restoring.Restored.{Restored}
+use Rattle.ecc200_calls.specs.declared.scan.BorderLimit.{BorderLimit}
+use Rattle.ecc200_calls.specs.Scans.{IsLimit}
 
 -- The codewords of a symbol are restored to these in an extent, and this is known of them.
 abbrev pub IsRestored : Extent → SymbolView → Option SymbolView → ℕ → WordsView → Restored → Type 0
@@ -22,6 +24,14 @@ IsRestoredOr extent symbol doubtful limit (Ok done) words restored =
     IsRestored extent symbol doubtful limit words restored
 IsRestoredOr extent symbol doubtful limit (Err why) words restored =
     LetterReadResult extent symbol doubtful limit (Err why)
+
+-- They are so restored, or the symbol is refused, at the border limit that is asked for.
+pub record IsRestoredFor {A : Type 0} (asked : BorderLimit) (extent : Extent) (symbol : SymbolView)
+    (doubtful : Option SymbolView) (result : Result A LetterReadFault) (words : WordsView) (restored : Restored)
+    : Type 0 where
+  pub limit : ℕ
+  pub limit_is : IsLimit asked extent symbol doubtful limit
+  pub restored_or : IsRestoredOr extent symbol doubtful limit result words restored
 
 -- There is room for the items that so many data codewords say in any extent, and not for more than any symbol says; and
 -- for a mark for each two of them, and not for more marks than that.

@@ -14,16 +14,23 @@ pub returns-in-Ok : goal.returns-in-Ok
 returns-in-Ok g c =
     let a = c.args in
     given_too a.given.size a.modules.now a.doubtful.now a.given.doubt _ _
-    (λ symbol doubtful restored.
-    c.normal_restored.ensures symbol doubtful a.border_limit c.restore_given.new.restored restored)
+    (λ symbol doubtful r. record {
+      limit = r.limit;
+      limit_is = r.limit_is;
+      given = c.normal_restored.ensures symbol doubtful r.limit c.restore_given.new.restored r.restored_or;
+    })
     c.in-Ok.ensures.restored
 
 pub returns-in-Err : goal.returns-in-Err
 returns-in-Err g c =
     let a = c.args in
     given_too a.given.size a.modules.now a.doubtful.now a.given.doubt _ _
-    (λ symbol doubtful lost. record {
-      result = Err (of_letter.Read c.in-Err.why);
-      result_is = IsNormalOrFault.fault c.in-Err.why lost refl;
-      shown = c.show_fault.ensures ∙ ap (λ why. no_symbol why a.out.now) c.read_letter_fault.ensures;
+    (λ symbol doubtful r. record {
+      limit = r.limit;
+      limit_is = r.limit_is;
+      given = record {
+        result = Err (of_letter.Read c.in-Err.why);
+        result_is = IsNormalOrFault.fault c.in-Err.why r.restored_or refl;
+        shown = c.show_fault.ensures ∙ ap (λ why. no_symbol why a.out.now) c.read_letter_fault.ensures;
+      };
     }) c.in-Err.ensures.restored

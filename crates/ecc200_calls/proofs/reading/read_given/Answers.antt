@@ -13,17 +13,24 @@ pub returns-in-Ok : goal.returns-in-Ok
 returns-in-Ok g c =
     let a = c.args in
     given_too a.given.size a.modules.now a.doubtful.now a.given.doubt _ _
-    (λ symbol doubtful restored.
-    subst (λ (s : SizeEntry). IsReadingGiven a.extent s.rows s.columns symbol doubtful a.border_limit a.out.now
-    c.read_restored.new.out) c.in-Ok.ensures.size
-    (c.read_restored.ensures symbol doubtful a.border_limit restored)) c.in-Ok.ensures.restored
+    (λ symbol doubtful r. record {
+      limit = r.limit;
+      limit_is = r.limit_is;
+      given = subst (λ (s : SizeEntry). IsReadingGiven a.sought.extent s.rows s.columns symbol doubtful r.limit
+          a.out.now c.read_restored.new.out) c.in-Ok.ensures.size
+          (c.read_restored.ensures symbol doubtful r.limit r.restored_or);
+    }) c.in-Ok.ensures.restored
 
 pub returns-in-Err : goal.returns-in-Err
 returns-in-Err g c =
     let a = c.args in
     given_too a.given.size a.modules.now a.doubtful.now a.given.doubt _ _
-    (λ symbol doubtful lost. record {
-      result = Err c.in-Err.why;
-      result_is = lost;
-      shown = c.show_fault.ensures ∙ ap (λ why. no_reading why a.out.now) c.read_letter_fault.ensures;
+    (λ symbol doubtful r. record {
+      limit = r.limit;
+      limit_is = r.limit_is;
+      given = record {
+        result = Err c.in-Err.why;
+        result_is = r.restored_or;
+        shown = c.show_fault.ensures ∙ ap (λ why. no_reading why a.out.now) c.read_letter_fault.ensures;
+      };
     }) c.in-Err.ensures.restored

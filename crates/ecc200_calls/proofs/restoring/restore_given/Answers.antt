@@ -1,4 +1,4 @@
-use Rattle.ecc200_calls.specs.inner.Restored.{IsRestoredOr}
+use Rattle.ecc200_calls.specs.inner.Restored.{IsRestoredFor}
 use Rattle.ecc200_calls.proofs.OfGiven.{doubted_given, sure_given}
 use Rattle.ecc200_calls.proofs.restoring.restore_given.Goals as goal
 
@@ -7,7 +7,7 @@ returns-then-given-clause-restored g c =
     let a = c.args in
     let done = c.restore_symbol in
     doubted_given a.given.size a.modules.now a.doubtful.now a.given.doubt
-    (λ size symbol doubtful. IsRestoredOr a.extent symbol doubtful a.border_limit done.result done.new.words
+    (λ size symbol doubtful. IsRestoredFor a.sought.limit a.sought.extent symbol doubtful done.result done.new.words
     done.new.restored)
     c.light-symbol.result c.put_modules.new.symbol c.light-marked.result c.put_modules-then-given.new.symbol
     c.if-given.true c.light-symbol.ensures.size c.put_modules.ensures.size c.put_modules.ensures.modules
@@ -18,7 +18,7 @@ returns-else-given-clause-restored g c =
     let a = c.args in
     let done = c.restore_symbol-else-given in
     sure_given a.given.size a.modules.now a.doubtful.now a.given.doubt
-    (λ size symbol doubtful. IsRestoredOr a.extent symbol doubtful a.border_limit done.result done.new.words
+    (λ size symbol doubtful. IsRestoredFor a.sought.limit a.sought.extent symbol doubtful done.result done.new.words
     done.new.restored)
     c.light-symbol.result c.put_modules.new.symbol c.if-given.false c.light-symbol.ensures.size
     c.put_modules.ensures.size c.put_modules.ensures.modules done.ensures.restored

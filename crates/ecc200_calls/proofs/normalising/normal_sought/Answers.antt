@@ -1,6 +1,6 @@
 use Rattle.std.proofs.Common.{◌∙◌, sym, ap}
 use Rattle.ecc200_calls.specs.Symbols.{ProfileResult, no_symbol}
-use Rattle.ecc200_calls.proofs.normalising.normal_in_extent.Goals as goal
+use Rattle.ecc200_calls.proofs.normalising.normal_sought.Goals as goal
 
 pub returns-in-Some : goal.returns-in-Some
 returns-in-Some c =

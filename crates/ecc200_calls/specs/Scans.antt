@@ -1,0 +1,80 @@
+-- How a symbol is read, as numbers, and how many modules of its border may have the wrong colour.
+use Rattle.std.specs.Prelude.{◌≡◌, ℕ, ◌+◌, ◌/◌, ◌<◌, ◌≤◌, All, List, nat_eq, if◌then◌else◌, Option, Some, None}
+use Rattle.std.specs.Prelude.{Result, Ok, Err}
+use Rattle.dm_symbol.specs.declared.BlockReading.{BlockReading}
+use Rattle.dm_symbol.specs.declared.Dealing.{Dealing}
+use Rattle.dm_symbol.specs.declared.Extent.{Extent}
+use Rattle.dm_layout.specs.symbols.Symbols.{SymbolView}
+use Rattle.dm_symbol.specs.Doubt.{sure_fault_count}
+use Rattle.dm_symbol.specs.SymbolReading.{AreRestored, readings_by}
+use Rattle.ecc200_calls.specs.declared.fault.Fault.{Fault}
+use Rattle.ecc200_calls.specs.declared.scan.BorderLimit.{BorderLimit}
+use Rattle.ecc200_calls.specs.declared.scan.BorderLimit.TheVariants.{Modules, Sure}
+use Rattle.ecc200_calls.specs.declared.scan.Scan.{Scan}
+use Rattle.ecc200_calls.specs.declared.scan.Sought.{Sought}
+use Rattle.ecc200_calls.specs.Extents.{extent_of}
+use Rattle.ecc200_calls.specs.Faults.{no_such_extent, no_such_limit}
+
+-- ---- the numbers
+
+-- The usual border limit of a symbol is an eighth of its rows and columns together, rounded down, by a rule of this
+-- project: a quarter of the side of a square.
+abbrev pub usual_limit : ℕ → ℕ → ℕ
+usual_limit rows columns = (rows + columns) / 8
+
+-- No symbol has more border faults than this.
+abbrev pub any_limit : ℕ
+any_limit = 65535
+
+-- The number 0 stands for the usual border limit, 1 for as many border faults as are sure, 2 for any number of them, 3
+-- for the limit that is given, and no other number for any.
+abbrev pub limit_of : Scan → Option BorderLimit
+limit_of scan =
+    if nat_eq scan.limit 0 then Some (Modules (usual_limit scan.rows scan.columns))
+    else (if nat_eq scan.limit 1 then Some Sure
+    else (if nat_eq scan.limit 2 then Some (Modules any_limit)
+    else (if nat_eq scan.limit 3 then Some (Modules scan.border_limit) else None)))
+
+-- The numbers ask for an extent and a border limit that there are; or it is said which of them there isn't, the extent
+-- first.
+abbrev pub sought_by : Scan → Option Extent → Option BorderLimit → Result Sought Fault
+sought_by scan (Some extent) (Some limit) =
+    Ok (record { rows = scan.rows; columns = scan.columns; extent = extent; limit = limit })
+sought_by scan (Some extent) None = Err (no_such_limit scan.limit)
+sought_by scan None limit = Err (no_such_extent scan.extent)
+
+-- What the numbers ask for, or why that can't be.
+abbrev pub sought_of : Scan → Result Sought Fault
+sought_of scan = sought_by scan (extent_of scan.extent) (limit_of scan)
+
+-- ---- the border limit
+
+-- A block leaves a correction unused: two of its check codewords.
+abbrev pub LeavesCorrection : BlockReading → Type 0
+LeavesCorrection block = 2 ≤ block.left
+
+-- The words of a symbol are restored in an extent so that each block leaves a correction unused.
+pub record LeavesCorrections (extent : Extent) (symbol : SymbolView) (doubtful : Option SymbolView) : Type 0 where
+  pub dealing : Dealing
+  pub words : List ℕ
+  pub codewords : List ℕ
+  pub restored : AreRestored extent symbol doubtful dealing words codewords
+  pub left : All LeavesCorrection (readings_by dealing symbol.size doubtful words codewords)
+
+-- As many border faults are sure: as many as usual where there are no more, and where there are more as many as there
+-- are, if each block leaves a correction unused, or else as many as usual. That this shows the symbol to be one is a
+-- rule of this project.
+pub data IsSureLimit (extent : Extent) (symbol : SymbolView) (doubtful : Option SymbolView) (limit : ℕ) : Type 0 where
+  few : sure_fault_count symbol doubtful ≤ usual_limit symbol.size.rows symbol.size.columns
+      → limit ≡ usual_limit symbol.size.rows symbol.size.columns → IsSureLimit extent symbol doubtful limit
+  sure : usual_limit symbol.size.rows symbol.size.columns < sure_fault_count symbol doubtful
+      → LeavesCorrections extent symbol doubtful → limit ≡ sure_fault_count symbol doubtful
+      → IsSureLimit extent symbol doubtful limit
+  unsure : usual_limit symbol.size.rows symbol.size.columns < sure_fault_count symbol doubtful
+      → (LeavesCorrections extent symbol doubtful → ⊥) → limit ≡ usual_limit symbol.size.rows symbol.size.columns
+      → IsSureLimit extent symbol doubtful limit
+
+-- So many modules of the border of a symbol, read in an extent with these modules doubtful, may have the wrong colour.
+abbrev pub IsLimit : BorderLimit → Extent → SymbolView → Option SymbolView → ℕ → Type 0
+IsLimit (Modules number) extent symbol doubtful limit = limit ≡ number
+IsLimit Sure extent symbol doubtful limit = IsSureLimit extent symbol doubtful limit
