@@ -2,8 +2,8 @@
 
 use crate::texts::{Text, byte_of};
 use dm_layout::symbols::{SizeChoice, Symbol, SymbolWords};
-use dm_symbol::{Item, Message, write_smallest_to};
-use dm_words::{Extent, TooLong};
+use dm_symbol::{Form, Item, Message, WriteOptions, write_content_to};
+use dm_words::TooLong;
 
 /// Turns a message into that of a text.
 pub(crate) fn put_message(text: &Text, message: &mut Message) {
@@ -16,13 +16,14 @@ pub(crate) fn put_message(text: &Text, message: &mut Message) {
     }
 }
 
-/// Writes a message in its smallest symbol of a choice of sizes.
-pub(crate) fn write_smallest(
-    extent: Extent,
+/// Writes a message in a form and in a choice of sizes.
+pub(crate) fn write(
     message: &Message,
+    form: Form,
     size: SizeChoice,
     words: &mut SymbolWords,
     symbol: &mut Symbol,
 ) -> Result<(), TooLong> {
-    write_smallest_to(extent, message.items(), size, words, symbol)
+    let how = WriteOptions { form, size };
+    write_content_to(None, message.items(), &[], how, words, symbol)
 }

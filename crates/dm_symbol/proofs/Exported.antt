@@ -10,8 +10,8 @@ pub use Rattle.dm_symbol.proofs.LightDoubt.{shown_alike}
 pub use Rattle.dm_symbol.proofs.LetterDoubt.{letter_read_alike, letter_normal_alike}
 pub use Rattle.dm_symbol.proofs.LetterReadSteps.{refused_letter_result, said_letter_result, restored_reads}
 pub use Rattle.dm_symbol.proofs.NormalLetters.{one_normal_letter_result}
-pub use Rattle.dm_symbol.proofs.PlainSymbols.{smallest_is_plain, written_is_plain}
-pub use Rattle.dm_symbol.proofs.Rooms.{room_for_each, room_for_most, smallest_room_for_most}
+pub use Rattle.dm_symbol.proofs.ChosenWords.{letter_is}
+pub use Rattle.dm_symbol.proofs.PlainSymbols.{form_written_is_plain}
 pub use Rattle.dm_symbol.proofs.SmallestLetterSymbols.{no_letter_written}
 pub use Rattle.dm_symbol.proofs.SquareSizes.{has_that_side}
 pub use Rattle.dm_symbol.proofs.SymbolReadings.{none_lost, restored_is_one}

@@ -14,7 +14,6 @@ mod Restoring
 mod SymbolWriteSteps
 mod NormalOutcomes
 mod SymbolCompletions
-mod Rooms
 mod SymbolOutcomes
 mod Restarts
 mod LetterReadings
@@ -23,6 +22,7 @@ mod LetterDoubt
 mod WrittenWords
 mod WrittenLetters
 mod SmallestLetterSymbols
+mod ChosenWords
 mod PlainSymbols
 mod NormalLetters
 mod SquareSizes

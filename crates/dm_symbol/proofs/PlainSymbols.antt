@@ -1,6 +1,6 @@
 -- Symbols that are written are plain.
 use Rattle.std.proofs.Common.{◌≤◌, List, length, sym, subst, arith, Result, Ok, Err}
-use Rattle.std.specs.Prelude.{IfOk, OnOk}
+use Rattle.std.specs.Prelude.{IfOk}
 use Rattle.dm_layout.specs.declared.symbols.size.SizeChoice.{SizeChoice}
 use Rattle.dm_layout.specs.symbols.Symbols.{SymbolView}
 use Rattle.dm_layout.proofs.symbols.Exported.{size_facts}
@@ -12,12 +12,14 @@ use Rattle.dm_words.specs.LetterExtents.{as_letter}
 use Rattle.dm_words.specs.LetterForm.{letter_form}
 use Rattle.dm_words.specs.Letters.{LetterView, IsLetter}
 use Rattle.dm_words.specs.Messages.{IsMessage}
-use Rattle.dm_words.specs.Outcomes.{outcome}
 use Rattle.dm_words.specs.Plain.{IsPlainForm}
 use Rattle.dm_words.proofs.Exported.{letter_form_plain}
 use Rattle.dm_symbol.specs.PlainSymbol.{IsPlainSymbol}
 use Rattle.dm_symbol.specs.NormalLetter.{IsLetterWritten, IsLetterWrittenIn}
 use Rattle.dm_symbol.specs.SmallestLetterSymbol.{IsSmallestLetterWritten}
+use Rattle.dm_symbol.specs.WrittenLetter.{IsWrittenAs}
+use Rattle.dm_symbol.specs.declared.letters.writing.Form.{Form}
+use Rattle.dm_symbol.specs.declared.letters.writing.Form.TheVariants.{Profiled, Smallest}
 use Rattle.dm_symbol.proofs.SymbolCompletions.{chosen_stands}
 use Rattle.dm_symbol.proofs.SymbolWriteSteps.{chosen_holds}
 
@@ -36,31 +38,23 @@ form_is_plain choice profile l g right w =
     }
 
 -- So is each that is written under a profile.
-pub written_is_plain : (choice : SizeChoice) (profile : Profile) (l : LetterView) (result : Result SymbolView TooLong)
+written_is_plain : (choice : SizeChoice) (profile : Profile) (l : LetterView) (result : Result SymbolView TooLong)
     → IsLetter l → IsLetterWritten choice profile l result → IfOk result (λ g. IsPlainSymbol g l)
 written_is_plain choice profile l (Ok g) right w = form_is_plain choice profile l g right w.written
 written_is_plain choice profile l (Err why) right w = tt
 
 -- And each smallest one.
-pub smallest_is_plain : (extent : Extent) (choice : SizeChoice) (l : LetterView) (result : Result SymbolView TooLong)
+smallest_is_plain : (extent : Extent) (choice : SizeChoice) (l : LetterView) (result : Result SymbolView TooLong)
     → IsSmallestLetterWritten extent choice l result → IfOk result (λ g. IsPlainSymbol g l)
 smallest_is_plain extent choice l (Ok g) w =
     record { words = w.written.words; laid = w.written.laid; form = w.written.smallest.form }
 smallest_is_plain extent choice l (Err why) w = tt
 
--- What a call left is plain where it is Ok.
-pub left_is_plain : (choice : SizeChoice) (profile : Profile) (l : LetterView) (result : Result (Unit {0}) TooLong)
-    (g : SymbolView) → IsLetter l → IsLetterWritten choice profile l (outcome result g)
-    → OnOk result (IsPlainSymbol g l)
-left_is_plain choice profile l (Ok u) g right w = form_is_plain choice profile l g right w.written
-left_is_plain choice profile l (Err why) g right w = tt
-
--- So it is where a premise makes the letter right.
-pub left_is_plain_where : (P : Type 0) (choice : SizeChoice) (profile : Profile) (l : LetterView)
-    (result : Result (Unit {0}) TooLong) (g : SymbolView) → (P → IsLetter l)
-    → IsLetterWritten choice profile l (outcome result g) → OnOk result (P → IsPlainSymbol g l)
-left_is_plain_where P choice profile l (Ok u) g right w = λ p. form_is_plain choice profile l g (right p) w.written
-left_is_plain_where P choice profile l (Err why) g right w = tt
+-- So is one that is written in any form.
+pub form_written_is_plain : (form : Form) (choice : SizeChoice) (l : LetterView) (result : Result SymbolView TooLong)
+    → IsLetter l → IsWrittenAs form choice l result → IfOk result (λ g. IsPlainSymbol g l)
+form_written_is_plain (Profiled profile) choice l result right w = written_is_plain choice profile l result right w
+form_written_is_plain (Smallest extent) choice l result right w = smallest_is_plain extent choice l result w
 
 -- A message is a letter.
 pub message_is_letter : (m : List Item) → IsMessage m → IsLetter (as_letter m)

@@ -1,9 +1,7 @@
 -- Check codewords follow from the data codewords, and the sizes that are chosen for so many of these hold them.
-use Rattle.std.proofs.Common.{◌≡◌, ◌≢◌, ℕ, ◌+◌, ◌<◌, ◌≤◌, List, ◌++◌, length, get_or, take, Option, Some, None}
-use Rattle.std.proofs.Common.{IsSome}
+use Rattle.std.proofs.Common.{◌≡◌, ◌≢◌, ℕ, ◌+◌, ◌<◌, ◌≤◌, List, ◌++◌, length, get_or, take, Some}
 use Rattle.std.proofs.Common.{inl, inr, refl, sym, ap, subst, ◌∙◌, arith}
-use Rattle.std.specs.Prelude.{IfSome}
-use Rattle.std.proofs.lemmas.Bool.{cases_eq, false≢true}
+use Rattle.std.proofs.lemmas.Bool.{cases_eq}
 use Rattle.std.proofs.lemmas.List.{get_or-take, length-take-le}
 use Rattle.std.proofs.Math.Seq.{take-append_seam}
 use Rattle.dm_code.specs.Codeword.{IsCodeword, distance}
@@ -13,7 +11,6 @@ use Rattle.dm_layout.specs.symbols.Blocks.{block_of}
 use Rattle.dm_layout.proofs.symbols.Exported.{data_of_block, same_data_by_blocks}
 use Rattle.dm_layout.proofs.symbols.Exported.{enough}
 use Rattle.dm_symbol.specs.SymbolBlocks.{words_with, AreOfSize, AreCodewordsOf, block_in, first_data}
-use Rattle.dm_symbol.specs.WrittenWords.{FitChoice, HaveRoom, IsRoomFor}
 use Rattle.dm_symbol.proofs.Below.{codewords_apart}
 use Rattle.dm_symbol.proofs.Distances.{differing_prefix}
 use Rattle.dm_symbol.proofs.SymbolBelow.{block_lengths, block_facts}
@@ -92,14 +89,3 @@ checks_follow size u v hu hv cu cv same =
 pub chosen_holds : (choice : SizeChoice) (count : ℕ) (size : SizeEntry) → entry_for choice count ≡ Some size
     → count ≤ size.data_count
 chosen_holds choice count size e = enough choice count (Some size) (sym e)
-
--- Codewords for which there is no room fit no size of the choice.
-pub too_long_for_room : (choice : SizeChoice) (form : List ℕ) (data_words rows words : ℕ)
-    → HaveRoom choice form data_words rows words → data_words < length form → FitChoice choice form → ⊥
-too_long_for_room choice form data_words rows words room long fits =
-    by_size (entry_for choice (length form)) refl room fits
-  where
-    by_size : (o : Option SizeEntry) → entry_for choice (length form) ≡ o
-        → IfSome o (λ size. IsRoomFor size data_words rows words) → IsSome o → ⊥
-    by_size None e is some = false≢true some
-    by_size (Some size) e is some = omega (arith, chosen_holds choice (length form) size e, is.0, long)

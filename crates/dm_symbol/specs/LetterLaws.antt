@@ -10,9 +10,8 @@ use Rattle.dm_words.specs.LetterForm.{letter_form}
 use Rattle.dm_words.specs.Laws.{AreMacro}
 use Rattle.dm_words.specs.Macros.{macro_text}
 use Rattle.dm_words.specs.Pads.{padded}
-use Rattle.dm_words.specs.Smallest.{IsTaken}
 use Rattle.dm_layout.specs.declared.symbols.size.SizeChoice.{SizeChoice}
-use Rattle.dm_layout.specs.symbols.Sizes.{SizeEntry, block_check, most_data, most_rows, most_codewords}
+use Rattle.dm_layout.specs.symbols.Sizes.{block_check}
 use Rattle.dm_layout.specs.symbols.Symbols.{SymbolView, IsSymbol}
 use Rattle.dm_symbol.specs.declared.symbol.dealing.Dealing.{Dealing}
 use Rattle.dm_symbol.specs.declared.symbol.dealing.Dealing.TheVariants.{Standard}
@@ -25,8 +24,7 @@ use Rattle.dm_symbol.specs.SymbolLaws.{AreLight, nothing_wrong}
 use Rattle.dm_symbol.specs.LetterReading.{LetterReadingView, ReadsLetter, LetterReadResult}
 use Rattle.dm_words.specs.Symbology.{IsIdentifier}
 use Rattle.dm_symbol.specs.LetterReading.{letter_reading_of}
-use Rattle.dm_symbol.specs.WrittenWords.{IsRoomFor}
-use Rattle.dm_symbol.specs.NormalLetter.{LetterFits, HasRoomForLetter, IsLetterWrittenIn, IsNormalOfLetter}
+use Rattle.dm_symbol.specs.NormalLetter.{LetterFits, IsLetterWrittenIn, IsNormalOfLetter}
 use Rattle.dm_symbol.specs.LetterNormal.{HasNormalLetter, NormalLetterResult}
 
 -- With the same doubtful modules, a symbol is read as at most one letter, whatever the extents and the limits.
@@ -98,20 +96,6 @@ WideReadsTheUsualLetter =
     (modules : SymbolView) (doubtful : Option SymbolView) (limit : ℕ) (reading : LetterReadingView)
     → LetterReadResult Usual modules doubtful limit (Ok reading)
     → LetterReadResult Wide modules doubtful limit (Ok reading)
-
--- Where there is room for each size of the choice, there is room for the symbol in which a letter is written.
-abbrev pub RoomForEachServesLetters : Type 0
-RoomForEachServesLetters =
-    (choice : SizeChoice) (profile : Profile) (letter : LetterView) (data_words rows words : ℕ)
-    → ((size : SizeEntry) → IsTaken choice size → IsRoomFor size data_words rows words)
-    → HasRoomForLetter choice profile letter data_words rows words
-
--- So there is in room for the most data codewords, rows and codewords that a symbol has, whatever the choice.
-abbrev pub MostRoomServesLetters : Type 0
-MostRoomServesLetters =
-    (choice : SizeChoice) (profile : Profile) (letter : LetterView) (data_words rows words : ℕ)
-    → most_data ≤ data_words → most_rows ≤ rows → most_codewords ≤ words
-    → HasRoomForLetter choice profile letter data_words rows words
 
 -- A right letter that fits a size of the choice is written in some symbol; so one that fits a square has a normal
 -- symbol.

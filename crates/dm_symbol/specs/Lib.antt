@@ -16,6 +16,7 @@ pub mod NormalLetter
 pub mod LetterNormal
 pub mod LetterLaws
 pub mod SmallestLetterSymbol
+pub mod WrittenLetter
 pub mod PlainSymbol
 pub mod inner
 -- Modules of the layers below, which crates above this one find under its name too: `Rattle.dm_symbol.specs.Grid` is

@@ -1,7 +1,7 @@
 -- The symbol in which a letter is written under a profile, in the smallest size of a choice; and the normal symbol of a
 -- letter, which is the one in the smallest square. That this symbol is chosen among those that say the same is a rule
 -- of this project.
-use Rattle.std.specs.Prelude.{ℕ, Result}
+use Rattle.std.specs.Prelude.{Result}
 use Rattle.dm_words.specs.declared.fault.TooLong.{TooLong}
 use Rattle.dm_words.specs.declared.profile.Profile.{Profile}
 use Rattle.dm_layout.specs.declared.symbols.size.SizeChoice.{SizeChoice}
@@ -9,16 +9,11 @@ use Rattle.dm_layout.specs.declared.symbols.size.SizeChoice.TheVariants.{Square}
 use Rattle.dm_layout.specs.symbols.Symbols.{SymbolView}
 use Rattle.dm_words.specs.Letters.{LetterView}
 use Rattle.dm_words.specs.LetterForm.{letter_form}
-use Rattle.dm_symbol.specs.WrittenWords.{FitChoice, HaveRoom, AreWrittenIn, AreWritten}
+use Rattle.dm_symbol.specs.WrittenWords.{FitChoice, AreWrittenIn, AreWritten}
 
 -- The letter fits some size of the choice: one with at least as many data codewords as its normal form has codewords.
 abbrev pub LetterFits : SizeChoice → Profile → LetterView → Type 0
 LetterFits choice profile letter = FitChoice choice (letter_form profile letter)
-
--- If the letter fits some size of the choice, the smallest of these has at most so many data codewords, so many rows
--- and so many codewords. So there is room for the symbol in which the letter is written.
-abbrev pub HasRoomForLetter : SizeChoice → Profile → LetterView → ℕ → ℕ → ℕ → Type 0
-HasRoomForLetter choice profile letter = HaveRoom choice (letter_form profile letter)
 
 -- The letter is written in the modules, in a size of the choice: its normal form is.
 abbrev pub IsLetterWrittenIn : SizeChoice → Profile → LetterView → SymbolView → Type 0

@@ -1,15 +1,13 @@
 -- The smallest symbol of a letter, in a choice of sizes, for readers of an extent.
-use Rattle.std.specs.Prelude.{ℕ, ◌≤◌, List, length, Option, None, Result, Ok, IfOk, OnErr, replicate}
+use Rattle.std.specs.Prelude.{ℕ, List, Option, None, Result, Ok, IfOk, OnErr, replicate}
 use Rattle.dm_words.specs.declared.extent.Extent.{Extent}
 use Rattle.dm_words.specs.declared.fault.TooLong.{TooLong}
-use Rattle.dm_words.specs.declared.item.Item.{Item}
-use Rattle.dm_words.specs.Ascii.{ascii}
 use Rattle.dm_words.specs.Letters.{LetterView}
 use Rattle.dm_words.specs.Plain.{FramesNoFnc1}
 use Rattle.dm_words.specs.Smallest.{IsTaken, IsSmaller}
 use Rattle.dm_words.specs.SmallestLetters.{IsSmallestLetterFor, IsPlainestLetter, SaysThenPads, NoSizeSays}
 use Rattle.dm_layout.specs.declared.symbols.size.SizeChoice.{SizeChoice}
-use Rattle.dm_layout.specs.symbols.Sizes.{SizeEntry, block_check, codeword_count}
+use Rattle.dm_layout.specs.symbols.Sizes.{block_check}
 use Rattle.dm_layout.specs.symbols.Symbols.{SymbolView}
 use Rattle.dm_layout.specs.symbols.Holding.{IsLaid}
 use Rattle.dm_symbol.specs.declared.symbol.dealing.Dealing.TheVariants.{Standard}
@@ -54,15 +52,6 @@ abbrev pub NoneSays : Extent → SizeChoice → LetterView → Type 0
 NoneSays extent choice letter = (other : SymbolView) (doubtful : Option SymbolView) (limit : ℕ)
     → IsTaken choice other.size → (reads : ReadsLetter extent other doubtful limit letter)
     → FramesNoFnc1 (first_data other.size reads.codewords) letter.items → ⊥
-
--- There are at most so many rows and so many codewords in each size of the choice for which no smaller size of the
--- choice holds the message in ASCII: in all up to the smallest that does, or in all where none does. The smallest
--- symbol of the message has such a size, if there is one, so there is room for it.
-abbrev pub HasRoomForSmallest : SizeChoice → List Item → ℕ → ℕ → Type 0
-HasRoomForSmallest choice message rows words = (size : SizeEntry) → IsTaken choice size
-    → ((smaller : SizeEntry) → IsTaken choice smaller → length (ascii message) ≤ smaller.data_count
-    → IsSmaller smaller size → ⊥)
-    → (size.rows ≤ rows) × (codeword_count size ≤ words)
 
 -- Writing a letter in its smallest symbol gives one that is read as the letter, where no smaller one is; or that none
 -- is, of any size of the choice.

@@ -9,7 +9,7 @@ use Rattle.dm_layout.specs.Grid.{GridView, IsGrid, symbol_modules}
 use Rattle.dm_code.specs.Codeword.{IsNear}
 use Rattle.dm_code.specs.Erased.{IsNearBut, erased_places}
 use Rattle.dm_layout.specs.symbols.Blocks.{block_of, places_of_block}
-use Rattle.dm_layout.specs.symbols.Sizes.{SizeEntry, IsSize, block_check}
+use Rattle.dm_layout.specs.symbols.Sizes.{SizeEntry, IsSize}
 use Rattle.dm_layout.specs.symbols.Symbols.{SymbolView, IsSymbol, module_at}
 use Rattle.dm_layout.specs.symbols.Border.{border_fault_count}
 use Rattle.dm_symbol.specs.declared.symbol.dealing.Dealing.TheVariants.{Standard, Restarted}

@@ -1,28 +1,17 @@
 -- The symbol in which data codewords are written, in the smallest size of a choice (ISO/IEC 16022 and ISO/IEC 21471).
 -- Which codewords are written for a message or a letter is said by its normal form.
-use Rattle.std.specs.Prelude.{◌≡◌, ◌≤◌, ℕ, List, Some, IsSome, IfSome, length, Result, IfOk, IsOk, OnErr, ◌↔◌}
+use Rattle.std.specs.Prelude.{◌≡◌, ℕ, List, Some, IsSome, length, Result, IfOk, IsOk, OnErr, ◌↔◌}
 use Rattle.dm_words.specs.declared.fault.TooLong.{TooLong}
 use Rattle.dm_layout.specs.declared.symbols.size.SizeChoice.{SizeChoice}
-use Rattle.dm_layout.specs.symbols.Sizes.{SizeEntry, entry_for, codeword_count}
+use Rattle.dm_layout.specs.symbols.Sizes.{entry_for}
 use Rattle.dm_layout.specs.symbols.Symbols.{SymbolView}
 use Rattle.dm_layout.specs.symbols.Holding.{IsLaid}
 use Rattle.dm_words.specs.Pads.{padded}
 use Rattle.dm_symbol.specs.SymbolBlocks.{words_with, AreCodewordsOf, first_data}
 
--- A size has at most so many data codewords, so many rows, and so many codewords.
-abbrev pub IsRoomFor : SizeEntry → ℕ → ℕ → ℕ → Type 0
-IsRoomFor size data_words rows words =
-    (size.data_count ≤ data_words) × (size.rows ≤ rows) × (codeword_count size ≤ words)
-
 -- Data codewords without pads fit some size of the choice: one that has at least as many data codewords.
 abbrev pub FitChoice : SizeChoice → List ℕ → Type 0
 FitChoice choice form = IsSome (entry_for choice (length form))
-
--- If they fit some size of the choice, the smallest of these has at most so many data codewords, so many rows and so
--- many codewords. So there is room for the symbol in which they are written.
-abbrev pub HaveRoom : SizeChoice → List ℕ → ℕ → ℕ → ℕ → Type 0
-HaveRoom choice form data_words rows words =
-    IfSome (entry_for choice (length form)) (λ size. IsRoomFor size data_words rows words)
 
 -- Data codewords without pads are written in the modules, in a size of the choice.
 pub record AreWrittenIn (choice : SizeChoice) (form : List ℕ) (modules : SymbolView) : Type 0 where

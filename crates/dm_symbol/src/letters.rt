@@ -7,7 +7,6 @@ ghost use Rattle.dm_symbol.specs.LetterReading.{letter_reading_in, letter_readin
 
 pub mod normalising;
 pub mod reading;
-pub mod smallest;
 pub mod writing;
 
 use crate::symbol::dealing::Dealing;

@@ -5,16 +5,16 @@
 //! What a symbol says is a letter, a [`LetterIn`]: a [`Head`] or none, items, and [`Mark`]s at places of these. A
 //! message is a letter without a head and marks. These calls serve symbols of every size, squares and rectangles, a
 //! [`SymbolIn`] of some [`SymbolSize`]: [`read_letter_to()`] leaves what a symbol says in a [`LetterReadingIn`], with
-//! the symbology identifier and a [`BlockReading`] for each block; [`write_letter_to()`] leaves the symbol of a letter
-//! in another, as [`write_content_to()`] does of its parts; [`normal_letter_to()`] the symbol of what a symbol says in
-//! the smallest square; and [`inspect_symbol_to()`] the codewords in a [`SymbolInspectionIn`]. How a symbol is read is
-//! said by [`ReadOptions`]: the [`Extent`], the limit of wrong border modules, and which modules are doubtful. How it
-//! is written is said by [`WriteOptions`]: the [`Profile`] and the [`SizeChoice`]. [`write_smallest_letter_to()`], and
-//! [`write_smallest_to()`] for items alone, write one than which no smaller symbol says the same, and
-//! [`restore_symbol_to()`] does the first steps of reading alone. A [`Dealing`] says how the check codewords of
-//! 144 x 144 were dealt into blocks, which some encoders do otherwise than the standard. Their results and codewords
-//! stand in targets, memory that the caller hands in and that serves any number of symbols. Each has a room; those that
-//! serve every symbol are [`Symbol`], [`SymbolWords`], [`LetterReading`] and [`SymbolInspection`].
+//! the symbology identifier and a [`BlockReading`] for each block; [`write_content_to()`] leaves the symbol of a head,
+//! items and marks in another; [`normal_letter_to()`] the symbol of what a symbol says in the smallest square; and
+//! [`inspect_symbol_to()`] the codewords in a [`SymbolInspectionIn`]. How a symbol is read is said by [`ReadOptions`]:
+//! the [`Extent`], the limit of wrong border modules, and which modules are doubtful. How it is written is said by
+//! [`WriteOptions`]: the [`Form`], which is that of a [`Profile`] or of the smallest symbol that says the same, and the
+//! [`SizeChoice`]. [`restore_symbol_to()`] does the first steps of reading alone, and [`choose_words_to()`] and
+//! [`lay_words_to()`] do those of writing, so that room is taken for the size at hand. A [`Dealing`] says how the check
+//! codewords of 144 x 144 were dealt into blocks, which some encoders do otherwise than the standard. Their results and
+//! codewords stand in targets, memory that the caller hands in and that serves any number of symbols. Each has a room;
+//! those that serve every symbol are [`Symbol`], [`SymbolWords`], [`LetterReading`] and [`SymbolInspection`].
 //!
 //! Squares of 10 to 104 rows may be given as a [`Grid`], which is read in [`Extent::Usual`]. [`read()`] gives what a
 //! grid says, a [`Reading`]; [`write()`] the normal grid of a [`Message`]; and [`normal()`] the normal grid of what a
@@ -29,10 +29,10 @@
 //!
 //! What the contracts say is defined in `specs/`. How symbols are restored and inspected is in `Doubt`, `Dealings`,
 //! `SymbolBlocks`, `SymbolReading`, `Restored` and `SymbolInspection`, with `SymbolLaws`. How letters are read, written
-//! and normalised is in `LetterReading`, `WrittenWords`, `NormalLetter`, `SmallestLetterSymbol` and `LetterNormal`,
-//! with `LetterLaws`. For grids, which are read, written and normalised as their symbols are, it is in `NormalGrid`,
-//! `Reading`, `Normal` and `NormalOutcomes`, with `Laws`. The functions of [`laws`] prove these. No call allocates
-//! memory.
+//! and normalised is in `LetterReading`, `WrittenWords`, `NormalLetter`, `SmallestLetterSymbol`, `WrittenLetter` and
+//! `LetterNormal`, with `LetterLaws`. For grids, which are read, written and normalised as their symbols are, it is in
+//! `NormalGrid`, `Reading`, `Normal` and `NormalOutcomes`, with `Laws`. The functions of [`laws`] prove these. No call
+//! allocates memory.
 #![tactic(auto)]
 
 pub mod laws;
@@ -55,8 +55,7 @@ pub use dm_words::{
 };
 pub use letters::normalising::normal_letter_to;
 pub use letters::reading::{read_letter_to, restore_symbol_to};
-pub use letters::smallest::write_smallest_letter_to;
-pub use letters::writing::{write_content_to, write_letter_to};
+pub use letters::writing::{Form, WriteOptions, choose_words_to, lay_words_to, write_content_to};
 pub use letters::{LetterNormalFault, LetterReadFault, LetterReading, LetterReadingIn};
 pub use limit::usual_limit;
 pub use normalising::{NormalFault, normal, normal_as, normal_to};
@@ -64,5 +63,4 @@ pub use reading::{ReadFault, Reading, read, read_to};
 pub use symbol::dealing::Dealing;
 pub use symbol::inspection::{SymbolInspection, SymbolInspectionIn, has_lost, inspect_symbol_to};
 pub use symbol::reading::{BlockReading, ReadOptions};
-pub use symbol::writing::{WriteOptions, write_smallest_to};
 pub use writing::{light_grid, write, write_as, write_to};

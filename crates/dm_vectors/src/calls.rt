@@ -8,9 +8,10 @@ use dm_code::{encode, syndromes};
 use dm_layout::symbols::MOST_ROWS;
 use dm_layout::{Grid, LARGEST_SIDE, MOST_GRID_CODEWORDS, Size, Words, table};
 use dm_symbol::{
-    Extent, LetterReadFault, LetterReading, Message, NormalFault, Profile, ReadFault, ReadOptions,
-    Reading, SizeChoice, Symbol, SymbolInspection, SymbolSize, SymbolWords, TooLong,
-    inspect_symbol_to, light_grid, normal_letter_to, read_letter_to, write_smallest_letter_to,
+    Extent, Form, LetterReadFault, LetterReading, Message, NormalFault, Profile, ReadFault,
+    ReadOptions, Reading, SizeChoice, Symbol, SymbolInspection, SymbolSize, SymbolWords, TooLong,
+    WriteOptions, inspect_symbol_to, light_grid, normal_letter_to, read_letter_to,
+    write_content_to,
 };
 use gf301::{Poly, generator};
 
@@ -242,10 +243,16 @@ pub(crate) fn smallest_letter(extent: Extent, symbol: &Symbol) -> Option<Symbol>
     let _room = (size.rows(), size.check_count());
     let mut words = SymbolWords::zeros(size);
     let mut smallest = Symbol::light(size);
-    match write_smallest_letter_to(
-        extent,
-        &reading.letter,
-        SizeChoice::Square,
+    let letter = &reading.letter;
+    let how = WriteOptions {
+        form: Form::Smallest(extent),
+        size: SizeChoice::Square,
+    };
+    match write_content_to(
+        letter.head(),
+        letter.items(),
+        letter.marks(),
+        how,
         &mut words,
         &mut smallest,
     ) {

@@ -7,7 +7,8 @@ use Rattle.std.proofs.lemmas.Bool.{cases_lt}
 use Rattle.std.proofs.lemmas.List.{get_or-set_same, get_or-set_other}
 use Rattle.dm_words.specs.Macros.{macro_header, macro_trailer, macro_text}
 use Rattle.dm_words.specs.inner.Costs.{most_behind}
-use Rattle.std.proofs.lemmas.List.{at_drop_more, drop-drop, take_rest, length-take, length-drop}
+use Rattle.std.proofs.lemmas.List.{at_drop_more, drop-drop, take-append-drop, take_rest, length-take, length-drop}
+use Rattle.std.proofs.lemmas.List.Elements.{All-append}
 use Rattle.std.proofs.Math.Seq.{take-suc, take-length}
 use Rattle.dm_words.specs.declared.item.Item.{Item}
 use Rattle.dm_words.specs.declared.letters.mark.Mark.{Mark}
@@ -15,6 +16,7 @@ use Rattle.dm_words.specs.declared.extent.Extent.TheVariants.{Wide}
 use Rattle.dm_words.specs.Designators.{eci_word, designator, most_assigned}
 use Rattle.dm_words.specs.Letters.{AreMarks}
 use Rattle.dm_words.specs.LetterForm.{mark_words}
+use Rattle.dm_words.specs.Messages.{IsItem, IsMessage}
 use Rattle.dm_words.specs.inner.Costs.{at_end, before_words, parts_cost}
 use Rattle.dm_words.specs.inner.LetterCosts.{marked_cost, behind_first, first_text, first_end}
 use Rattle.dm_words.proofs.LetterForms.{marks_within}
@@ -113,6 +115,20 @@ pub text_is : (seen : ℕ) (items : List Item) (marks : List Mark) → take (fir
     ≡ first_text seen items marks
 text_is seen items [] = take-length items
 text_is seen items (m ∷ marks) = refl
+
+-- Items are ones where those up to an index and those behind it are.
+pub all_items : (items : List Item) (end : ℕ) → IsMessage (take end items) → IsMessage (drop end items)
+    → IsMessage items
+all_items items end front behind =
+    subst IsMessage (take-append-drop end items) (All-append IsItem (take end items) (drop end items) front behind)
+
+-- So it is from another index on.
+pub more_items : (items : List Item) (from end : ℕ) → from ≤ end → IsMessage (take (end - from) (drop from items))
+    → IsMessage (drop end items) → IsMessage (drop from items)
+more_items items from end le here behind =
+    let sum : from + (end - from) ≡ end = omega (arith, le) in
+    all_items (drop from items) (end - from) here
+    (subst IsMessage (sym (drop-drop (end - from) from items ∙ ap (λ (k : ℕ). drop k items) sum)) behind)
 
 -- ---- from the last mark to the first
 

@@ -336,11 +336,6 @@ normal_form_items Shorter m =
       | inr e ↦ omega (arith, ap length e, two_items m)
     ]
 
--- The normal form of a message isn't longer than ASCII.
-pub no_longer_than_ascii : (profile : Profile) (m : List Item) → length (normal_form profile m) ≤ length (ascii m)
-no_longer_than_ascii Ascii m = omega arith
-no_longer_than_ascii Shorter m = shorter_than_ascii m
-
 -- ---- writing a segment
 
 -- One more item has its byte at the end.

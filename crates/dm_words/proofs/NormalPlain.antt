@@ -145,15 +145,3 @@ pub marked_is_ascii : (profile : Profile) (head : Option Head) (items : List Ite
 marked_is_ascii profile None items [] marked = absurd cc
 marked_is_ascii profile None items (m ∷ marks) marked = refl
 marked_is_ascii profile (Some head) items marks marked = refl
-
--- What was left for a letter is a plain form.
-pub letter_plain : (profile : Profile) (l : LetterView) (words : List ℕ) (room : ℕ) (result : Result (Unit {0}) TooLong)
-    → IsLetter l → room ≤ 1558 → OnOk result (words ≡ letter_form profile l)
-    → (IsErr result ↔ (room < length (letter_form profile l))) → OnOk result (IsPlainWithPads words l)
-letter_plain profile l words room (Ok u) right few written long =
-    written_plain profile l words written
-    (elim (cases_lt room (length (letter_form profile l))) [
-      | inl lt ↦ absurd (let e = long.1 lt in cc)
-      | inr le ↦ omega (arith, le, ap length written, few)
-    ]) right
-letter_plain profile l words room (Err why) right few written long = tt

@@ -93,6 +93,13 @@ plain_is l is = by_parts l.head l.marks is where
   by_parts None (m ∷ marks) e = absurd cc
   by_parts (Some head) marks e = absurd cc
 
+-- What is none has a head or a mark.
+pub is_no_message : (head : Option Head) (marks : List Mark) → is_plain head marks ≡ false → head ≡ None → marks ≡ []
+    → ⊥
+is_no_message None [] e none nothing = absurd cc
+is_no_message None (m ∷ marks) e none nothing = absurd cc
+is_no_message (Some head) marks e none nothing = absurd cc
+
 -- ---- letters with a head or marks
 
 -- Nothing says one in the usual extent.

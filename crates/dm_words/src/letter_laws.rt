@@ -75,7 +75,7 @@ pub fn letter_form_says()
 {}
 
 /// How far the smallest codewords of a letter in an extent and a choice of sizes are determined, as
-/// [`crate::smallest_letter_words_to()`] gives them: whether there are any, and their size; all of them, where there is
+/// [`crate::smallest_words_to()`] gives them: whether there are any, and their size; all of them, where there is
 /// room for the ASCII form; and whether they say the letter in the usual extent.
 pub fn smallest_letter_words_are_alike()
     ensures size { (extent : Extent) (choice : SizeChoice) (size other_size : SizeEntry)

@@ -7,16 +7,16 @@
 //!
 //! Writing: [`normal_words_in()`] writes the codewords of a message under a [`Profile`] into a target, or says that
 //! they are [`TooLong`]. Under one profile they are ASCII ([`ascii_words()`]), under the other whatever is shorter,
-//! ASCII or one segment of Base 256 ([`shorter_words()`]). [`smallest_words_to()`] writes codewords of the smallest
-//! size of a choice that has any that spell the message in an extent into a target. [`padded()`] gives codewords with
-//! pads up to the data codewords of a size; [`add_pads()`] adds the pads in a target, and [`pad_to()`] in one of any
-//! room up to [`MOST_DATA`] codewords, for symbols that are no squares or larger ones.
+//! ASCII or one segment of Base 256 ([`shorter_words()`]). [`padded()`] gives codewords with pads up to the data
+//! codewords of a size; [`add_pads()`] adds the pads in a target, and [`pad_to()`] in one of any room up to
+//! [`MOST_DATA`] codewords, for symbols that are no squares or larger ones.
 //!
 //! Letters: [`letter_to_as()`] reads the [`Letter`] that a list says in an extent into a target, which is a [`Head`] or
-//! none, items and [`Mark`]s, or gives the [`LetterFault`] with which the list is refused. [`letter_words_in()`] writes
-//! the codewords of a letter, and [`smallest_letter_words_to()`] those of the smallest size of a choice. [`head_words()`]
-//! and [`designator_words()`] write a head or a designator alone. [`designations_to()`] tells where the designators of a
-//! letter stand among its codewords, and [`eci_count()`] how many there may be.
+//! none, items and [`Mark`]s, or gives the [`LetterFault`] with which the list is refused. [`content_words_in()`]
+//! writes the codewords of a letter, and [`smallest_words_to()`] some of the smallest size of a choice that has any
+//! that say it in an extent. [`head_words()`] and [`designator_words()`] write a head or a designator alone.
+//! [`designations_to()`] tells where the designators of a letter stand among its codewords, and [`eci_count()`] how
+//! many there may be.
 //!
 //! Limits: up to [`MOST_DATA`] codewords are read and written. A square has up to [`MOST_GRID_DATA`], for which a
 //! [`Message`] or a [`Letter`] serves: it has room for [`MESSAGE_ROOM`] items, of which the usual extent takes
@@ -59,7 +59,7 @@ pub use letters::fault::LetterFault;
 pub use letters::head::{Appended, HEAD_ROOM, Head, head_words};
 pub use letters::letter::{Letter, LetterIn};
 pub use letters::mark::Mark;
-pub use letters::normal_form::{content_words_in, letter_words_in};
+pub use letters::normal_form::content_words_in;
 pub use letters::reading::letter_to_as;
 pub use letters::symbology::{message_symbology_number, symbology_number};
 pub use limits::{LARGEST_MARKS, LARGEST_ROOM, MESSAGE_ROOM, MOST_ITEMS, MOST_MARKS};
@@ -68,5 +68,4 @@ pub use normal_form::{ascii_words, normal_words_in, shorter_words};
 pub use pad::{add_pads, pad_to, padded};
 pub use profile::Profile;
 pub use reading::{message_of, message_to_as};
-pub use smallest::letters::smallest_letter_words_to;
 pub use smallest::smallest_words_to;

@@ -1,10 +1,12 @@
-//! The smallest symbol of a message: data codewords that spell it, of the smallest size of a choice that has any. Those
-//! of a letter are in [`letters`].
+//! The smallest symbol of a letter: data codewords that say it, of the smallest size of a choice that has any. A letter
+//! with a head or marks is written in [`letters`], and a message here.
 
-ghost use Rattle.std.specs.Prelude.{◌≡◌, ℕ, ◌<◌, ◌≤◌, OnErr, IsTrue, length};
+ghost use Rattle.std.specs.Prelude.{◌≡◌, ◌<◌, ◌≤◌, OnErr, OnOk, IsTrue, None, [], length};
 ghost use Rattle.dm_words.specs.declared.extent.Extent.TheVariants.{Usual};
 ghost use Rattle.dm_words.specs.Ascii.{ascii};
+ghost use Rattle.dm_words.specs.Heads.{IsHead};
 ghost use Rattle.dm_words.specs.LetterExtents.{as_letter};
+ghost use Rattle.dm_words.specs.Letters.{AreMarks};
 ghost use Rattle.dm_words.specs.Messages.{IsMessage};
 ghost use Rattle.dm_words.specs.Outcomes.{outcome};
 ghost use Rattle.dm_words.specs.Pads.{padded};
@@ -12,11 +14,11 @@ ghost use Rattle.dm_words.specs.Plain.{IsPlainForm};
 ghost use Rattle.dm_words.specs.Smallest.{IsPlainest, IsSmallestResult, SpellsThenPads};
 ghost use Rattle.dm_words.specs.SmallestLetters.{IsSmallestLetterResult};
 ghost use Rattle.dm_words.specs.inner.Costs.{at_end, parts_cost, IsRightPlan};
-ghost use Rattle.dm_words.specs.inner.LetterCosts.{IsSizeFor};
+ghost use Rattle.dm_words.specs.inner.LetterCosts.{view_of};
 ghost use Rattle.dm_words.specs.inner.Ways.{IsLeastCost, IsMacroOf, IsWay, inner_text, text_of};
 
 mod edifact;
-pub mod letters;
+mod letters;
 mod parts;
 mod plan;
 mod row;
@@ -30,9 +32,13 @@ use crate::ascii::write_ascii;
 use crate::extent::Extent;
 use crate::fault::TooLong;
 use crate::item::Item;
-use crate::limits::LARGEST_ROOM;
+use crate::letters::head::Head;
+use crate::letters::mark::Mark;
+use crate::letters::normal_form::is_plain;
+use crate::limits::{LARGEST_MARKS, LARGEST_ROOM};
 use crate::macros::{HEADER_LENGTH, TRAILER_LENGTH, macro_of};
 use crate::pad::pad_to;
+use crate::smallest::letters::smallest_marked_to;
 use crate::smallest::parts::write_parts;
 use crate::smallest::plan::{StepBits, plan_to};
 use crate::smallest::setting::Setting;
@@ -48,75 +54,115 @@ const MIDDLE_PLAN: usize = 512;
 /// How many steps the plan of any message has.
 const LONG_PLAN: usize = LARGEST_ROOM + 1;
 
-/// Chooses data codewords, with pads, that spell the message of these items, at most [`LARGEST_ROOM`], in an extent, in
-/// the smallest size of the choice that has any: no list of codewords of a smaller size spells it there, but for lists
-/// that have a macro before FNC1. After `Ok`, which has that size, `words` holds them, whatever it held before. They
-/// are ASCII where the size has room for that; else codewords that spell the message in the usual extent, where there
-/// are any. They are plain, and their symbology identifier is that of the ASCII form. `TooLong` exactly where the
-/// codewords of no size of the choice spell the message, but for such lists; then `words` holds what it held before.
-/// The same holds of what says the message as a letter. ISO/IEC 16022, encodation schemes.
+/// The marks for which there is room beside a short plan.
+const FEW_MARKS: usize = 31;
+
+/// The marks for which there is room beside a plan of some length.
+const SOME_MARKS: usize = 102;
+
+/// Chooses data codewords, with pads, that say a letter in an extent, in the smallest size of the choice that has any:
+/// no list of codewords of a smaller size says it there, but for lists that have a macro before FNC1. The letter has
+/// this head or none, these items, at most [`LARGEST_ROOM`], and these marks, at most [`LARGEST_MARKS`]; a message is
+/// one without a head and marks. After `Ok`, which has that size, `words` holds them, whatever it held before. They are
+/// plain, and their symbology identifier is that of the ASCII form. They are the letter in ASCII, as under
+/// [`Profile::Ascii`](crate::Profile::Ascii), where the size has room for that; else codewords that say the letter in
+/// the usual extent, where there are any. `TooLong` exactly where the codewords of no size of the choice say the
+/// letter, as in the usual extent those of no size say a head or a mark; then `words` holds what it held before.
+/// ISO/IEC 16022, encodation schemes, ECI encodation, structured append, reader programming.
 pub fn smallest_words_to(
     extent: Extent,
+    head: Option<Head>,
     items: &[Item],
+    marks: &[Mark],
     choice: SizeChoice,
     words: &mut ArrayVec<u8, MOST_DATA>,
 ) -> Result<SymbolSize, TooLong>
+    requires head { IsHead head }
     requires few { length items.now ≤ LARGEST_ROOM }
-    ensures smallest { IsSmallestResult extent choice items.now result words.new.items }
-    ensures letter { IsSmallestLetterResult extent choice (as_letter items.now) result
-        words.new.items }
-    ensures message { IsMessage items.now }
+    requires few_marks { length marks.now ≤ LARGEST_MARKS }
+    requires in_order { AreMarks 0 (length items.now) marks.now }
+    ensures smallest { IsSmallestLetterResult extent choice
+        (record { head = head; items = items.now; marks = marks.now }) result words.new.items }
+    ensures message { head ≡ None → marks.now ≡ []
+        → IsSmallestResult extent choice items.now result words.new.items }
+    ensures items { OnOk result (IsMessage items.now) }
     ensures same { OnErr result (words.new.items ≡ words.old.items) }
 {
-    smallest_items_to(extent, items, choice, words)
+    // To clear room for a long plan takes longer than to make a short one.
+    if items.len() < SHORT_PLAN && marks.len() <= FEW_MARKS {
+        smallest_in::<SHORT_PLAN, FEW_MARKS>(extent, head, items, marks, choice, words)
+    } else if items.len() < MIDDLE_PLAN && marks.len() <= SOME_MARKS {
+        smallest_in::<MIDDLE_PLAN, SOME_MARKS>(extent, head, items, marks, choice, words)
+    } else {
+        smallest_in::<LONG_PLAN, LARGEST_MARKS>(extent, head, items, marks, choice, words)
+    }
 }
 
-/// Does the same with the items of a message. It stands by itself, so that its plan isn't left on the stack.
+/// Does the same in room for a plan of `STEPS` steps, which are more than the items, and for `MARKS` marks. It stands
+/// by itself, so that no other room is left for it on the stack.
 #[inline(never)]
+fn smallest_in<const STEPS: usize, const MARKS: usize>(
+    extent: Extent,
+    head: Option<Head>,
+    items: &[Item],
+    marks: &[Mark],
+    choice: SizeChoice,
+    words: &mut ArrayVec<u8, MOST_DATA>,
+) -> Result<SymbolSize, TooLong>
+    requires head { IsHead head }
+    requires few { length items.now ≤ LARGEST_ROOM }
+    requires few_marks { length marks.now ≤ LARGEST_MARKS }
+    requires in_order { AreMarks 0 (length items.now) marks.now }
+    requires steps { length items.now < STEPS }
+    requires most { STEPS ≤ LONG_PLAN }
+    requires room { length marks.now ≤ MARKS }
+    requires most_marks { MARKS ≤ LARGEST_MARKS }
+    ensures smallest { IsSmallestLetterResult extent choice (view_of head items.now marks.now) result words.new.items }
+    ensures message { head ≡ None → marks.now ≡ []
+        → IsSmallestResult extent choice items.now result words.new.items }
+    ensures items { OnOk result (IsMessage items.now) }
+    ensures same { OnErr result (words.new.items ≡ words.old.items) }
+{
+    let mut plan = [StepBits::NONE; STEPS];
+    let mut behind = [0; MARKS];
+    if is_plain(head, marks) {
+        return smallest_items_to(extent, items, choice, &mut plan, words);
+    }
+    match extent {
+        Extent::Usual => Err(TooLong),
+        Extent::Wide => smallest_marked_to(
+            head,
+            items,
+            marks,
+            choice,
+            &mut behind,
+            &mut plan,
+            words,
+        ),
+    }
+}
+
+/// Does the same with the items of a message, by a plan that has more steps than these.
 fn smallest_items_to(
     extent: Extent,
     items: &[Item],
     choice: SizeChoice,
+    plan: &mut [StepBits],
     words: &mut ArrayVec<u8, MOST_DATA>,
 ) -> Result<SymbolSize, TooLong>
     requires few { length items.now ≤ LARGEST_ROOM }
+    requires steps { length items.now < length plan.old }
     ensures smallest { IsSmallestResult extent choice items.now result words.new.items }
-    ensures cheapest { (cost : ℕ) × IsLeastCost extent items.now cost × IsSizeFor choice cost result }
+    ensures letter { IsSmallestLetterResult extent choice (as_letter items.now) result words.new.items }
     ensures message { IsMessage items.now }
     ensures same { OnErr result (words.new.items ≡ words.old.items) }
 {
-    // To clear room for a long plan takes longer than to make a short one.
-    if items.len() < SHORT_PLAN {
-        smallest_by::<SHORT_PLAN>(extent, items, choice, words)
-    } else if items.len() < MIDDLE_PLAN {
-        smallest_by::<MIDDLE_PLAN>(extent, items, choice, words)
-    } else {
-        smallest_by::<LONG_PLAN>(extent, items, choice, words)
-    }
-}
-
-/// Does the same with these items, by a plan of `STEPS` steps, which are more than the items.
-fn smallest_by<const STEPS: usize>(
-    extent: Extent,
-    items: &[Item],
-    choice: SizeChoice,
-    words: &mut ArrayVec<u8, MOST_DATA>,
-) -> Result<SymbolSize, TooLong>
-    requires few { length items.now ≤ LARGEST_ROOM }
-    requires steps { length items.now < STEPS }
-    requires most { STEPS ≤ LONG_PLAN }
-    ensures smallest { IsSmallestResult extent choice items.now result words.new.items }
-    ensures cheapest { (cost : ℕ) × IsLeastCost extent items.now cost × IsSizeFor choice cost result }
-    ensures message { IsMessage items.now }
-    ensures same { OnErr result (words.new.items ≡ words.old.items) }
-{
-    let mut plan = [StepBits::NONE; STEPS];
-    let found = least_way(extent, items, &mut plan);
+    let found = least_way(extent, items, plan);
     match SymbolSize::for_words(choice, found.way.cost) {
         None => Err(TooLong),
         Some(size) => {
             let count = size.data_count();
-            write_plainest(extent, items, found, &mut plan, words, count);
+            write_plainest(extent, items, found, plan, words, count);
             pad_to(words, usize::from(count));
             Ok(size)
         }

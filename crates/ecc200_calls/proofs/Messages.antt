@@ -1,14 +1,6 @@
 -- Messages and their numbers.
-use Rattle.std.proofs.Common.{◌≡◌, ◌⊎◌, inl, inr, ℕ, ◌*◌, ◌<◌, ◌≤◌, List, [], ◌∷◌, ◌++◌, length, take, drop}
-use Rattle.std.proofs.Common.{◌+◌, ◌-◌, false, if◌then◌else◌, nat_lt, length-append, sym}
-use Rattle.std.proofs.lemmas.List.{take-append-drop}
-use Rattle.dm_symbol.specs.declared.Head.{Head}
-use Rattle.dm_symbol.specs.declared.Head.TheVariants.{Programming, Appended}
-use Rattle.dm_symbol.specs.declared.Mark.{Mark}
-use Rattle.dm_words.specs.Designators.{designator}
-use Rattle.dm_words.specs.Heads.{head_words}
-use Rattle.dm_words.specs.LetterForm.{mark_words, ascii_with_marks, form_by}
-use Rattle.std.proofs.Common.{Bool, true, ◌&&◌, nat_le, Option, Some, None, IsSome, refl, ◌∙◌, ap, arith}
+use Rattle.std.proofs.Common.{◌≡◌, ◌⊎◌, inl, inr, ℕ, ◌<◌, ◌≤◌, List, [], ◌∷◌, Bool, true, ◌&&◌, nat_le}
+use Rattle.std.proofs.Common.{Option, Some, None, IsSome, refl, ◌∙◌, ap, arith}
 use Rattle.std.specs.Prelude.{All}
 use Rattle.std.specs.List.{AllByRecursion, list_all}
 use Rattle.std.proofs.lemmas.List.Sums.{AllPass-from_list_all}
@@ -16,11 +8,7 @@ use Rattle.std.proofs.lemmas.List.Elements.{recursion_from_All, All-from_recursi
 use Rattle.std.proofs.lemmas.Bool.{and_parts, cases_lt, false≢true, leb-true}
 use Rattle.dm_symbol.specs.declared.Item.{Item}
 use Rattle.dm_symbol.specs.declared.Item.TheVariants.{Byte, Fnc1}
-use Rattle.dm_symbol.specs.declared.Profile.{Profile}
 use Rattle.dm_symbol.specs.declared.SizeChoice.{SizeChoice}
-use Rattle.dm_symbol.specs.Ascii.{ascii}
-use Rattle.dm_symbol.specs.NormalForm.{normal_form}
-use Rattle.dm_words.proofs.Exported.{longer, no_longer_than_ascii}
 use Rattle.dm_symbol.specs.Messages.{IsItem, IsMessage}
 use Rattle.dm_layout.specs.symbols.Sizes.{SizeEntry, entry_for, most_data, size_table, takes}
 use Rattle.dm_layout.proofs.symbols.Exported.{at_found, found_passes}
@@ -53,62 +41,6 @@ pub message_there : (numbers : List ℕ) → All (λ number. number ≤ 256) num
 message_there numbers h =
     let there = items_there numbers (recursion_from_All (λ number. number ≤ 256) numbers h) in
     (there.0, All-from_recursion IsItem there.0 there.1, there.2)
-
--- A list that is chosen from two is short where both are.
-chosen_few : (b : Bool) (xs ys : List ℕ) → length xs ≤ 3 → length ys ≤ 3 → length (if b then xs else ys) ≤ 3
-chosen_few true xs ys hx hy = hx
-chosen_few false xs ys hx hy = hy
-
--- A designator has at most three codewords.
-designator_few : (number : ℕ) → length (designator number) ≤ 3
-designator_few number =
-    chosen_few (nat_lt number 127) _ _ (omega arith)
-    (chosen_few (nat_lt number 16383) _ _ (omega arith) (omega arith))
-
--- A head has at most four codewords.
-head_few : (head : Head) → length (head_words (Some head)) ≤ 4
-head_few Programming = omega arith
-head_few (Appended symbol) = omega arith
-
--- Items take at most two codewords each in ASCII, and so in each normal form.
-two_for_each : (m : List Item) → length (ascii m) ≤ 2 * length m
-two_for_each [] = omega arith
-two_for_each (item ∷ m) = omega (arith, (longer item m).two_more, two_for_each m)
-
-pub at_most_two : (profile : Profile) (m : List Item) → length (normal_form profile m) ≤ 2 * length m
-at_most_two profile m = omega (arith, no_longer_than_ascii profile m, two_for_each m)
-
--- Items with marks take at most two codewords for each item and four for each mark.
-marked_few : (before : ℕ) (items : List Item) (marks : List Mark)
-    → length (ascii_with_marks before items marks) ≤ 2 * length items + 4 * length marks
-marked_few before items [] = omega (arith, two_for_each items)
-marked_few before items (mark ∷ marks) =
-    let n = mark.place - before in
-    let whole : length items ≡ length (take n items) + length (drop n items) =
-    sym (ap (λ (xs : List Item). length xs) (take-append-drop n items)) ∙ length-append (take n items) (drop n items) in
-    omega (
-      arith,
-      whole,
-      two_for_each (take n items),
-      designator_few mark.number,
-      marked_few mark.place (drop n items) marks,
-      length-append (ascii (take n items))
-          (mark_words mark ++ ascii_with_marks mark.place (drop n items) marks),
-      length-append (mark_words mark) (ascii_with_marks mark.place (drop n items) marks),
-    )
-
--- So do letters, with four more for the head.
-pub letter_form_few : (profile : Profile) (head : Option Head) (items : List Item) (marks : List Mark)
-    → length (form_by profile head items marks) ≤ 2 * length items + 4 * length marks + 4
-letter_form_few profile None items [] = omega (arith, at_most_two profile items)
-letter_form_few profile None items (mark ∷ marks) = omega (arith, marked_few 0 items (mark ∷ marks))
-letter_form_few profile (Some head) items marks =
-    omega (
-      arith,
-      marked_few 0 items marks,
-      head_few head,
-      length-append (head_words (Some head)) (ascii_with_marks 0 items marks),
-    )
 
 -- Each size has at most as many data codewords as the largest.
 few_data : list_all (λ size. nat_le size.data_count most_data) size_table ≡ true

@@ -16,7 +16,7 @@ use Rattle.dm_symbol.specs.NormalOutcomes.{IsNormalOrFault}
 use Rattle.dm_symbol.specs.LetterReading.{LetterReadResult, ReadsLetter}
 use Rattle.dm_symbol.specs.NormalLetter.{IsLetterWritten, IsNormalOfLetter, LetterFits}
 use Rattle.dm_symbol.proofs.Exported.{read_letter_right, usual_fault}
-use Rattle.ecc200_calls.specs.declared.form.Form.TheVariants.{Profiled}
+use Rattle.dm_symbol.specs.declared.Form.TheVariants.{Profiled}
 use Rattle.ecc200_calls.specs.declared.symbol.SymbolOut.{SymbolOut}
 use Rattle.ecc200_calls.specs.Faults.{read_letter_fault}
 use Rattle.ecc200_calls.specs.Laws.{IsNormalMessageGiven, MessagesAreNormalised}

@@ -1,11 +1,8 @@
 -- What is given for a symbol in the extent `Usual`: a message, or a fault of messages.
-use Rattle.std.proofs.Common.{◌≡◌, ℕ, List, Option, Result, Ok, Err, refl, sym, ◌∙◌, ap, subst}
+use Rattle.std.proofs.Common.{◌≡◌, ℕ, List, Result, Ok, Err, refl, sym, ◌∙◌, ap, subst}
 use Rattle.dm_symbol.specs.declared.Dealing.{Dealing}
 use Rattle.dm_symbol.specs.declared.Extent.TheVariants.{Usual}
-use Rattle.dm_symbol.specs.declared.Head.{Head}
-use Rattle.dm_symbol.specs.declared.Item.{Item}
 use Rattle.dm_symbol.specs.declared.LetterReadFault.{LetterReadFault}
-use Rattle.dm_symbol.specs.declared.Mark.{Mark}
 use Rattle.dm_symbol.specs.declared.ReadFault.{ReadFault}
 use Rattle.dm_symbol.specs.declared.ReadFault.TheVariants.{Border, Block, Words}
 use Rattle.dm_words.specs.Letters.{LetterView}
@@ -24,15 +21,6 @@ pub same_fault : (why : ReadFault) → read_fault why ≡ read_letter_fault (let
 same_fault (Border count) = refl
 same_fault (Block index) = refl
 same_fault (Words why) = refl
-
--- A letter is known by its head, its items and its marks.
-pub letter_is : (l : LetterView) (head : Option Head) (items : List Item) (marks : List Mark) → head ≡ l.head
-    → items ≡ l.items → marks ≡ l.marks
-    → (let k : LetterView = record { head = head; items = items; marks = marks } in k) ≡ l
-letter_is l head items marks same_head same_items same_marks =
-    ap (λ (h : Option Head). let k : LetterView = record { head = h; items = items; marks = marks } in k) same_head
-    ∙ ap (λ (i : List Item). let k : LetterView = record { head = l.head; items = i; marks = marks } in k) same_items
-    ∙ ap (λ (m : List Mark). let k : LetterView = record { head = l.head; items = l.items; marks = m } in k) same_marks
 
 -- Equal readings of symbols of equal sizes are shown alike.
 pub shown_alike : (size other : SizeEntry) (l k : LetterView) (dealing : Dealing) (blocks others : List BlockReading)

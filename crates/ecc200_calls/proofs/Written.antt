@@ -1,52 +1,39 @@
 -- Letters that are written, and symbols that are normalised.
-use Rattle.std.proofs.Common.{◌≡◌, ◌⊎◌, inl, inr, ℕ, ◌*◌, ◌+◌, ◌<◌, ◌≤◌, List, [], ◌∷◌, length, Option, None, Err}
+use Rattle.std.proofs.Common.{◌≡◌, ◌⊎◌, inl, inr, ℕ, ◌*◌, ◌+◌, ◌<◌, ◌≤◌, List, [], ◌∷◌, length, Option, Err}
 use Rattle.std.proofs.Common.{refl, sym, ◌∙◌, ap, subst, arith}
-use Rattle.std.specs.Prelude.{All, IfOk, Result}
+use Rattle.std.specs.Prelude.{All}
 use Rattle.std.proofs.lemmas.List.{length-map}
-use Rattle.dm_symbol.specs.declared.Extent.{Extent}
 use Rattle.dm_symbol.specs.declared.Head.{Head}
 use Rattle.dm_symbol.specs.declared.Item.{Item}
+use Rattle.dm_symbol.specs.declared.Mark.{Mark}
+use Rattle.dm_symbol.specs.Messages.{IsMessage}
 use Rattle.dm_symbol.specs.declared.Profile.{Profile}
 use Rattle.dm_symbol.specs.declared.SizeChoice.{SizeChoice}
 use Rattle.dm_symbol.specs.declared.TooLong.{TooLong}
 use Rattle.dm_words.specs.Heads.{IsHead}
 use Rattle.dm_words.specs.Letters.{LetterView, IsLetter, AreMarks}
-use Rattle.dm_words.specs.LetterExtents.{as_letter}
 use Rattle.dm_words.specs.LetterForm.{letter_form}
 use Rattle.dm_words.proofs.Exported.{letter_form_counts, said_few}
 use Rattle.dm_layout.proofs.symbols.Exported.{size_facts}
 use Rattle.dm_layout.specs.symbols.Sizes.{entry_for, most_data}
-use Rattle.dm_symbol.specs.Messages.{IsMessage}
 use Rattle.dm_symbol.specs.NormalLetter.{LetterFits}
-use Rattle.dm_layout.specs.symbols.Symbols.{SymbolView}
-use Rattle.dm_symbol.specs.PlainSymbol.{IsPlainSymbol}
-use Rattle.dm_symbol.proofs.Exported.{no_letter_written, no_words_written, smallest_is_plain, written_is_plain}
-use Rattle.ecc200_calls.specs.declared.form.Form.{Form}
-use Rattle.ecc200_calls.specs.declared.form.Form.TheVariants.{Profiled, Smallest}
+use Rattle.dm_symbol.proofs.Exported.{form_written_is_plain, no_letter_written, no_words_written}
+use Rattle.dm_symbol.specs.declared.Form.{Form}
+use Rattle.dm_symbol.specs.declared.Form.TheVariants.{Profiled, Smallest}
 use Rattle.ecc200_calls.specs.declared.mark.MarkNumbers.{MarkNumbers}
 use Rattle.ecc200_calls.specs.declared.symbol.SymbolOut.{SymbolOut}
 use Rattle.ecc200_calls.specs.Faults.{too_long}
 use Rattle.ecc200_calls.specs.Items.{number_of, numbers_of}
 use Rattle.ecc200_calls.specs.Letters.{IsLetterOf, marks_of, marks_shown}
 use Rattle.ecc200_calls.specs.Symbols.{no_symbol}
-use Rattle.ecc200_calls.specs.Writings.{IsLetterGiven, IsWritingGiven, IsWrittenAs}
+use Rattle.ecc200_calls.specs.Writings.{IsLetterGiven, IsWritingGiven}
+use Rattle.dm_symbol.specs.WrittenLetter.{IsWrittenAs}
 use Rattle.ecc200_calls.proofs.Messages.{message_there, room_in}
-
--- A message is a letter.
-pub message_is_letter : (m : List Item) → IsMessage m → IsLetter (as_letter m)
-message_is_letter m is = record { head = tt; items = is; marks = omega arith }
 
 -- Marks have the numbers that stand for them.
 pub marks_again : (marks : List MarkNumbers) → marks_shown (marks_of marks) ≡ marks
 marks_again [] = refl
 marks_again (m ∷ marks) = ap (λ ms. m ∷ ms) (marks_again marks)
-
--- What is given for a letter is plain.
-pub given_is_plain : (form : Form) (choice : SizeChoice) (l : LetterView) (result : Result SymbolView TooLong)
-    → IsLetter l → IsWrittenAs form choice l result → IfOk result (λ symbol. IsPlainSymbol symbol l)
-given_is_plain (Profiled profile) choice l result right written =
-    written_is_plain choice profile l result right written
-given_is_plain (Smallest extent) choice l result right written = smallest_is_plain extent choice l result written
 
 -- So it is given for its numbers.
 pub letter_given : (form : Form) (choice : SizeChoice) (head : Option Head) (numbers : List ℕ)
@@ -54,25 +41,25 @@ pub letter_given : (form : Form) (choice : SizeChoice) (head : Option Head) (num
     → IsLetterOf head numbers marks l
     → IsLetterGiven form choice l before after → IsWritingGiven form choice head numbers marks before after
 letter_given form choice head numbers marks l before after right of given =
-    IsWritingGiven.letter l right of given (given_is_plain form choice l given.result right given.written)
+    IsWritingGiven.letter l right of given (form_written_is_plain form choice l given.result right given.written)
 
--- What is given for a message is given for its numbers.
-pub writing_given : (form : Form) (choice : SizeChoice) (numbers : List ℕ) (message : List Item)
-    (before after : SymbolOut) → IsMessage message → numbers_of message ≡ numbers
-    → IsLetterGiven form choice (as_letter message) before after
-    → IsWritingGiven form choice None numbers [] before after
-writing_given form choice numbers message before after is are given =
-    letter_given form choice None numbers [] (as_letter message) before after (message_is_letter message is)
-    (record { head_is = refl; items = are; marks_are = refl }) given
-
--- What is given without a head and marks is given where there is none.
-pub given_without : (form : Form) (choice : SizeChoice) (head : Option Head) (numbers : List ℕ)
-    (marks : List MarkNumbers) (before after : SymbolOut) → (head ≡ None) × (marks ≡ [])
-    → IsWritingGiven form choice None numbers [] before after
+-- So is that of the items and the marks of these numbers.
+pub numbers_given : (form : Form) (choice : SizeChoice) (head : Option Head) (numbers : List ℕ)
+    (marks : List MarkNumbers) (items : List Item) (made : List Mark) (before after : SymbolOut) → IsHead head
+    → AreMarks 0 (length numbers) (marks_of marks) → numbers_of items ≡ numbers → IsMessage items
+    → made ≡ marks_of marks
+    → IsLetterGiven form choice (record { head = head; items = items; marks = made }) before after
     → IsWritingGiven form choice head numbers marks before after
-given_without form choice head numbers marks before after (none, nothing) given =
-    subst (λ (h : Option Head). IsWritingGiven form choice h numbers marks before after) (sym none)
-    (subst (λ (m : List MarkNumbers). IsWritingGiven form choice None numbers m before after) (sym nothing) given)
+numbers_given form choice head numbers marks items made before after right are of_numbers fit of_marks given =
+    let count : length items ≡ length numbers =
+    sym (length-map items number_of) ∙ ap (λ (n : List ℕ). length n) of_numbers in
+    letter_given form choice head numbers marks (record { head = head; items = items; marks = made }) before after
+    (record {
+      head = right;
+      items = fit;
+      marks = subst (λ n. AreMarks 0 n made) (sym count) (subst (AreMarks 0 (length numbers)) (sym of_marks) are);
+    })
+    (record { head_is = refl; items = of_numbers; marks_are = ap marks_shown of_marks ∙ marks_again marks }) given
 
 -- A letter of more items or marks than the largest symbol has room for fits no size.
 fits_none : (choice : SizeChoice) (profile : Profile) (l : LetterView)
@@ -111,13 +98,13 @@ no_size_given form choice head numbers marks before after right items are none s
     why : TooLong
     why = record {}
 
--- So it is under a profile where there are more items or marks than the normal form of a letter has room for.
-pub too_long_given : (profile : Profile) (choice : SizeChoice) (head : Option Head) (numbers : List ℕ)
+-- So it is where there are more items or marks than any symbol says.
+pub too_long_given : (form : Form) (choice : SizeChoice) (head : Option Head) (numbers : List ℕ)
     (marks : List MarkNumbers) (before after : SymbolOut) → IsHead head → All (λ number. number ≤ 256) numbers
     → AreMarks 0 (length numbers) (marks_of marks)
-    → (2 * most_data < length numbers) ⊎ (most_data < 2 * length marks) → after ≡ no_symbol too_long before
-    → IsWritingGiven (Profiled profile) choice head numbers marks before after
-too_long_given profile choice head numbers marks before after right items are many shown =
+    → (2 * most_data + 7 < length numbers) ⊎ (most_data < 2 * length marks) → after ≡ no_symbol too_long before
+    → IsWritingGiven form choice head numbers marks before after
+too_long_given (Profiled profile) choice head numbers marks before after right items are many shown =
     no_size_given (Profiled profile) choice head numbers marks before after right items are
     (λ l item_count mark_count why. no_words_written choice (letter_form profile l) (Err why) refl
     (fits_none choice profile l
@@ -125,14 +112,7 @@ too_long_given profile choice head numbers marks before after right items are ma
       | inl h ↦ inl (omega (arith, h, item_count))
       | inr h ↦ inr (omega (arith, h, mark_count))
     ]))) shown
-
--- And so it is for the smallest symbol where there are more than any symbol says.
-pub none_smallest_given : (extent : Extent) (choice : SizeChoice) (head : Option Head) (numbers : List ℕ)
-    (marks : List MarkNumbers) (before after : SymbolOut) → IsHead head → All (λ number. number ≤ 256) numbers
-    → AreMarks 0 (length numbers) (marks_of marks)
-    → (2 * most_data + 7 < length numbers) ⊎ (most_data < 2 * length marks) → after ≡ no_symbol too_long before
-    → IsWritingGiven (Smallest extent) choice head numbers marks before after
-none_smallest_given extent choice head numbers marks before after right items are many shown =
+too_long_given (Smallest extent) choice head numbers marks before after right items are many shown =
     no_size_given (Smallest extent) choice head numbers marks before after right items are
     (λ l item_count mark_count why. no_letter_written extent choice l why
     (λ size words taken sized framed says.

@@ -12,7 +12,7 @@ use Rattle.dm_symbol.specs.LetterReading.{LetterReadingView, LetterReadResult, R
 use Rattle.dm_symbol.specs.Messages.{IsMessage}
 use Rattle.dm_symbol.specs.NormalLetter.{IsLetterWrittenIn, IsNormalOfLetter, LetterFits}
 use Rattle.dm_symbol.specs.Reading.{letter_fault}
-use Rattle.ecc200_calls.specs.declared.form.Form.TheVariants.{Profiled}
+use Rattle.dm_symbol.specs.declared.Form.TheVariants.{Profiled}
 use Rattle.ecc200_calls.specs.declared.reading.ReadingOut.{ReadingOut}
 use Rattle.ecc200_calls.specs.declared.symbol.SymbolOut.{SymbolOut}
 use Rattle.ecc200_calls.specs.Faults.{foreign, read_fault, too_long}

@@ -2,17 +2,16 @@
 use Rattle.std.specs.Prelude.{◌≡◌, ℕ, ◌≤◌, List, length, nat_eq, if◌then◌else◌, Option, Some, None}
 use Rattle.std.specs.Prelude.{All, get_or, min, Result, Ok, Err, IfOk}
 use Rattle.dm_symbol.specs.declared.Extent.{Extent}
+use Rattle.dm_symbol.specs.declared.Form.{Form}
+use Rattle.dm_symbol.specs.declared.Form.TheVariants.{Profiled, Smallest}
 use Rattle.dm_symbol.specs.declared.Head.{Head}
 use Rattle.dm_symbol.specs.declared.Profile.TheVariants.{Ascii, Shorter}
 use Rattle.dm_symbol.specs.declared.SizeChoice.{SizeChoice}
 use Rattle.dm_symbol.specs.declared.TooLong.{TooLong}
 use Rattle.dm_words.specs.Letters.{LetterView, IsLetter}
 use Rattle.dm_layout.specs.symbols.Symbols.{SymbolView}
-use Rattle.dm_symbol.specs.NormalLetter.{IsLetterWritten}
 use Rattle.dm_symbol.specs.PlainSymbol.{IsPlainSymbol}
-use Rattle.dm_symbol.specs.SmallestLetterSymbol.{IsSmallestLetterWritten}
-use Rattle.ecc200_calls.specs.declared.form.Form.{Form}
-use Rattle.ecc200_calls.specs.declared.form.Form.TheVariants.{Profiled, Smallest}
+use Rattle.dm_symbol.specs.WrittenLetter.{IsWrittenAs}
 use Rattle.ecc200_calls.specs.declared.how.How.{How}
 use Rattle.ecc200_calls.specs.declared.fault.Fault.{Fault}
 use Rattle.ecc200_calls.specs.declared.mark.MarkNumbers.{MarkNumbers}
@@ -53,11 +52,6 @@ pub record AskFor (how : How) (form : Form) (choice : SizeChoice) (head : Option
   pub form_is : form_of how ≡ Ok form
   pub choice_is : choice_of how ≡ Some choice
   pub head_is : AreOfHead how.head head
-
--- Writing a letter in a form and in a choice of sizes gives this.
-abbrev pub IsWrittenAs : Form → SizeChoice → LetterView → Result SymbolView TooLong → Type 0
-IsWrittenAs (Profiled profile) choice letter result = IsLetterWritten choice profile letter result
-IsWrittenAs (Smallest extent) choice letter result = IsSmallestLetterWritten extent choice letter result
 
 -- A symbol is given, or that the letter fits no size.
 abbrev pub symbol_given : Result SymbolView TooLong → SymbolOut → SymbolOut

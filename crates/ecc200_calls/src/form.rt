@@ -7,16 +7,7 @@ ghost use Rattle.ecc200_calls.specs.Writings.{form_of, smallest_form};
 use crate::extent::extent_of;
 use crate::fault::Fault;
 use crate::how::How;
-use dm_symbol::{Extent, Profile};
-
-/// A form in which a letter is written.
-#[derive(Clone, Copy)]
-pub(crate) enum Form {
-    /// The codewords that a profile chooses for it.
-    Profiled(Profile),
-    /// Its smallest symbol for readers of an extent.
-    Smallest(Extent),
-}
+use dm_symbol::{Extent, Form, Profile};
 
 /// Gives the form that the numbers stand for, or why there is none.
 pub(crate) fn form_of(how: How) -> Result<Form, Fault>

@@ -5,9 +5,9 @@ ghost use Rattle.ecc200_calls.specs.Writings.{AskFor, IsHowFault};
 
 use crate::choice::choice_of;
 use crate::fault::Fault;
-use crate::form::{Form, form_of};
+use crate::form::form_of;
 use crate::head::{HeadNumbers, head_of};
-use dm_symbol::{Head, SizeChoice};
+use dm_symbol::{Form, Head, SizeChoice};
 
 /// How a letter is written: the number of a form; the number of a choice of sizes; the rows and columns of the size
 /// that is taken where the choice is of one size; the number of the extent for whose readers the smallest symbol is,

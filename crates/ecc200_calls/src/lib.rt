@@ -16,7 +16,7 @@
 //! `dm_symbol` for symbols of every size: `Scans`, `Readings`, `Writings`, `Symbols`, `Letters`, `Inspections`,
 //! `Places`, `Sizes`; `Laws` has the laws of these definitions, which the functions of [`laws`] prove. A caller's bytes
 //! are packed into rows of bits, and a symbol is unpacked over them, in `modules` alone; and `room` alone says how much
-//! room a call takes for a message. Whatever is written in its smallest symbol is in `smallest_writing`.
+//! room a call takes.
 #![tactic(auto)]
 
 mod arrays;
@@ -30,7 +30,6 @@ mod how;
 mod inspection;
 mod interface;
 pub mod laws;
-mod letter;
 mod mark;
 mod message;
 mod modules;
@@ -42,7 +41,6 @@ mod restoring;
 mod room;
 mod scan;
 mod size_table;
-mod smallest_writing;
 mod symbol;
 mod writing;
 

@@ -1,12 +1,12 @@
 //! Marks as numbers.
 
-ghost use Rattle.std.specs.Prelude.{◌≡◌, ◌≤◌, IfNone, IfSome, length};
+ghost use Rattle.std.specs.Prelude.{◌≡◌, ◌≤◌, IfNone, IfSome, length, take};
 ghost use Rattle.dm_words.specs.Letters.{AreMarks};
 ghost use Rattle.ecc200_calls.specs.Arrays.{over};
 ghost use Rattle.ecc200_calls.specs.Letters.{IsFirstWrong, mark_shown, marks_of, marks_shown};
 
 use dm_symbol::Mark;
-use dm_words::MOST_ASSIGNED;
+use dm_words::{LARGEST_ROOM, MOST_ASSIGNED};
 
 /// A mark as numbers: that of an ECI assignment, 0 to 999999, and how many items stand before it.
 #[repr(C)]
@@ -16,6 +16,12 @@ pub struct MarkNumbers {
     pub place: u32,
 }
 
+/// What stands in room for marks before they are put there.
+pub(crate) const NO_MARK: Mark = Mark {
+    place: 0,
+    number: 0,
+};
+
 /// Gives the numbers of a mark.
 fn mark_shown(mark: Mark) -> MarkNumbers
     ensures { result ≡ mark_shown mark }
@@ -23,6 +29,22 @@ fn mark_shown(mark: Mark) -> MarkNumbers
     MarkNumbers {
         number: mark.number,
         place: u32::from(mark.place),
+    }
+}
+
+/// Writes the marks of numbers over the first ones, none of which stands behind more items than this.
+pub(crate) fn put_marks_of(all: &mut [Mark], marks: &[MarkNumbers], count: usize)
+    requires in_order { AreMarks 0 count (marks_of marks.now) }
+    requires few { count ≤ LARGEST_ROOM }
+    requires room { length marks.now ≤ length all.old }
+    ensures marks { take (length marks.now) all.new ≡ marks_of marks.now }
+    ensures room { length all.new ≡ length all.old }
+{
+    for (i, mark) in marks.iter().enumerate() {
+        all[i] = Mark {
+            place: mark.place as u16,
+            number: mark.number,
+        };
     }
 }
 

@@ -1,14 +1,11 @@
 //! Messages as numbers: a byte is itself, FNC1 is 256.
 
-ghost use Rattle.std.specs.Prelude.{◌≡◌, ◌≤◌, ◌<◌, ◌+◌, ◌*◌, ◌∷◌, List, length, All, IfSome, IfNone};
-ghost use Rattle.dm_symbol.specs.declared.Item.{Item};
-ghost use Rattle.dm_symbol.specs.declared.Profile.{Profile};
-ghost use Rattle.dm_symbol.specs.Ascii.{ascii};
-ghost use Rattle.dm_symbol.specs.NormalForm.{normal_form};
+ghost use Rattle.std.specs.Prelude.{◌≡◌, ◌≤◌, length, take, All, IfSome, IfNone};
+ghost use Rattle.dm_symbol.specs.Messages.{IsItem, IsMessage};
 ghost use Rattle.ecc200_calls.specs.Arrays.{over};
 ghost use Rattle.ecc200_calls.specs.Items.{IsFirstForeign, number_of, numbers_of};
 
-use dm_symbol::{Item, LARGEST_ROOM, MessageIn};
+use dm_symbol::Item;
 
 /// The number of FNC1.
 const FNC1: u16 = 256;
@@ -21,64 +18,41 @@ pub(crate) fn first_foreign(numbers: &[u16]) -> Option<usize>
     numbers.iter().position(|number| *number > FNC1)
 }
 
-/// Gives the most codewords that these items take in a normal form: those of each by itself in ASCII.
-pub(crate) fn most_words(items: &[Item]) -> u16
-    requires { length items.now ≤ LARGEST_ROOM }
-    ensures words { (profile : Profile) → length (normal_form profile items.now) ≤ result }
-    ensures few { result ≤ 2 * length items.now }
-{
-    let mut most = 0;
-    for item in items {
-        most += word_count(*item);
-    }
-    most
-}
-
-/// Gives how many codewords an item takes at most in ASCII.
-fn word_count(item: Item) -> u16
-    ensures words { (rest : List Item) → length (ascii (item ∷ rest)) ≤ result + length (ascii rest) }
-    ensures few { result ≤ 2 }
-{
-    match item {
-        Item::Byte(byte) => { if byte < 128 { 1 } else { 2 } }
-        Item::Fnc1 => 1,
-    }
-}
-
-/// Gives the message of these numbers.
-pub(crate) fn message_of_numbers<const ROOM: usize>(numbers: &[u16]) -> MessageIn<ROOM>
-    requires items { All (λ number. number ≤ 256) numbers.now }
-    requires room { length numbers.now ≤ ROOM }
-    ensures { numbers_of result ≡ numbers.now }
-{
-    let mut message = MessageIn::new();
-    for number in numbers {
-        let _room = message.push(item_of(*number));
-    }
-    message
-}
-
-/// Gives the message of these bytes.
-pub(crate) fn message_of_bytes<const ROOM: usize>(bytes: &[u8]) -> MessageIn<ROOM>
-    requires { length bytes.now ≤ ROOM }
-    ensures { numbers_of result ≡ bytes.now }
-{
-    let mut message = MessageIn::new();
-    for byte in bytes {
-        let _room = message.push(Item::Byte(*byte));
-    }
-    message
-}
-
 /// Gives the item of a number.
-pub(crate) fn item_of(number: u16) -> Item
+fn item_of(number: u16) -> Item
     requires { number ≤ 256 }
-    ensures { number_of result ≡ number }
+    ensures number { number_of result ≡ number }
+    ensures item { IsItem result }
 {
     if number < FNC1 {
         Item::Byte(number as u8)
     } else {
         Item::Fnc1
+    }
+}
+
+/// Writes the items of numbers over the first ones.
+pub(crate) fn put_items_of(all: &mut [Item], numbers: &[u16])
+    requires items { All (λ number. number ≤ 256) numbers.now }
+    requires room { length numbers.now ≤ length all.old }
+    ensures numbers { numbers_of (take (length numbers.now) all.new) ≡ numbers.now }
+    ensures message { IsMessage (take (length numbers.now) all.new) }
+    ensures room { length all.new ≡ length all.old }
+{
+    for (i, number) in numbers.iter().enumerate() {
+        all[i] = item_of(*number);
+    }
+}
+
+/// Writes the items of bytes over the first ones.
+pub(crate) fn put_items_of_bytes(all: &mut [Item], bytes: &[u8])
+    requires { length bytes.now ≤ length all.old }
+    ensures numbers { numbers_of (take (length bytes.now) all.new) ≡ bytes.now }
+    ensures message { IsMessage (take (length bytes.now) all.new) }
+    ensures room { length all.new ≡ length all.old }
+{
+    for (i, byte) in bytes.iter().enumerate() {
+        all[i] = Item::Byte(*byte);
     }
 }
 

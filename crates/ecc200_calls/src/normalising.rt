@@ -20,10 +20,10 @@ use crate::restoring::{Restored, has_few_marks, restore_given};
 use crate::room::*;
 use crate::scan::{Scan, Sought, check_scan};
 use crate::symbol::{SymbolOut, show_fault};
-use crate::writing::write_normal;
+use crate::writing::write_content;
 use dm_layout::symbols::SymbolWordsIn;
 use dm_symbol::{
-    Extent, LARGEST_MARKS, LARGEST_ROOM, LetterIn, LetterReadFault, Profile, SizeChoice,
+    Extent, Form, LARGEST_MARKS, LARGEST_ROOM, LetterIn, LetterReadFault, Profile, SizeChoice,
     WriteOptions,
 };
 use dm_words::letter_to_as;
@@ -169,8 +169,11 @@ fn normal_words<const WORDS: usize, const ITEMS: usize, const MARKS: usize>(
     match letter_to_as(extent, words.data_part(), &mut letter) {
         Ok(()) => {
             let size = SizeChoice::Square;
-            let how = WriteOptions { profile, size };
-            write_normal(letter.head(), letter.items(), letter.marks(), how, out);
+            let how = WriteOptions {
+                form: Form::Profiled(profile),
+                size,
+            };
+            write_content(letter.head(), letter.items(), letter.marks(), how, out);
         }
         Err(why) => show_fault(out, read_letter_fault(LetterReadFault::Words(why))),
     }

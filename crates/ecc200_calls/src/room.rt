@@ -1,18 +1,11 @@
 //! Rooms for the work with a symbol. All of a room is cleared when it is made; so a call works in the smallest of four
 //! that serves.
 
-ghost use Rattle.std.specs.Prelude.{◌≡◌, ◌≤◌, ◌*◌, IsTrue, length};
-ghost use Rattle.dm_layout.specs.symbols.Sizes.{codeword_count};
-ghost use Rattle.dm_symbol.specs.declared.Profile.{Profile};
-ghost use Rattle.dm_symbol.specs.NormalForm.{normal_form};
-ghost use Rattle.dm_words.specs.LetterForm.{form_by};
-ghost use Rattle.dm_words.specs.LetterExtents.{as_letter};
-ghost use Rattle.ecc200_calls.specs.inner.Rooms.{HasRoom, HasRoomToWrite};
-ghost use Rattle.ecc200_calls.specs.inner.Rooms.{AreWordsForLetter, HasRoomForLetter};
+ghost use Rattle.std.specs.Prelude.{◌≡◌, ◌≤◌};
+ghost use Rattle.ecc200_calls.specs.inner.Rooms.{HasRoom};
 
-use crate::message::most_words;
-use dm_layout::symbols::{MOST_CODEWORDS, MOST_DATA, MOST_ROWS, SizeChoice, SymbolSize};
-use dm_words::{Head, Item, LARGEST_ROOM, MESSAGE_ROOM, MOST_MARKS, Mark};
+use dm_layout::symbols::{MOST_CODEWORDS, MOST_ROWS, SymbolSize};
+use dm_words::{LARGEST_ROOM, MESSAGE_ROOM, MOST_MARKS};
 
 /// The marks of a letter for which the largest room has room: those that any symbol says.
 pub(crate) use dm_words::LARGEST_MARKS;
@@ -56,8 +49,6 @@ pub(crate) const MIDDLE_ITEMS: usize = MESSAGE_ROOM;
 pub(crate) const MIDDLE_MARKS: usize = MOST_MARKS;
 
 /// The same for the largest room, which serves for every symbol.
-pub(crate) const LARGEST_DATA: usize = MOST_DATA;
-
 pub(crate) const LARGEST_ROWS: usize = MOST_ROWS;
 
 pub(crate) const LARGEST_WORDS: usize = MOST_CODEWORDS;
@@ -136,188 +127,9 @@ impl Room {
             Room::Largest
         }
     }
-
-    /// Gives the room for the symbol in which a letter is written under a profile in a choice of sizes.
-    pub(crate) fn of_letter(
-        choice: SizeChoice,
-        head: Option<Head>,
-        items: &[Item],
-        marks: &[Mark],
-    ) -> Room
-        requires few { length items.now ≤ LARGEST_ITEMS }
-        requires few_marks { length marks.now ≤ LARGEST_MARKS }
-        ensures small { result ≡ Room.Small → HasRoomForLetter SMALL_DATA SMALL_ROWS SMALL_WORDS
-            choice (record { head = head; items = items.now; marks = marks.now }) }
-        ensures fair { result ≡ Room.Fair → HasRoomForLetter FAIR_DATA FAIR_ROWS FAIR_WORDS
-            choice (record { head = head; items = items.now; marks = marks.now }) }
-        ensures middle { result ≡ Room.Middle → HasRoomForLetter MIDDLE_DATA MIDDLE_ROWS
-            MIDDLE_WORDS choice (record { head = head; items = items.now; marks = marks.now }) }
-        ensures largest { HasRoomForLetter LARGEST_DATA LARGEST_ROWS LARGEST_WORDS choice
-            (record { head = head; items = items.now; marks = marks.now }) }
-    {
-        match choice {
-            SizeChoice::Square => room_of_square_for(head, items, marks),
-            _ => room_of_choice_for(choice, head, items, marks),
-        }
-    }
-
-    /// Gives the room for the smallest symbol of a message in a choice of sizes.
-    pub(crate) fn of_message(choice: SizeChoice, items: &[Item]) -> Room
-        requires { length items.now ≤ LARGEST_ITEMS }
-        ensures small { result ≡ Room.Small
-            → HasRoomToWrite SMALL_ROWS SMALL_WORDS choice items.now }
-        ensures largest { HasRoomToWrite LARGEST_ROWS LARGEST_WORDS choice
-            items.now }
-    {
-        match choice {
-            SizeChoice::Square => room_of_square(items),
-            _ => room_of_choice(choice, items),
-        }
-    }
 }
 
-/// Does so for the smallest square: one has as many data codewords as the small room is for, so that none is looked
-/// for.
-fn room_of_square(items: &[Item]) -> Room
-    requires { length items.now ≤ LARGEST_ITEMS }
-    ensures small { result ≡ Room.Small
-        → HasRoomToWrite SMALL_ROWS SMALL_WORDS SizeChoice.Square items.now }
-{
-    let most = words_at_most(items);
-    if most <= SMALL_DATA {
-        Room::Small
-    } else {
-        Room::Largest
-    }
-}
-
-/// Does so for the smallest square, as for a message.
-fn room_of_square_for(head: Option<Head>, items: &[Item], marks: &[Mark]) -> Room
-    requires few { length items.now ≤ LARGEST_ITEMS }
-    requires few_marks { length marks.now ≤ LARGEST_MARKS }
-    ensures small { result ≡ Room.Small → HasRoomForLetter SMALL_DATA SMALL_ROWS SMALL_WORDS
-        SizeChoice.Square (record { head = head; items = items.now; marks = marks.now }) }
-    ensures fair { result ≡ Room.Fair → HasRoomForLetter FAIR_DATA FAIR_ROWS FAIR_WORDS
-        SizeChoice.Square (record { head = head; items = items.now; marks = marks.now }) }
-    ensures middle { result ≡ Room.Middle → HasRoomForLetter MIDDLE_DATA MIDDLE_ROWS MIDDLE_WORDS
-        SizeChoice.Square (record { head = head; items = items.now; marks = marks.now }) }
-{
-    let most = letter_words_at_most(head, items, marks);
-    if most <= SMALL_DATA {
-        Room::Small
-    } else if most <= FAIR_DATA {
-        Room::Fair
-    } else if most <= MIDDLE_DATA {
-        Room::Middle
-    } else {
-        Room::Largest
-    }
-}
-
-/// Does so for a choice of sizes, one of which is looked for.
-fn room_of_choice_for(
-    choice: SizeChoice,
-    head: Option<Head>,
-    items: &[Item],
-    marks: &[Mark],
-) -> Room
-    requires few { length items.now ≤ LARGEST_ITEMS }
-    requires few_marks { length marks.now ≤ LARGEST_MARKS }
-    ensures small { result ≡ Room.Small → HasRoomForLetter SMALL_DATA SMALL_ROWS SMALL_WORDS choice
-        (record { head = head; items = items.now; marks = marks.now }) }
-    ensures fair { result ≡ Room.Fair → HasRoomForLetter FAIR_DATA FAIR_ROWS FAIR_WORDS choice
-        (record { head = head; items = items.now; marks = marks.now }) }
-    ensures middle { result ≡ Room.Middle → HasRoomForLetter MIDDLE_DATA MIDDLE_ROWS MIDDLE_WORDS
-        choice (record { head = head; items = items.now; marks = marks.now }) }
-{
-    match SymbolSize::for_words(choice, letter_words_for(choice, head, items, marks)) {
-        Some(size) => Room::of(size),
-        None => Room::Largest,
-    }
-}
-
-/// Gives for how many codewords a size of the choice is looked for, so that its room serves for a letter.
-fn letter_words_for(choice: SizeChoice, head: Option<Head>, items: &[Item], marks: &[Mark]) -> u16
-    requires few { length items.now ≤ LARGEST_ITEMS }
-    requires few_marks { length marks.now ≤ LARGEST_MARKS }
-    ensures { AreWordsForLetter choice (record { head = head; items = items.now; marks = marks.now })
-        result }
-{
-    match choice {
-        SizeChoice::Exact(_, _) => 0,
-        _ => letter_words_at_most(head, items, marks) as u16,
-    }
-}
-
-/// Gives a number of codewords than which a letter takes no more in a normal form: for one without a head and marks, as
-/// for its message; for another one two for each item and four for each mark and for the head.
-#[tactic(auto, using(crate::proofs::Messages::letter_form_few))]
-fn letter_words_at_most(head: Option<Head>, items: &[Item], marks: &[Mark]) -> usize
-    requires few { length items.now ≤ LARGEST_ITEMS }
-    requires few_marks { length marks.now ≤ LARGEST_MARKS }
-    ensures words { (profile : Profile) → length (form_by profile head items.now marks.now)
-        ≤ result }
-    ensures most { result ≤ 9366 }
-{
-    if head.is_none() && marks.is_empty() {
-        words_at_most(items)
-    } else {
-        2 * items.len() + 4 * marks.len() + 4
-    }
-}
-
-/// Gives a number of codewords than which these items take no more in a normal form: two for each item, where their
-/// count alone tells the room by that, and else those of each by itself in ASCII, which takes a look at all.
-#[tactic(auto, using(crate::proofs::Messages::at_most_two))]
-fn words_at_most(items: &[Item]) -> usize
-    requires { length items.now ≤ LARGEST_ITEMS }
-    ensures words { (profile : Profile) → length (normal_form profile items.now) ≤ result }
-    ensures most { result ≤ 2 * length items.now }
-{
-    let twice = 2 * items.len();
-    let is_fair = SMALL_DATA < items.len() && twice <= FAIR_DATA;
-    let is_middle = FAIR_DATA < items.len() && twice <= MIDDLE_DATA;
-    if is_fair || is_middle || twice <= SMALL_DATA {
-        twice
-    } else {
-        usize::from(most_words(items))
-    }
-}
-
-/// Does so for a choice of sizes, one of which is looked for.
-fn room_of_choice(choice: SizeChoice, items: &[Item]) -> Room
-    requires { length items.now ≤ LARGEST_ITEMS }
-    ensures small { result ≡ Room.Small
-        → HasRoomToWrite SMALL_ROWS SMALL_WORDS choice items.now }
-{
-    match SymbolSize::for_words(choice, words_for(choice, items)) {
-        Some(size) => Room::of(size),
-        None => Room::Largest,
-    }
-}
-
-/// Gives for how many codewords a size of the choice is looked for, so that its room serves for a message: the most
-/// that it takes. A size that is asked for serves if it is there, however few these are.
-fn words_for(choice: SizeChoice, items: &[Item]) -> u16
-    requires { length items.now ≤ LARGEST_ITEMS }
-    ensures { AreWordsForLetter choice (as_letter items.now) result }
-{
-    match choice {
-        SizeChoice::Exact(_, _) => 0,
-        _ => most_words(items),
-    }
-}
-
-/// Gives the smallest size, for which each room serves.
-#[tactic(auto, unfolding(dm_layout::specs::symbols::Sizes::size_table))]
-pub(crate) fn smallest_size() -> SymbolSize
-    ensures rows { result.rows ≡ 10 }
-    ensures words { codeword_count result ≡ 8 }
-{
-    SymbolSize::of(10, 10).unwrap()
-}
-
-/// Does work in a room, which is called with what it names of the room: the data codewords, rows, codewords, items.
+/// Does work in a room, which is called with what it names of the room: the rows, codewords, items, marks.
 macro_rules! in_room {
     ($room:expr, $work:ident::<ROWS, WORDS, ITEMS, MARKS>($($given:expr),* $(,)?)) => {
         match $room {
@@ -327,12 +139,12 @@ macro_rules! in_room {
             Room::Largest => $work::<LARGEST_ROWS, LARGEST_WORDS, LARGEST_ITEMS, LARGEST_MARKS>($($given),*),
         }
     };
-    ($room:expr, $work:ident::<DATA, ROWS, WORDS>($($given:expr),* $(,)?)) => {
+    ($room:expr, $work:ident::<ROWS, WORDS>($($given:expr),* $(,)?)) => {
         match $room {
-            Room::Small => $work::<SMALL_DATA, SMALL_ROWS, SMALL_WORDS>($($given),*),
-            Room::Fair => $work::<FAIR_DATA, FAIR_ROWS, FAIR_WORDS>($($given),*),
-            Room::Middle => $work::<MIDDLE_DATA, MIDDLE_ROWS, MIDDLE_WORDS>($($given),*),
-            Room::Largest => $work::<LARGEST_DATA, LARGEST_ROWS, LARGEST_WORDS>($($given),*),
+            Room::Small => $work::<SMALL_ROWS, SMALL_WORDS>($($given),*),
+            Room::Fair => $work::<FAIR_ROWS, FAIR_WORDS>($($given),*),
+            Room::Middle => $work::<MIDDLE_ROWS, MIDDLE_WORDS>($($given),*),
+            Room::Largest => $work::<LARGEST_ROWS, LARGEST_WORDS>($($given),*),
         }
     };
     ($room:expr, $work:ident::<ITEMS, 0>($($given:expr),* $(,)?)) => {

@@ -2,25 +2,22 @@
 
 ghost use Rattle.std.specs.Prelude.{◌≡◌, ◌<◌, ◌≤◌, ◌⊎◌, All, IsTrue, [], false, length};
 ghost use Rattle.dm_words.specs.Heads.{IsHead};
-ghost use Rattle.dm_words.specs.Letters.{AreMarks};
+ghost use Rattle.dm_words.specs.Letters.{AreMarks, LetterView};
+ghost use Rattle.dm_layout.specs.symbols.Sizes.{codeword_count};
+ghost use Rattle.dm_symbol.specs.WrittenLetter.{AreChosen};
 ghost use Rattle.ecc200_calls.specs.Letters.{marks_of};
 ghost use Rattle.ecc200_calls.specs.Writings.{IsLetterGiven, IsWriteResult, IsWritingGiven};
-ghost use Rattle.ecc200_calls.specs.inner.Rooms.{HasRoomForLetter};
+ghost use Rattle.ecc200_calls.specs.inner.Rooms.{IsRoom};
 
 use crate::fault::Fault;
-use crate::form::Form;
 use crate::how::{How, Wanted, check_how};
-use crate::letter::{put_letter, put_letter_of_bytes};
-use crate::mark::{MarkNumbers, first_wrong};
-use crate::message::{first_foreign, message_of_bytes, message_of_numbers};
+use crate::mark::{MarkNumbers, NO_MARK, first_wrong, put_marks_of};
+use crate::message::{first_foreign, put_items_of, put_items_of_bytes};
 use crate::room::*;
-use crate::smallest_writing::{write_smallest, write_smallest_bytes, write_smallest_message};
 use crate::symbol::{SymbolOut, show_fault, show_symbol};
-use dm_layout::symbols::{MOST_DATA, SizeChoice, SymbolIn, SymbolWordsIn};
-use dm_symbol::{Extent, Head, Item, LetterIn, Mark, TooLong, WriteOptions, write_content_to};
-
-/// The most items that any symbol holds in a normal form: two for each data codeword.
-const MOST_WRITTEN: usize = 2 * MOST_DATA;
+use arrayvec::ArrayVec;
+use dm_layout::symbols::{MOST_DATA, SizeChoice, SymbolIn, SymbolSize, SymbolWordsIn};
+use dm_symbol::{Form, Head, Item, Mark, TooLong, WriteOptions, choose_words_to, lay_words_to};
 
 /// Writes the symbol of the letter with the items and the marks of these numbers.
 pub fn write(items: &[u16], marks: &[MarkNumbers], how: &How, out: &mut SymbolOut) -> u16
@@ -78,7 +75,7 @@ fn write_items(items: &[u16], marks: &[MarkNumbers], wanted: Wanted, out: &mut S
     }
 }
 
-/// Does so where the marks are right too.
+/// Does so where the marks are right too. A letter with more items or marks than any symbol says fits no size.
 fn write_numbers(items: &[u16], marks: &[MarkNumbers], wanted: Wanted, out: &mut SymbolOut)
     requires head { IsHead wanted.head }
     requires items { All (λ item. item ≤ 256) items.now }
@@ -87,31 +84,8 @@ fn write_numbers(items: &[u16], marks: &[MarkNumbers], wanted: Wanted, out: &mut
         out.new }
 {
     let Wanted { form, size, head } = wanted;
-    match form {
-        Form::Profiled(profile) => {
-            write_profiled(items, marks, WriteOptions { profile, size }, head, out);
-        }
-        Form::Smallest(extent) => write_smallest(items, marks, extent, size, head, out),
-    }
-}
-
-/// Shows the symbol of the letter of these numbers under a profile, or that it fits no size of the choice. A letter
-/// with more items than two for each data codeword of the largest symbol, or with more marks than one for each two,
-/// fits no size.
-fn write_profiled(
-    items: &[u16],
-    marks: &[MarkNumbers],
-    how: WriteOptions,
-    head: Option<Head>,
-    out: &mut SymbolOut,
-)
-    requires head { IsHead head }
-    requires items { All (λ item. item ≤ 256) items.now }
-    requires marks { AreMarks 0 (length items.now) (marks_of marks.now) }
-    ensures { IsWritingGiven (Form.Profiled how.profile) how.size head items.now marks.now out.old
-        out.new }
-{
-    if !may_fit(items.len(), marks.len()) {
+    let how = WriteOptions { form, size };
+    if !may_be_said(items.len(), marks.len()) {
         show_fault(out, Fault::too_long());
     } else if marks.is_empty() {
         in_room!(
@@ -126,59 +100,22 @@ fn write_profiled(
     }
 }
 
-/// Whether there may be a size for so many items and marks.
-fn may_fit(items: usize, marks: usize) -> bool
-    ensures few { IsTrue result → (items ≤ MOST_WRITTEN) × (marks ≤ LARGEST_MARKS) }
-    ensures many { result ≡ false → (MOST_WRITTEN < items) ⊎ (LARGEST_MARKS < marks) }
+/// Whether some symbol may say so many items and marks.
+fn may_be_said(items: usize, marks: usize) -> bool
+    ensures few { IsTrue result → (items ≤ LARGEST_ITEMS) × (marks ≤ LARGEST_MARKS) }
+    ensures many { result ≡ false → (LARGEST_ITEMS < items) ⊎ (LARGEST_MARKS < marks) }
 {
-    items <= MOST_WRITTEN && marks <= LARGEST_MARKS
+    items <= LARGEST_ITEMS && marks <= LARGEST_MARKS
 }
 
-/// Whether there is no head and no mark.
-pub(crate) fn is_message(head: Option<Head>, marks: &[MarkNumbers]) -> bool
-    ensures { IsTrue result → (head ≡ None) × (marks.now ≡ []) }
-{
-    head.is_none() && marks.is_empty()
-}
-
-/// Shows the symbol of the message of these numbers, or that it fits no size of the choice, in a room that serves for
-/// the message. It stands by itself, so that no other room is left for it on the stack.
-#[inline(never)]
-pub(crate) fn write_these_numbers<const ITEMS: usize>(
-    items: &[u16],
-    extent: Extent,
-    size: SizeChoice,
-    out: &mut SymbolOut,
-)
-    requires items { All (λ item. item ≤ 256) items.now }
-    requires room { length items.now ≤ ITEMS }
-    requires most { ITEMS ≤ LARGEST_ITEMS }
-    ensures { IsWritingGiven (Form.Smallest extent) size None items.now [] out.old out.new }
-{
-    let message = message_of_numbers::<ITEMS>(items);
-    write_smallest_message(message.items(), extent, size, out);
-}
-
-/// Shows the symbol of the letter of these bytes, or why there is none.
+/// Shows the symbol of the letter of these bytes, or why there is none, as for numbers.
 fn write_wanted_bytes(bytes: &[u8], wanted: Wanted, out: &mut SymbolOut)
     requires { IsHead wanted.head }
     ensures { IsWritingGiven wanted.form wanted.size wanted.head bytes.now [] out.old out.new }
 {
     let Wanted { form, size, head } = wanted;
-    match form {
-        Form::Profiled(profile) => {
-            write_profiled_bytes(bytes, WriteOptions { profile, size }, head, out);
-        }
-        Form::Smallest(extent) => write_smallest_bytes(bytes, extent, size, head, out),
-    }
-}
-
-/// Does so under a profile, as for numbers.
-fn write_profiled_bytes(bytes: &[u8], how: WriteOptions, head: Option<Head>, out: &mut SymbolOut)
-    requires { IsHead head }
-    ensures { IsWritingGiven (Form.Profiled how.profile) how.size head bytes.now [] out.old out.new }
-{
-    if bytes.len() > MOST_WRITTEN {
+    let how = WriteOptions { form, size };
+    if bytes.len() > LARGEST_ITEMS {
         show_fault(out, Fault::too_long());
     } else {
         in_room!(
@@ -186,22 +123,6 @@ fn write_profiled_bytes(bytes: &[u8], how: WriteOptions, head: Option<Head>, out
             write_letter_of_bytes::<ITEMS>(bytes, how, head, out)
         );
     }
-}
-
-/// Does so for a message in a room that serves, as for numbers.
-#[inline(never)]
-pub(crate) fn write_these_bytes<const ITEMS: usize>(
-    bytes: &[u8],
-    extent: Extent,
-    size: SizeChoice,
-    out: &mut SymbolOut,
-)
-    requires room { length bytes.now ≤ ITEMS }
-    requires most { ITEMS ≤ LARGEST_ITEMS }
-    ensures { IsWritingGiven (Form.Smallest extent) size None bytes.now [] out.old out.new }
-{
-    let message = message_of_bytes::<ITEMS>(bytes);
-    write_smallest_message(message.items(), extent, size, out);
 }
 
 /// Shows the symbol of the letter of these numbers, or that it fits no size of the choice, in a room that serves for
@@ -221,12 +142,15 @@ fn write_letter_of_numbers<const ITEMS: usize, const MARKS: usize>(
     requires marks { AreMarks 0 (length items.now) (marks_of marks.now) }
     requires mark_room { length marks.now ≤ MARKS }
     requires few_marks { MARKS ≤ LARGEST_MARKS }
-    ensures { IsWritingGiven (Form.Profiled how.profile) how.size head items.now marks.now out.old
+    ensures { IsWritingGiven how.form how.size head items.now marks.now out.old
         out.new }
 {
-    let mut letter = LetterIn::<ITEMS, MARKS>::new();
-    put_letter(&mut letter, head, items, marks);
-    write_normal(letter.head(), letter.items(), letter.marks(), how, out);
+    let mut all_items = [Item::Fnc1; ITEMS];
+    let mut all_marks = [NO_MARK; MARKS];
+    put_items_of(&mut all_items, items);
+    put_marks_of(&mut all_marks, marks, items.len());
+    let (items, marks) = (&all_items[..items.len()], &all_marks[..marks.len()]);
+    write_content(head, items, marks, how, out);
 }
 
 /// Shows the symbol of the letter of these bytes, likewise.
@@ -240,16 +164,16 @@ fn write_letter_of_bytes<const ITEMS: usize>(
     requires head { IsHead head }
     requires room { length bytes.now ≤ ITEMS }
     requires most { ITEMS ≤ LARGEST_ITEMS }
-    ensures { IsWritingGiven (Form.Profiled how.profile) how.size head bytes.now [] out.old out.new }
+    ensures { IsWritingGiven how.form how.size head bytes.now [] out.old out.new }
 {
-    let mut letter = LetterIn::<ITEMS, 0>::new();
-    put_letter_of_bytes(&mut letter, head, bytes);
-    write_normal(letter.head(), letter.items(), letter.marks(), how, out);
+    let mut all = [Item::Fnc1; ITEMS];
+    put_items_of_bytes(&mut all, bytes);
+    write_content(head, &all[..bytes.len()], &[], how, out);
 }
 
-/// Shows the symbol in which a letter is written under a profile, or that it fits no size of the choice.
+/// Shows the symbol in which a letter is written, or that it fits no size of the choice, in a room that serves for it.
 #[inline(never)]
-pub(crate) fn write_normal(
+pub(crate) fn write_content(
     head: Option<Head>,
     items: &[Item],
     marks: &[Mark],
@@ -260,39 +184,34 @@ pub(crate) fn write_normal(
     requires few { length items.now ≤ LARGEST_ITEMS }
     requires few_marks { length marks.now ≤ LARGEST_MARKS }
     requires in_order { AreMarks 0 (length items.now) marks.now }
-    ensures { IsLetterGiven (Form.Profiled how.profile) how.size
+    ensures { IsLetterGiven how.form how.size
         (record { head = head; items = items.now; marks = marks.now }) out.old out.new }
 {
-    in_room!(
-        Room::of_letter(how.size, head, items, marks),
-        write_symbol::<DATA, ROWS, WORDS>(head, items, marks, how, out)
-    );
-}
-
-/// Does so in a room that serves for the symbol. It stands by itself, so that no other room is left for it on the
-/// stack.
-#[inline(never)]
-fn write_symbol<const DATA: usize, const ROWS: usize, const WORDS: usize>(
-    head: Option<Head>,
-    items: &[Item],
-    marks: &[Mark],
-    how: WriteOptions,
-    out: &mut SymbolOut,
-)
-    requires head { IsHead head }
-    requires few { length items.now ≤ LARGEST_ITEMS }
-    requires few_marks { length marks.now ≤ LARGEST_MARKS }
-    requires in_order { AreMarks 0 (length items.now) marks.now }
-    requires room { HasRoomForLetter DATA ROWS WORDS how.size
-        (record { head = head; items = items.now; marks = marks.now }) }
-    ensures { IsLetterGiven (Form.Profiled how.profile) how.size
-        (record { head = head; items = items.now; marks = marks.now }) out.old out.new }
-{
-    let size = smallest_size();
-    let mut words = SymbolWordsIn::<WORDS>::zeros(size);
-    let mut symbol = SymbolIn::<ROWS>::light(size);
-    match write_content_to::<DATA, WORDS, ROWS>(head, items, marks, how, &mut words, &mut symbol) {
-        Ok(()) => show_symbol(out, &symbol),
+    let mut list = ArrayVec::<u8, MOST_DATA>::new();
+    match choose_words_to(head, items, marks, how, &mut list) {
+        Ok(size) => in_room!(Room::of(size), show_words::<ROWS, WORDS>(size, &list, out)),
         Err(TooLong) => show_fault(out, Fault::too_long()),
     }
+}
+
+/// Shows the symbol of data codewords of a size, in a room that serves for it. It stands by itself, so that no other
+/// room is left for it on the stack.
+#[inline(never)]
+fn show_words<const ROWS: usize, const WORDS: usize>(
+    size: SymbolSize,
+    list: &[u8],
+    out: &mut SymbolOut,
+)
+    requires count { length list.now ≡ size.data_count }
+    requires room { IsRoom ROWS WORDS }
+    requires high { size.rows ≤ ROWS }
+    requires long { codeword_count size ≤ WORDS }
+    ensures { (form : Form) (choice : SizeChoice) (letter : LetterView)
+        → AreChosen form choice letter size list.now
+        → IsLetterGiven form choice letter out.old out.new }
+{
+    let mut words = SymbolWordsIn::<WORDS>::zeros(size);
+    let mut symbol = SymbolIn::<ROWS>::light(size);
+    lay_words_to(size, list, &mut words, &mut symbol);
+    show_symbol(out, &symbol);
 }

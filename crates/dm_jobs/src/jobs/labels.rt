@@ -2,17 +2,16 @@
 
 use crate::chance::Chance;
 use crate::digest::Digest;
-use crate::message::{put_message, write_smallest};
+use crate::message::{put_message, write};
 use crate::texts::{Text, labelled};
-use dm_layout::symbols::{MOST_DATA, SizeChoice, Symbol, SymbolWords, table};
-use dm_symbol::{Message, Profile, WriteOptions, write_content_to};
+use dm_layout::symbols::{SizeChoice, Symbol, SymbolWords, table};
+use dm_symbol::{Form, Message, Profile};
 use dm_words::Extent;
 
 /// How many labels a round has.
 const LABELS: usize = 40;
 
 /// Writes the labels of a round.
-#[tactic(auto, using(dm_symbol::proofs::Exported::room_for_most))]
 pub(crate) fn round(chance: &mut Chance, digest: &mut Digest) {
     let size = table()[0];
     // For the proof alone: what `rows` and `check_count` ensure says that there is room.
@@ -30,15 +29,8 @@ pub(crate) fn round(chance: &mut Chance, digest: &mut Digest) {
         } else {
             Profile::Shorter
         };
-        let how = WriteOptions { profile, size };
-        let written = write_content_to::<MOST_DATA, _, _>(
-            None,
-            message.items(),
-            &[],
-            how,
-            &mut words,
-            &mut symbol,
-        );
+        let form = Form::Profiled(profile);
+        let written = write(&message, form, size, &mut words, &mut symbol);
         digest.add_code(u16::from(written.is_err()));
         digest.add_symbol(&symbol);
         let extent = if chance.happens(75) {
@@ -47,7 +39,8 @@ pub(crate) fn round(chance: &mut Chance, digest: &mut Digest) {
             Extent::Wide
         };
         let size = choice(chance);
-        let written = write_smallest(extent, &message, size, &mut words, &mut symbol);
+        let form = Form::Smallest(extent);
+        let written = write(&message, form, size, &mut words, &mut symbol);
         digest.add_code(u16::from(written.is_err()));
         digest.add_symbol(&symbol);
     }

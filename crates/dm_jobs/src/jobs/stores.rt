@@ -3,11 +3,11 @@
 use crate::chance::Chance;
 use crate::digest::Digest;
 use crate::failure::Failure;
-use crate::message::{put_message, write_smallest};
+use crate::message::{put_message, write};
 use crate::page::{add_record, answers, side_at, turn, turn_some};
 use crate::texts::{Text, scanned};
-use dm_layout::symbols::{MOST_DATA, SizeChoice, Symbol, SymbolSize, SymbolWords, table};
-use dm_symbol::{Message, WriteOptions, write_content_to};
+use dm_layout::symbols::{SizeChoice, Symbol, SymbolSize, SymbolWords, table};
+use dm_symbol::{Form, Message};
 use dm_text::{Profile, Task};
 use dm_words::{Extent, TooLong};
 use std::alloc::Global;
@@ -64,30 +64,27 @@ fn print(
     chance: &mut Chance,
 ) -> Result<(), TooLong> {
     let square = SizeChoice::Square;
+    let (ascii, shorter) = (
+        Form::Profiled(Profile::Ascii),
+        Form::Profiled(Profile::Shorter),
+    );
     match chance.below(3) {
-        0 => write_smallest(Extent::Usual, message, square, words, symbol),
-        1 => write_items(message, Profile::Shorter, square, words, symbol),
+        0 => write(
+            message,
+            Form::Smallest(Extent::Usual),
+            square,
+            words,
+            symbol,
+        ),
+        1 => write(message, shorter, square, words, symbol),
         _ => {
-            write_items(message, Profile::Ascii, square, words, symbol)?;
+            write(message, ascii, square, words, symbol)?;
             let side = symbol.size().rows();
             let larger = SizeChoice::Exact(side.saturating_add(2), side.saturating_add(2));
-            let _room = write_items(message, Profile::Ascii, larger, words, symbol);
+            let _room = write(message, ascii, larger, words, symbol);
             Ok(())
         }
     }
-}
-
-/// Writes a message under a profile in a choice of sizes.
-#[tactic(auto, using(dm_symbol::proofs::Exported::room_for_most))]
-fn write_items(
-    message: &Message,
-    profile: Profile,
-    size: SizeChoice,
-    words: &mut SymbolWords,
-    symbol: &mut Symbol,
-) -> Result<(), TooLong> {
-    let how = WriteOptions { profile, size };
-    write_content_to::<MOST_DATA, _, _>(None, message.items(), &[], how, words, symbol)
 }
 
 /// Damages a scan of a mark: the first stays, one has as many wrong modules as codewords may be, and the others a few.

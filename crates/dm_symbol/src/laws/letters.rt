@@ -4,8 +4,7 @@
 ghost use Rattle.dm_symbol.specs.LetterLaws.{OneSymbolLetter, ReadLettersAreRight, LetterReadResultIsThere};
 ghost use Rattle.dm_symbol.specs.LetterLaws.{LetterReadResultIsOne, NormalLetterResultIsThere, NormalLetterResultIsOne};
 ghost use Rattle.dm_symbol.specs.LetterLaws.{UsualLettersAreMessages, WideReadsTheUsualLetter, AWrittenLetterIsThere};
-ghost use Rattle.dm_symbol.specs.LetterLaws.{WrittenLetterIsRead, WrittenSymbolsTellLetters, RoomForEachServesLetters};
-ghost use Rattle.dm_symbol.specs.LetterLaws.{MostRoomServesLetters, NormalLetterTwiceIsOnce};
+ghost use Rattle.dm_symbol.specs.LetterLaws.{WrittenLetterIsRead, WrittenSymbolsTellLetters, NormalLetterTwiceIsOnce};
 ghost use Rattle.dm_symbol.specs.LetterLaws.{EqualNormalSymbolsMeanEqualLetters, AMacroIsItsText};
 
 /// With the same doubtful modules, a symbol is read as at most one letter, whatever the extents and the limits; and
@@ -28,13 +27,6 @@ pub fn each_symbol_has_a_letter_result()
 /// symbol.
 pub fn a_written_letter_is_there()
     ensures { AWrittenLetterIsThere }
-{}
-
-/// Where there is room for each size of a choice, there is room for the symbol in which a letter is written; so there
-/// is in the most room that a symbol has.
-pub fn room_for_each_size_serves_letters()
-    ensures each { RoomForEachServesLetters }
-    ensures most { MostRoomServesLetters }
 {}
 
 /// The symbol in which a right letter is written, in any choice of sizes, is read as that letter in each extent in

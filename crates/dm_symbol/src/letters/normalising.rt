@@ -6,10 +6,9 @@ ghost use Rattle.dm_symbol.specs.LetterReading.{letter_reading_in};
 ghost use Rattle.dm_symbol.specs.LetterNormal.{IsLetterNormalisedTo};
 
 use crate::letters::reading::read_letter_to;
-use crate::letters::writing::write_letter_to;
+use crate::letters::writing::{Form, WriteOptions, write_content_to};
 use crate::letters::{LetterNormalFault, LetterReadingIn};
 use crate::symbol::reading::ReadOptions;
-use crate::symbol::writing::WriteOptions;
 use dm_layout::symbols::{SizeChoice, Symbol, SymbolIn, SymbolWords};
 use dm_words::{LARGEST_MARKS, LARGEST_ROOM, Profile, TooLong};
 
@@ -49,10 +48,12 @@ pub fn normal_letter_to<const ROWS: usize, const ITEMS: usize, const MARKS: usiz
         Err(fault) => return Err(LetterNormalFault::Read(fault)),
     }
     let square = WriteOptions {
-        profile,
+        form: Form::Profiled(profile),
         size: SizeChoice::Square,
     };
-    match write_letter_to(&reading.letter, square, words, normal) {
+    let letter = &reading.letter;
+    let (items, marks) = (letter.items(), letter.marks());
+    match write_content_to(letter.head(), items, marks, square, words, normal) {
         Ok(()) => Ok(()),
         Err(TooLong) => Err(LetterNormalFault::TooLong),
     }

@@ -25,7 +25,8 @@ pub(super) fn letter(words: &[u8]) -> Result<Letter, LetterFault> {
 /// The codewords of the letter in its normal form under the profile.
 fn form_of(profile: Profile, letter: &Letter) -> Result<ArrayVec<u8, MOST_GRID_DATA>, TooLong> {
     let mut words = ArrayVec::new();
-    match letter_words_in(profile, letter, &mut words) {
+    let (items, marks) = (letter.items(), letter.marks());
+    match content_words_in(profile, letter.head(), items, marks, &mut words) {
         Ok(()) => Ok(words),
         Err(TooLong) => Err(TooLong),
     }

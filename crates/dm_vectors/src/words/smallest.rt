@@ -1,12 +1,22 @@
 //! The smallest symbol of a message. The codewords are those of a plain model, which isn't this program.
 
 use super::*;
-use dm_layout::symbols::SizeChoice;
+use dm_layout::symbols::{MOST_DATA, SizeChoice, SymbolSize};
+
+/// Leaves the smallest codewords of a message in an extent and a choice of sizes, and gives their size.
+fn put_smallest(
+    extent: Extent,
+    message: &Message,
+    choice: SizeChoice,
+    words: &mut ArrayVec<u8, MOST_DATA>,
+) -> Result<SymbolSize, TooLong> {
+    smallest_words_to(extent, None, message.items(), &[], choice, words)
+}
 
 /// Whether the smallest codewords of the message in an extent, among the squares, are these, and are read as it.
 fn is_smallest(extent: Extent, message: &Message, expected: &[u8]) -> bool {
     let mut words = ArrayVec::new();
-    match smallest_words_to(extent, message.items(), SizeChoice::Square, &mut words) {
+    match put_smallest(extent, message, SizeChoice::Square, &mut words) {
         Ok(_) => words.as_slice() == expected && is_read(extent, expected, message),
         Err(_) => false,
     }
@@ -154,12 +164,8 @@ fn writes_the_smallest(rt: HostRuntime) {
 /// Whether the smallest codewords of so many bytes 255, among the squares, are so many and begin with these.
 fn is_segment(count: usize, word_count: usize, expected: &[u8]) -> bool {
     let mut words = ArrayVec::new();
-    match smallest_words_to(
-        Extent::Usual,
-        of_many(255, count).items(),
-        SizeChoice::Square,
-        &mut words,
-    ) {
+    let message = of_many(255, count);
+    match put_smallest(Extent::Usual, &message, SizeChoice::Square, &mut words) {
         Ok(_) => words.len() == word_count && words.starts_with(expected),
         Err(_) => false,
     }
@@ -184,12 +190,7 @@ fn writes_the_length_of_a_segment(rt: HostRuntime) {
 /// The rows and columns of the smallest symbol of so many digits 0, or 0 and 0 where the choice has none.
 fn size_of_digits(count: usize, choice: SizeChoice) -> (u16, u16) {
     let mut words = ArrayVec::new();
-    match smallest_words_to(
-        Extent::Usual,
-        of_many(b'0', count).items(),
-        choice,
-        &mut words,
-    ) {
+    match put_smallest(Extent::Usual, &of_many(b'0', count), choice, &mut words) {
         Ok(size) => (size.rows(), size.columns()),
         Err(_) => (0, 0),
     }

@@ -49,8 +49,16 @@ fn is_smallest(words: &[u8]) -> bool {
     let Ok(letter) = letter(words) else {
         return false;
     };
+    let (items, marks) = (letter.items(), letter.marks());
     let mut smallest = ArrayVec::new();
-    match smallest_letter_words_to(Extent::Wide, &letter, SizeChoice::Square, &mut smallest) {
+    match smallest_words_to(
+        Extent::Wide,
+        letter.head(),
+        items,
+        marks,
+        SizeChoice::Square,
+        &mut smallest,
+    ) {
         Ok(_) => smallest.as_slice() == words,
         Err(TooLong) => false,
     }
@@ -71,8 +79,16 @@ fn is_too_long(words: &[u8]) -> bool {
     let Ok(letter) = letter(words) else {
         return false;
     };
+    let (items, marks) = (letter.items(), letter.marks());
     let mut smallest = ArrayVec::new();
-    match smallest_letter_words_to(Extent::Usual, &letter, SizeChoice::Square, &mut smallest) {
+    match smallest_words_to(
+        Extent::Usual,
+        letter.head(),
+        items,
+        marks,
+        SizeChoice::Square,
+        &mut smallest,
+    ) {
         Ok(_) => false,
         Err(TooLong) => true,
     }

@@ -5,7 +5,7 @@ ghost use Rattle.dm_words.specs.Ascii.{ascii};
 ghost use Rattle.dm_words.specs.Designators.{eci_word, designator};
 ghost use Rattle.dm_words.specs.Heads.{IsHead, head_words};
 ghost use Rattle.dm_words.specs.Letters.{AreMarks};
-ghost use Rattle.dm_words.specs.LetterForm.{letter_form, form_by, ascii_with_marks};
+ghost use Rattle.dm_words.specs.LetterForm.{form_by, ascii_with_marks};
 ghost use Rattle.dm_words.specs.Messages.{IsMessage};
 ghost use Rattle.dm_words.specs.Plain.{IsPlainWithPads};
 ghost use Rattle.dm_words.specs.inner.MarkedForms.{is_plain};
@@ -15,7 +15,6 @@ use crate::fault::TooLong;
 use crate::item::Item;
 use crate::letters::designator::{ECI, MOST_ASSIGNED, designator_words};
 use crate::letters::head::{Head, head_words};
-use crate::letters::letter::LetterIn;
 use crate::letters::mark::Mark;
 use crate::limits::{LARGEST_MARKS, LARGEST_ROOM};
 use crate::normal_form::normal_words_in;
@@ -196,28 +195,4 @@ pub fn content_words_in<const N: usize>(
         return normal_words_in(profile, items, words);
     }
     write_marked(head, items, marks, words)
-}
-
-/// Does so for a letter of any room, at most [`LARGEST_ROOM`] items and [`LARGEST_MARKS`] marks.
-pub fn letter_words_in<const ROOM: usize, const MARKS: usize, const N: usize>(
-    profile: Profile,
-    letter: &LetterIn<ROOM, MARKS>,
-    words: &mut ArrayVec<u8, N>,
-) -> Result<(), TooLong>
-    requires room { ROOM ≤ LARGEST_ROOM }
-    requires marks { MARKS ≤ LARGEST_MARKS }
-    requires least { 3 ≤ N }
-    requires most { N ≤ MOST_DATA }
-    ensures form { OnOk result (words.new.items ≡ letter_form profile letter.now) }
-    ensures too_long { IsErr result ↔ (N < length (letter_form profile letter.now)) }
-    ensures same { OnErr result (words.new.items ≡ words.old.items) }
-    ensures plain { OnOk result (IsPlainWithPads words.new.items letter.now) }
-{
-    content_words_in(
-        profile,
-        letter.head(),
-        letter.items(),
-        letter.marks(),
-        words,
-    )
 }

@@ -1,6 +1,5 @@
-//! The smallest symbol of a letter: data codewords that say it, of the smallest size of a choice that has any. Only
-//! ASCII says a mark, so a letter is cut at its marks, and each text between them is written before the codewords that
-//! follow it.
+//! The smallest symbol of a letter with a head or a mark. Only ASCII says a mark, so a letter is cut at its marks, and
+//! each text between them is written before the codewords that follow it.
 
 ghost use Rattle.std.specs.Prelude.{◌≡◌, ℕ, ◌+◌, ◌*◌, ◌<◌, ◌≤◌, ◌++◌, length, IsTrue, IfSome, IfNone, OnErr, None};
 ghost use Rattle.std.specs.Prelude.{false};
@@ -25,10 +24,9 @@ use crate::extent::Extent;
 use crate::fault::TooLong;
 use crate::item::Item;
 use crate::letters::head::{Head, head_words};
-use crate::letters::letter::LetterIn;
 use crate::letters::mark::Mark;
 use crate::letters::normal_form::{
-    add_mark_words, add_words, head_words_length, is_plain, mark_length, marked_length, write_form,
+    add_mark_words, add_words, head_words_length, mark_length, marked_length, write_form,
 };
 use crate::limits::{LARGEST_MARKS, LARGEST_ROOM};
 use crate::macros::{HEADER_LENGTH, TRAILER_LENGTH, macro_of};
@@ -36,68 +34,39 @@ use crate::pad::pad_to;
 use crate::smallest::parts::write_parts;
 use crate::smallest::plan::{StepBits, plan_to};
 use crate::smallest::setting::Setting;
-use crate::smallest::{LONG_PLAN, Way, inner, smallest_items_to};
+use crate::smallest::{Way, inner};
 use arrayvec::ArrayVec;
 use dm_layout::symbols::{MOST_DATA, SizeChoice, SymbolSize};
 
-/// Chooses data codewords, with pads, that say the letter in an extent, in the smallest size of the choice that has
-/// any: no list of codewords of a smaller size says it there, but for lists that have a macro before FNC1. The letter
-/// may have any room, at most [`LARGEST_ROOM`] items and [`LARGEST_MARKS`] marks. After `Ok`, which has that size,
-/// `words` holds them, whatever it held before. They are plain, and their symbology identifier is that of the ASCII
-/// form. They are the letter in ASCII, as under [`Profile::Ascii`](crate::Profile::Ascii), where the size has room for
-/// that; else codewords that say the letter in the usual extent, where there are any. `TooLong` exactly where the
-/// codewords of no size of the choice say the letter, as in the usual extent those of no size say a head or a mark;
-/// then `words` holds what it held before. ISO/IEC 16022, encodation schemes, ECI encodation, structured append, reader
-/// programming.
-pub fn smallest_letter_words_to<const ROOM: usize, const MARKS: usize>(
-    extent: Extent,
-    letter: &LetterIn<ROOM, MARKS>,
-    choice: SizeChoice,
-    words: &mut ArrayVec<u8, MOST_DATA>,
-) -> Result<SymbolSize, TooLong>
-    requires room { ROOM ≤ LARGEST_ROOM }
-    requires marks { MARKS ≤ LARGEST_MARKS }
-    ensures smallest { IsSmallestLetterResult extent choice letter.now result words.new.items }
-    ensures same { OnErr result (words.new.items ≡ words.old.items) }
-{
-    let head = letter.head();
-    let marks = letter.marks();
-    if is_plain(head, marks) {
-        return smallest_items_to(extent, letter.items(), choice, words);
-    }
-    match extent {
-        Extent::Usual => Err(TooLong),
-        Extent::Wide => smallest_marked_to(head, letter.items(), marks, choice, words),
-    }
-}
-
-/// Does the same for a letter of these items and marks that has a head or a mark, in the wide extent. It stands by
-/// itself, so that its plan isn't left on the stack.
-#[inline(never)]
-fn smallest_marked_to(
+/// Chooses the smallest data codewords, as [`smallest_words_to()`](crate::smallest_words_to()), in the wide extent, of
+/// a letter that has a head or a mark, by a plan that has more steps than the items, with room for what follows each
+/// mark.
+pub(crate) fn smallest_marked_to(
     head: Option<Head>,
     items: &[Item],
     marks: &[Mark],
     choice: SizeChoice,
+    behind: &mut [u16],
+    plan: &mut [StepBits],
     words: &mut ArrayVec<u8, MOST_DATA>,
 ) -> Result<SymbolSize, TooLong>
     requires head { IsHead head }
     requires few { length items.now ≤ LARGEST_ROOM }
     requires few_marks { length marks.now ≤ LARGEST_MARKS }
-    requires message { IsMessage items.now }
     requires in_order { AreMarks 0 (length items.now) marks.now }
     requires marked { is_plain head marks.now ≡ false }
+    requires steps { length items.now < length plan.old }
+    requires room { length marks.now ≤ length behind.old }
     ensures smallest { IsSmallestLetterResult Wide choice (view_of head items.now marks.now) result words.new.items }
+    ensures message { IsMessage items.now }
     ensures same { OnErr result (words.new.items ≡ words.old.items) }
 {
-    let mut plan = [StepBits::NONE; LONG_PLAN];
-    let mut behind = [0; LARGEST_MARKS];
-    let way = least_way(head, items, marks, &mut behind, &mut plan);
+    let way = least_way(head, items, marks, behind, plan);
     match SymbolSize::for_words(choice, way.cost) {
         None => Err(TooLong),
         Some(size) => {
             let count = size.data_count();
-            write_letter(head, items, marks, way, &behind, &mut plan, words, count);
+            write_letter(head, items, marks, way, behind, plan, words, count);
             pad_to(words, usize::from(count));
             Ok(size)
         }
@@ -121,6 +90,7 @@ fn marked_cost(
     ensures cost { result ≡ marked_cost seen items.now marks.now }
     ensures most { result ≤ 2 * length items.now + 4 * length marks.now }
     ensures behind { AreBehind seen items.now marks.now behind.new }
+    ensures message { IsMessage items.now }
 {
     let mut cost = 0;
     let mut end = items.len();
@@ -141,6 +111,7 @@ fn text_cost(behind: u16, items: &[Item], plan: &mut [StepBits]) -> u16
     requires steps { length items.now < length plan.old }
     ensures cost { result ≡ parts_cost (before_words behind) items.now }
     ensures most { result ≤ behind + 2 * length items.now }
+    ensures message { IsMessage items.now }
 {
     let setting = Setting {
         extent: Extent::Wide,
@@ -166,6 +137,7 @@ fn least_way(
     ensures way { IsLetterWay (view_of head items.now marks.now) result.macro_word result.cost }
     ensures least { IsLeastLetterCost (view_of head items.now marks.now) result.cost }
     ensures behind { AreBehind (seen_by result.macro_word) (text_of result.macro_word items.now) marks.now behind.new }
+    ensures message { IsMessage items.now }
 {
     let cost = head_words_length(head) as u16 + marked_cost(0, items, marks, behind, plan);
     match letter_macro(head, items, marks) {

@@ -7,11 +7,11 @@ use Rattle.dm_symbol.specs.NormalOutcomes.{IsNormalOrFault}
 use Rattle.dm_symbol.proofs.Exported.{refused_letter_result, restored_reads}
 use Rattle.dm_words.specs.Letters.{LetterView}
 use Rattle.dm_words.specs.LetterExtents.{RefusedIn, SaysIn}
-use Rattle.ecc200_calls.specs.declared.form.Form.TheVariants.{Profiled}
+use Rattle.dm_symbol.specs.declared.Form.TheVariants.{Profiled}
 use Rattle.ecc200_calls.specs.Symbols.{no_symbol}
 use Rattle.ecc200_calls.specs.Writings.{IsLetterGiven}
 use Rattle.ecc200_calls.proofs.NormalGiven.{normal_of_letter}
-use Rattle.ecc200_calls.proofs.ReadLetters.{letter_is}
+use Rattle.dm_symbol.proofs.Exported.{letter_is}
 use Rattle.ecc200_calls.proofs.Rooms.{data_count_is, data_few}
 use Rattle.ecc200_calls.proofs.normalising.normal_words.Goals as goal
 
@@ -33,13 +33,13 @@ returns-in-Ok g c symbol doubtful limit restored is =
     let says : SaysIn a.extent (data_of a.words.now) letter =
     subst (λ words. SaysIn a.extent words letter) c.data_part.ensures.value
     ((c.in-Ok.ensures.read.letter letter).0 refl) in
-    normal_of_letter a.extent a.profile symbol doubtful limit a.out.now c.write_normal.new.out letter
+    normal_of_letter a.extent a.profile symbol doubtful limit a.out.now c.write_content.new.out letter
     (restored_reads a.extent symbol doubtful limit a.words.now restored.dealing restored.blocks.items
     restored.border_faults is letter says)
-    (subst (λ (l : LetterView). IsLetterGiven (Profiled a.profile) Square l a.out.now c.write_normal.new.out)
+    (subst (λ (l : LetterView). IsLetterGiven (Profiled a.profile) Square l a.out.now c.write_content.new.out)
     (letter_is letter c.head.result c.items.result.now c.marks.result.now c.head.ensures.value
     c.items.ensures.value c.marks.ensures.value)
-    c.write_normal.ensures)
+    c.write_content.ensures)
 
 pub returns-in-Err : goal.returns-in-Err
 returns-in-Err g c symbol doubtful limit restored is =

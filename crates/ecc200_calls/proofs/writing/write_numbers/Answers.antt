@@ -1,16 +1,15 @@
-use Rattle.std.proofs.Common.{sym, subst}
-use Rattle.ecc200_calls.specs.declared.form.Form.{Form}
-use Rattle.ecc200_calls.specs.Writings.{IsWritingGiven}
+use Rattle.std.proofs.Common.{inl, inr, ◌∙◌, ap, arith}
+use Rattle.ecc200_calls.specs.Symbols.{no_symbol}
+use Rattle.ecc200_calls.proofs.Written.{too_long_given}
 use Rattle.ecc200_calls.proofs.writing.write_numbers.Goals as goal
 
-pub returns-in-Profiled : goal.returns-in-Profiled
-returns-in-Profiled c =
+pub returns-then-not-may_be_said : goal.returns-then-not-may_be_said
+returns-then-not-may_be_said c =
     let a = c.args in
-    subst (λ (form : Form). IsWritingGiven form a.wanted.size a.wanted.head a.items.now a.marks.now a.out.now
-    c.write_profiled.new.out) (sym c.in-Profiled.is) c.write_profiled.ensures
-
-pub returns-in-Smallest : goal.returns-in-Smallest
-returns-in-Smallest c =
-    let a = c.args in
-    subst (λ (form : Form). IsWritingGiven form a.wanted.size a.wanted.head a.items.now a.marks.now a.out.now
-    c.write_smallest.new.out) (sym c.in-Smallest.is) c.write_smallest.ensures
+    too_long_given a.wanted.form a.wanted.size a.wanted.head a.items.now a.marks.now a.out.now c.show_fault.new.out
+    c.requires.head c.requires.items c.requires.marks
+    (elim (c.may_be_said.ensures.many c.if-not-may_be_said.true) [
+      | inl items ↦ inl (omega (arith, items))
+      | inr marks ↦ inr (omega (arith, marks))
+    ])
+    (c.show_fault.ensures ∙ ap (λ why. no_symbol why a.out.now) c.too_long.ensures)

@@ -1,16 +1,13 @@
-use Rattle.std.proofs.Common.{[], sym, subst}
-use Rattle.ecc200_calls.specs.declared.form.Form.{Form}
-use Rattle.ecc200_calls.specs.Writings.{IsWritingGiven}
+use Rattle.std.proofs.Common.{[], ◌≤◌, ◌∙◌, ap, inl, arith}
+use Rattle.std.proofs.lemmas.List.Elements.{All-from_get_or}
+use Rattle.ecc200_calls.specs.Symbols.{no_symbol}
+use Rattle.ecc200_calls.proofs.Written.{too_long_given}
 use Rattle.ecc200_calls.proofs.writing.write_wanted_bytes.Goals as goal
 
-pub returns-in-Profiled : goal.returns-in-Profiled
-returns-in-Profiled c =
+pub returns-then-bytes-gt-LARGEST_ITEMS : goal.returns-then-bytes-gt-LARGEST_ITEMS
+returns-then-bytes-gt-LARGEST_ITEMS c =
     let a = c.args in
-    subst (λ (form : Form). IsWritingGiven form a.wanted.size a.wanted.head a.bytes.now [] a.out.now
-    c.write_profiled_bytes.new.out) (sym c.in-Profiled.is) c.write_profiled_bytes.ensures
-
-pub returns-in-Smallest : goal.returns-in-Smallest
-returns-in-Smallest c =
-    let a = c.args in
-    subst (λ (form : Form). IsWritingGiven form a.wanted.size a.wanted.head a.bytes.now [] a.out.now
-    c.write_smallest_bytes.new.out) (sym c.in-Smallest.is) c.write_smallest_bytes.ensures
+    too_long_given a.wanted.form a.wanted.size a.wanted.head a.bytes.now [] a.out.now c.show_fault.new.out c.requires
+    (All-from_get_or (λ number. number ≤ 256) a.bytes.now 0 (λ i inside. omega (arith, c.type_inv.bytes i)))
+    (omega arith) (inl (omega (arith, c.if-bytes-gt-LARGEST_ITEMS.true)))
+    (c.show_fault.ensures ∙ ap (λ why. no_symbol why a.out.now) c.too_long.ensures)

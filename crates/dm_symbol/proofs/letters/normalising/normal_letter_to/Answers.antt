@@ -1,11 +1,11 @@
-use Rattle.std.proofs.Common.{refl, arith, rules}
+use Rattle.std.proofs.Common.{Err, Ok, refl, rules, subst}
 use Rattle.std.specs.Prelude.{option_map}
 use Rattle.std.proofs.lemmas.Bool.{false≢true}
-use Rattle.dm_words.specs.LetterForm.{letter_form}
+use Rattle.dm_words.specs.Letters.{LetterView}
 use Rattle.dm_layout.specs.declared.symbols.size.SizeChoice.TheVariants.{Square}
-use Rattle.dm_layout.specs.symbols.Sizes.{most_data, most_rows, most_codewords}
 use Rattle.dm_layout.proofs.symbols.Exported.{size_facts}
-use Rattle.dm_symbol.proofs.Rooms.{room_for_most}
+use Rattle.dm_symbol.specs.NormalLetter.{IsLetterWritten}
+use Rattle.dm_symbol.proofs.ChosenWords.{letter_is}
 use Rattle.dm_symbol.specs.NormalOutcomes.{IsNormalOrFault}
 use Rattle.dm_symbol.proofs.NormalLetters.{is_letter_normalised}
 use Rattle.dm_symbol.proofs.letters.normalising.normal_letter_to.Goals as goal
@@ -23,30 +23,35 @@ returns-in-Err g c =
       same = refl;
     }
 
-pub returns-in-Ok-write_letter_to : goal.returns-in-Ok-write_letter_to
-returns-in-Ok-write_letter_to g c =
+pub returns-in-Ok-write_content_to : goal.returns-in-Ok-write_content_to
+returns-in-Ok-write_content_to g c =
     let how = c.args.how in
     let doubt = option_map (λ d. d.now) how.doubtful in
     let letter = c.read_letter_to.new.reading.letter in
+    let same = letter_is letter c.head.result c.items-items.result.now c.marks-marks.result.now c.head.ensures.value
+    c.items-items.ensures.value c.marks-marks.ensures.value in
     record {
       normal =
           is_letter_normalised how.extent c.args.profile c.args.symbol.now doubt how.border_limit _
-          (IsNormalOrFault.normal c.write_letter_to.new.symbol
+          (IsNormalOrFault.normal c.write_content_to.new.symbol
           (record {
             letter = letter;
             read = (c.in-Ok.ensures.read.letter letter).0 refl;
-            normal_symbol = c.in-Ok-write_letter_to.ensures.written.written;
+            normal_symbol = (subst (λ (l : LetterView). IsLetterWritten Square c.args.profile l
+                (Ok c.write_content_to.new.symbol)) same c.in-Ok-write_content_to.ensures.written).written;
           }) refl);
       reading_is = c.in-Ok.ensures.read.result_is;
       reading_of_long = λ e. cc;
       same = tt;
     }
 
-pub returns-in-Err-write_letter_to : goal.returns-in-Err-write_letter_to
-returns-in-Err-write_letter_to g c =
+pub returns-in-Err-write_content_to : goal.returns-in-Err-write_content_to
+returns-in-Err-write_content_to g c =
     let how = c.args.how in
     let doubt = option_map (λ d. d.now) how.doubtful in
     let letter = c.read_letter_to.new.reading.letter in
+    let same = letter_is letter c.head.result c.items-items.result.now c.marks-marks.result.now c.head.ensures.value
+    c.items-items.ensures.value c.marks-marks.ensures.value in
     record {
       normal =
           is_letter_normalised how.extent c.args.profile c.args.symbol.now doubt how.border_limit _
@@ -54,11 +59,12 @@ returns-in-Err-write_letter_to g c =
           (record {
             letter = letter;
             read = (c.in-Ok.ensures.read.letter letter).0 refl;
-            too_long = λ fits. false≢true (c.in-Err-write_letter_to.ensures.written.fits.1 fits);
+            too_long = λ fits. false≢true ((subst (λ (l : LetterView). IsLetterWritten Square c.args.profile l (Err _))
+                same c.in-Err-write_content_to.ensures.written).fits.1 fits);
           }) refl);
       reading_is = tt;
       reading_of_long = λ e. c.in-Ok.ensures.read.result_is;
-      same = c.in-Err-write_letter_to.ensures.same;
+      same = c.in-Err-write_content_to.ensures.same;
     }
 
 pub read_letter_to-requires : goal.read_letter_to-requires
@@ -79,10 +85,3 @@ read_letter_to-requires g c =
         ),
       ),
     )
-
-pub write_letter_to-requires : goal.write_letter_to-requires
-write_letter_to-requires g c =
-    let form = letter_form c.args.profile c.read_letter_to.new.reading.letter in
-    let room = room_for_most Square form most_data most_rows most_codewords (omega arith) (omega arith)
-    (omega arith) in
-    (search rules, (search rules, (search rules, (c.requires.room, (c.requires.few_marks, room)))))

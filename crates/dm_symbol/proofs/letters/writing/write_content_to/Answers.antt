@@ -1,27 +1,35 @@
-use Rattle.std.proofs.Common.{refl, subst}
-use Rattle.dm_words.specs.LetterForm.{form_by}
-use Rattle.dm_words.specs.Messages.{IsMessage}
-use Rattle.dm_words.specs.Outcomes.{outcome}
-use Rattle.dm_symbol.specs.WrittenWords.{AreWritten}
-use Rattle.dm_symbol.proofs.PlainSymbols.{left_is_plain_where}
-use Rattle.dm_symbol.proofs.SymbolWriteSteps.{too_long_for_room}
-use Rattle.dm_symbol.proofs.WrittenWords.{no_words_written}
+use Rattle.std.proofs.Common.{List, ℕ, arith, ap, length, rules, subst, sym, ◌∙◌}
+use Rattle.dm_words.specs.Letters.{LetterView}
+use Rattle.dm_layout.proofs.symbols.Exported.{size_facts}
+use Rattle.dm_symbol.specs.WrittenLetter.{AreChosen}
+use Rattle.dm_symbol.proofs.PlainSymbols.{form_written_is_plain}
 use Rattle.dm_symbol.proofs.letters.writing.write_content_to.Goals as goal
 
-pub returns-in-Err-clause-written : goal.returns-in-Err-clause-written
-returns-in-Err-clause-written g c =
+pub lay_words_to-requires : goal.lay_words_to-requires
+lay_words_to-requires c =
+    let facts = size_facts c.in-Ok.size c.in-Ok.ensures.size in (
+      search rules,
+      (
+        search rules,
+        (
+          ap length c.deref.ensures.0 ∙ c.in-Ok.ensures.count,
+          (omega (arith, facts.codewords), omega (arith, facts.rows_fit)),
+        ),
+      ),
+    )
+
+pub returns-in-Ok-clause-written : goal.returns-in-Ok-clause-written
+returns-in-Ok-clause-written c =
     let a = c.args in
-    let form = form_by a.how.profile a.head a.items.now a.marks.now in
-    no_words_written a.how.size form _ refl
-    (too_long_for_room a.how.size form g.row.DATA g.row.ROWS g.row.WORDS c.requires.room
-    (c.in-Err.ensures.too_long.0 refl))
+    let l : LetterView = record { head = a.head; items = a.items.now; marks = a.marks.now } in
+    c.lay_words_to.ensures a.how.form a.how.size l
+    (subst (λ (ws : List ℕ). AreChosen a.how.form a.how.size l c.in-Ok.size ws) (sym c.deref.ensures.0)
+    c.in-Ok.ensures.chosen)
 
 pub returns-in-Ok-clause-plain : goal.returns-in-Ok-clause-plain
-returns-in-Ok-clause-plain g c =
+returns-in-Ok-clause-plain c = λ fit.
     let a = c.args in
-    left_is_plain_where (IsMessage a.items.now) a.how.size a.how.profile
-    (record { head = a.head; items = a.items.now; marks = a.marks.now }) c.write_words_to.result
-    c.write_words_to.new.symbol
-    (λ fit. record { head = c.requires.head; items = fit; marks = c.requires.in_order })
-    (subst (λ f. AreWritten a.how.size f (outcome c.write_words_to.result c.write_words_to.new.symbol))
-    c.in-Ok.ensures.form c.write_words_to.ensures.written)
+    let l : LetterView = record { head = a.head; items = a.items.now; marks = a.marks.now } in
+    form_written_is_plain a.how.form a.how.size l _
+    (record { head = c.requires.head; items = fit; marks = c.requires.in_order })
+    (returns-in-Ok-clause-written c)

@@ -2,7 +2,7 @@ use Rattle.std.proofs.Common.{◌≡◌, ◌∙◌, ◌<◌, ℕ, ◌+◌, ◌-�
 use Rattle.std.proofs.lemmas.List.{length-take}
 use Rattle.dm_words.specs.inner.Costs.{before_words, parts_cost}
 use Rattle.dm_words.specs.inner.LetterCosts.{behind_first}
-use Rattle.dm_words.proofs.MarkedCosts.{back, cost_turn, behind_turn}
+use Rattle.dm_words.proofs.MarkedCosts.{all_items, back, cost_turn, behind_turn, more_items}
 use Rattle.dm_words.proofs.smallest.letters.marked_cost.Goals as goal
 
 pub overflow_sub-from : goal.overflow_sub-from
@@ -48,6 +48,8 @@ loop-k-preserved c =
       steps = search rules;
       room = search rules;
       within = omega (arith, b.within, v.within, c.from.ensures);
+      message = more_items items (c.from.result - seen) end (omega (arith, b.within, c.from.ensures))
+          c.text_cost-text.ensures.message v.message;
       end_is = ap (λ (n : ℕ). n - seen) c.from.ensures ∙ b.end_is;
       cost = cost;
       few = omega (
@@ -63,3 +65,7 @@ loop-k-preserved c =
       behind = behind_turn seen items marks k (c.mark_length.result + c.text_cost-text.result) c.loop-k.behind some
           v.in_range v.room cost v.behind;
     }
+
+pub returns-clause-message : goal.returns-clause-message
+returns-clause-message c =
+    all_items c.args.items.now c.loop-k.end c.text_cost.ensures.message c.loop-k.invariant.message

@@ -1,4 +1,5 @@
 use Rattle.std.proofs.Common.{◌≡◌, ℕ, ◌+◌, ◌*◌, ◌<◌, ◌≤◌, length, drop, get_or}
+use Rattle.dm_words.specs.Messages.{IsMessage}
 use Rattle.dm_words.specs.inner.LetterCosts.{behind_first, first_end}
 use Rattle.dm_words.proofs.smallest.letters.marked_cost.Given as goal
 
@@ -9,6 +10,7 @@ invariant-loop-k l = record {
   steps : length l.items < length l.plan;
   room : length l.marks ≤ length l.behind;
   within : l.end ≤ length l.items;
+  message : IsMessage (drop l.end l.items);
   end_is : l.end ≡ first_end l.seen l.items (drop l.k l.marks);
   cost : l.cost ≡ behind_first l.seen l.items (drop l.k l.marks);
   few : l.cost + 2 * l.end + 4 * l.k ≤ 2 * length l.items + 4 * length l.marks;

@@ -1,0 +1,30 @@
+use Rattle.std.proofs.Common.{subst, sym, ◌∙◌}
+use Rattle.dm_words.specs.Letters.{LetterView}
+use Rattle.dm_words.specs.declared.extent.Extent.{Extent}
+use Rattle.dm_words.specs.SmallestLetters.{IsSmallestLetterResult}
+use Rattle.dm_words.specs.inner.LetterCosts.{view_of}
+use Rattle.dm_words.proofs.SmallestLetters.{plain_is, is_no_message}
+use Rattle.dm_words.proofs.smallest.smallest_in.Goals as goal
+
+pub returns-then-is_plain-clause-smallest : goal.returns-then-is_plain-clause-smallest
+returns-then-is_plain-clause-smallest g c =
+    let a = c.args in
+    subst (λ (l : LetterView). IsSmallestLetterResult a.extent a.choice l c.smallest_items_to.result
+    c.smallest_items_to.new.words.items)
+    (plain_is (view_of a.head a.items.now a.marks.now) (sym c.is_plain.ensures ∙ c.if-is_plain.true))
+    c.smallest_items_to.ensures.letter
+
+pub returns-in-Wide-clause-smallest : goal.returns-in-Wide-clause-smallest
+returns-in-Wide-clause-smallest g c =
+    let a = c.args in
+    subst (λ (e : Extent). IsSmallestLetterResult e a.choice (view_of a.head a.items.now a.marks.now)
+    c.smallest_marked_to.result c.smallest_marked_to.new.words.items) (sym c.in-Wide.is)
+    c.smallest_marked_to.ensures.smallest
+
+pub returns-in-Wide-clause-message : goal.returns-in-Wide-clause-message
+returns-in-Wide-clause-message g c = λ none nothing.
+    absurd (is_no_message c.args.head c.args.marks.now (sym c.is_plain.ensures ∙ c.if-is_plain.false) none nothing)
+
+pub returns-in-Usual-clause-message : goal.returns-in-Usual-clause-message
+returns-in-Usual-clause-message g c = λ none nothing.
+    absurd (is_no_message c.args.head c.args.marks.now (sym c.is_plain.ensures ∙ c.if-is_plain.false) none nothing)

@@ -1,0 +1,55 @@
+use Rattle.std.proofs.Common.{◌≡◌, ◌∙◌, ℕ, List, length, ap, sym, subst, arith}
+use Rattle.dm_words.specs.LetterExtents.{as_letter}
+use Rattle.dm_words.specs.Pads.{padded}
+use Rattle.dm_words.specs.Plain.{IsPlainForm}
+use Rattle.dm_words.specs.Smallest.{IsPlainest, SpellsThenPads}
+use Rattle.dm_words.proofs.SmallestLetters.{message_letter}
+use Rattle.dm_words.proofs.SmallestSymbols.{is_smallest, none_spells, padded_spells}
+use Rattle.dm_words.proofs.smallest.smallest_items_to.Goals as goal
+
+pub returns-in-None-clause-smallest : goal.returns-in-None-clause-smallest
+returns-in-None-clause-smallest c = record {
+  smallest = tt;
+  plainest = tt;
+  padded = tt;
+  too_long = λ err. none_spells c.args.extent c.args.choice c.args.items.now c.least_way-found.result.way.cost
+      c.least_way-found.ensures.least c.in-None.ensures.none;
+}
+
+pub returns-in-Some-clause-smallest : goal.returns-in-Some-clause-smallest
+returns-in-Some-clause-smallest c =
+    let extent = c.args.extent in
+    let m = c.args.items.now in
+    let written = c.write_plainest.new.words.items in
+    let count = c.data_count-count.result in
+    let size = c.in-Some.ensures in
+    let is : c.pad_to.new.words.items ≡ padded written count = c.pad_to.ensures.words
+    ∙ ap (λ (n : ℕ). padded written n) c.from.ensures in
+    let long : length c.pad_to.new.words.items ≡ c.in-Some.size.data_count =
+    omega (arith, c.pad_to.ensures.count, c.from.ensures, c.data_count-count.ensures.value) in
+    let spells = subst (λ (l : List ℕ). SpellsThenPads extent l m) (sym is) c.write_plainest.ensures.spells in
+    record {
+      smallest = is_smallest extent c.args.choice m c.least_way-found.result.way.cost c.in-Some.size
+          c.pad_to.new.words.items c.least_way-found.ensures.least (size.size, size.chosen) size.smallest size.narrowest
+          long (padded_spells extent c.pad_to.new.words.items m spells)
+          (subst (λ (l : List ℕ). IsPlainForm l (as_letter m)) (sym is) c.write_plainest.ensures.form);
+      plainest = subst (λ (l : List ℕ). IsPlainest l m) (sym is) c.write_plainest.ensures.plainest;
+      padded = spells;
+      too_long = λ err size other taken sized framed says. absurd (cc);
+    }
+
+pub returns-in-None-clause-letter : goal.returns-in-None-clause-letter
+returns-in-None-clause-letter c =
+    message_letter c.args.extent c.args.choice c.args.items.now _ c.args.words.now.items
+    (omega (arith, c.requires.few)) (returns-in-None-clause-smallest c)
+    (c.least_way-found.result.way.cost, c.least_way-found.ensures.least, c.in-None.ensures.none)
+
+pub returns-in-Some-clause-letter : goal.returns-in-Some-clause-letter
+returns-in-Some-clause-letter c =
+    let size = c.in-Some.ensures in
+    message_letter c.args.extent c.args.choice c.args.items.now _ c.pad_to.new.words.items
+    (omega (arith, c.requires.few)) (returns-in-Some-clause-smallest c) (
+      c.least_way-found.result.way.cost,
+      c.least_way-found.ensures.least,
+      record { taken = (size.size, size.chosen); smallest = size.smallest; narrowest = size.narrowest },
+    )
