@@ -4,10 +4,9 @@ use Rattle.dm_words.specs.declared.extent.Extent.TheVariants.{Usual}
 use Rattle.dm_words.specs.declared.item.Item.{Item}
 use Rattle.dm_words.specs.declared.fault.WordFault.{WordFault}
 use Rattle.dm_words.specs.declared.letters.fault.LetterFault.TheVariants as words_fault
-use Rattle.dm_words.specs.LetterExtents.{as_letter, RefusedIn}
-use Rattle.dm_words.specs.Refused.{Refused}
-use Rattle.dm_words.specs.Spells.{Spells}
-use Rattle.dm_words.proofs.Exported.{identifier_is_there, said_wide, spelled_said}
+use Rattle.dm_words.specs.LetterExtents.{as_letter}
+use Rattle.dm_words.specs.Spells.{Spells, Refused}
+use Rattle.dm_words.proofs.Exported.{identifier_is_there, said_wide}
 use Rattle.dm_layout.specs.Grid.{GridView, IsGrid, symbol_modules}
 use Rattle.dm_layout.specs.symbols.Words.{WordsView, data_of}
 use Rattle.dm_symbol.specs.declared.symbol.dealing.Dealing.{Dealing}
@@ -47,12 +46,12 @@ module _ (grid : GridView) (limit : ℕ) (g : IsGrid grid) where
   module _ (w : WordsView) (dealing : Dealing) (blocks : List BlockReading) (count : ℕ)
       (r : IsRestored Usual (symbol_modules grid) None limit w dealing blocks count) where
     -- Where the data codewords are refused, their fault is.
-    pub fault_is_read : (why : WordFault) → Refused Usual (data_of w) why → IsRead grid limit (Err (fault.Words why))
+    pub fault_is_read : (why : WordFault) → Refused (data_of w) why → IsRead grid limit (Err (fault.Words why))
     fault_is_read why refused = is_read grid limit (Err (fault.Words why)) (record {
       is_grid = g;
       of_symbol = Err (letter.Words (words_fault.Word why));
       read = refused_letter_result Usual (symbol_modules grid) None limit w dealing blocks count r
-          (words_fault.Word why) (RefusedIn.of_message why refl refused refl);
+          (words_fault.Word why) refused;
       same = (fault.Words why, refl, refl);
     })
 
@@ -60,12 +59,11 @@ module _ (grid : GridView) (limit : ℕ) (g : IsGrid grid) where
     pub message_is_read : (m : List Item) → Spells Usual (data_of w) m
         → IsRead grid limit (Ok (reading_of m (map (λ (b : BlockReading). b.corrected) blocks) count))
     message_is_read m spelled =
-        let says = spelled_said Usual (data_of w) m spelled in
-        let number = identifier_is_there (data_of w) (as_letter m) (said_wide Usual (data_of w) (as_letter m) says) in
+        let number = identifier_is_there (data_of w) (as_letter m) (said_wide Usual (data_of w) (as_letter m) spelled) in
         is_read grid limit (Ok (reading_of m (map (λ (b : BlockReading). b.corrected) blocks) count)) (record {
           is_grid = g;
           of_symbol = Ok (letter_reading_of (as_letter m) number.0 dealing blocks count);
           read = said_letter_result Usual (symbol_modules grid) None limit w dealing blocks count r (as_letter m)
-              number.0 says number.1;
+              number.0 spelled number.1;
           same = refl;
         })

@@ -5,13 +5,11 @@ use Rattle.std.specs.List.{range_with_len}
 use Rattle.std.proofs.lemmas.List.{length-take}
 use Rattle.dm_words.specs.declared.extent.Extent.TheVariants.{Usual}
 use Rattle.dm_words.specs.declared.item.Item.{Item}
-use Rattle.dm_words.specs.declared.fault.WordFault.{WordFault}
-use Rattle.dm_words.specs.declared.letters.fault.LetterFault.{LetterFault}
 use Rattle.dm_words.specs.declared.letters.fault.LetterFault.TheVariants as words_fault
 use Rattle.dm_words.specs.Letters.{LetterView}
-use Rattle.dm_words.specs.LetterExtents.{as_letter, RefusedIn}
+use Rattle.dm_words.specs.LetterExtents.{as_letter}
 use Rattle.dm_words.specs.Messages.{IsMessage}
-use Rattle.dm_words.proofs.Exported.{spelled_is_few, usual_spells}
+use Rattle.dm_words.proofs.Exported.{spelled_is_few, usual_plain, usual_word}
 use Rattle.dm_layout.specs.Sizes.{SizeRow, most_grid_data, symbol_size}
 use Rattle.dm_layout.specs.Grid.{GridView, IsGrid, symbol_modules}
 use Rattle.dm_layout.specs.Border.{border_fault_count}
@@ -33,7 +31,6 @@ use Rattle.dm_symbol.specs.SymbolBlocks.{block_in, first_data}
 use Rattle.dm_symbol.specs.SymbolReading.{block_reading}
 use Rattle.dm_symbol.specs.LetterReading.{LetterReadingView, ReadsLetter, LetterReadResult, letter_reading_of}
 use Rattle.dm_symbol.specs.SymbolLaws.{AreModulesOf, HasResultOfGrid, none_erased}
-use Rattle.dm_symbol.proofs.Dealings.{not_wide}
 use Rattle.dm_symbol.proofs.LetterReadings.{one_letter_result, one_symbol_letter, read_letter_right}
 use Rattle.dm_symbol.proofs.LetterReadings.{letter_no_fault, reads_letter_by_result, some_letter_result}
 use Rattle.dm_symbol.proofs.LetterReadSteps.{is_letter_read, letter_border_result}
@@ -97,7 +94,7 @@ few_items_are_read grid limit m r =
     let words = first_data (symbol_size grid.size) r.read.codewords in
     omega (
       arith,
-      spelled_is_few Usual words m (usual_spells words (as_letter m) r.read.said).1,
+      spelled_is_few Usual words m r.read.said,
       length-take grid.size.data_count r.read.codewords,
     )
 
@@ -127,12 +124,6 @@ grid_fault_back (fault.Words why) other = refl
 same_fault : (f g : ReadFault) → letter_fault f ≡ letter_fault g → f ≡ g
 same_fault f g e = sym (grid_fault_back f f) ∙ ap (grid_fault f) e ∙ grid_fault_back g f
 
--- Data codewords that are refused in the usual extent are so with a fault of a message.
-usual_refused : (words : List ℕ) (why : LetterFault) → RefusedIn Usual words why
-    → (f : WordFault) × (why ≡ words_fault.Word f)
-usual_refused words why (RefusedIn.of_message f is refused e) = (f, e)
-usual_refused words why (RefusedIn.of_letter is refused) = absurd (not_wide is)
-
 -- Two equal faults say the same.
 err_is : (a b : LetterReadFault) → ◌≡◌ {A = Result LetterReadingView LetterReadFault} (Err a) (Err b) → a ≡ b
 err_is a b e = cc
@@ -150,7 +141,7 @@ usual_fault modules doubtful limit why (LetterReadResult.border more e) =
 usual_fault modules doubtful limit why (LetterReadResult.block words index few lost e) =
     (fault.Block index, err_is why _ e)
 usual_fault modules doubtful limit why (LetterReadResult.words d words codewords of_words few h refused e) =
-    let f = usual_refused (first_data modules.size codewords) of_words refused in
+    let f = usual_word (first_data modules.size codewords) of_words refused in
     (fault.Words f.0, err_is why _ e ∙ ap (λ w. letter.Words w) f.1)
 usual_fault modules doubtful limit why (LetterReadResult.letter d words codewords l n few h said is e) =
     absurd (err_no_ok why _ e)
@@ -317,7 +308,7 @@ made_of_told modules limit reading one (LetterReadResult.letter Standard words c
     subst (λ r. made_of k r ≡ r) (sym same)
     (ap (λ rs. letter_reading_of (as_letter l.items) n Standard rs faults) all
     ∙ ap (λ x. letter_reading_of x n Standard read faults)
-    (sym (usual_spells (first_data modules.size codewords) l said).0))
+    (sym (usual_plain (first_data modules.size codewords) l said)))
 
 -- The symbol of a grid has the grid's result.
 pub result_of_symbol : (grid : GridView) (limit : ℕ) (result : Result Reading ReadFault) → IsGrid grid

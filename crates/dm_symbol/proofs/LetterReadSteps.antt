@@ -4,7 +4,7 @@ use Rattle.std.proofs.Common.{◌≡◌, ◌↔◌, ℕ, ◌<◌, List, Option, 
 use Rattle.dm_words.specs.declared.extent.Extent.{Extent}
 use Rattle.dm_words.specs.declared.letters.fault.LetterFault.{LetterFault}
 use Rattle.dm_words.specs.Letters.{LetterView}
-use Rattle.dm_words.specs.LetterExtents.{SaysIn, RefusedIn}
+use Rattle.dm_words.specs.Letters.{Says, IsRefused}
 use Rattle.dm_layout.specs.symbols.Symbols.{SymbolView}
 use Rattle.dm_layout.specs.symbols.Words.{WordsView, data_of}
 use Rattle.dm_symbol.specs.declared.letters.LetterReadFault.{LetterReadFault}
@@ -65,14 +65,14 @@ module _ (extent : Extent) (modules : SymbolView) (doubtful : Option SymbolView)
     data_words = restored_data extent modules doubtful limit w dealing blocks count r
 
     -- Where the data codewords are refused, their fault is a right result.
-    pub refused_letter_result : (why : LetterFault) → RefusedIn extent (data_of w) why
+    pub refused_letter_result : (why : LetterFault) → IsRefused extent (data_of w) why
         → LetterReadResult extent modules doubtful limit (Err (fault.Words why))
     refused_letter_result why refused =
         LetterReadResult.words dealing r.held w.list why r.few r.restored
-        (subst (λ words. RefusedIn extent words why) data_words refused) refl
+        (subst (λ words. IsRefused extent words why) data_words refused) refl
 
     -- Where the data codewords say a letter, the symbol is read as it.
-    pub restored_reads : (letter : LetterView) → SaysIn extent (data_of w) letter
+    pub restored_reads : (letter : LetterView) → Says extent (data_of w) letter
         → ReadsLetter extent modules doubtful limit letter
     restored_reads letter says = record {
       border = r.few;
@@ -80,16 +80,16 @@ module _ (extent : Extent) (modules : SymbolView) (doubtful : Option SymbolView)
       words = r.held;
       codewords = w.list;
       restored = r.restored;
-      said = subst (λ words. SaysIn extent words letter) data_words says;
+      said = subst (λ words. Says extent words letter) data_words says;
     }
 
     -- Where the data codewords say a letter, the reading is a right result.
-    pub said_letter_result : (letter : LetterView) (identifier : ℕ) → SaysIn extent (data_of w) letter
+    pub said_letter_result : (letter : LetterView) (identifier : ℕ) → Says extent (data_of w) letter
         → IsIdentifier (data_of w) letter identifier
         → LetterReadResult extent modules doubtful limit (Ok (letter_reading_of letter identifier dealing blocks count))
     said_letter_result letter identifier says number =
         LetterReadResult.letter dealing r.held w.list letter identifier r.few r.restored
-        (subst (λ words. SaysIn extent words letter) data_words says)
+        (subst (λ words. Says extent words letter) data_words says)
         (subst (λ words. IsIdentifier words letter identifier) data_words number)
         (ap (λ xs. Ok (letter_reading_of letter identifier dealing xs count)) r.readings
         ∙ ap (λ n. Ok (letter_reading_of letter identifier dealing

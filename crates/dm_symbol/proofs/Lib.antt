@@ -14,7 +14,7 @@ mod Restoring
 mod SymbolWriteSteps
 mod NormalOutcomes
 mod SymbolCompletions
-mod SymbolOutcomes
+mod RestoredOrLost
 mod Restarts
 mod LetterReadings
 mod LetterReadSteps

@@ -7,8 +7,7 @@ use Rattle.dm_words.specs.declared.profile.Profile.{Profile}
 use Rattle.dm_words.specs.Letters.{LetterView}
 use Rattle.dm_words.specs.LetterExtents.{as_letter, IsSaidIn}
 use Rattle.dm_words.specs.Macros.{macro_text}
-use Rattle.dm_words.specs.Spells.{Spells}
-use Rattle.dm_words.proofs.Exported.{spelled_said}
+use Rattle.dm_words.proofs.Exported.{macro_short}
 use Rattle.dm_words.specs.LetterForm.{letter_form}
 use Rattle.dm_layout.specs.declared.symbols.size.SizeChoice.TheVariants.{Square}
 use Rattle.dm_layout.specs.symbols.Sizes.{entry_for}
@@ -163,9 +162,7 @@ macro_reads modules doubtful limit digit text r = record {
   words = r.words;
   codewords = r.codewords;
   restored = r.restored;
-  said = spelled_said Wide (first_data modules.size r.codewords) (macro_text digit text)
-      (Spells.by_macro r.framed.word digit r.framed.more text refl r.framed.is_macro r.framed.whole r.framed.spelled
-      refl);
+  said = macro_short digit (first_data modules.size r.codewords) text r.framed;
 }
 
 -- A symbol whose first data codeword is a macro and one that spells the macro's text out have equal normal symbols.

@@ -25,7 +25,7 @@ use Rattle.dm_symbol.specs.inner.Showing.{IsRestartShown}
 use Rattle.dm_symbol.specs.inner.Turns.{turned}
 use Rattle.dm_symbol.proofs.Dealings.{dealt_back, dealt_is_turned, not_restarted, turned_of_size}
 use Rattle.dm_symbol.proofs.SymbolBelow.{held_is_one}
-use Rattle.dm_symbol.proofs.SymbolOutcomes.{near_or_first_lost}
+use Rattle.dm_symbol.proofs.RestoredOrLost.{near_or_first_lost}
 use Rattle.dm_symbol.proofs.SymbolSteps.{nothing_said}
 use Rattle.dm_symbol.proofs.Restoring.{readings_count}
 

@@ -16,7 +16,8 @@ use Rattle.dm_words.specs.declared.extent.Extent.{Extent}
 use Rattle.dm_words.specs.declared.extent.Extent.TheVariants.{Wide}
 use Rattle.dm_words.specs.declared.profile.Profile.{Profile}
 use Rattle.dm_words.specs.Letters.{LetterView, IsLetter}
-use Rattle.dm_words.specs.LetterExtents.{SaysIn, IsSaidIn}
+use Rattle.dm_words.specs.LetterExtents.{IsSaidIn}
+use Rattle.dm_words.specs.Letters.{Says}
 use Rattle.dm_words.specs.LetterForm.{letter_form}
 use Rattle.dm_words.specs.Pads.{padded}
 use Rattle.dm_words.proofs.Exported.{form_says_in, letter_form_codewords, letter_form_count, said_is_one}
@@ -85,15 +86,15 @@ module _ (choice : SizeChoice) (p : Profile) (l : LetterView) where
 
   module _ (g : SymbolView) (n : IsLetterWrittenIn choice p l g) (right : IsLetter l) where
     -- Its data codewords are the normal form with pads, which says the letter.
-    pub form_says : (extent : Extent) → IsSaidIn extent l → SaysIn extent (padded (letter_form p l) g.size.data_count) l
+    pub form_says : (extent : Extent) → IsSaidIn extent l → Says extent (padded (letter_form p l) g.size.data_count) l
     form_says extent said =
         let few = (size_facts g.size n.laid.holds.codewords.size).data_fits in
         form_says_in extent p l g.size.data_count right said (written_hold choice (letter_form p l) g n)
         (omega (arith, few))
 
     -- So they say it.
-    pub written_says : (extent : Extent) → IsSaidIn extent l → SaysIn extent (first_data g.size n.words) l
-    written_says extent said = subst (λ words. SaysIn extent words l) (sym n.data_words) (form_says extent said)
+    pub written_says : (extent : Extent) → IsSaidIn extent l → Says extent (first_data g.size n.words) l
+    written_says extent said = subst (λ words. Says extent words l) (sym n.data_words) (form_says extent said)
 
     -- It is read as the letter.
     pub written_reads_letter : (extent : Extent) (limit : ℕ) → IsSaidIn extent l → ReadsLetter extent g None limit l
@@ -139,7 +140,7 @@ pub written_letters_tell : (choice other : SizeChoice) (p q : Profile) (l k : Le
     → IsLetter k → IsLetterWrittenIn choice p l g → IsLetterWrittenIn other q k g → l ≡ k
 written_letters_tell choice other p q l k g hl hk n o =
     said_is_one Wide Wide (padded (letter_form q k) g.size.data_count) l k
-    (subst (λ words. SaysIn Wide words l) (written_words_tell choice other (letter_form p l) (letter_form q k) g n o)
+    (subst (λ words. Says Wide words l) (written_words_tell choice other (letter_form p l) (letter_form q k) g n o)
     (form_says choice p l g n hl Wide tt)) (form_says other q k g o hk Wide tt)
 
 -- Symbols in which right letters are written are equal exactly where the letters are.

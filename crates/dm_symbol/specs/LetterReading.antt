@@ -4,7 +4,7 @@ use Rattle.std.specs.Prelude.{◌≡◌, ℕ, ◌<◌, ◌≤◌, ◌↔◌, Lis
 use Rattle.dm_words.specs.declared.extent.Extent.{Extent}
 use Rattle.dm_words.specs.declared.letters.fault.LetterFault.{LetterFault}
 use Rattle.dm_words.specs.Letters.{LetterView}
-use Rattle.dm_words.specs.LetterExtents.{SaysIn, RefusedIn}
+use Rattle.dm_words.specs.Letters.{Says, IsRefused}
 use Rattle.dm_words.specs.Symbology.{IsIdentifier}
 use Rattle.dm_layout.specs.symbols.Symbols.{SymbolView}
 use Rattle.dm_symbol.specs.declared.letters.LetterReadingIn.{LetterReadingIn}
@@ -27,7 +27,7 @@ pub record ReadsLetter (extent : Extent) (modules : SymbolView) (doubtful : Opti
   pub words : List ℕ
   pub codewords : List ℕ
   pub restored : AreRestored extent modules doubtful dealing words codewords
-  pub said : SaysIn extent (first_data modules.size codewords) letter
+  pub said : Says extent (first_data modules.size codewords) letter
 
 -- A reading has a letter, the number of the identifier, the dealing by which the symbol is restored, what is said of
 -- each block, in order, and a number of sure border faults.
@@ -74,11 +74,11 @@ pub data LetterReadResult (extent : Extent) (modules : SymbolView) (doubtful : O
       → LetterReadResult extent modules doubtful limit result
   words : (dealing : Dealing) (words codewords : List ℕ) (why : LetterFault)
       → sure_fault_count modules doubtful ≤ limit → AreRestored extent modules doubtful dealing words codewords
-      → RefusedIn extent (first_data modules.size codewords) why
+      → IsRefused extent (first_data modules.size codewords) why
       → result ≡ Err (fault.Words why) → LetterReadResult extent modules doubtful limit result
   letter : (dealing : Dealing) (words codewords : List ℕ) (letter : LetterView) (identifier : ℕ)
       → sure_fault_count modules doubtful ≤ limit → AreRestored extent modules doubtful dealing words codewords
-      → SaysIn extent (first_data modules.size codewords) letter
+      → Says extent (first_data modules.size codewords) letter
       → IsIdentifier (first_data modules.size codewords) letter identifier
       → result ≡ Ok (letter_reading_of letter identifier dealing
       (readings_by dealing modules.size doubtful words codewords)

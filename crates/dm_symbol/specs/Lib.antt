@@ -32,6 +32,5 @@ pub use Rattle.dm_words.specs.Base256
 pub use Rattle.dm_words.specs.NormalForm
 pub use Rattle.dm_words.specs.Pads
 pub use Rattle.dm_words.specs.Spells
-pub use Rattle.dm_words.specs.Refused
 pub use Rattle.dm_words.specs.Outcomes
 pub use Rattle.dm_code.specs.Codeword

@@ -10,7 +10,7 @@ use crate::symbol::reading::{BlockReading, Lost, ReadOptions, restore_to};
 use arrayvec::ArrayVec;
 use dm_layout::symbols::SymbolWordsIn;
 use dm_layout::{Grid, MOST_GRID_BLOCKS, MOST_GRID_CODEWORDS};
-use dm_words::{Extent, Message, WordFault, message_to_as};
+use dm_words::{Extent, Message, WordFault, message_to};
 
 /// How many codewords the room has that serves for small squares, up to 32 x 32.
 const FEW_CODEWORDS: usize = 98;
@@ -118,7 +118,7 @@ fn read_by<const WORDS: usize>(
         Err(Lost::Border(count)) => return Err(ReadFault::Border(count)),
         Err(Lost::Block(index)) => return Err(ReadFault::Block(index)),
     }
-    match message_to_as(Extent::Usual, words.data_part(), &mut reading.message) {
+    match message_to(words.data_part(), &mut reading.message) {
         Ok(()) => {}
         Err(fault) => return Err(ReadFault::Words(fault)),
     }

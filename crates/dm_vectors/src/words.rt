@@ -2,8 +2,8 @@
 
 use crate::claims::holds;
 use crate::messages::{
-    Codewords, MARKED, add, add_bytes, add_many, add_word, are_all, has_bytes, has_items, of_items,
-    of_many, randomised, segment,
+    Codewords, MARKED, add, add_bytes, add_many, add_word, are_all, are_bytes, has_bytes,
+    has_items, of_items, of_many, randomised, segment,
 };
 use arrayvec::ArrayVec;
 use dm_layout::Size;

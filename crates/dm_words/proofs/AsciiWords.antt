@@ -16,7 +16,9 @@ use Rattle.dm_words.specs.Ascii.{IsOneDigit, BeginsWithDigit, IsGreedy, IsAscii}
 use Rattle.dm_words.specs.Pads.{further_pads, pads, padded}
 use Rattle.dm_words.specs.Base256.{AreBytes}
 use Rattle.dm_words.specs.Smallest.{SpellsThenPads, plain_padded}
-use Rattle.dm_words.specs.Spells.{IsPart, ascii as ascii_part, IsEnd, nothing, pad, plain, Spells}
+use Rattle.dm_words.specs.Parts.{IsPart, ascii as ascii_part, IsEnd, nothing, pad, AreParts}
+use Rattle.dm_words.specs.Spells.{Spells}
+use Rattle.dm_words.proofs.SpelledLetters.{parts_spell}
 use Rattle.dm_words.proofs.PadWords.{pads_are}
 use Rattle.dm_words.specs.Messages.{IsItem}
 use Rattle.dm_words.proofs.Segments.{AreBytes-append}
@@ -135,39 +137,30 @@ pub pads_end : (place n : ℕ) → IsEnd (pads place n)
 pads_end place zero = nothing refl
 pads_end place (suc n) = pad 129 (further_pads (place + 1) n) refl refl
 
--- The form from the left of a message, with pads, spells it.
-pub ascii_spells : (extent : Extent) (m : List Item) (count : ℕ) → AreItems m → Spells extent (padded (ascii m) count) m
-ascii_spells extent m count fit =
+-- The form from the left of a message, with pads, is parts of it.
+ascii_parts : (extent : Extent) (m : List Item) (count : ℕ) → AreItems m
+    → AreParts extent 1 (padded (ascii m) count) m
+ascii_parts extent m count fit =
     let h = units_of m fit in
     let after = pads (length (ascii m) + 1) (count - length (ascii m)) in
-    plain (record {
+    record {
       parts = h.units;
       after = after;
       whole = ap (λ (r : List ℕ). r ++ after) h.whole;
-      joined =
-          joined_units extent 1 h.units after h.each;
-      ended =
-          pads_end (length (ascii m) + 1) (count - length (ascii m));
+      joined = joined_units extent 1 h.units after h.each;
+      ended = pads_end (length (ascii m) + 1) (count - length (ascii m));
       items_are = h.items;
-    })
+    }
+
+-- It spells the message.
+pub ascii_spells : (extent : Extent) (m : List Item) (count : ℕ) → AreItems m → Spells extent (padded (ascii m) count) m
+ascii_spells extent m count fit = parts_spell extent (padded (ascii m) count) m (ascii_parts extent m count fit)
 
 -- It has only pads behind it.
 pub ascii_padded : (extent : Extent) (m : List Item) (count : ℕ) → AreItems m
     → SpellsThenPads extent (padded (ascii m) count) m
-ascii_padded extent m count fit =
-    let h = units_of m fit in
-    let after = pads (length (ascii m) + 1) (count - length (ascii m)) in
-    plain_padded (record {
-      parts = h.units;
-      after = after;
-      whole = ap (λ (r : List ℕ). r ++ after) h.whole;
-      joined =
-          joined_units extent 1 h.units after h.each;
-      ended =
-          pads_end (length (ascii m) + 1) (count - length (ascii m));
-      items_are = h.items;
-    })
-    (pads_are (ascii m) count)
+unfolding ascii_parts
+ascii_padded extent m count fit = plain_padded (ascii_parts extent m count fit) (pads_are (ascii m) count)
 
 -- The form from the left of a message is its ASCII form.
 pub is_ascii : (m : List Item) → AreItems m → IsAscii m (ascii m)

@@ -1,6 +1,6 @@
 -- The costs of EDIFACT obey the rules too, and no words are fewer than the cost.
 use Rattle.std.proofs.Common.{◌≡◌, ℕ, zero, suc, ◌+◌, ◌*◌, ◌≤◌, List, [], ◌∷◌, ◌++◌, length, refl, ap, ◌∙◌, arith}
-use Rattle.std.proofs.Common.{true, ltb}
+use Rattle.std.proofs.Common.{true, ltb, length-append}
 use Rattle.std.proofs.lemmas.Bool.Decides.{nat_tests}
 use Rattle.dm_words.specs.declared.extent.Extent.{Extent}
 use Rattle.dm_words.specs.declared.extent.Extent.TheVariants.{Usual, Wide}
@@ -10,10 +10,12 @@ use Rattle.dm_words.specs.declared.smallest.plan.Begin.TheVariants.{Edifact}
 use Rattle.dm_words.specs.declared.smallest.setting.Setting.{Setting}
 use Rattle.dm_words.specs.Letters.{BeginsFrame}
 use Rattle.dm_words.specs.Plain.{FramesNoFnc1}
-use Rattle.dm_words.specs.Spells.{IsPart, AreParts, Spells, plain, by_macro}
+use Rattle.dm_words.specs.Parts.{IsPart, AreParts}
+use Rattle.dm_words.specs.Spells.{Spells}
 use Rattle.dm_words.specs.inner.Costs.{Groups, never, owed_group, leave, byte_before, has_edifact, stay_edifact}
 use Rattle.dm_words.specs.inner.Costs.{or_leave_edifact, row, parts_cost, at_end, before_words}
 use Rattle.dm_words.specs.inner.Ways.{IsLeastCost}
+use Rattle.dm_words.proofs.SpelledLetters.{HasMessage, in_parts, in_frame, spelled_has}
 use Rattle.dm_words.proofs.CostsMet.{least_is, nothing_costs, owes, are_costs}
 use Rattle.dm_words.proofs.LowerBounds.{leave_bounds, IsEdifactLower, part_lower, parts_lower}
 use Rattle.dm_words.proofs.EdifactBounds.{AreEdifactCosts, edifact_lower}
@@ -152,18 +154,18 @@ part_no_fewer behind place words after items m small p le =
 -- No words that spell a message, and have no macro before FNC1, are fewer than its least cost.
 pub no_fewer_words : (extent : Extent) (words : List ℕ) (m : List Item) (cost : ℕ) → IsLeastCost extent m cost
     → FramesNoFnc1 words m → Spells extent words m → cost ≤ length words
-no_fewer_words extent words m cost least framed (plain a) = omega (arith, least.parts, no_fewer extent 1 words m a)
-no_fewer_words extent words m cost least framed (by_macro word digit more text wide k e a is) =
-    let begins : BeginsFrame words = record {
-      first = word ∷ [];
-      digit = digit;
-      more = more;
-      is_frame = record { runs = []; word = word; are_empty = tt; is_macro = k; whole = refl };
-      whole = e;
-    } in
-    omega (
-      arith,
-      least.macros word digit text wide k is (λ fnc1. framed (digit, text, is, fnc1) begins),
-      no_fewer extent 2 more text a,
-      ap length e,
-    )
+no_fewer_words extent words m cost least framed s = by (spelled_has extent words m s) where
+  by : HasMessage extent words m → cost ≤ length words
+  by (in_parts a) = omega (arith, least.parts, no_fewer extent 1 words m a)
+  by (in_frame first more digit text wide f e a is) =
+      let begins : BeginsFrame words =
+      record { first = first; digit = digit; more = more; is_frame = f; whole = e } in
+      omega (
+        arith,
+        least.macros f.word digit text wide f.is_macro is (λ fnc1. framed (digit, text, is, fnc1) begins),
+        no_fewer extent (1 + length first) more text a,
+        ap length e,
+        length-append first more,
+        ap length f.whole,
+        length-append f.runs (f.word ∷ []),
+      )

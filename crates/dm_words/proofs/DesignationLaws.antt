@@ -2,47 +2,50 @@
 use Rattle.std.proofs.Common.{◌≡◌, ℕ, ◌+◌, List, [], ◌∷◌, ◌++◌, length, drop, map, refl, sym, ap, subst, ◌∙◌}
 use Rattle.std.proofs.Common.{append_assoc, Option, Some, None}
 use Rattle.std.proofs.lemmas.List.{drop_at}
+use Rattle.dm_words.specs.declared.extent.Extent.TheVariants.{Wide}
 use Rattle.dm_words.specs.declared.letters.mark.Mark.{Mark}
 use Rattle.dm_words.specs.declared.letters.opening.Opened.{Opened}
 use Rattle.dm_words.specs.Joined.{Piece, spelled, whats, AreJoined}
-use Rattle.dm_words.specs.Letters.{LetterView, SpellsLetter, Said, Items, Number, IsLetterPart, said_letter, said_marks}
-use Rattle.dm_words.specs.Letters.{opening_items}
-use Rattle.dm_words.specs.Spells.{IsEnd}
+use Rattle.dm_words.specs.Letters.{LetterView, Says, Said, Items, Number, IsLetterPart, said_letter, said_marks}
+use Rattle.dm_words.specs.Letters.{opening_items, AreOpened, AreLetterParts}
+use Rattle.dm_words.specs.declared.letters.opening.Opening.{Opening}
+use Rattle.dm_words.specs.Parts.{IsEnd}
 use Rattle.dm_words.specs.Designations.{designation, designations, AreDesignations, of_letter, of_refused}
 use Rattle.dm_words.specs.inner.Scan.Walk.{Takes, Stops}
 use Rattle.dm_words.specs.inner.LetterScan.{first_letter_part}
 use Rattle.dm_words.proofs.LetterParts.{letter_part_complete, letter_end_complete}
-use Rattle.dm_words.proofs.WholeLetters.{opens_so, spelled_reads, refused_reads}
+use Rattle.dm_words.proofs.WholeLetters.{opens_so}
+use Rattle.dm_words.proofs.LetterResults.{said_not_refused}
 
 -- Where words are parts and an end in two ways, the designators of both are the same.
 same_designations : (before place : ℕ) (ps qs : List (Piece Said)) (words after rest : List ℕ)
-    → words ≡ spelled ps ++ after → words ≡ spelled qs ++ rest → AreJoined IsLetterPart place ps after
-    → AreJoined IsLetterPart place qs rest → IsEnd after → IsEnd rest
+    → words ≡ spelled ps ++ after → words ≡ spelled qs ++ rest → AreJoined (IsLetterPart Wide) place ps after
+    → AreJoined (IsLetterPart Wide) place qs rest → IsEnd after → IsEnd rest
     → designations before ps ≡ designations before qs
 same_designations before place [] [] words after rest one other joined with_other ended end = refl
 same_designations before place [] (q ∷ qs) words after rest one other joined with_other ended end =
-    let stops : first_letter_part place words ≡ Stops None =
-    ap (first_letter_part place) one ∙ letter_end_complete place after ended in
-    let takes : first_letter_part place words ≡ Takes (length q.words) q.what =
-    ap (first_letter_part place) (other ∙ append_assoc q.words (spelled qs) rest)
-    ∙ (letter_part_complete place q.words (spelled qs ++ rest) q.what with_other.0).0 in
+    let stops : first_letter_part Wide place words ≡ Stops None =
+    ap (first_letter_part Wide place) one ∙ letter_end_complete Wide place after ended in
+    let takes : first_letter_part Wide place words ≡ Takes (length q.words) q.what =
+    ap (first_letter_part Wide place) (other ∙ append_assoc q.words (spelled qs) rest)
+    ∙ (letter_part_complete Wide place q.words (spelled qs ++ rest) q.what with_other.0).0 in
     absurd cc
 same_designations before place (p ∷ ps) [] words after rest one other joined with_other ended end =
-    let stops : first_letter_part place words ≡ Stops None =
-    ap (first_letter_part place) other ∙ letter_end_complete place rest end in
-    let takes : first_letter_part place words ≡ Takes (length p.words) p.what =
-    ap (first_letter_part place) (one ∙ append_assoc p.words (spelled ps) after)
-    ∙ (letter_part_complete place p.words (spelled ps ++ after) p.what joined.0).0 in
+    let stops : first_letter_part Wide place words ≡ Stops None =
+    ap (first_letter_part Wide place) other ∙ letter_end_complete Wide place rest end in
+    let takes : first_letter_part Wide place words ≡ Takes (length p.words) p.what =
+    ap (first_letter_part Wide place) (one ∙ append_assoc p.words (spelled ps) after)
+    ∙ (letter_part_complete Wide place p.words (spelled ps ++ after) p.what joined.0).0 in
     absurd cc
 same_designations before place (p ∷ ps) (q ∷ qs) words after rest one other joined with_other ended end =
     let first = one ∙ append_assoc p.words (spelled ps) after in
     let second = other ∙ append_assoc q.words (spelled qs) rest in
-    let takes : first_letter_part place words ≡ Takes (length p.words) p.what =
-    ap (first_letter_part place) first
-    ∙ (letter_part_complete place p.words (spelled ps ++ after) p.what joined.0).0 in
-    let takes_other : first_letter_part place words ≡ Takes (length q.words) q.what =
-    ap (first_letter_part place) second
-    ∙ (letter_part_complete place q.words (spelled qs ++ rest) q.what with_other.0).0 in
+    let takes : first_letter_part Wide place words ≡ Takes (length p.words) p.what =
+    ap (first_letter_part Wide place) first
+    ∙ (letter_part_complete Wide place p.words (spelled ps ++ after) p.what joined.0).0 in
+    let takes_other : first_letter_part Wide place words ≡ Takes (length q.words) q.what =
+    ap (first_letter_part Wide place) second
+    ∙ (letter_part_complete Wide place q.words (spelled qs ++ rest) q.what with_other.0).0 in
     let count : length p.words ≡ length q.words = cc in
     let what : p.what ≡ q.what = cc in
     let left : drop (length p.words) words ≡ spelled ps ++ after =
@@ -53,7 +56,7 @@ same_designations before place (p ∷ ps) (q ∷ qs) words after rest one other 
     let further =
     same_designations (before + length p.words) (place + length p.words) ps qs (drop (length p.words) words) after rest
     left right joined.1
-    (subst (λ (n : ℕ). AreJoined IsLetterPart (place + n) qs rest) (sym count) with_other.1) ended end in
+    (subst (λ (n : ℕ). AreJoined (IsLetterPart Wide) (place + n) qs rest) (sym count) with_other.1) ended end in
     ap (λ (said : Said). designation before said ++ designations (before + length p.words) ps) what
     ∙ ap (λ (l : List Mark). designation before q.what ++ l) further
     ∙ ap (λ (n : ℕ). designation before q.what ++ designations (before + n) qs) count
@@ -63,13 +66,27 @@ abbrev opening_length : Option Opened → ℕ
 opening_length None = 0
 opening_length (Some opened) = opened.count
 
+-- An opening and parts say a letter.
+says_so : {words more : List ℕ} {opening : Opening} {place : ℕ} {said : List Said}
+    → AreOpened Wide words opening place more → AreLetterParts Wide place more said
+    → Says Wide words (said_letter opening said)
+says_so {more = more} {opening = opening} {place = place} {said = said} opened parts = record {
+  opening = opening;
+  place = place;
+  more = more;
+  opened = opened;
+  said = said;
+  parts = parts;
+  letter_is = refl;
+}
+
 -- Codewords have one list of designators.
 pub one_list : (words : List ℕ) (found other : List Mark) → AreDesignations words found → AreDesignations words other
     → found ≡ other
 one_list words found other (of_letter opening place more opened said parts is)
     (of_letter opening_too place_too more_too opened_too said_too parts_too is_too) =
-    let opens = opens_so words opening place more opened in
-    let opens_too = opens_so words opening_too place_too more_too opened_too in
+    let opens = opens_so Wide words opening place more opened in
+    let opens_too = opens_so Wide words opening_too place_too more_too opened_too in
     let count : length opened.first ≡ length opened_too.first = ap opening_length (sym opens.0 ∙ opens_too.0) in
     let tails : more ≡ more_too = sym opens.1 ∙ ap (λ (n : ℕ). drop n words) count ∙ opens_too.1 in
     let places : place_too ≡ place =
@@ -77,35 +94,13 @@ one_list words found other (of_letter opening place more opened said parts is)
     is
     ∙ same_designations (length opened.first) place parts.parts parts_too.parts more parts.after parts_too.after
     parts.whole (tails ∙ parts_too.whole) parts.joined
-    (subst (λ (n : ℕ). AreJoined IsLetterPart n parts_too.parts parts_too.after) places parts_too.joined) parts.ended
+    (subst (λ (n : ℕ). AreJoined (IsLetterPart Wide) n parts_too.parts parts_too.after) places parts_too.joined) parts.ended
     parts_too.ended
     ∙ ap (λ (n : ℕ). designations n parts_too.parts) count ∙ sym is_too
 one_list words found other (of_letter opening place more opened said parts is) (of_refused why refused none) =
-    let letter : LetterView = said_letter opening said in
-    let reads = spelled_reads words letter (record {
-      opening = opening;
-      place = place;
-      more = more;
-      opened = opened;
-      said = said;
-      parts = parts;
-      letter_is = refl;
-    }) in
-    let fault = refused_reads words why refused in
-    absurd cc
+    absurd (said_not_refused Wide words (said_letter opening said) why (says_so opened parts) refused)
 one_list words found other (of_refused why refused none) (of_letter opening place more opened said parts is) =
-    let letter : LetterView = said_letter opening said in
-    let reads = spelled_reads words letter (record {
-      opening = opening;
-      place = place;
-      more = more;
-      opened = opened;
-      said = said;
-      parts = parts;
-      letter_is = refl;
-    }) in
-    let fault = refused_reads words why refused in
-    absurd cc
+    absurd (said_not_refused Wide words (said_letter opening said) why (says_so opened parts) refused)
 one_list words found other (of_refused why refused none) (of_refused why_too refused_too none_too) = none ∙ sym none_too
 
 -- The numbers of marks.
@@ -126,7 +121,7 @@ numbered before items (p ∷ ps) = by_said p.what (λ n. numbered (before + leng
     by_said (Number number) rest = ap (λ (l : List ℕ). number ∷ l) (rest items)
 
 -- The designators have the numbers of the marks of the letter.
-pub numbers_of_marks : (words : List ℕ) (l : LetterView) (found : List Mark) → SpellsLetter words l
+pub numbers_of_marks : (words : List ℕ) (l : LetterView) (found : List Mark) → Says Wide words l
     → AreDesignations words found → numbers found ≡ numbers l.marks
 numbers_of_marks words l found s are =
     let own = designations (length s.opened.first) s.parts.parts in

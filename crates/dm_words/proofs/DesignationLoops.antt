@@ -4,12 +4,13 @@ use Rattle.std.proofs.Common.{ap, subst, ◌∙◌, append_assoc, arith, length-
 use Rattle.std.proofs.Common.{Ok, Err}
 use Rattle.std.proofs.lemmas.List.{append-nil, drop_at, length-drop, length-take, drop-drop, take-append-drop}
 use Rattle.std.proofs.lemmas.List.{get_or_append_left, get_or-append-add}
+use Rattle.dm_words.specs.declared.extent.Extent.TheVariants.{Wide}
 use Rattle.dm_words.specs.declared.letters.designator.Designator.{Designator}
 use Rattle.dm_words.specs.declared.letters.fault.LetterFault.{LetterFault}
 use Rattle.dm_words.specs.declared.letters.mark.Mark.{Mark}
 use Rattle.dm_words.specs.declared.letters.opening.Opened.{Opened}
 use Rattle.dm_words.specs.Joined.{Piece, spelled, whats, AreJoined}
-use Rattle.dm_words.specs.Letters.{LetterView, SpellsLetter, part, mark}
+use Rattle.dm_words.specs.Letters.{LetterView, Says, part, mark}
 use Rattle.dm_words.specs.Letters.{Said, Items, Number, IsLetterPart, AreLetterParts, HaveLetterFault, IsLetterFault}
 use Rattle.dm_words.specs.Letters.{IsOpening, AreOpened, no_head, behind}
 use Rattle.dm_words.specs.Designations.{designation, designations, AreDesignations, of_letter, of_refused}
@@ -26,12 +27,12 @@ use Rattle.dm_words.proofs.WholeLetters.{reads}
 
 -- Parts that are joined before another one are joined with it.
 joined-last : (place : ℕ) (pieces : List (Piece Said)) (words after : List ℕ) (said : Said)
-    → AreJoined IsLetterPart place pieces (words ++ after)
-    → IsLetterPart (place + length (spelled pieces)) words after said
-    → AreJoined IsLetterPart place
+    → AreJoined (IsLetterPart Wide) place pieces (words ++ after)
+    → IsLetterPart Wide (place + length (spelled pieces)) words after said
+    → AreJoined (IsLetterPart Wide) place
     (pieces ++ (let q : Piece Said = record { words = words; what = said } in q) ∷ []) after
 joined-last place [] words after said joined right = (
-  subst (λ (k : ℕ). IsLetterPart k words after said) (omega arith) right,
+  subst (λ (k : ℕ). IsLetterPart Wide k words after said) (omega arith) right,
   tt,
 )
 joined-last place (p ∷ ps) words after said joined right =
@@ -40,9 +41,9 @@ joined-last place (p ∷ ps) words after said joined right =
     sym (append_assoc (spelled ps) words after) ∙ ap (λ (l : List ℕ). l ++ after) (sym (spelled-last ps q)) in
     let there : place + length (p.words ++ spelled ps) ≡ (place + length p.words) + length (spelled ps) =
     omega (arith, length-append p.words (spelled ps)) in (
-      subst (λ (rest : List ℕ). IsLetterPart place p.words rest p.what) whole joined.0,
+      subst (λ (rest : List ℕ). IsLetterPart Wide place p.words rest p.what) whole joined.0,
       joined-last (place + length p.words) ps words after said joined.1
-          (subst (λ (k : ℕ). IsLetterPart k words after said) there right),
+          (subst (λ (k : ℕ). IsLetterPart Wide k words after said) there right),
     )
 
 -- The designators of parts, and of one behind them.
@@ -65,7 +66,7 @@ designations-last before (p ∷ ps) q =
 pub record AreTaken (words : List ℕ) (start at : ℕ) (found : List Mark) : Type 0 where
   pub pieces : List (Piece Said)
   pub whole : drop start words ≡ spelled pieces ++ drop at words
-  pub joined : AreJoined IsLetterPart (start + 1) pieces (drop at words)
+  pub joined : AreJoined (IsLetterPart Wide) (start + 1) pieces (drop at words)
   pub long : at ≡ start + length (spelled pieces)
   pub found_is : found ≡ designations start pieces
 
@@ -92,24 +93,24 @@ few_more at n old new (Number number) room few is =
 -- A part that is taken goes on with those that were.
 pub goes_on : (words : List ℕ) (start at n : ℕ) (old new : List Mark) → IsBytes words → at ≤ length words
     → 2 * length old ≤ at → AreTaken words start at old
-    → IsDesignationTaken (Ok (Some n)) at old new (first_letter_part (at + 1) (drop at words))
+    → IsDesignationTaken (Ok (Some n)) at old new (first_letter_part Wide (at + 1) (drop at words))
     → Leaves words start at n new
 goes_on words start at n old new fit in_range few t took =
     let said = took.0 in
-    let fits = letter_part_sound.fits at words fit in
-    let r = letter_part_sound.right (at + 1) (drop at words) n said fits took.1 in
+    let fits = (letter_part_sound Wide).fits at words fit in
+    let r = (letter_part_sound Wide).right (at + 1) (drop at words) n said fits took.1 in
     let long : length (take n (drop at words)) ≡ n = omega (arith, length-take n (drop at words), r.2) in
     let room : HasRoom n said =
     subst (λ (k : ℕ). HasRoom k said) long
-    (room_by (at + 1) (take n (drop at words)) (drop n (drop at words)) said r.0) in
+    (room_by Wide (at + 1) (take n (drop at words)) (drop n (drop at words)) said r.0) in
     let q : Piece Said = record { words = take n (drop at words); what = said } in
     let cut : take n (drop at words) ++ drop n (drop at words) ≡ drop at words = take-append-drop n (drop at words) in
     let rest : drop n (drop at words) ≡ drop (at + n) words = drop-drop n at words in
     let place : at + 1 ≡ (start + 1) + length (spelled t.pieces) = omega (arith, t.long) in
     let joined =
     joined-last (start + 1) t.pieces (take n (drop at words)) (drop n (drop at words)) said
-    (subst (λ (l : List ℕ). AreJoined IsLetterPart (start + 1) t.pieces l) (sym cut) t.joined)
-    (subst (λ (k : ℕ). IsLetterPart k (take n (drop at words)) (drop n (drop at words)) said) place r.0) in
+    (subst (λ (l : List ℕ). AreJoined (IsLetterPart Wide) (start + 1) t.pieces l) (sym cut) t.joined)
+    (subst (λ (k : ℕ). IsLetterPart Wide k (take n (drop at words)) (drop n (drop at words)) said) place r.0) in
     record {
       in_range = omega (arith, r.2, length-drop at words);
       some = r.1;
@@ -120,7 +121,7 @@ goes_on words start at n old new fit in_range few t took =
             ∙ sym (append_assoc (spelled t.pieces) (take n (drop at words)) (drop n (drop at words)))
             ∙ ap (λ (l : List ℕ). l ++ drop n (drop at words)) (sym (spelled-last t.pieces q))
             ∙ ap (λ (l : List ℕ). spelled (t.pieces ++ q ∷ []) ++ l) rest;
-        joined = subst (λ (l : List ℕ). AreJoined IsLetterPart (start + 1) (t.pieces ++ q ∷ []) l) rest joined;
+        joined = subst (λ (l : List ℕ). AreJoined (IsLetterPart Wide) (start + 1) (t.pieces ++ q ∷ []) l) rest joined;
         long = omega (
           arith,
           t.long,
@@ -136,8 +137,8 @@ goes_on words start at n old new fit in_range few t took =
 
 -- At the end these are the designators of all parts.
 pub ends : (words : List ℕ) (start at : ℕ) (found : List Mark) → IsBytes words → AreTaken words start at found
-    → first_letter_part (at + 1) (drop at words) ≡ Stops None
-    → (said : List Said) × (parts : AreLetterParts (start + 1) (drop start words) said)
+    → first_letter_part Wide (at + 1) (drop at words) ≡ Stops None
+    → (said : List Said) × (parts : AreLetterParts Wide (start + 1) (drop start words) said)
     × (found ≡ designations start parts.parts)
 ends words start at found fit t e = (
   whats t.pieces,
@@ -145,7 +146,7 @@ ends words start at found fit t e = (
     parts = t.pieces;
     after = drop at words;
     joined = t.joined;
-    ended = letter_end_sound (at + 1) (drop at words) (IsBytes-drop at words fit) e;
+    ended = letter_end_sound Wide (at + 1) (drop at words) (IsBytes-drop at words fit) e;
     whole = t.whole;
     said_are = refl;
   },
@@ -154,8 +155,8 @@ ends words start at found fit t e = (
 
 -- A fault that is met is there.
 pub fails : (words : List ℕ) (start at : ℕ) (found : List Mark) (why : LetterFault) → IsBytes words
-    → AreTaken words start at found → first_letter_part (at + 1) (drop at words) ≡ Stops (Some why)
-    → HaveLetterFault (start + 1) (drop start words) why
+    → AreTaken words start at found → first_letter_part Wide (at + 1) (drop at words) ≡ Stops (Some why)
+    → HaveLetterFault Wide (start + 1) (drop start words) why
 fails words start at found why fit t e =
     let place : at + 1 ≡ (start + 1) + length (spelled t.pieces) = omega (arith, t.long) in
     record {
@@ -164,8 +165,8 @@ fails words start at found why fit t e =
       joined = t.joined;
       whole = t.whole;
       faulty =
-          subst (λ (k : ℕ). IsLetterFault k (drop at words) why) place
-          (letter_fault_sound (at + 1) (drop at words) why (IsBytes-drop at words fit) e);
+          subst (λ (k : ℕ). IsLetterFault Wide k (drop at words) why) place
+          (letter_fault_sound Wide (at + 1) (drop at words) why (IsBytes-drop at words fit) e);
     }
 
 -- Behind ECI, a designator is found.
@@ -177,20 +178,20 @@ designator_found at o d old new e is = rw e (Number d.number, refl, is)
 -- ---- the whole
 
 -- Where no head is found behind structured append, there are no designators.
-pub of_no_opening : (words : List ℕ) (found : List Mark) → opened words ≡ None → found ≡ []
+pub of_no_opening : (words : List ℕ) (found : List Mark) → opened Wide words ≡ None → found ≡ []
     → AreDesignations words found
 of_no_opening words found e is =
-    let j = subst (OpeningJudged words) e (openings.judged words) in
-    of_refused _ (no_head j.more j.whole j.none refl) is
+    let j = subst (OpeningJudged Wide words) e (openings.judged Wide words) in
+    of_refused _ (no_head j.more j.wide j.whole j.none refl) is
 
 -- An opening that is found opens so.
-opens : (words : List ℕ) (o : Opened) → OpeningJudged words (Some o)
-    → (a : AreOpened words o.opening (o.count + 1) (drop o.count words)) × (o.count ≡ length a.first)
+opens : (words : List ℕ) (o : Opened) → OpeningJudged Wide words (Some o)
+    → (a : AreOpened Wide words o.opening (o.count + 1) (drop o.count words)) × (o.count ≡ length a.first)
 opens words o j =
     let rest = ap (drop o.count) j.whole ∙ drop_at j.first j.more o.count (sym j.count) in (
       record {
         first = j.first;
-        is_opening = subst (λ (more : List ℕ). IsOpening j.first more o.opening) (sym rest) j.is_opening;
+        is_opening = subst (λ (more : List ℕ). IsOpening Wide j.first more o.opening) (sym rest) j.is_opening;
         whole = j.whole ∙ ap (λ (more : List ℕ). j.first ++ more) (sym rest);
         place_is = omega (arith, j.count);
       },
@@ -198,19 +199,19 @@ opens words o j =
     )
 
 -- The designators of the parts behind an opening are those of the letter.
-pub of_parts : (words : List ℕ) (o : Opened) (found : List Mark) → opened words ≡ Some o
-    → (said : List Said) (parts : AreLetterParts (o.count + 1) (drop o.count words) said)
+pub of_parts : (words : List ℕ) (o : Opened) (found : List Mark) → opened Wide words ≡ Some o
+    → (said : List Said) (parts : AreLetterParts Wide (o.count + 1) (drop o.count words) said)
     → found ≡ designations o.count parts.parts → AreDesignations words found
 of_parts words o found e said parts is =
-    let a = opens words o (subst (OpeningJudged words) e (openings.judged words)) in
+    let a = opens words o (subst (OpeningJudged Wide words) e (openings.judged Wide words)) in
     of_letter o.opening (o.count + 1) (drop o.count words) a.0 said parts
     (is ∙ ap (λ (k : ℕ). designations k parts.parts) a.1)
 
 -- Where the parts behind an opening have a fault, there are none.
-pub of_fault : (words : List ℕ) (o : Opened) (found : List Mark) (why : LetterFault) → opened words ≡ Some o
-    → HaveLetterFault (o.count + 1) (drop o.count words) why → found ≡ [] → AreDesignations words found
+pub of_fault : (words : List ℕ) (o : Opened) (found : List Mark) (why : LetterFault) → opened Wide words ≡ Some o
+    → HaveLetterFault Wide (o.count + 1) (drop o.count words) why → found ≡ [] → AreDesignations words found
 of_fault words o found why e fault is =
-    let a = opens words o (subst (OpeningJudged words) e (openings.judged words)) in
+    let a = opens words o (subst (OpeningJudged Wide words) e (openings.judged Wide words)) in
     of_refused why (behind o.opening (o.count + 1) (drop o.count words) a.0 fault) is
 
 -- ---- none
@@ -229,13 +230,13 @@ no_eci_behind a b none i lt e =
     none (length a + i) (omega (arith, lt, length-append a b)) (get_or-append-add a b i 0 ∙ e)
 
 -- Parts without ECI have no designators.
-no_designation : (place before : ℕ) (words after : List ℕ) (said : Said) → IsLetterPart place words after said
+no_designation : (place before : ℕ) (words after : List ℕ) (said : Said) → IsLetterPart Wide place words after said
     → HaveNoEci words → designation before said ≡ []
 no_designation place before words after said (part items p is) none = rw is refl
-no_designation place before words after said (mark d number e whole is) none =
+no_designation place before words after said (mark d number wide e whole is) none =
     absurd (none 0 (omega (arith, ap length whole)) (ap (λ (l : List ℕ). get_or l 0 0) whole))
 
-no_designations : (place before : ℕ) (ps : List (Piece Said)) (after : List ℕ) → AreJoined IsLetterPart place ps after
+no_designations : (place before : ℕ) (ps : List (Piece Said)) (after : List ℕ) → AreJoined (IsLetterPart Wide) place ps after
     → HaveNoEci (spelled ps) → designations before ps ≡ []
 no_designations place before [] after joined none = refl
 no_designations place before (p ∷ ps) after joined none =
@@ -246,7 +247,7 @@ no_designations place before (p ∷ ps) after joined none =
     rw (here, there) refl
 
 -- The parts of a letter that is said have none.
-none_said : (words : List ℕ) (l : LetterView) → SpellsLetter words l → HaveNoEci words → AreDesignations words []
+none_said : (words : List ℕ) (l : LetterView) → Says Wide words l → HaveNoEci words → AreDesignations words []
 none_said words l s none =
     let more : HaveNoEci s.more = no_eci_behind s.opened.first s.more
     (subst HaveNoEci s.opened.whole none) in
@@ -257,7 +258,7 @@ none_said words l s none =
 
 -- Words without ECI have no designators.
 pub none_without_eci : (words : List ℕ) → IsBytes words → HaveNoEci words → AreDesignations words []
-none_without_eci words fit none = by_result (letter_of words) refl where
-  by_result : (r : Result LetterView LetterFault) → letter_of words ≡ r → AreDesignations words []
-  by_result (Ok l) e = none_said words l ((reads words fit).letter_is l e) none
-  by_result (Err why) e = of_refused why ((reads words fit).fault_is why e) refl
+none_without_eci words fit none = by_result (letter_of Wide words) refl where
+  by_result : (r : Result LetterView LetterFault) → letter_of Wide words ≡ r → AreDesignations words []
+  by_result (Ok l) e = none_said words l ((reads Wide words fit).letter_is l e) none
+  by_result (Err why) e = of_refused why ((reads Wide words fit).fault_is why e) refl

@@ -4,6 +4,7 @@ use Rattle.std.proofs.Common.{◌∙◌, ◌-◌, inl, inr, Bool, true, false, g
 use Rattle.std.specs.Prelude.{◌==◌, if◌then◌else◌}
 use Rattle.std.proofs.lemmas.Bool.{eqb-true}
 use Rattle.std.proofs.lemmas.List.{take-append-drop, drop-drop, drop_all}
+use Rattle.dm_words.specs.declared.extent.Extent.{Extent}
 use Rattle.dm_words.specs.Designators.{eci_word}
 use Rattle.dm_words.specs.Letters.{LetterView, Said, Items, Number, IsLetterPart, part, mark, eci_count, HasMarkRoom}
 use Rattle.dm_words.specs.inner.LetterContents.{IsContentAt}
@@ -41,11 +42,11 @@ mark_count (Items items) = 0
 mark_count (Number number) = 1
 
 -- A part with a mark takes an ECI.
-pub taken_away : (at n : ℕ) (words : List ℕ) (said : Said)
-    → IsLetterPart (at + 1) (take n (drop at words)) (drop n (drop at words)) said
+pub taken_away : (extent : Extent) (at n : ℕ) (words : List ℕ) (said : Said)
+    → IsLetterPart extent (at + 1) (take n (drop at words)) (drop n (drop at words)) said
     → mark_count said + eci_count (drop (at + n) words) ≤ eci_count (drop at words)
-taken_away at n words said (part items p is) = rw is (omega (arith, no_more_left at (at + n) words (omega arith)))
-taken_away at n words said (mark d number e whole is) =
+taken_away extent at n words said (part items p is) = rw is (omega (arith, no_more_left at (at + n) words (omega arith)))
+taken_away extent at n words said (mark d number wide e whole is) =
     let some : eci_count (take n (drop at words)) ≡ 1 + eci_count d = ap eci_count whole ∙ one_counts d in
     rw is (omega (arith, in_parts n (drop at words), ap eci_count (drop-drop n at words), some))
 

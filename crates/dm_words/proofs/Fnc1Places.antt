@@ -18,15 +18,15 @@ use Rattle.dm_words.specs.Codewords.{codeword_of}
 use Rattle.dm_words.specs.Heads.{head_words}
 use Rattle.dm_words.specs.Joined.{Piece, spelled, AreJoined}
 use Rattle.dm_words.specs.Letters.{Said, Items, IsLetterPart, part, mark, AreOpened, IsOpening, headed, framed, plain}
-use Rattle.dm_words.specs.Letters.{AreLetterParts, AreEmptyRuns, SpellsLetter, LetterView, opening_head}
+use Rattle.dm_words.specs.Letters.{AreLetterParts, AreEmptyRuns, Says, LetterView, opening_head}
 use Rattle.dm_words.specs.Ascii.{character, digits, fnc1, raised}
 use Rattle.dm_words.specs.Base256.{IsLengthField, to_the_end, short, long, written}
 use Rattle.dm_words.specs.Designators.{one, two, three}
 use Rattle.dm_words.specs.Edifact.{IsEdifactEnd, few_left, first, second, third, fourth}
 use Rattle.dm_words.specs.Runs.{IsRun, IsRunEnd, unlatch, symbol_end, last_word}
 use Rattle.dm_words.specs.Values.{filler, nothing}
-use Rattle.dm_words.specs.Spells.{IsPart, ascii, run, segment, edifact, IsEnd}
-use Rattle.dm_words.specs.Spells as spells
+use Rattle.dm_words.specs.Parts.{IsPart, ascii, run, segment, edifact, IsEnd}
+use Rattle.dm_words.specs.Parts as spells
 use Rattle.dm_words.specs.declared.letters.mark.Mark.{Mark}
 use Rattle.dm_words.specs.Symbology.{IsFnc1At, IsFnc1Number, IsIdentifier, marks_number}
 use Rattle.dm_words.specs.Symbology as symbology
@@ -53,20 +53,20 @@ one_count : (x : Option Opened) (k l : Opened) → x ≡ Some k → x ≡ Some l
 one_count x k l e f = (let h : k ≡ l = cc in ap (λ (q : Opened). q.count) h)
 
 -- Words open in one way: two openings have as many codewords, and the same behind them.
-same_opened : (words : List ℕ) (o p : Opening) (s t : ℕ) (us vs : List ℕ) → AreOpened words o s us
-    → AreOpened words p t vs → (s ≡ t) × (us ≡ vs)
+same_opened : (words : List ℕ) (o p : Opening) (s t : ℕ) (us vs : List ℕ) → AreOpened Wide words o s us
+    → AreOpened Wide words p t vs → (s ≡ t) × (us ≡ vs)
 same_opened words o p s t us vs a b =
     let count : length a.first ≡ length b.first =
-    one_count (opened words) (record { opening = o; count = length a.first })
+    one_count (opened Wide words) (record { opening = o; count = length a.first })
     (record { opening = p; count = length b.first })
-    (ap opened a.whole ∙ openings.complete a.first us o a.is_opening)
-    (ap opened b.whole ∙ openings.complete b.first vs p b.is_opening) in
+    (ap (opened Wide) a.whole ∙ openings.complete Wide a.first us o a.is_opening)
+    (ap (opened Wide) b.whole ∙ openings.complete Wide b.first vs p b.is_opening) in
     (omega (arith, count, a.place_is, b.place_is), same_rest a.first b.first us vs count (sym a.whole ∙ b.whole))
 
 -- ---- FNC1 where the parts begin
 
 -- It is the first codeword behind the opening.
-begins : (words : List ℕ) (o : Opening) (start : ℕ) (more : List ℕ) → AreOpened words o start more
+begins : (words : List ℕ) (o : Opening) (start : ℕ) (more : List ℕ) → AreOpened Wide words o start more
     → IsFnc1At words start → (after : List ℕ) × (more ≡ 232 ∷ after)
 begins words o start more there_is x =
     let same = same_opened words o x.opening start x.start more x.more there_is x.opened in
@@ -74,7 +74,7 @@ begins words o start more there_is x =
     (x.after, same.1 ∙ x.whole ∙ ap (λ (l : List ℕ). l ++ 232 ∷ x.after) none)
 
 -- And where it is, it is one.
-begun : (words : List ℕ) (o : Opening) (start : ℕ) (more after : List ℕ) → AreOpened words o start more
+begun : (words : List ℕ) (o : Opening) (start : ℕ) (more after : List ℕ) → AreOpened Wide words o start more
     → more ≡ 232 ∷ after → IsFnc1At words start
 begun words o start more after there_is e =
     record {
@@ -90,7 +90,7 @@ begun words o start more after there_is e =
     }
 
 -- It never stands before them.
-not_before : (words : List ℕ) (o : Opening) (start place : ℕ) (more : List ℕ) → AreOpened words o start more
+not_before : (words : List ℕ) (o : Opening) (start place : ℕ) (more : List ℕ) → AreOpened Wide words o start more
     → place < start → IsFnc1At words place → ⊥
 not_before words o start place more there_is below x =
     let same = same_opened words o x.opening start x.start more x.more there_is x.opened in
@@ -103,7 +103,7 @@ record IsAlone (start w : ℕ) (more : List ℕ) : Type 0 where
   after : List ℕ
   said : Said
   whole : more ≡ 232 ∷ after
-  taken : IsLetterPart start (w ∷ []) (232 ∷ after) said
+  taken : IsLetterPart Wide start (w ∷ []) (232 ∷ after) said
 
 -- A list of one number has it.
 one_first : (xs : List ℕ) → length xs ≡ 1 → (x : ℕ) × (xs ≡ x ∷ [])
@@ -113,33 +113,33 @@ one_first (x ∷ y ∷ xs) e = absurd (omega arith)
 
 -- The first part is one codeword, and no other part stands before FNC1.
 alone_by : (start : ℕ) (parts : List (Piece Said)) (after more : List ℕ)
-    → AreJoined IsLetterPart start parts (232 ∷ after) → more ≡ spelled parts ++ 232 ∷ after
+    → AreJoined (IsLetterPart Wide) start parts (232 ∷ after) → more ≡ spelled parts ++ 232 ∷ after
     → length (spelled parts) ≡ 1 → (w : ℕ) × (rest : List ℕ) × (more ≡ w ∷ rest) × IsAlone start w rest
 alone_by start [] after more joined e k = absurd (omega arith)
 alone_by start (p ∷ ps) after more joined e k =
-    let c = letter_part_complete start p.words (spelled ps ++ 232 ∷ after) p.what joined.0 in
+    let c = letter_part_complete Wide start p.words (spelled ps ++ 232 ∷ after) p.what joined.0 in
     let sum = length-append p.words (spelled ps) in
     let none : spelled ps ≡ [] = nil_from_length (spelled ps) (omega (arith, sum, k, c.1)) in
     let w = one_first p.words (omega (arith, sum, k, c.1)) in
     let rest : spelled ps ++ 232 ∷ after ≡ 232 ∷ after = ap (λ (l : List ℕ). l ++ 232 ∷ after) none in
     let whole : more ≡ w.0 ∷ 232 ∷ after = e ∙ ap (λ (l : List ℕ). l ++ 232 ∷ after)
     (ap (λ (l : List ℕ). l ++ spelled ps) w.1 ∙ ap (λ (l : List ℕ). w.0 ∷ l) none) in
-    let there : IsLetterPart start (w.0 ∷ []) (232 ∷ after) p.what =
-    subst (λ (l : List ℕ). IsLetterPart start l (232 ∷ after) p.what) w.1
-    (subst (λ (l : List ℕ). IsLetterPart start p.words l p.what) rest joined.0) in
+    let there : IsLetterPart Wide start (w.0 ∷ []) (232 ∷ after) p.what =
+    subst (λ (l : List ℕ). IsLetterPart Wide start l (232 ∷ after) p.what) w.1
+    (subst (λ (l : List ℕ). IsLetterPart Wide start p.words l p.what) rest joined.0) in
     (w.0, 232 ∷ after, whole, record { after = after; said = p.what; whole = refl; taken = there })
 
 -- It is the second codeword behind the opening.
-follows : (words : List ℕ) (o : Opening) (start : ℕ) (more : List ℕ) → AreOpened words o start more
+follows : (words : List ℕ) (o : Opening) (start : ℕ) (more : List ℕ) → AreOpened Wide words o start more
     → IsFnc1At words (start + 1) → (w : ℕ) × (rest : List ℕ) × (more ≡ w ∷ rest) × IsAlone start w rest
 follows words o start more there_is x =
     let same = same_opened words o x.opening start x.start more x.more there_is x.opened in
-    let P : ℕ → Type 0 = λ n. AreJoined IsLetterPart n x.parts (232 ∷ x.after) in
+    let P : ℕ → Type 0 = λ n. AreJoined (IsLetterPart Wide) n x.parts (232 ∷ x.after) in
     alone_by start x.parts x.after more (subst P (sym same.0) x.joined) (same.1 ∙ x.whole)
     (omega (arith, x.place_is, same.0))
 
 -- And where it is, it is one.
-followed : (words : List ℕ) (o : Opening) (start w : ℕ) (more rest : List ℕ) → AreOpened words o start more
+followed : (words : List ℕ) (o : Opening) (start w : ℕ) (more rest : List ℕ) → AreOpened Wide words o start more
     → more ≡ w ∷ rest → IsAlone start w rest → IsFnc1At words (start + 1)
 followed words o start w more rest there_is e a =
     let p : Piece Said = record { words = w ∷ []; what = a.said } in
@@ -209,20 +209,20 @@ part_alone place w after items (edifact wide r) =
     rw (ap codeword_of same ∙ r.is_latch) (grind (arith, nat_tests))
 
 -- So is a part of a letter.
-alone_tests : (start w : ℕ) (after : List ℕ) (said : Said) → IsLetterPart start (w ∷ []) (232 ∷ after) said
+alone_tests : (start w : ℕ) (after : List ℕ) (said : Said) → IsLetterPart Wide start (w ∷ []) (232 ∷ after) said
     → is_alone (codeword_of w) (length after) ≡ true
 alone_tests start w after said (part items p is) = part_alone start w after items p
-alone_tests start w after said (mark d number (one f a b e is) whole all) =
+alone_tests start w after said (mark d number wide (one f a b e is) whole all) =
     absurd (omega (arith, ap length whole, ap length e))
-alone_tests start w after said (mark d number (two f g a b c e is) whole all) =
+alone_tests start w after said (mark d number wide (two f g a b c e is) whole all) =
     absurd (omega (arith, ap length whole, ap length e))
-alone_tests start w after said (mark d number (three f g h a b c k e is few) whole all) =
+alone_tests start w after said (mark d number wide (three f g h a b c k e is few) whole all) =
     absurd (omega (arith, ap length whole, ap length e))
 
 -- A codeword that is alone, and no macro, is a part before FNC1.
 alone_part : (start w : ℕ) (after : List ℕ) (k : Option Codeword) → codeword_of w ≡ k
     → is_alone k (length after) ≡ true → ((digit : ℕ) → k ≡ Some (codeword.Macro digit) → ⊥)
-    → (said : Said) × IsLetterPart start (w ∷ []) (232 ∷ after) said
+    → (said : Said) × IsLetterPart Wide start (w ∷ []) (232 ∷ after) said
 alone_part start w after None e is other = absurd (cc)
 alone_part start w after (Some (codeword.Character byte)) e is other =
     let items = Byte byte ∷ [] in (Items items, part items (ascii (character w byte e refl refl)) refl)
@@ -276,7 +276,7 @@ alone_part start w after (Some codeword.Edifact) e is other =
 -- ---- the number, by the first two codewords
 
 -- Where no macro follows, an opening that is none or a head leaves the number to the codewords behind it.
-by_rest : (words : List ℕ) (o : Opening) (start behind : ℕ) (more : List ℕ) → AreOpened words o start more
+by_rest : (words : List ℕ) (o : Opening) (start behind : ℕ) (more : List ℕ) → AreOpened Wide words o start more
     → start ≡ behind + 1
     → ((w digit : ℕ) (ms : List ℕ) → more ≡ w ∷ ms → codeword_of w ≡ Some (codeword.Macro digit) → ⊥)
     → IsFnc1Number words behind (fnc1_number more)
@@ -358,7 +358,7 @@ other_word w k e other is =
 
 -- Behind a macro FNC1 can stand second, and behind empty runs and a macro it is neither.
 by_frame : (words : List ℕ) (o : Opening) (start : ℕ) (more runs : List ℕ) (word digit : ℕ)
-    → AreOpened words o start more
+    → AreOpened Wide words o start more
     → start ≡ 1 + length (runs ++ word ∷ []) → AreEmptyRuns runs → codeword_of word ≡ Some (codeword.Macro digit)
     → IsFnc1Number words 0 (fnc1_number ((runs ++ word ∷ []) ++ more))
 by_frame words o start more (l ∷ []) word digit there_is at empty k = absurd empty
@@ -406,7 +406,7 @@ by_frame words o start more [] word digit there_is at empty k = by_more more ref
   by_more (m ∷ ms) e = by_first m ms e (word == 232) refl
 
 -- Where parts begin no macro stands.
-parts_begin : (start : ℕ) (more : List ℕ) (said : List Said) → AreLetterParts start more said → (w digit : ℕ)
+parts_begin : (start : ℕ) (more : List ℕ) (said : List Said) → AreLetterParts Wide start more said → (w digit : ℕ)
     (ms : List ℕ) → more ≡ w ∷ ms → codeword_of w ≡ Some (codeword.Macro digit) → ⊥
 parts_begin start more said are w digit ms e k = by_parts are.parts are.joined are.ended are.whole where
   by_end : (after : List ℕ) → IsEnd after → more ≡ after → ⊥
@@ -415,30 +415,30 @@ parts_begin start more said are w digit ms e k = by_parts are.parts are.joined a
       let f : w ∷ ms ≡ word ∷ rest = sym e ∙ is ∙ all in let same : w ≡ word = cc in
       let g : Some (codeword.Macro digit) ≡ Some codeword.Pad = sym k ∙ ap codeword_of same ∙ p in cc
 
-  by_parts : (parts : List (Piece Said)) → AreJoined IsLetterPart start parts are.after → IsEnd are.after
+  by_parts : (parts : List (Piece Said)) → AreJoined (IsLetterPart Wide) start parts are.after → IsEnd are.after
       → more ≡ spelled parts ++ are.after → ⊥
   by_parts [] joined ended is = by_end are.after ended is
   by_parts (p ∷ ps) joined ended is =
-      let c = letter_part_complete start p.words (spelled ps ++ are.after) p.what joined.0 in
+      let c = letter_part_complete Wide start p.words (spelled ps ++ are.after) p.what joined.0 in
       let whole : w ∷ ms ≡ p.words ++ (spelled ps ++ are.after) = sym e ∙ is
       ∙ append_assoc p.words (spelled ps) are.after in
-      let taken = ap (first_letter_part start) whole ∙ c.0 in
+      let taken = ap (first_letter_part Wide start) whole ∙ c.0 in
       let eci : w ≡ 241 → ⊥ = λ same. (let g : Some (codeword.Macro digit) ≡ Some codeword.LeftOut = sym k
       ∙ ap codeword_of same in cc) in
-      let stops : first_letter_part start (w ∷ ms) ≡ as_said (part_by Wide start w ms (Some (codeword.Macro digit))) =
-      as_part start w ms eci ∙ ap (λ (m : Option Codeword). as_said (part_by Wide start w ms m)) k in
+      let stops : first_letter_part Wide start (w ∷ ms) ≡ as_said (part_by Wide start w ms (Some (codeword.Macro digit))) =
+      as_part Wide start w ms (λ wide. eci) ∙ ap (λ (m : Option Codeword). as_said (part_by Wide start w ms m)) k in
       let g = sym stops ∙ taken in absurd (cc)
 
 -- The words that say a letter have its head first, and a number by what follows.
-pub identified : (words : List ℕ) (l : LetterView) → SpellsLetter words l
+pub identified : (words : List ℕ) (l : LetterView) → Says Wide words l
     → (length (head_words l.head) ≤ length words)
     × IsFnc1Number words (length (head_words l.head)) (fnc1_number (drop (length (head_words l.head)) words))
 identified words l said = rw (ap (λ (x : LetterView). x.head) said.letter_is) (by_kind said.opened.is_opening) where
-  by_kind : IsOpening said.opened.first said.more said.opening
+  by_kind : IsOpening Wide said.opened.first said.more said.opening
       → (length (head_words (opening_head said.opening)) ≤ length words)
       × IsFnc1Number words (length (head_words (opening_head said.opening)))
       (fnc1_number (drop (length (head_words (opening_head said.opening))) words))
-  by_kind (headed h s is) =
+  by_kind (headed h wide s is) =
       let only = (heads.head_only said.opened.first h s).1 in
       let count : length said.opened.first ≡ length (head_words (Some h)) = ap length only in
       let behind : drop (length (head_words (Some h))) words ≡ said.more =
@@ -449,7 +449,7 @@ identified words l said = rw (ap (λ (x : LetterView). x.head) said.letter_is) (
         rw behind (by_rest words said.opening said.place (length (head_words (Some h))) said.more said.opened
             (omega (arith, said.opened.place_is, count)) (parts_begin said.place said.more said.said said.parts)),
       )
-  by_kind (framed digit f is) =
+  by_kind (framed digit wide f is) =
       let whole : (f.runs ++ f.word ∷ []) ++ said.more ≡ words =
       ap (λ (x : List ℕ). x ++ said.more) (sym f.whole) ∙ sym said.opened.whole in
       rw is (
@@ -497,7 +497,7 @@ identifier_is_one words l a b x y =
     (one_number words (length (head_words l.head)) x.fnc1 y.fnc1 x.is_fnc1 y.is_fnc1) ∙ sym y.number_is
 
 -- And they have one.
-pub identifier_is_there : (words : List ℕ) (l : LetterView) → SpellsLetter words l
+pub identifier_is_there : (words : List ℕ) (l : LetterView) → Says Wide words l
     → (number : ℕ) × IsIdentifier words l number
 identifier_is_there words l said =
     let i = identified words l said in
@@ -505,7 +505,7 @@ identifier_is_there words l said =
     (number + marks_number l.marks, record { fnc1 = number; is_fnc1 = i.1; number_is = refl })
 
 -- So a number that is made of what follows the head, and of the marks, is the identifier's.
-pub identifier_of : (words : List ℕ) (l : LetterView) (h : Option Head) (n number total : ℕ) → SpellsLetter words l
+pub identifier_of : (words : List ℕ) (l : LetterView) (h : Option Head) (n number total : ℕ) → Says Wide words l
     → h ≡ l.head → n ≡ length (head_words h) → number ≡ fnc1_number (take (length words - n) (drop n words))
     → total ≡ number + marks_number l.marks → IsIdentifier words l total
 identifier_of words l h n number total said head count is all =

@@ -14,7 +14,7 @@ use Rattle.dm_words.specs.declared.smallest.edifact.Group.TheVariants.{Empty, On
 use Rattle.dm_words.specs.Joined.{Piece, spelled, gathered}
 use Rattle.dm_words.specs.Edifact.{IsGroup, edifact_byte, IsEdifactEnd, IsEdifactRun, few_left, first, fourth}
 use Rattle.dm_words.specs.Plain as plainly
-use Rattle.dm_words.specs.Spells.{edifact}
+use Rattle.dm_words.specs.Parts.{edifact}
 use Rattle.dm_words.specs.inner.Written.{waiting_values, IsSmallGroup, IsGroupPushed, IsEdifactEnded, IsPartWritten}
 use Rattle.dm_words.specs.Messages.{byte_of, byte_items}
 use Rattle.dm_words.proofs.SegmentLoops.{byte_items-append}

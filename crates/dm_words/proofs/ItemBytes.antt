@@ -1,4 +1,4 @@
--- What codewords spell is a message: its bytes are 0 to 255.
+-- What parts spell are bytes of 0 to 255.
 use Rattle.std.proofs.Common.{◌≡◌, ℕ, ◌+◌, ◌<◌, List, [], ◌∷◌, ◌++◌, length, map, sym, subst, arith, Some, Bool, true}
 use Rattle.std.proofs.Common.{false, cond, ltb}
 use Rattle.std.specs.List.{AllByRecursion}
@@ -23,8 +23,7 @@ use Rattle.dm_words.specs.Codewords.{codeword_of}
 use Rattle.dm_words.specs.Base256.{AreBytes}
 use Rattle.dm_words.specs.Edifact.{IsGroup, edifact_byte, IsEdifactEnd, few_left, first, second, third, fourth}
 use Rattle.dm_words.specs.Macros.{macro_header, macro_trailer, macro_text}
-use Rattle.dm_words.specs.Spells.{IsPart, ascii, run, segment, edifact, AreParts, plain as plain_parts, by_macro}
-use Rattle.dm_words.specs.Spells.{Spells}
+use Rattle.dm_words.specs.Parts.{IsPart, ascii, run, segment, edifact, AreParts}
 use Rattle.dm_words.proofs.AsciiWords.{AreItems, character_is, digits_are}
 
 -- A byte of a basic set is below 128.
@@ -157,12 +156,6 @@ macro_items digit text lt h =
     (omega arith, (omega arith, (omega arith, (omega arith, (omega arith, (lt, (omega arith, tt)))))))
     (items-append text macro_trailer h (omega arith, (omega arith, tt)))
 
--- What words spell are items.
-spelled_items : (extent : Extent) (words : List ℕ) (m : List Item) → Spells extent words m → AreItems m
-spelled_items extent words m (plain_parts p) = items_of_parts extent 1 words m p
-spelled_items extent words m (by_macro word digit more text wide k whole p is) =
-    rw is (macro_items digit text (macro_byte word digit k) (items_of_parts extent 2 more text p))
-
 -- The text of a macro is a message, where what stands between the header and the trailer is spelled.
 pub macro_text_is_message : (extent : Extent) (place word digit : ℕ) (words : List ℕ) (text : List Item)
     → codeword_of word ≡ Some (codeword.Macro digit) → AreParts extent place words text
@@ -170,7 +163,3 @@ pub macro_text_is_message : (extent : Extent) (place word digit : ℕ) (words : 
 macro_text_is_message extent place word digit words text k p =
     All-from_recursion IsItem (macro_text digit text)
     (macro_items digit text (macro_byte word digit k) (items_of_parts extent place words text p))
-
--- What words spell is a message.
-pub spelled_is_message : (extent : Extent) (words : List ℕ) (m : List Item) → Spells extent words m → IsMessage m
-spelled_is_message extent words m s = All-from_recursion IsItem m (spelled_items extent words m s)

@@ -11,17 +11,13 @@ use Rattle.dm_words.specs.Pads.{padded}
 use Rattle.dm_words.specs.Values.{IsRest}
 use Rattle.dm_words.specs.Macros.{macro_text}
 use Rattle.dm_words.specs.Smallest.{SpellsThenPads}
-use Rattle.dm_words.specs.Spells.{by_macro, Spells}
-use Rattle.dm_words.specs.Laws.{HasOneResult, AreCodewords, AreRunValues, BeginsNoSpelling, AreMacro}
-use Rattle.dm_words.proofs.WholeReading as reading
+use Rattle.dm_words.specs.Spells.{Spells}
+use Rattle.dm_words.specs.Laws.{AreCodewords, AreRunValues, BeginsNoSpelling, AreMacro}
 use Rattle.dm_words.proofs.AsciiWords as form
 use Rattle.dm_words.proofs.ItemBytes.{macro_text_is_message}
+use Rattle.dm_words.proofs.SpelledLetters.{macro_spells}
 use Rattle.dm_words.proofs.PadWords.{length-padded, padded_bytes}
 use Rattle.dm_words.proofs.Values.{rest_begins_no_spelling, no_spelling_is_rest}
-
--- Codewords spell one message or are refused with one fault.
-pub one_result : (extent : Extent) (words : List ℕ) → AreCodewords words → HasOneResult extent words
-one_result extent words fit = reading.one_result extent words (recursion_from_All (λ w. w < 256) words fit)
 
 -- The ASCII form of a message with pads spells it.
 pub ascii_spells : (extent : Extent) (m : List Item) (count : ℕ) → IsMessage m → length (ascii m) ≤ count
@@ -36,7 +32,7 @@ ascii_padded extent m count fit = form.ascii_padded extent m count (recursion_fr
 -- A macro spells its text in the wide extent.
 pub macro_short : (digit : ℕ) (words : List ℕ) (text : List Item) → AreMacro digit words text
     → Spells Wide words (macro_text digit text)
-macro_short digit words text m = by_macro m.word digit m.more text refl m.is_macro m.whole m.spelled refl
+macro_short digit words text m = macro_spells Wide m.word digit words m.more text refl m.is_macro m.whole m.spelled
 
 -- The text of a macro, written out in ASCII, spells the same.
 pub macro_written_out : (digit count : ℕ) (words : List ℕ) (text : List Item) → AreMacro digit words text

@@ -12,20 +12,19 @@ use Rattle.dm_words.specs.Designators.{eci_word, designator}
 use Rattle.dm_words.specs.Heads.{head_words}
 use Rattle.dm_words.specs.Joined.{Piece, spelled, whats, AreJoined}
 use Rattle.dm_words.specs.Letters.{LetterView, AreMarks, Said, Items, Number, IsLetterPart, part, mark, AreLetterParts}
-use Rattle.dm_words.specs.Letters.{said_items, said_marks, IsOpening, headed, framed, plain, said_letter, SpellsLetter}
+use Rattle.dm_words.specs.Letters.{said_items, said_marks, IsOpening, headed, framed, plain, said_letter, Says}
 use Rattle.dm_words.specs.Letters.{BeginsFrame}
 use Rattle.dm_words.specs.LetterForm.{mark_words}
-use Rattle.dm_words.specs.LetterExtents.{SaysIn}
 use Rattle.dm_words.specs.Macros.{macro_text, macro_header, macro_trailer}
 use Rattle.dm_words.specs.Plain.{FramesNoFnc1}
-use Rattle.dm_words.specs.Spells.{IsPart}
+use Rattle.dm_words.specs.Parts.{IsPart}
 use Rattle.dm_words.specs.inner.Costs.{never, at_end, before_words}
 use Rattle.dm_words.specs.inner.LetterCosts.{marked_cost, IsLeastLetterCost}
 use Rattle.dm_words.proofs.CostsMet.{nothing_costs}
 use Rattle.dm_words.proofs.CostBounds.{part_no_fewer}
 use Rattle.dm_words.proofs.Designators.{designator_only}
 use Rattle.dm_words.proofs.Heads.{head_only}
-use Rattle.dm_words.proofs.LetterExtents.{said_wide}
+use Rattle.dm_words.proofs.Extents.{said_wide}
 use Rattle.dm_words.proofs.MarkedCosts.{StartAt, designator_few, marked_most}
 use Rattle.dm_words.proofs.SaidLetters.{said_in_order}
 
@@ -88,7 +87,7 @@ mark_first seen number rest =
 
 -- A part and what is said behind it have no fewer codewords than they cost.
 part_first : (seen place : ℕ) (words after : List ℕ) (said : Said) (rest : List Said)
-    → IsLetterPart place words after said → IsFew seen (said ∷ rest)
+    → IsLetterPart Wide place words after said → IsFew seen (said ∷ rest)
     → said_cost (seen_after seen said) rest ≤ length after
     → said_cost seen (said ∷ rest) ≤ length words + length after
 part_first seen place words after said rest (part items p is) few le =
@@ -98,7 +97,7 @@ part_first seen place words after said rest (part items p is) few le =
     subst (λ (s : Said). said_cost seen (s ∷ rest) ≤ length words + length after) (sym is)
     (items_first seen place words after items (said_items rest) (said_marks (seen + length items) rest) p
     (starts (seen + length items) (seen + length items) rest (omega arith)) (fewer seen (Items items) rest here) there)
-part_first seen place words after said rest (mark d number e whole is) few le =
+part_first seen place words after said rest (mark d number wide e whole is) few le =
     let there : said_cost seen rest ≤ length after =
     subst (λ (s : Said). said_cost (seen_after seen s) rest ≤ length after) is le in
     let count : length words ≡ length (eci_word ∷ designator number) =
@@ -107,7 +106,7 @@ part_first seen place words after said rest (mark d number e whole is) few le =
     (omega (arith, mark_first seen number rest, there, count))
 
 -- Nor do parts that are joined.
-joined_lower : (seen place : ℕ) (ps : List (Piece Said)) (after : List ℕ) → AreJoined IsLetterPart place ps after
+joined_lower : (seen place : ℕ) (ps : List (Piece Said)) (after : List ℕ) → AreJoined (IsLetterPart Wide) place ps after
     → IsFew seen (whats ps) → said_cost seen (whats ps) ≤ length (spelled ps ++ after)
 joined_lower seen place [] after h few = omega (arith, nothing_costs (at_end Wide))
 joined_lower seen place (p ∷ ps) after h few =
@@ -122,13 +121,13 @@ joined_lower seen place (p ∷ ps) after h few =
     )
 
 -- Nor do parts and an end.
-parts_lower : (seen place : ℕ) (words : List ℕ) (said : List Said) → AreLetterParts place words said
+parts_lower : (seen place : ℕ) (words : List ℕ) (said : List Said) → AreLetterParts Wide place words said
     → IsFew seen said → said_cost seen said ≤ length words
 parts_lower seen place words said a few =
     rw (a.said_are, a.whole) (joined_lower seen place a.parts a.after a.joined (rw a.said_are at few))
 
 module _ (words : List ℕ) (l : LetterView) (cost : ℕ) (few : 2 * length l.items + 4 * length l.marks ≤ never)
-    (least : IsLeastLetterCost l cost) (no_fnc1 : FramesNoFnc1 words l.items) (s : SpellsLetter words l) where
+    (least : IsLeastLetterCost l cost) (no_fnc1 : FramesNoFnc1 words l.items) (s : Says Wide words l) where
   -- The codewords are those of the opening and those behind it.
   whole : length words ≡ length s.opened.first + length s.more
   whole = omega (arith, ap length s.opened.whole, length-append s.opened.first s.more)
@@ -145,8 +144,8 @@ module _ (words : List ℕ) (l : LetterView) (cost : ℕ) (few : 2 * length l.it
   letter_by : (opening : Opening) → s.opening ≡ opening → l ≡ said_letter opening s.said
   letter_by opening is = s.letter_is ∙ ap (λ (o : Opening). said_letter o s.said) is
 
-  by_opening : IsOpening s.opened.first s.more s.opening → cost ≤ length words
-  by_opening (headed head h is) =
+  by_opening : IsOpening Wide s.opened.first s.more s.opening → cost ≤ length words
+  by_opening (headed head wide h is) =
       let e = letter_by _ is in
       by_parts (head_words (Some head)) (ap (λ (k : LetterView). head_words k.head) (sym e))
       (ap (λ (k : LetterView). k.items) e ∙ append-nil (said_items s.said)) (ap (λ (k : LetterView). k.marks) e)
@@ -156,14 +155,14 @@ module _ (words : List ℕ) (l : LetterView) (cost : ℕ) (few : 2 * length l.it
       by_parts [] (ap (λ (k : LetterView). head_words k.head) (sym e))
       (ap (λ (k : LetterView). k.items) e ∙ append-nil (said_items s.said)) (ap (λ (k : LetterView). k.marks) e)
       (omega arith)
-  by_opening (framed digit f is) =
+  by_opening (framed digit wide f is) =
       let e = letter_by _ is in
       let text = said_items s.said in
       let begins : BeginsFrame words =
       record { first = s.opened.first; digit = digit; more = s.more; is_frame = f; whole = s.opened.whole } in
       let items : l.items ≡ macro_text digit text = ap (λ (k : LetterView). k.items) e in
       let marks : l.marks ≡ said_marks 7 s.said = ap (λ (k : LetterView). k.marks) e in
-      let in_order : AreMarks 7 (7 + length text) l.marks = rw marks (said_in_order 7 s.place s.more s.said s.parts) in
+      let in_order : AreMarks 7 (7 + length text) l.marks = rw marks (said_in_order Wide 7 s.place s.more s.said s.parts) in
       let c : cost ≤ 1 + said_cost 7 s.said =
       (rw marks at (least.framed f.word digit text f.is_macro (ap (λ (k : LetterView). k.head) e) items
       (λ fnc1. no_fnc1 (digit, text, items, fnc1) begins) in_order)) in
@@ -186,7 +185,7 @@ module _ (words : List ℕ) (l : LetterView) (cost : ℕ) (few : 2 * length l.it
 -- No codewords that say a letter in an extent, and have no macro before FNC1, are fewer than its least cost.
 pub no_fewer_letter : (extent : Extent) (words : List ℕ) (l : LetterView) (cost : ℕ)
     → 2 * length l.items + 4 * length l.marks ≤ never → IsLeastLetterCost l cost → FramesNoFnc1 words l.items
-    → SaysIn extent words l → cost ≤ length words
+    → Says extent words l → cost ≤ length words
 no_fewer_letter extent words l cost few least no_fnc1 says =
     let s = said_wide extent words l says in
     by_opening words l cost few least no_fnc1 s s.opened.is_opening

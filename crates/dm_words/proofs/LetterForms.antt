@@ -20,7 +20,7 @@ use Rattle.dm_words.specs.Plain as plainly
 use Rattle.dm_words.specs.Designators.{designator}
 use Rattle.dm_words.specs.Heads.{IsHead, head_words}
 use Rattle.dm_words.specs.Letters.{LetterView, AreMarks, IsLetter, Said, Items, Number, IsLetterPart}
-use Rattle.dm_words.specs.Letters.{AreLetterParts, said_items, said_marks, headed, SpellsLetter}
+use Rattle.dm_words.specs.Letters.{AreLetterParts, said_items, said_marks, headed, Says}
 use Rattle.dm_words.specs.LetterForm.{mark_words, ascii_with_marks, form_by, letter_form}
 use Rattle.dm_words.proofs.AsciiWords.{AreItems, units_of, pads_end}
 use Rattle.dm_words.proofs.Designators.{designator_says}
@@ -28,7 +28,7 @@ use Rattle.dm_words.proofs.Heads.{head_says}
 use Rattle.dm_words.proofs.NormalForms.{normal_form_spells}
 use Rattle.dm_words.proofs.PadWords.{length-padded}
 use Rattle.dm_words.proofs.PlainParts.{plain_said}
-use Rattle.dm_words.proofs.WideLetters.{plain_letter, wide_is_letter}
+use Rattle.dm_words.proofs.SpelledLetters.{plain_letter}
 
 -- A piece is right wherever it stands.
 abbrev pub IsPlace : (ℕ → List ℕ → List ℕ → Said → Type 0) → Piece Said → Type 0
@@ -46,7 +46,7 @@ free_joined R place (p ∷ ps) after h =
     (h.0 place (spelled ps ++ after), free_joined R (place + length p.words) ps after h.1)
 
 -- What is plain is a part of a letter.
-pub all_said : (ps : List (Piece Said)) → AllByRecursion IsFree ps → AllByRecursion (IsPlace IsLetterPart) ps
+pub all_said : (ps : List (Piece Said)) → AllByRecursion IsFree ps → AllByRecursion (IsPlace (IsLetterPart Wide)) ps
 all_said [] h = tt
 all_said (p ∷ ps) h = ((λ place after. plain_said place p.words after p.what (h.0 place after)), all_said ps h.1)
 
@@ -157,11 +157,11 @@ parts_of before items (m ∷ marks) fit are =
 
 -- Parts that say this, and pads behind them, from a place on.
 letter_parts : (place first count : ℕ) (ps : List (Piece Said)) (words : List ℕ) → AllByRecursion IsFree ps → words
-    ≡ spelled ps → AreLetterParts place (words ++ pads first count) (whats ps)
+    ≡ spelled ps → AreLetterParts Wide place (words ++ pads first count) (whats ps)
 letter_parts place first count ps words free whole = record {
   parts = ps;
   after = pads first count;
-  joined = free_joined IsLetterPart place ps (pads first count) (all_said ps free);
+  joined = free_joined (IsLetterPart Wide) place ps (pads first count) (all_said ps free);
   ended = pads_end first count;
   whole = ap (λ (w : List ℕ). w ++ pads first count) whole;
   said_are = refl;
@@ -169,21 +169,21 @@ letter_parts place first count ps words free whole = record {
 
 -- A letter with marks and without a head is said by its form.
 marked_says : (items : List Item) (marks : List Mark) (count : ℕ) → AreItems items → AreMarks 0 (length items) marks
-    → SpellsLetter (padded (ascii_with_marks 0 items marks) count)
+    → Says Wide (padded (ascii_with_marks 0 items marks) count)
     (record { head = None; items = items; marks = marks })
 marked_says items marks count fit are =
     let words = ascii_with_marks 0 items marks in
     let whole : length items ≡ 0 + length items = omega arith in
     let h = parts_of 0 items marks fit (subst (λ (k : ℕ). AreMarks 0 k marks) whole are) in
-    subst (λ (ms : List Mark). SpellsLetter (padded words count) (record { head = None; items = items; marks = ms }))
+    subst (λ (ms : List Mark). Says Wide (padded words count) (record { head = None; items = items; marks = ms }))
     h.marks_are
-    (plain_letter (padded words count) (whats h.parts) items
+    (plain_letter Wide (padded words count) (whats h.parts) items
     (letter_parts 1 (length words + 1) (count - length words) h.parts words h.free h.whole) h.items_are)
 
 -- A letter with a head is said by its form.
 headed_says : (said : Head) (items : List Item) (marks : List Mark) (count : ℕ) → IsHead (Some said) → AreItems items
     → AreMarks 0 (length items) marks
-    → SpellsLetter (padded (head_words (Some said) ++ ascii_with_marks 0 items marks) count)
+    → Says Wide (padded (head_words (Some said) ++ ascii_with_marks 0 items marks) count)
     (record { head = Some said; items = items; marks = marks })
 headed_says said items marks count right fit are =
     let first = head_words (Some said) in
@@ -198,7 +198,7 @@ headed_says said items marks count right fit are =
       more = words ++ p;
       opened = record {
         first = first;
-        is_opening = headed said (head_says said right) refl;
+        is_opening = headed said refl (head_says said right) refl;
         whole = append_assoc first words p;
         place_is = refl;
       };
@@ -211,11 +211,10 @@ headed_says said items marks count right fit are =
 form_says : (profile : Profile) (said : Option Head) (items : List Item) (marks : List Mark) (count : ℕ)
     → IsLetter (record { head = said; items = items; marks = marks })
     → length (form_by profile said items marks) ≤ count → count ≤ most_data
-    → SpellsLetter (padded (form_by profile said items marks) count)
+    → Says Wide (padded (form_by profile said items marks) count)
     (record { head = said; items = items; marks = marks })
 form_says profile None items [] count right le most =
-    wide_is_letter (padded (form_by profile None items []) count) items
-    (normal_form_spells Wide profile items count right.items le most)
+    normal_form_spells Wide profile items count right.items le most
 form_says profile None items (m ∷ marks) count right le most =
     marked_says items (m ∷ marks) count (recursion_from_All IsItem items right.items) right.marks
 form_says profile (Some said) items marks count right le most =
@@ -224,7 +223,7 @@ form_says profile (Some said) items marks count right le most =
 -- The normal form of a letter, with pads up to a count, says the letter.
 pub letter_form_says : (profile : Profile) (l : LetterView) (count : ℕ) → IsLetter l
     → length (letter_form profile l) ≤ count → count ≤ most_data
-    → SpellsLetter (padded (letter_form profile l) count) l
+    → Says Wide (padded (letter_form profile l) count) l
 letter_form_says profile l count right le most = form_says profile l.head l.items l.marks count right le most
 
 -- With pads it has as many codewords as asked for.

@@ -1,23 +1,30 @@
 -- The loop that reads one part of a letter after the other.
-use Rattle.std.proofs.Common.{◌≡◌, ℕ, suc, ◌+◌, ◌*◌, ◌<◌, ◌≤◌, List, [], ◌∷◌, ◌++◌, length, take, drop, refl, sym, ap}
+use Rattle.std.proofs.Common.{◌≡◌, ℕ, suc, ◌+◌, ◌*◌, ◌/◌, ◌%◌, ◌<◌, ◌≤◌, List, [], ◌∷◌, ◌++◌, length, take, drop, refl, sym, ap}
 use Rattle.std.proofs.Common.{subst, ◌∙◌, append_assoc, arith, length-append, Option, Some, None, Result, Ok, true}
 use Rattle.std.proofs.lemmas.List.{append-nil, length-drop, length-take, drop-drop}
-use Rattle.dm_words.specs.declared.extent.Extent.TheVariants.{Wide}
+use Rattle.dm_words.specs.declared.extent.Extent.{Extent}
+use Rattle.dm_words.specs.declared.extent.Extent.TheVariants.{Usual}
 use Rattle.dm_words.specs.declared.letters.designator.Designator.{Designator}
+use Rattle.dm_words.specs.declared.fault.WordFault.{WordFault}
 use Rattle.dm_words.specs.declared.letters.fault.LetterFault.{LetterFault}
+use Rattle.dm_words.specs.declared.letters.fault.LetterFault.TheVariants as fault
 use Rattle.dm_words.specs.declared.letters.mark.Mark.{Mark}
 use Rattle.dm_words.specs.Designators.{most_assigned, IsDesignator, one, two, three}
 use Rattle.dm_words.specs.Letters.{LetterView, Said, Items, Number, IsLetterPart, part, mark, said_items}
-use Rattle.dm_words.specs.Letters.{said_marks, eci_count}
+use Rattle.dm_words.specs.Letters.{said_marks, eci_count, BeginNoEci}
 use Rattle.dm_words.specs.inner.Scan.Walk.{Takes, Stops, walk}
 use Rattle.dm_words.specs.inner.LetterScan.{as_said, mark_by, first_letter_part, with_said, items_with}
-use Rattle.dm_words.specs.inner.Scan.Results.{IsOneWordTaken}
+use Rattle.dm_words.specs.inner.Scan.Prefixes.{first_part}
+use Rattle.dm_words.specs.inner.Scan.Results.{IsPartTakenOrEnd, IsOneWordTaken}
+use Rattle.dm_words.specs.declared.codeword.Codeword.TheVariants as codeword
 use Rattle.dm_words.specs.declared.item.Item.{Item}
+use Rattle.dm_words.specs.declared.item.Item.TheVariants.{Byte}
+use Rattle.dm_words.specs.Codewords.{codeword_of}
 use Rattle.dm_words.specs.inner.LetterScan.{extended, letter_to, letter_on}
 use Rattle.dm_words.specs.inner.LetterContents.{IsContentAt, IsLetterPartTaken}
 use Rattle.dm_words.proofs.Walks.{walk-fuel}
-use Rattle.dm_words.proofs.Pairs.{IsBytes}
-use Rattle.dm_words.proofs.Parts.{room_of}
+use Rattle.dm_words.proofs.Pairs.{IsBytes, IsBytes-drop}
+use Rattle.dm_words.proofs.Parts.{room_of, part_room}
 use Rattle.dm_words.proofs.LetterParts.{letter_part_sound, as_part, no_eci}
 use Rattle.dm_words.proofs.SaidLetters.{assigned}
 use Rattle.dm_words.proofs.Marks.{more_items, one_more}
@@ -33,16 +40,16 @@ with_extended l (Number number) rest =
     rw (append_assoc l.marks (m ∷ []) (said_marks (length l.items) rest)) refl
 
 -- Reading on takes the first part.
-pub letter_on-takes : (so_far : LetterView) (place : ℕ) (words : List ℕ) (n : ℕ) (said : Said) → IsBytes words
-    → first_letter_part place words ≡ Takes n said
-    → letter_on so_far place words ≡ letter_on (with_said so_far said) (place + n) (drop n words)
+pub letter_on-takes : (extent : Extent) (so_far : LetterView) (place : ℕ) (words : List ℕ) (n : ℕ) (said : Said) → IsBytes words
+    → first_letter_part extent place words ≡ Takes n said
+    → letter_on extent so_far place words ≡ letter_on extent (with_said so_far said) (place + n) (drop n words)
 unfolding letter_on walk
-letter_on-takes so_far place words n said fit e =
-    let r = letter_part_sound.right place words n said fit e in
-    let w = walk-fuel first_letter_part IsLetterPart IsBytes None letter_part_sound (length words)
+letter_on-takes extent so_far place words n said fit e =
+    let r = (letter_part_sound extent).right place words n said fit e in
+    let w = walk-fuel (first_letter_part extent) (IsLetterPart extent) IsBytes None (letter_part_sound extent) (length words)
     (suc (length (drop n words))) (place + n) (drop n words) (omega (arith, r.1, r.2, length-drop n words))
-    (omega arith) (letter_part_sound.fits n words fit) in
-    let rest = walk first_letter_part None (suc (length (drop n words))) (place + n) (drop n words) in
+    (omega arith) ((letter_part_sound extent).fits n words fit) in
+    let rest = walk (first_letter_part extent) None (suc (length (drop n words))) (place + n) (drop n words) in
     rw (e, w) (ap (λ (l : LetterView). letter_to l rest.why) (sym (with_extended so_far said rest.taken)))
 
 -- Nothing more is said.
@@ -50,13 +57,13 @@ extended-nil : (l : LetterView) → extended l [] ≡ l
 extended-nil l = rw (append-nil l.items, append-nil l.marks) refl
 
 -- Reading on stops where no part stands.
-pub letter_on-stops : (so_far : LetterView) (place : ℕ) (words : List ℕ) (why : Option LetterFault)
-    → first_letter_part place words ≡ Stops why → letter_on so_far place words ≡ letter_to so_far why
+pub letter_on-stops : (extent : Extent) (so_far : LetterView) (place : ℕ) (words : List ℕ) (why : Option LetterFault)
+    → first_letter_part extent place words ≡ Stops why → letter_on extent so_far place words ≡ letter_to so_far why
 unfolding letter_on walk
-letter_on-stops so_far place words why e = rw e (ap (λ (l : LetterView). letter_to l why) (extended-nil so_far))
+letter_on-stops extent so_far place words why e = rw e (ap (λ (l : LetterView). letter_to l why) (extended-nil so_far))
 
 -- A designator has a codeword.
-designator_some : (words : List ℕ) (number : ℕ) → IsDesignator words number → 0 < length words
+pub designator_some : (words : List ℕ) (number : ℕ) → IsDesignator words number → 0 < length words
 designator_some words n (one a l h e is) = rw e (omega arith)
 designator_some words n (two a b l h f e is) = rw e (omega arith)
 designator_some words n (three a b c l h f g e is k) = rw e (omega arith)
@@ -67,10 +74,10 @@ HasRoom n (Items items) = length items ≤ 2 * n
 HasRoom n (Number number) = (2 ≤ n) × (number ≤ most_assigned)
 
 -- Each part has room.
-pub room_by : (place : ℕ) (words after : List ℕ) (said : Said) → IsLetterPart place words after said
+pub room_by : (extent : Extent) (place : ℕ) (words after : List ℕ) (said : Said) → IsLetterPart extent place words after said
     → HasRoom (length words) said
-room_by place words after said (part items p is) = rw is (room_of Wide place words after items p)
-room_by place words after said (mark d number e whole is) =
+room_by extent place words after said (part items p is) = rw is (room_of extent place words after items p)
+room_by extent place words after said (mark d number wide e whole is) =
     rw is (omega (arith, ap length whole, designator_some d number e), assigned d number e)
 
 -- What is known after a part was taken: the room that is left.
@@ -111,70 +118,106 @@ counted n old new (Number number) room is =
     rw message (omega arith)
 
 -- After a turn of the loop that takes a part, this is known.
-pub record Leaves (most : ℕ) (words : List ℕ) (start at n : ℕ) (first new : LetterView)
+pub record Leaves (extent : Extent) (most : ℕ) (words : List ℕ) (start at n : ℕ) (first new : LetterView)
     (total : Result LetterView LetterFault) : Type 0 where
   pub in_range : at + n ≤ length words
   pub some : 0 < n
   pub content : IsContentAt most words (at + n) new
   pub count : length new.items + 2 * start ≤ length first.items + 2 * (at + n)
-  pub so_far : letter_on new (at + n + 1) (drop (at + n) words) ≡ total
+  pub so_far : letter_on extent new (at + n + 1) (drop (at + n) words) ≡ total
 
 -- After a turn of the loop that takes a part, what is read in all is still the same.
-pub goes_on : (most : ℕ) (words : List ℕ) (start at n : ℕ) (first old new : LetterView)
+pub goes_on : (extent : Extent) (most : ℕ) (words : List ℕ) (start at n : ℕ) (first old new : LetterView)
     (total : Result LetterView LetterFault)
     → IsBytes words → at ≤ length words
     → IsContentAt most words at old → length old.items + 2 * start ≤ length first.items + 2 * at
-    → IsLetterPartTaken (Ok (Some n)) old new (first_letter_part (at + 1) (drop at words))
-    → letter_on old (at + 1) (drop at words) ≡ total
-    → Leaves most words start at n first new total
-goes_on most words start at n first old new total fit in_range v count took so_far =
+    → IsLetterPartTaken (Ok (Some n)) old new (first_letter_part extent (at + 1) (drop at words))
+    → letter_on extent old (at + 1) (drop at words) ≡ total
+    → Leaves extent most words start at n first new total
+goes_on extent most words start at n first old new total fit in_range v count took so_far =
     let said = took.0 in
-    let fits = letter_part_sound.fits at words fit in
-    let r = letter_part_sound.right (at + 1) (drop at words) n said fits took.1 in
+    let fits = (letter_part_sound extent).fits at words fit in
+    let r = (letter_part_sound extent).right (at + 1) (drop at words) n said fits took.1 in
     let long : length (take n (drop at words)) ≡ n = omega (arith, length-take n (drop at words), r.2) in
     let room : HasRoom n said =
     subst (λ (k : ℕ). HasRoom k said) long
-    (room_by (at + 1) (take n (drop at words)) (drop n (drop at words)) said r.0) in
-    let once = letter_on-takes old (at + 1) (drop at words) n said fits took.1 in
+    (room_by extent (at + 1) (take n (drop at words)) (drop n (drop at words)) said r.0) in
+    let once = letter_on-takes extent old (at + 1) (drop at words) n said fits took.1 in
     let place : (at + 1) + n ≡ at + n + 1 = omega arith in
     let rest : drop n (drop at words) ≡ drop (at + n) words = drop-drop n at words in
     record {
       in_range = omega (arith, r.2, length-drop at words);
       some = r.1;
-      content = stays most words at n old new said v room (taken_away at n words said r.0) r.1 took.2;
+      content = stays most words at n old new said v room (taken_away extent at n words said r.0) r.1 took.2;
       count = omega (arith, counted n old new said room took.2);
       so_far = rw (took.2, ← place, ← rest) (sym once ∙ so_far);
     }
 
 -- At the end of the loop, what is read in all is what was read so far.
-pub stops_on : (words : List ℕ) (at : ℕ) (old : LetterView) (why : Option LetterFault)
+pub stops_on : (extent : Extent) (words : List ℕ) (at : ℕ) (old : LetterView) (why : Option LetterFault)
     (total : Result LetterView LetterFault)
-    → first_letter_part (at + 1) (drop at words) ≡ Stops why → letter_on old (at + 1) (drop at words)
+    → first_letter_part extent (at + 1) (drop at words) ≡ Stops why → letter_on extent old (at + 1) (drop at words)
     ≡ total → total ≡ letter_to old why
-stops_on words at old why total e so_far = sym so_far
-    ∙ letter_on-stops old (at + 1) (drop at words) why e
+stops_on extent words at old why total e so_far = sym so_far
+    ∙ letter_on-stops extent old (at + 1) (drop at words) why e
 
 -- ---- parts of one codeword
 
--- A turn of the loop that takes parts of one codeword keeps to what is read in all of a letter.
-pub one_word_said : (words : List ℕ) (start at word : ℕ) (first old new : List Item) → IsBytes words
-    → drop at words ≡ word ∷ drop (at + 1) words → IsOneWordTaken true old new word
-    → ((marks : List Mark) → letter_on (items_with marks old) (at + 1) (drop at words)
-    ≡ letter_on (items_with marks first) (start + 1) (drop start words))
-    → (marks : List Mark) → letter_on (items_with marks new) (at + 1 + 1) (drop (at + 1) words)
-    ≡ letter_on (items_with marks first) (start + 1) (drop start words)
-one_word_said words start at word first old new fit here taken so_far marks =
+-- A character is by itself a part.
+pub character_taken : (extent : Extent) (place word byte : ℕ) (more : List ℕ) (old new : List Item) → codeword_of word
+    ≡ Some (codeword.Character byte)
+    → new ≡ old ++ Byte byte ∷ [] → IsPartTakenOrEnd (Ok (Some 1)) old new (first_part extent place (word ∷ more))
+character_taken extent place word byte more old new e is = (Byte byte ∷ [], rw e refl, is)
+
+-- A pair of digits is by itself a part.
+pub digits_taken : (extent : Extent) (place word number : ℕ) (more : List ℕ) (old new : List Item) → codeword_of word
+    ≡ Some (codeword.Digits number)
+    → new ≡ old ++ Byte (48 + number / 10) ∷ Byte (48 + number % 10) ∷ []
+    → IsPartTakenOrEnd (Ok (Some 1)) old new (first_part extent place (word ∷ more))
+digits_taken extent place word number more old new e is =
+    (Byte (48 + number / 10) ∷ Byte (48 + number % 10) ∷ [], rw e refl, is)
+
+-- After a turn of the loop that takes parts of one codeword, this is known.
+pub record OneWordLeaves (words : List ℕ) (start at : ℕ) (first old new : List Item) : Type 0 where
+  pub in_range : at + 1 ≤ length words
+  pub room : length new + 2 * start ≤ length first + 2 * (at + 1)
+  pub no_fewer : length old ≤ length new
+  pub said : (extent : Extent) (marks : List Mark)
+      → letter_on extent (items_with marks new) (at + 1 + 1) (drop (at + 1) words)
+      ≡ letter_on extent (items_with marks first) (start + 1) (drop start words)
+
+-- A turn of the loop that takes parts of one codeword keeps to the words and to what is read in all of a letter.
+pub one_word_turn : (words : List ℕ) (start at word : ℕ) (first old new : List Item) → IsBytes words
+    → length old + 2 * start ≤ length first + 2 * at → drop at words ≡ word ∷ drop (at + 1) words
+    → IsOneWordTaken true old new word
+    → ((extent : Extent) (marks : List Mark) → letter_on extent (items_with marks old) (at + 1) (drop at words)
+    ≡ letter_on extent (items_with marks first) (start + 1) (drop start words))
+    → OneWordLeaves words start at first old new
+one_word_turn words start at word first old new fit room here taken so_far =
     let more = drop (at + 1) words in
-    let took = taken Wide (at + 1) more in
-    let behind : first_letter_part (at + 1) (word ∷ more) ≡ Takes 1 (Items took.0) =
-    as_part (at + 1) word more (no_eci (at + 1) word 1 more took.0 took.1) ∙ ap as_said took.1 in
-    let found : first_letter_part (at + 1) (drop at words) ≡ Takes 1 (Items took.0) =
-    ap (first_letter_part (at + 1)) here ∙ behind in
-    let once = letter_on-takes (items_with marks old) (at + 1) (drop at words) 1 (Items took.0)
-    (letter_part_sound.fits at words fit) found in
-    let behind_it = subst (λ (r : List ℕ). letter_on (items_with marks old) (at + 1) (drop at words)
-    ≡ letter_on (with_said (items_with marks old) (Items took.0)) (at + 1 + 1) r) (drop-drop 1 at words) once in
-    rw took.2 (sym behind_it ∙ so_far marks)
+    let fits = IsBytes-drop at words fit in
+    let usual = taken Usual (at + 1) more in
+    let few = part_room Usual (at + 1) (word ∷ more) 1 usual.0 (subst IsBytes here fits) usual.1 in
+    let long = ap length usual.2 in
+    record {
+      in_range = omega (arith, ap length here, length-drop at words);
+      room = omega (arith, few.0, room, long, length-append old usual.0);
+      no_fewer = omega (arith, long, length-append old usual.0);
+      said = λ extent marks. (
+          let took = taken extent (at + 1) more in
+          let behind : first_letter_part extent (at + 1) (word ∷ more) ≡ Takes 1 (Items took.0) =
+          as_part extent (at + 1) word more (λ wide. no_eci extent (at + 1) word 1 more took.0 took.1)
+          ∙ ap as_said took.1 in
+          let found : first_letter_part extent (at + 1) (drop at words) ≡ Takes 1 (Items took.0) =
+          ap (first_letter_part extent (at + 1)) here ∙ behind in
+          let once = letter_on-takes extent (items_with marks old) (at + 1) (drop at words) 1 (Items took.0) fits
+          found in
+          let behind_it = subst (λ (r : List ℕ). letter_on extent (items_with marks old) (at + 1) (drop at words)
+          ≡ letter_on extent (with_said (items_with marks old) (Items took.0)) (at + 1 + 1) r) (drop-drop 1 at words)
+          once in
+          rw took.2 (sym behind_it ∙ so_far extent marks)
+          );
+    }
 
 -- Behind parts of one codeword there is room for what is left.
 pub one_words_leave : (most : ℕ) (words : List ℕ) (at to : ℕ) (old new : List Item) (marks : List Mark)
@@ -201,3 +244,26 @@ pub mark_found : (place : ℕ) (o : Option Designator) (d : Designator) (old new
     → new.marks ≡ old.marks ++ record { place = length old.items; number = d.number } ∷ []
     → IsLetterPartTaken (Ok (Some (1 + d.count))) old new (mark_by place o)
 mark_found place o d old new e head message marks = rw e (mark_taken place d old new head message marks)
+
+-- Where the words don't begin with ECI, a part of a letter is one that says items.
+item_step : (extent : Extent) (place : ℕ) (words : List ℕ) → BeginNoEci words
+    → first_letter_part extent place words ≡ as_said (first_part extent place words)
+item_step extent place [] other = refl
+item_step extent place (w ∷ more) other =
+    as_part extent place w more (λ wide is. other more (ap (λ (x : ℕ). x ∷ more) is))
+
+-- Such a part is taken.
+pub item_taken : (extent : Extent) (place : ℕ) (words : List ℕ) (o : Option ℕ) (old new : List Item)
+    → BeginNoEci words → IsPartTakenOrEnd (Ok o) old new (first_part extent place words)
+    → (marks : List Mark) → IsLetterPartTaken (Ok o) (items_with marks old) (items_with marks new)
+    (first_letter_part extent place words)
+item_taken extent place words None old new other taken marks =
+    (item_step extent place words other ∙ ap as_said taken.0, ap (items_with marks) taken.1)
+item_taken extent place words (Some n) old new other taken marks =
+    (Items taken.0, item_step extent place words other ∙ ap as_said taken.1, ap (items_with marks) taken.2)
+
+-- Or its fault is met.
+pub item_fault : (extent : Extent) (place : ℕ) (words : List ℕ) (f : WordFault) → BeginNoEci words
+    → first_part extent place words ≡ Stops (Some f)
+    → first_letter_part extent place words ≡ Stops (Some (fault.Word f))
+item_fault extent place words f other e = item_step extent place words other ∙ ap as_said e

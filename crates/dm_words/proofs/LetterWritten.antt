@@ -16,7 +16,7 @@ use Rattle.dm_words.specs.Designators.{eci_word, designator, most_assigned}
 use Rattle.dm_words.specs.Heads.{IsHead, head_words}
 use Rattle.dm_words.specs.Joined.{Piece, spelled, whats, AreJoined}
 use Rattle.dm_words.specs.Letters.{LetterView, AreMarks, Said, Items, Number, IsLetterPart, mark, AreLetterParts}
-use Rattle.dm_words.specs.Letters.{said_items, said_marks, AreOpened, headed, framed, said_letter, SpellsLetter}
+use Rattle.dm_words.specs.Letters.{said_items, said_marks, AreOpened, headed, framed, said_letter, Says}
 use Rattle.dm_words.specs.LetterForm.{ascii_with_marks}
 use Rattle.dm_words.specs.Macros.{macro_text, BeginsFnc1, FramesFnc1}
 use Rattle.dm_words.specs.Pads.{pads, padded}
@@ -34,8 +34,8 @@ use Rattle.dm_words.proofs.LetterForms.{parts_of, free_joined, all_said}
 use Rattle.dm_words.proofs.PadWords.{pads_are}
 use Rattle.dm_words.proofs.Pieces.{spelled-append, whats-append}
 use Rattle.dm_words.proofs.SmallestSymbols.{filled, pads_begin}
-use Rattle.dm_words.proofs.WideLetters.{as_said, said_words, same_items, no_marks, said_joined, plainly_joined}
-use Rattle.dm_words.proofs.WideLetters.{opened_plain}
+use Rattle.dm_words.proofs.SpelledLetters.{as_said, said_words, same_items, no_marks, said_joined, plainly_joined}
+use Rattle.dm_words.proofs.SpelledLetters.{opened_plain}
 
 -- Nothing is written yet.
 pub nothing_said : (total : ℕ) (base : List ℕ) (seen : ℕ) → AreSaid total base base seen [] []
@@ -87,7 +87,7 @@ said_more : (total : ℕ) (base old new : List ℕ) (seen : ℕ) (items : List I
     (more : List (Piece Said))
     → AreSaid total base old seen items marks → new ≡ old ++ spelled more
     → ((after : List ℕ) → length new + length after ≡ total → NoUnlatchFirst after
-    → AreJoined IsLetterPart (length old + 1) more after × AreJoined IsPlainSaid (length old + 1) more after
+    → AreJoined (IsLetterPart Wide) (length old + 1) more after × AreJoined IsPlainSaid (length old + 1) more after
     × NoUnlatchFirst (spelled more ++ after))
     → AreSaid total base new seen (items ++ said_items (whats more))
     (marks ++ said_marks (seen + length items) (whats more))
@@ -102,9 +102,9 @@ said_more total base old new seen items marks more w is right = record {
       ∙ sym (marks-append seen (whats w.parts) (whats more)) ∙ ap (said_marks seen) (sym (whats-append w.parts more));
   right = λ after fills first.
       (let r = right after fills first in
-      joined-append IsLetterPart (length base + 1) w.parts more after
+      joined-append (IsLetterPart Wide) (length base + 1) w.parts more after
       (w.right (spelled more ++ after) (fills_so after fills) r.2)
-      (subst (λ (p : ℕ). AreJoined IsLetterPart p more after) place r.0));
+      (subst (λ (p : ℕ). AreJoined (IsLetterPart Wide) p more after) place r.0));
   plain = λ after fills first.
       (let r = right after fills first in
       joined-append IsPlainSaid (length base + 1) w.parts more after
@@ -134,7 +134,7 @@ text_said total base old new seen items text marks w t =
     let a = said_more total base old new seen items marks more w
     (t.whole ∙ ap (λ (l : List ℕ). old ++ l) (sym words))
     (λ after fills first. (
-      said_joined (length old + 1) t.parts after (t.right after fills first),
+      said_joined Wide (length old + 1) t.parts after (t.right after fills first),
       plainly_joined (length old + 1) t.parts after (t.plain after fills first),
       subst (λ (l : List ℕ). NoUnlatchFirst (l ++ after)) (sym words) (t.begins after first),
     )) in
@@ -153,7 +153,7 @@ mark_said total base old new seen number items marks w assigned is =
     let all : spelled more ≡ eci_word ∷ designator number = append-nil (eci_word ∷ designator number) in
     let a = said_more total base old new seen items marks more w (is ∙ ap (λ (l : List ℕ). old ++ l) (sym all))
     (λ after fills first. (
-      (mark (designator number) number (designator_says number assigned) refl refl, tt),
+      (mark (designator number) number refl (designator_says number assigned) refl refl, tt),
       (plainly.mark (designator number) number (designator_says number assigned) refl refl, tt),
       λ e. absurd (omega (arith, e)),
     )) in
@@ -208,7 +208,7 @@ form_said total base new items marks fit are is =
       whole = is ∙ ap (λ (l : List ℕ). base ++ l) h.whole;
       items_are = sym h.items_are;
       marks_are = sym h.marks_are;
-      right = λ after fills first. free_joined IsLetterPart (length base + 1) h.parts after (all_said h.parts h.free);
+      right = λ after fills first. free_joined (IsLetterPart Wide) (length base + 1) h.parts after (all_said h.parts h.free);
       plain = λ after fills first. free_joined IsPlainSaid (length base + 1) h.parts after h.free;
     }
 
@@ -219,7 +219,7 @@ record IsPadded (count : ℕ) (base new : List ℕ) (seen : ℕ) (items : List I
   more : List ℕ
   whole : padded new count ≡ base ++ more
   said : List Said
-  parts : AreLetterParts (length base + 1) more said
+  parts : AreLetterParts Wide (length base + 1) more said
   items_are : items ≡ said_items said
   marks_are : marks ≡ said_marks seen said
   plain : AreJoined IsPlainSaid (length base + 1) parts.parts parts.after
@@ -229,7 +229,7 @@ padded_parts : (count : ℕ) (base new : List ℕ) (seen : ℕ) (items : List It
     → AreSaid count base new seen items marks → length new ≤ count → IsPadded count base new seen items marks
 padded_parts count base new seen items marks w fits =
     let after = pads (length new + 1) (count - length new) in
-    let parts : AreLetterParts (length base + 1) (spelled w.parts ++ after) (whats w.parts) = record {
+    let parts : AreLetterParts Wide (length base + 1) (spelled w.parts ++ after) (whats w.parts) = record {
       parts = w.parts;
       after = after;
       joined = w.right after (filled new count fits) (pads_begin (length new + 1) (count - length new));
@@ -250,7 +250,7 @@ padded_parts count base new seen items marks w fits =
 
 -- The words say a letter in plain parts, with pads behind them.
 pub record SaysPlainly (words : List ℕ) (l : LetterView) : Type 0 where
-  pub spells : SpellsLetter words l
+  pub spells : Says Wide words l
   pub plain : AreJoined IsPlainSaid spells.place spells.parts.parts spells.parts.after
   pub macro_first : (digit : ℕ) → spells.opening ≡ Framed digit → spells.place ≡ 2
   pub no_fnc1 : (digit : ℕ) → spells.opening ≡ Framed digit → FramesFnc1 l.items → ⊥
@@ -262,7 +262,7 @@ says_so words l p = of_letter refl p.spells p.pads_are
 
 -- An opening and parts say a letter, with pads behind them.
 says_padded : (words : List ℕ) (l : LetterView) (opening : Opening) (place : ℕ) (more : List ℕ) (said : List Said)
-    → AreOpened words opening place more → (parts : AreLetterParts place more said) → l ≡ said_letter opening said
+    → AreOpened Wide words opening place more → (parts : AreLetterParts Wide place more said) → l ≡ said_letter opening said
     → ((digit : ℕ) → opening ≡ Framed digit → (place ≡ 2) × (FramesFnc1 l.items → ⊥))
     → AreJoined IsPlainSaid place parts.parts parts.after → ArePads words parts.after → SaysPlainly words l
 says_padded words l opening place more said opened parts is first plain pads = record {
@@ -293,9 +293,9 @@ pub says_plain : (count : ℕ) (new : List ℕ) (items : List Item) (marks : Lis
     → SaysPlainly (padded new count) (view_of None items marks)
 says_plain count new items marks w fits =
     let p = padded_parts count [] new 0 items marks w fits in
-    let here : AreLetterParts 1 p.more p.said = p.parts in
+    let here : AreLetterParts Wide 1 p.more p.said = p.parts in
     says_padded (padded new count) (view_of None items marks) Plain 1 p.more p.said
-    (opened_plain (padded new count) p.more p.said p.whole here) here
+    (opened_plain Wide (padded new count) p.more p.said p.whole here) here
     (view_is None items (said_items p.said ++ []) marks (said_marks 0 p.said)
     (p.items_are ∙ sym (append-nil (said_items p.said))) p.marks_are)
     (λ digit e. absurd cc) p.plain p.pads_are
@@ -310,7 +310,7 @@ says_headed count new head items marks right w fits =
     says_padded (padded new count) (view_of (Some head) items marks) (Headed head) (length first + 1) p.more p.said
     (record {
       first = first;
-      is_opening = headed head (head_says head right) refl;
+      is_opening = headed head refl (head_says head right) refl;
       whole = p.whole;
       place_is = omega arith;
     })
@@ -340,7 +340,7 @@ says_framed count word digit base new items text marks k is one w none fits =
     says_padded (padded new count) (view_of None items marks) (Framed digit) 2 p.more p.said
     (record {
       first = word ∷ [];
-      is_opening = framed digit (record { runs = []; word = word; are_empty = tt; is_macro = k; whole = refl }) refl;
+      is_opening = framed digit refl (record { runs = []; word = word; are_empty = tt; is_macro = k; whole = refl }) refl;
       whole = p.whole;
       place_is = refl;
     })

@@ -12,12 +12,12 @@ mod LetterLoops
 mod DesignationLaws
 mod DesignationLoops
 mod LetterReadings
-mod WideLetters
+mod SpelledLetters
 mod PlainParts
 mod LetterForms
-mod LetterExtents
+mod MessageReadings
+mod LetterResults
 mod LetterBytes
-mod KeptFaults
 mod MarkedWords
 mod LetterCounts
 mod SaidBounds
@@ -27,8 +27,6 @@ mod Runs
 mod Segments
 mod Groups
 mod Parts
-mod WholeReading
-mod PartLoops
 mod RunLoops
 mod SegmentLoops
 mod GroupLoops

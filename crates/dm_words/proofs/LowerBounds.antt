@@ -19,7 +19,7 @@ use Rattle.dm_words.specs.Runs.{IsRunEnd, unlatch, symbol_end, last_word, IsRun}
 use Rattle.dm_words.specs.Base256.{IsLengthField, to_the_end, short, long, IsSegment}
 use Rattle.dm_words.specs.Messages.{byte_items}
 use Rattle.dm_words.specs.Edifact.{IsEdifactRun}
-use Rattle.dm_words.specs.Spells.{IsPart, ascii, run, segment, edifact, AreParts}
+use Rattle.dm_words.specs.Parts.{IsPart, ascii, run, segment, edifact, AreParts}
 use Rattle.dm_words.specs.inner.Costs.{set_values, unit_cost, leave}
 use Rattle.dm_words.proofs.AsciiWords.{character_is, digits_are}
 use Rattle.dm_words.proofs.Runs.{pairs_room}

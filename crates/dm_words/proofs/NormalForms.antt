@@ -20,8 +20,10 @@ use Rattle.dm_words.specs.Ascii.{is_digit, digit_pair, single, ascii}
 use Rattle.dm_words.specs.Pads.{pads, padded}
 use Rattle.dm_words.specs.Base256.{written, randomised, AreBytes, IsLengthField, short, long, IsSegment}
 use Rattle.dm_words.specs.NormalForm.{has_fnc1, length_numbers, one_segment, shorter, normal_form}
-use Rattle.dm_words.specs.Spells.{segment, plain, Spells}
+use Rattle.dm_words.specs.Parts.{segment}
+use Rattle.dm_words.specs.Spells.{Spells}
 use Rattle.dm_words.specs.Laws.{AreCodewords}
+use Rattle.dm_words.proofs.SpelledLetters.{parts_spell}
 use Rattle.dm_words.proofs.Segments.{length-written, written-append}
 use Rattle.dm_words.proofs.AsciiWords.{AreItems, pads_end, ascii_bytes}
 use Rattle.dm_words.proofs.AsciiWords as form
@@ -90,7 +92,7 @@ segment_spells extent m count fit none some few =
       items_are = bytes_are_items m none;
     } in
     let p : Piece (List Item) = record { words = words; what = m } in
-    plain (record {
+    parts_spell extent (padded words count) m (record {
       parts = p ∷ [];
       after = after;
       joined = (segment is, tt);

@@ -8,6 +8,8 @@ use Rattle.std.proofs.lemmas.Bool.Decides.{nat_tests}
 use Rattle.dm_words.specs.declared.codeword.Codeword.{Codeword}
 use Rattle.dm_words.specs.declared.codeword.Codeword.TheVariants as codeword
 use Rattle.dm_words.specs.declared.c40.set.CodeSet.{CodeSet}
+use Rattle.dm_words.specs.declared.extent.Extent.{Extent}
+use Rattle.dm_words.specs.declared.extent.Extent.TheVariants.{Usual, Wide}
 use Rattle.dm_words.specs.declared.letters.head.Head.{Head}
 use Rattle.dm_words.specs.declared.letters.head.Head.TheVariants as head
 use Rattle.dm_words.specs.declared.letters.opening.Frame.{Frame}
@@ -21,8 +23,8 @@ use Rattle.dm_words.specs.Letters.{plain}
 use Rattle.dm_words.specs.inner.Scan.Prefixes.{digit_by, is_one_word, begins_with_one_word}
 use Rattle.dm_words.specs.inner.LetterScan.{append_by, first_head, head_length, is_latch, moved, is_empty_run, frame_by}
 use Rattle.dm_words.specs.inner.LetterScan.{first_frame, begins_append, opened_by, opened}
-use Rattle.dm_words.proofs.WholeReading.{digit_is}
 use Rattle.dm_words.proofs.Heads as heads
+use Rattle.dm_words.proofs.LetterParts.{not_wide}
 
 -- ---- frames
 
@@ -38,6 +40,20 @@ record FrameFound (words : List ℕ) (f : Frame) : Type 0 where
 abbrev FrameJudged : List ℕ → Option Frame → Type 0
 FrameJudged words None = Unit {0}
 FrameJudged words (Some f) = FrameFound words f
+
+-- A codeword whose meaning has a digit is a macro.
+digit_is : (k : Option Codeword) (digit : ℕ) → digit_by k ≡ Some digit → k ≡ Some (codeword.Macro digit)
+digit_is (Some (codeword.Macro d)) digit e = (let same : d ≡ digit = cc in rw same refl)
+digit_is (Some (codeword.Character b)) digit e = absurd cc
+digit_is (Some codeword.Pad) digit e = absurd cc
+digit_is (Some (codeword.Digits n)) digit e = absurd cc
+digit_is (Some (codeword.Latch set)) digit e = absurd cc
+digit_is (Some codeword.Base256) digit e = absurd cc
+digit_is (Some codeword.Fnc1) digit e = absurd cc
+digit_is (Some codeword.Edifact) digit e = absurd cc
+digit_is (Some codeword.UpperShift) digit e = absurd cc
+digit_is (Some codeword.LeftOut) digit e = absurd cc
+digit_is None digit e = absurd cc
 
 -- A macro is a frame.
 one_macro : (w d : ℕ) (more : List ℕ) → digit_by (codeword_of w) ≡ Some d
@@ -128,23 +144,24 @@ frame_complete words more digit f = rw f.whole (macro_complete f.runs more f.wor
 -- ---- openings
 
 -- The words open with what was found.
-pub record OpeningFound (words : List ℕ) (f : Opened) : Type 0 where
+pub record OpeningFound (extent : Extent) (words : List ℕ) (f : Opened) : Type 0 where
   pub first : List ℕ
   pub more : List ℕ
-  pub is_opening : IsOpening first more f.opening
+  pub is_opening : IsOpening extent first more f.opening
   pub whole : words ≡ first ++ more
   pub count : f.count ≡ length first
 
--- The words begin with structured append and no head.
-pub record HasNoHead (words : List ℕ) : Type 0 where
+-- The words begin with structured append and no head, in the wide extent.
+pub record HasNoHead (extent : Extent) (words : List ℕ) : Type 0 where
+  pub wide : extent ≡ Wide
   pub more : List ℕ
   pub whole : words ≡ 233 ∷ more
   pub none : BeginsNoHead words
 
 -- What is found is right.
-abbrev pub OpeningJudged : List ℕ → Option Opened → Type 0
-OpeningJudged words None = HasNoHead words
-OpeningJudged words (Some f) = OpeningFound words f
+abbrev pub OpeningJudged : Extent → List ℕ → Option Opened → Type 0
+OpeningJudged extent words None = HasNoHead extent words
+OpeningJudged extent words (Some f) = OpeningFound extent words f
 
 -- Words that begin with structured append.
 append_is : (words : List ℕ) → begins_append words ≡ true → (more : List ℕ) × (words ≡ 233 ∷ more)
@@ -171,37 +188,21 @@ no_frame words e b =
     let w : first_frame words ≡ first_frame (b.first ++ b.more) = ap first_frame b.whole in
     absurd cc
 
--- The words begin with a frame, or they don't.
-pub frame_or_none : (words : List ℕ) → BeginsFrame words ⊎ (BeginsFrame words → ⊥)
-frame_or_none words = by_first (first_frame words) refl
-  where
-    by_first : (o : Option Frame) → first_frame words ≡ o → BeginsFrame words ⊎ (BeginsFrame words → ⊥)
-    by_first None e = inr (no_frame words e)
-    by_first (Some f) e =
-        let found = frame_found words f e in
-        inl (record {
-          first = found.first;
-          digit = f.digit;
-          more = found.more;
-          is_frame = found.is_frame;
-          whole = found.whole;
-        })
-
 -- What is found by the head and the frame is right.
 judged_by : (words : List ℕ) (h : Option Head) (a : Bool) (f : Option Frame) → first_head words ≡ h
     → begins_append words ≡ a → first_frame words ≡ f
-    → OpeningJudged words (opened_by h a f)
+    → OpeningJudged Wide words (opened_by h a f)
 judged_by words (Some said) a f eh ea ef =
     let b = heads.found words said eh in
-    record { first = b.first; more = b.more; is_opening = headed said b.spells refl; whole = b.whole; count = b.count }
+    record { first = b.first; more = b.more; is_opening = headed said refl b.spells refl; whole = b.whole; count = b.count }
 judged_by words None true f eh ea ef =
-    (let b = append_is words ea in record { more = b.0; whole = b.1; none = heads.none_begins words eh })
+    (let b = append_is words ea in record { wide = refl; more = b.0; whole = b.1; none = heads.none_begins words eh })
 judged_by words None false (Some f) eh ea ef =
     let b = frame_found words f ef in
     record {
       first = b.first;
       more = b.more;
-      is_opening = framed f.digit b.is_frame refl;
+      is_opening = framed f.digit refl b.is_frame refl;
       whole = b.whole;
       count = b.count;
     }
@@ -209,14 +210,21 @@ judged_by words None false None eh ea ef =
     record {
       first = [];
       more = words;
-      is_opening = plain refl (no_head_word words eh ea) (no_frame words ef) refl;
+      is_opening = plain refl (λ wide. no_head_word words eh ea) (λ wide. no_frame words ef) refl;
       whole = refl;
       count = refl;
     }
 
 -- What is found of the words is right.
-pub judged : (words : List ℕ) → OpeningJudged words (opened words)
-judged words = judged_by words (first_head words) (begins_append words) (first_frame words) refl refl refl
+pub judged : (extent : Extent) (words : List ℕ) → OpeningJudged extent words (opened extent words)
+judged Usual words = record {
+  first = [];
+  more = words;
+  is_opening = plain refl (λ wide. absurd (not_wide wide)) (λ wide. absurd (not_wide wide)) refl;
+  whole = refl;
+  count = refl;
+}
+judged Wide words = judged_by words (first_head words) (begins_append words) (first_frame words) refl refl refl
 
 -- What opens with a latch or a macro has no head and no structured append.
 record OpensOtherwise (words : List ℕ) : Type 0 where
@@ -278,20 +286,22 @@ plain_by words None false (Some f) eh ea ef no_head no_frame_there =
 plain_by words None false None eh ea ef no_head no_frame_there = refl
 
 -- An opening that is there is found.
-pub complete : (words more : List ℕ) (opening : Opening) → IsOpening words more opening → opened (words ++ more)
-    ≡ Some (record { opening = opening; count = length words })
-complete words more opening (headed said s is) =
-    rw (is, heads.head_complete words more said s, head_count words said s) refl
-complete words more opening (framed digit f is) =
+pub complete : (extent : Extent) (words more : List ℕ) (opening : Opening) → IsOpening extent words more opening
+    → opened extent (words ++ more) ≡ Some (record { opening = opening; count = length words })
+complete extent words more opening (headed said wide s is) =
+    rw (wide, is, heads.head_complete words more said s, head_count words said s) refl
+complete extent words more opening (framed digit wide f is) =
     let o = subst (λ (r : List ℕ). OpensOtherwise (r ++ more)) (sym f.whole)
     (frame_opens f.runs more f.word digit f.are_empty f.is_macro) in
-    rw (is, o.head, o.append, frame_complete words more digit f) refl
-complete words more opening (plain e no_head no_frame_there is) =
+    rw (wide, is, o.head, o.append, frame_complete words more digit f) refl
+complete Usual words more opening (plain e no_head no_frame_there is) = rw (e, is) refl
+complete Wide words more opening (plain e no_head no_frame_there is) =
     rw (e, is)
-    (plain_by more (first_head more) (begins_append more) (first_frame more) refl refl refl no_head no_frame_there)
+    (plain_by more (first_head more) (begins_append more) (first_frame more) refl refl refl (no_head refl)
+    (no_frame_there refl))
 
 -- Where structured append begins no head, nothing opens.
-pub no_head_complete : (words more : List ℕ) → words ≡ 233 ∷ more → BeginsNoHead words → opened words ≡ None
+pub no_head_complete : (words more : List ℕ) → words ≡ 233 ∷ more → BeginsNoHead words → opened Wide words ≡ None
 no_head_complete words more e none =
     let h = heads.none_found words (first_head words) refl none in
     let a : begins_append words ≡ true = ap begins_append e in
@@ -427,7 +437,7 @@ no_head_alone w more not_append not_programming = by_tests (w == 234) (w == 233)
 
 -- Where it is the first one, nothing opens the letter.
 pub alone_opens : (words : List ℕ) → begins_with_one_word words ≡ true
-    → (let o : Opened = record { opening = Plain; count = 0 } in Some o) ≡ opened words
+    → (let o : Opened = record { opening = Plain; count = 0 } in Some o) ≡ opened Wide words
 alone_opens [] e = absurd cc
 alone_opens (w ∷ more) e =
     let a = alone_is (codeword_of w) e in

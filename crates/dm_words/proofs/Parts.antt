@@ -12,9 +12,9 @@ use Rattle.dm_words.specs.declared.fault.WordFault.{WordFault}
 use Rattle.dm_words.specs.declared.fault.WordFault.TheVariants as fault
 use Rattle.dm_words.specs.Codewords.{codeword_of}
 use Rattle.dm_words.specs.Ascii.{IsAsciiUnit, character, digits, fnc1, raised}
-use Rattle.dm_words.specs.Spells.{IsPart, ascii, run, segment, edifact, IsEnd, nothing, pad}
-use Rattle.dm_words.specs.Refused.{always, macro_behind, edifact as edifact_left_out, IsFault, reserved, left_out}
-use Rattle.dm_words.specs.Refused.{faulty_run, faulty_segment, unfinished, upper_shift}
+use Rattle.dm_words.specs.Parts.{IsPart, ascii, run, segment, edifact, IsEnd, nothing, pad}
+use Rattle.dm_words.specs.Faults.{always, macro_behind, edifact as edifact_left_out, IsFault, reserved, left_out}
+use Rattle.dm_words.specs.Faults.{faulty_run, faulty_segment, unfinished, upper_shift}
 use Rattle.dm_words.specs.inner.Scan.Walk.{Step, Takes, Stops}
 use Rattle.dm_words.specs.inner.Scan.Prefixes.{raised_unit_by, run_behind, segment_behind, plain, part_by, first_part}
 use Rattle.dm_words.proofs.Walks.{IsSound, IsComplete}

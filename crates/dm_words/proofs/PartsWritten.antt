@@ -7,7 +7,7 @@ use Rattle.dm_words.specs.declared.extent.Extent.{Extent}
 use Rattle.dm_words.specs.declared.item.Item.{Item}
 use Rattle.dm_words.specs.Joined.{Piece, spelled, AreJoined}
 use Rattle.dm_words.specs.Plain.{IsPlainPart}
-use Rattle.dm_words.specs.Spells.{IsPart, IsEnd, AreParts}
+use Rattle.dm_words.specs.Parts.{IsPart, IsEnd, AreParts}
 use Rattle.dm_words.specs.inner.Written.{NoUnlatchFirst, IsPartWritten, ArePartsWritten}
 
 module _ {B : Type 0} where

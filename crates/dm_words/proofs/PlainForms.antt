@@ -23,11 +23,11 @@ use Rattle.dm_words.specs.Joined.{Piece, spelled, whats, AreJoined}
 use Rattle.dm_words.specs.LetterExtents.{as_letter}
 use Rattle.dm_words.specs.LetterForm.{ascii_with_marks, form_by, letter_form}
 use Rattle.dm_words.specs.Letters.{LetterView, AreMarks, Said, Items, Number, said_items, said_marks, said_letter}
-use Rattle.dm_words.specs.Letters.{IsOpening, headed, framed, plain, AreOpened, BeginsFrame, SpellsLetter}
+use Rattle.dm_words.specs.Letters.{IsOpening, headed, framed, plain, AreOpened, BeginsFrame, Says}
 use Rattle.dm_words.specs.Macros.{macro_text, BeginsFnc1}
 use Rattle.dm_words.specs.Pads.{pads, padded}
 use Rattle.dm_words.specs.Plain.{FramesNoFnc1, IsPlainForm, IsPlainPart}
-use Rattle.dm_words.specs.Spells.{IsPart}
+use Rattle.dm_words.specs.Parts.{IsPart}
 use Rattle.dm_words.specs.Symbology.{IsFnc1Number, IsIdentifier, marks_number}
 use Rattle.dm_words.specs.inner.Fnc1.{fnc1_number}
 use Rattle.dm_words.specs.inner.LetterCosts.{AreSaid, first_text, view_of}
@@ -88,17 +88,17 @@ one_opening : (x : Option Opened) (k l : Opened) → x ≡ Some k → x ≡ Some
 one_opening x k l e f = (let h : k ≡ l = cc in ap (λ (q : Opened). q.opening) h)
 
 -- Words that begin with a frame are opened by it.
-frame_opens : (words : List ℕ) (opening : Opening) (place : ℕ) (more : List ℕ) → AreOpened words opening place more
+frame_opens : (words : List ℕ) (opening : Opening) (place : ℕ) (more : List ℕ) → AreOpened Wide words opening place more
     → (b : BeginsFrame words) → opening ≡ Framed b.digit
 frame_opens words opening place more opened b =
-    let there : AreOpened words (Framed b.digit) (1 + length b.first) b.more = record {
+    let there : AreOpened Wide words (Framed b.digit) (1 + length b.first) b.more = record {
       first = b.first;
-      is_opening = framed b.digit b.is_frame refl;
+      is_opening = framed b.digit refl b.is_frame refl;
       whole = b.whole;
       place_is = refl;
     } in
-    one_opening _ _ _ (opens_so words opening place more opened).0
-    (opens_so words (Framed b.digit) (1 + length b.first) b.more there).0
+    one_opening _ _ _ (opens_so Wide words opening place more opened).0
+    (opens_so Wide words (Framed b.digit) (1 + length b.first) b.more there).0
 
 -- What is said plainly has no macro before FNC1.
 no_frame : (words : List ℕ) (l : LetterView) → SaysPlainly words l → FramesNoFnc1 words l.items
@@ -132,9 +132,9 @@ module _ (words : List ℕ) (l : LetterView) (p : SaysPlainly words l)
       ap fnc1_number (rest ∙ parts.whole)
       ∙ number_of_sign p.spells.place parts.parts parts.after sign.0 text p.plain parts.ended here kept
 
-  number_by : IsOpening p.spells.opened.first p.spells.more p.spells.opening
+  number_by : IsOpening Wide p.spells.opened.first p.spells.more p.spells.opening
       → fnc1_number (drop (length (head_words l.head)) words) ≡ fnc1_number (sign_words text)
-  number_by (headed h s is) =
+  number_by (headed h wide s is) =
       let e = letter_by _ is in
       let head : head_words l.head ≡ p.spells.opened.first = ap (λ (k : LetterView). head_words k.head) e
       ∙ sym (heads.head_only p.spells.opened.first h s).1 in
@@ -149,7 +149,7 @@ module _ (words : List ℕ) (l : LetterView) (p : SaysPlainly words l)
       ∙ ap (drop (length p.spells.opened.first)) p.spells.opened.whole
       ∙ drop-append_seam p.spells.opened.first p.spells.more)
       (ap (λ (k : LetterView). k.items) e ∙ append-nil (said_items p.spells.said)) (ap (λ (k : LetterView). k.marks) e)
-  number_by (framed digit f is) =
+  number_by (framed digit wide f is) =
       let e = letter_by _ is in
       let s = p.spells in
       let parts = s.parts in
@@ -186,7 +186,7 @@ module _ (words : List ℕ) (l : LetterView) (p : SaysPlainly words l)
   number = number_by p.spells.opened.is_opening
 
 -- Words that say a letter with the same number have the same identifier.
-same_identifier : (words other : List ℕ) (l : LetterView) → SpellsLetter words l → SpellsLetter other l
+same_identifier : (words other : List ℕ) (l : LetterView) → Says Wide words l → Says Wide other l
     → fnc1_number (drop (length (head_words l.head)) words) ≡ fnc1_number (drop (length (head_words l.head)) other)
     → (n : ℕ) → IsIdentifier words l n → IsIdentifier other l n
 same_identifier words other l s o same n x =

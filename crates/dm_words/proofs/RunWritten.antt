@@ -23,7 +23,7 @@ use Rattle.dm_words.specs.Joined.{Piece, spelled, gathered, whats}
 use Rattle.dm_words.specs.Values.{IsUpperShift, IsSpelling, character, raised, filler, nothing}
 use Rattle.dm_words.specs.Runs.{IsPair, IsRun, IsRunEnd, unlatch, symbol_end, last_word}
 use Rattle.dm_words.specs.Plain as plainly
-use Rattle.dm_words.specs.Spells.{run}
+use Rattle.dm_words.specs.Parts.{run}
 use Rattle.dm_words.specs.inner.Costs.{is_basic, set_values}
 use Rattle.dm_words.specs.inner.Written.{IsCharacterPushed, part_values, IsSmallPart, IsValuePushed, ArePushed}
 use Rattle.dm_words.specs.inner.Written.{IsItemPushed, is_empty, NoUnlatchFirst, IsPartWritten}

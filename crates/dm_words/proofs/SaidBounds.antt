@@ -1,64 +1,79 @@
--- How many items and marks codewords say: at most two items for each and seven more, and a mark for each two.
-use Rattle.std.proofs.Common.{◌≡◌, ℕ, ◌+◌, ◌*◌, ◌≤◌, List, [], ◌∷◌, ◌++◌, length, ap, ◌∙◌, arith, length-append}
+-- How many items and marks codewords say: at most two items for each, in the wide extent seven more, and a mark for each
+-- two.
+use Rattle.std.proofs.Common.{◌≡◌, ℕ, zero, suc, ◌+◌, ◌*◌, ◌≤◌, List, [], ◌∷◌, ◌++◌, length, ap, ◌∙◌, arith}
+use Rattle.std.proofs.Common.{length-append, ◌⊎◌, inl, inr}
 use Rattle.dm_words.specs.declared.extent.Extent.{Extent}
-use Rattle.dm_words.specs.declared.extent.Extent.TheVariants.{Wide}
+use Rattle.dm_words.specs.declared.extent.Extent.TheVariants.{Usual, Wide}
+use Rattle.dm_words.specs.declared.item.Item.{Item}
 use Rattle.dm_words.specs.declared.letters.opening.Opening.{Opening}
-use Rattle.dm_words.specs.Designators.{IsDesignator, one, two, three}
 use Rattle.dm_words.specs.Joined.{Piece, spelled, whats, AreJoined}
 use Rattle.dm_words.specs.Letters.{LetterView, Said, IsLetterPart, part, mark, said_items, said_marks}
-use Rattle.dm_words.specs.Letters.{IsOpening, headed, framed, plain, opening_items, closing_items, SpellsLetter}
-use Rattle.dm_words.specs.LetterExtents.{SaysIn}
-use Rattle.dm_words.proofs.LetterExtents.{said_wide}
+use Rattle.dm_words.specs.Letters.{IsOpening, headed, framed, plain, opening_items, closing_items, Says}
+use Rattle.dm_words.specs.LetterExtents.{as_letter}
+use Rattle.dm_words.specs.Messages.{most_spelled}
+use Rattle.dm_words.specs.Spells.{Spells}
+use Rattle.dm_words.proofs.LetterLoops.{designator_some}
+use Rattle.dm_words.proofs.LetterParts.{not_wide}
 use Rattle.dm_words.proofs.Parts.{room_of}
 
--- A designator has a codeword.
-some_word : (words : List ℕ) (number : ℕ) → IsDesignator words number → 1 ≤ length words
-some_word words number (one a low high w e) = omega (arith, ap length w)
-some_word words number (two a b low high further w e) = omega (arith, ap length w)
-some_word words number (three a b c low high further more w e most) = omega (arith, ap length w)
-
 -- A part, before parts that say few, says few with them.
-few_with : (place before : ℕ) (words after : List ℕ) (s : Said) (ss : List Said) (count : ℕ)
-    → IsLetterPart place words after s
+few_with : (extent : Extent) (place before : ℕ) (words after : List ℕ) (s : Said) (ss : List Said) (count : ℕ)
+    → IsLetterPart extent place words after s
     → ((seen : ℕ) → (length (said_items ss) ≤ 2 * count) × (2 * length (said_marks seen ss) ≤ count))
     → (length (said_items (s ∷ ss)) ≤ 2 * (length words + count))
     × (2 * length (said_marks before (s ∷ ss)) ≤ length words + count)
-few_with place before words after s ss count (part items p e) rest =
+few_with extent place before words after s ss count (part items p e) rest =
     let few = rest (before + length items) in
     rw e (
-      omega (arith, room_of Wide place words after items p, few.0, length-append items (said_items ss)),
+      omega (arith, room_of extent place words after items p, few.0, length-append items (said_items ss)),
       omega (arith, few.1),
     )
-few_with place before words after s ss count (mark d number is w e) rest =
+few_with extent place before words after s ss count (mark d number wide is w e) rest =
     let few = rest before in
-    rw e (omega (arith, few.0), omega (arith, few.1, ap length w, some_word d number is))
+    rw e (omega (arith, few.0), omega (arith, few.1, ap length w, designator_some d number is))
 
 -- Parts that are joined say few items and marks.
-joined_few : (place before : ℕ) (ps : List (Piece Said)) (after : List ℕ) → AreJoined IsLetterPart place ps after
+joined_few : (extent : Extent) (place before : ℕ) (ps : List (Piece Said)) (after : List ℕ)
+    → AreJoined (IsLetterPart extent) place ps after
     → (length (said_items (whats ps)) ≤ 2 * length (spelled ps))
     × (2 * length (said_marks before (whats ps)) ≤ length (spelled ps))
-joined_few place before [] after h = (omega arith, omega arith)
-joined_few place before (p ∷ ps) after h =
-    let few = few_with place before p.words (spelled ps ++ after) p.what (whats ps) (length (spelled ps)) h.0
-    (λ seen. joined_few (place + length p.words) seen ps after h.1) in
+joined_few extent place before [] after h = (omega arith, omega arith)
+joined_few extent place before (p ∷ ps) after h =
+    let few = few_with extent place before p.words (spelled ps ++ after) p.what (whats ps) (length (spelled ps)) h.0
+    (λ seen. joined_few extent (place + length p.words) seen ps after h.1) in
     let long = length-append p.words (spelled ps) in
     (omega (arith, few.0, long), omega (arith, few.1, long))
 
+-- Two items for each codeword are no more than can be spelled, and where there is a codeword, in the wide extent seven
+-- more.
+within_most : (extent : Extent) (count n : ℕ) → (n ≤ 2 * count) ⊎ ((extent ≡ Wide) × (1 ≤ count) × (n ≤ 2 * count + 7))
+    → n ≤ most_spelled extent count
+within_most Usual count n (inl few) = few
+within_most Usual count n (inr few) = absurd (not_wide few.0)
+within_most Wide zero n (inl few) = few
+within_most Wide zero n (inr few) = absurd (omega (arith, few.1))
+within_most Wide (suc count) n (inl few) = omega (arith, few)
+within_most Wide (suc count) n (inr few) = few.2
+
 -- What stands before and behind the parts is few items for the codewords of the opening.
-opening_few : (first more : List ℕ) (opening : Opening) → IsOpening first more opening
-    → length (opening_items opening) + length (closing_items opening) ≤ 2 * length first + 7
-opening_few first more opening (headed h s is) = rw is (omega arith)
-opening_few first more opening (framed digit f is) =
-    rw is (omega (arith, ap length f.whole, length-append f.runs (f.word ∷ [])))
-opening_few first more opening (plain none no_head no_frame is) = rw is (omega arith)
+opening_few : (extent : Extent) (first more : List ℕ) (opening : Opening) (count n : ℕ)
+    → IsOpening extent first more opening → length first ≤ count
+    → n + 2 * length first ≤ length (opening_items opening) + length (closing_items opening) + 2 * count
+    → n ≤ most_spelled extent count
+opening_few extent first more opening count n (headed h wide s is) le few =
+    within_most extent count n (inl (omega (arith, rw is at few)))
+opening_few extent first more opening count n (framed digit wide f is) le few =
+    let one : 1 ≤ length first = omega (arith, ap length f.whole, length-append f.runs (f.word ∷ [])) in
+    within_most extent count n (inr (wide, omega (arith, one, le), omega (arith, one, rw is at few)))
+opening_few extent first more opening count n (plain none no_head no_frame is) le few =
+    within_most extent count n (inl (omega (arith, rw is at few)))
 
 -- Codewords that say a letter say few items and marks.
-spelled_few : (words : List ℕ) (l : LetterView) → SpellsLetter words l
-    → (length l.items ≤ 2 * length words + 7) × (2 * length l.marks ≤ length words)
-spelled_few words l s =
+pub said_counts : (extent : Extent) (words : List ℕ) (l : LetterView) → Says extent words l
+    → (length l.items ≤ most_spelled extent (length words)) × (2 * length l.marks ≤ length words)
+said_counts extent words l s =
     let o = s.opening in
-    let few = joined_few s.place (length (opening_items o)) s.parts.parts s.parts.after s.parts.joined in
-    let around = opening_few s.opened.first s.more o s.opened.is_opening in
+    let few = joined_few extent s.place (length (opening_items o)) s.parts.parts s.parts.after s.parts.joined in
     let long : length words ≡ length s.opened.first + (length (spelled s.parts.parts) + length s.parts.after) =
     ap length s.opened.whole ∙ length-append s.opened.first s.more
     ∙ ap (λ n. length s.opened.first + n) (ap length s.parts.whole
@@ -71,10 +86,23 @@ spelled_few words l s =
     ∙ ap (λ (ss : List Said). length (said_items ss) + length (closing_items o)) s.parts.said_are) in
     let marks : length l.marks ≡ length (said_marks (length (opening_items o)) (whats s.parts.parts)) =
     ap (λ (x : LetterView). length x.marks) s.letter_is
-    ∙ ap (λ (ss : List Said). length (said_marks (length (opening_items o)) ss)) s.parts.said_are in
-    (omega (arith, items, few.0, around, long), omega (arith, marks, few.1, long))
+    ∙ ap (λ (ss : List Said). length (said_marks (length (opening_items o)) ss)) s.parts.said_are in (
+      opening_few extent s.opened.first s.more o (length words) (length l.items) s.opened.is_opening
+          (omega (arith, long)) (omega (arith, items, few.0, long)),
+      omega (arith, marks, few.1, long),
+    )
 
--- So do codewords that say one in an extent.
-pub said_few : (extent : Extent) (words : List ℕ) (l : LetterView) → SaysIn extent words l
+-- What codewords spell has no more items than that.
+pub spelled_is_few : (extent : Extent) (words : List ℕ) (m : List Item) → Spells extent words m
+    → length m ≤ most_spelled extent (length words)
+spelled_is_few extent words m s = (said_counts extent words (as_letter m) s).0
+
+-- In any extent there are at most seven items more than two for each codeword.
+pub said_few : (extent : Extent) (words : List ℕ) (l : LetterView) → Says extent words l
     → (length l.items ≤ 2 * length words + 7) × (2 * length l.marks ≤ length words)
-said_few extent words l s = spelled_few words l (said_wide extent words l s)
+said_few extent words l s =
+    (let c = said_counts extent words l s in (omega (arith, c.0, most (length words) extent), c.1)) where
+      most : (count : ℕ) (e : Extent) → most_spelled e count ≤ 2 * count + 7
+      most count Usual = omega arith
+      most zero Wide = omega arith
+      most (suc count) Wide = omega arith

@@ -3,15 +3,18 @@ use Rattle.std.proofs.Common.{◌≡◌, ℕ, ◌+◌, ◌≤◌, ◌<◌, List,
 use Rattle.std.proofs.Common.{length-append}
 use Rattle.std.specs.List.{AllByRecursion}
 use Rattle.std.proofs.lemmas.List.Elements.{All-from_recursion}
-use Rattle.dm_words.specs.declared.extent.Extent.TheVariants.{Wide}
+use Rattle.dm_words.specs.declared.extent.Extent.{Extent}
 use Rattle.dm_words.specs.declared.letters.opening.Opening.{Opening}
-use Rattle.dm_words.specs.Messages.{IsItem}
+use Rattle.dm_words.specs.Messages.{IsItem, IsMessage}
+use Rattle.dm_words.specs.declared.item.Item.{Item}
+use Rattle.dm_words.specs.LetterExtents.{as_letter}
+use Rattle.dm_words.specs.Spells.{Spells}
 use Rattle.dm_words.specs.Joined.{Piece, spelled, whats, AreJoined}
 use Rattle.dm_words.specs.Designators.{most_assigned, IsDesignator, one, two, three}
 use Rattle.dm_words.specs.Heads.{IsHead}
 use Rattle.dm_words.specs.Letters.{LetterView, AreMarks, IsLetter, Said, Items, Number, IsLetterPart, part, mark}
 use Rattle.dm_words.specs.Letters.{said_items, said_marks, IsOpening, headed, framed, plain, opening_head}
-use Rattle.dm_words.specs.Letters.{opening_items, closing_items, said_letter, AreLetterParts, SpellsLetter}
+use Rattle.dm_words.specs.Letters.{opening_items, closing_items, said_letter, AreLetterParts, Says}
 use Rattle.dm_words.proofs.AsciiWords.{AreItems}
 use Rattle.dm_words.proofs.ItemBytes.{part_items, items-append, macro_byte}
 use Rattle.dm_words.proofs.Heads.{head_only}
@@ -29,16 +32,20 @@ assigned words n (two a b l h f e is) = omega (arith, is, h, f.1)
 assigned words n (three a b c l h f g e is k) = k
 
 -- What a part says is right.
-part_right : (place : ℕ) (words after : List ℕ) (said : Said) → IsLetterPart place words after said → IsRight said
-part_right place words after said (part items p is) = rw is (part_items Wide place words after items p)
-part_right place words after said (mark d number e whole is) = rw is (assigned d number e)
+part_right : (extent : Extent) (place : ℕ) (words after : List ℕ) (said : Said)
+    → IsLetterPart extent place words after said → IsRight said
+part_right extent place words after said (part items p is) = rw is (part_items extent place words after items p)
+part_right extent place words after said (mark d number wide e whole is) = rw is (assigned d number e)
 
 -- What parts say is right.
-parts_right : (place : ℕ) (ps : List (Piece Said)) (after : List ℕ) → AreJoined IsLetterPart place ps after
+parts_right : (extent : Extent) (place : ℕ) (ps : List (Piece Said)) (after : List ℕ)
+    → AreJoined (IsLetterPart extent) place ps after
     → AllByRecursion IsRight (whats ps)
-parts_right place [] after h = tt
-parts_right place (p ∷ ps) after h =
-    (part_right place p.words (spelled ps ++ after) p.what h.0, parts_right (place + length p.words) ps after h.1)
+parts_right extent place [] after h = tt
+parts_right extent place (p ∷ ps) after h = (
+  part_right extent place p.words (spelled ps ++ after) p.what h.0,
+  parts_right extent (place + length p.words) ps after h.1,
+)
 
 -- The items that are said are items.
 items_right : (said : List Said) → AllByRecursion IsRight said → AreItems (said_items said)
@@ -60,11 +67,12 @@ marks_right before (Items items ∷ said) h =
 marks_right before (Number number ∷ said) h = (omega arith, h.0, marks_right before said h.1)
 
 -- The marks that parts of a letter say are in order.
-pub said_in_order : (before place : ℕ) (words : List ℕ) (said : List Said) → AreLetterParts place words said
+pub said_in_order : (extent : Extent) (before place : ℕ) (words : List ℕ) (said : List Said)
+    → AreLetterParts extent place words said
     → AreMarks before (before + length (said_items said)) (said_marks before said)
-said_in_order before place words said p =
+said_in_order extent before place words said p =
     marks_right before said
-    (subst (AllByRecursion IsRight) (sym p.said_are) (parts_right place p.parts p.after p.joined))
+    (subst (AllByRecursion IsRight) (sym p.said_are) (parts_right extent place p.parts p.after p.joined))
 
 -- An opening is right: its head, and the items before and behind those of the parts.
 record IsRightOpening (opening : Opening) : Type 0 where
@@ -73,17 +81,19 @@ record IsRightOpening (opening : Opening) : Type 0 where
   behind : AreItems (closing_items opening)
 
 -- An opening that is there is right.
-opening_right : (words more : List ℕ) (opening : Opening) → IsOpening words more opening → IsRightOpening opening
-opening_right words more opening (headed said s is) =
+opening_right : (extent : Extent) (words more : List ℕ) (opening : Opening) → IsOpening extent words more opening
+    → IsRightOpening opening
+opening_right extent words more opening (headed said wide s is) =
     rw is (record { head = (head_only words said s).0; before = tt; behind = tt })
-opening_right words more opening (framed digit f is) =
+opening_right extent words more opening (framed digit wide f is) =
     let lt : digit < 256 = macro_byte f.word digit f.is_macro in
     rw is (record {
       head = tt;
       before = (omega arith, (omega arith, (omega arith, (omega arith, (omega arith, (lt, (omega arith, tt)))))));
       behind = (omega arith, (omega arith, tt));
     })
-opening_right words more opening (plain e no_head no_frame is) = rw is (record { head = tt; before = tt; behind = tt })
+opening_right extent words more opening (plain e no_head no_frame is) =
+    rw is (record { head = tt; before = tt; behind = tt })
 
 -- What a right opening and right parts say is a letter.
 said_right : (opening : Opening) (said : List Said) → IsRightOpening opening → AllByRecursion IsRight said
@@ -106,10 +116,14 @@ said_right opening said o r =
     }
 
 -- What codewords say is a letter.
-pub said_is_letter : (words : List ℕ) (l : LetterView) → SpellsLetter words l → IsLetter l
-said_is_letter words l s =
+pub said_is_letter : (extent : Extent) (words : List ℕ) (l : LetterView) → Says extent words l → IsLetter l
+said_is_letter extent words l s =
     let right =
     subst (AllByRecursion IsRight) (sym s.parts.said_are)
-    (parts_right s.place s.parts.parts s.parts.after s.parts.joined) in
+    (parts_right extent s.place s.parts.parts s.parts.after s.parts.joined) in
     subst IsLetter (sym s.letter_is)
-    (said_right s.opening s.said (opening_right s.opened.first s.more s.opening s.opened.is_opening) right)
+    (said_right s.opening s.said (opening_right extent s.opened.first s.more s.opening s.opened.is_opening) right)
+
+-- What they spell is a message.
+pub spelled_is_message : (extent : Extent) (words : List ℕ) (m : List Item) → Spells extent words m → IsMessage m
+spelled_is_message extent words m s = (said_is_letter extent words (as_letter m) s).items

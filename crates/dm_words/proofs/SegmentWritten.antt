@@ -11,7 +11,7 @@ use Rattle.dm_words.specs.Messages.{byte_of, IsItem, IsMessage}
 use Rattle.dm_words.specs.Base256.{written, randomised, IsLengthField, IsSegment, to_the_end}
 use Rattle.dm_words.specs.NormalForm.{has_fnc1, length_numbers}
 use Rattle.dm_words.specs.Plain as plainly
-use Rattle.dm_words.specs.Spells.{segment}
+use Rattle.dm_words.specs.Parts.{segment}
 use Rattle.dm_words.specs.inner.Written.{IsFieldWritten, IsPartWritten}
 use Rattle.dm_words.proofs.Segments.{length-written}
 use Rattle.dm_words.proofs.NormalForms.{short_numbers, long_numbers, says_count, bytes_of_items, bytes_are_items}

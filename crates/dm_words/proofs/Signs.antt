@@ -22,7 +22,7 @@ use Rattle.dm_words.specs.Messages.{byte_items}
 use Rattle.dm_words.specs.Plain.{IsPlainPart, IsPlainSaid, part, mark}
 use Rattle.dm_words.specs.Plain as plainly
 use Rattle.dm_words.specs.Runs.{IsRun}
-use Rattle.dm_words.specs.Spells.{IsEnd, nothing, pad}
+use Rattle.dm_words.specs.Parts.{IsEnd, nothing, pad}
 use Rattle.dm_words.specs.Values.{IsSpelling}
 use Rattle.dm_words.specs.inner.Fnc1.{fnc1_number, is_alone}
 use Rattle.dm_words.specs.inner.Signs.{sign_words}

@@ -14,11 +14,9 @@ use Rattle.dm_words.specs.Messages.{IsMessage}
 use Rattle.dm_words.specs.NormalForm.{normal_form}
 use Rattle.dm_words.specs.Pads.{padded}
 use Rattle.dm_words.specs.Smallest.{IsPlainest, IsSmaller, IsSmallestFor, IsTaken}
-use Rattle.dm_words.specs.Joined.{whats}
-use Rattle.dm_words.specs.Letters.{BeginsFrame}
-use Rattle.dm_words.specs.Spells.{AreParts, Spells, plain, by_macro}
-use Rattle.dm_words.proofs.Extents.{joined_wider, wide_reads_the_same}
-use Rattle.dm_words.proofs.WideLetters.{as_said, no_frame, said_parts}
+use Rattle.dm_words.specs.LetterExtents.{as_letter}
+use Rattle.dm_words.specs.Spells.{Spells}
+use Rattle.dm_words.proofs.Extents.{said_wide, usual_no_frame}
 use Rattle.dm_words.proofs.NormalForms.{normal_form_count, normal_form_spells}
 
 -- Of two sizes one is smaller than the other, or they are the same.
@@ -45,20 +43,6 @@ one_is_smaller size other is is_other not_smaller not_larger =
     (areas ∙ ap (λ (n : ℕ). other.rows * n) (sym columns)) in
     same_size size other is is_other rows columns
 
--- What is spelled in the usual extent begins with no macro.
-usual_no_frame : (words : List ℕ) (m : List Item) → Spells Usual words m → BeginsFrame words → ⊥
-usual_no_frame words m (plain a) begins =
-    let wide : AreParts Wide 1 words m = record {
-      parts = a.parts;
-      after = a.after;
-      joined = joined_wider 1 a.parts a.after a.joined;
-      ended = a.ended;
-      whole = a.whole;
-      items_are = a.items_are;
-    } in
-    no_frame words (whats (as_said a.parts)) (said_parts 1 words m wide) begins
-usual_no_frame words m (by_macro word digit more text wide k e a is) begins = absurd cc
-
 -- None is in a smaller size than another.
 pub one_size : (extent : Extent) (choice : SizeChoice) (size other_size : SizeEntry) (m : List Item)
     (words other : List ℕ)
@@ -84,7 +68,7 @@ pub wide_is_no_larger : (choice : SizeChoice) (size other_size : SizeEntry) (m :
     → IsSmallestFor Usual choice size words m → IsSmallestFor Wide choice other_size other m
     → IsSmaller size other_size → ⊥
 wide_is_no_larger choice size other_size m words other s o less =
-    o.smallest size words s.taken less s.sized s.form.framed (wide_reads_the_same words m s.spells)
+    o.smallest size words s.taken less s.sized s.form.framed (said_wide Usual words (as_letter m) s.spells)
 
 -- A normal form with pads spells the message too.
 pub normal_is_no_smaller : (extent : Extent) (profile : Profile) (choice : SizeChoice) (size other_size : SizeEntry)
@@ -95,6 +79,6 @@ normal_is_no_smaller extent profile choice size other_size m words fit s taken r
     let count = other_size.data_count in
     let most : count ≤ 1558 = (let f = size_facts other_size taken.0 in omega (arith, f.data_fits)) in
     s.smallest other_size (padded (normal_form profile m) count) taken less (normal_form_count profile m count room)
-    (λ frames begins. usual_no_frame (padded (normal_form profile m) count) m
+    (λ frames begins. usual_no_frame (padded (normal_form profile m) count) (as_letter m)
     (normal_form_spells Usual profile m count fit room most) begins)
     (normal_form_spells extent profile m count fit room most)

@@ -11,9 +11,9 @@ use Rattle.dm_words.specs.declared.letters.head.Head.{Head}
 use Rattle.dm_words.specs.declared.letters.mark.Mark.{Mark}
 use Rattle.dm_words.specs.declared.profile.Profile.TheVariants.{Ascii}
 use Rattle.dm_words.specs.Heads.{head_words}
-use Rattle.dm_words.specs.Letters.{LetterView}
+use Rattle.dm_words.specs.Letters.{LetterView, Says}
 use Rattle.dm_words.specs.LetterForm.{letter_form, ascii_with_marks}
-use Rattle.dm_words.specs.LetterExtents.{as_letter, SaysIn}
+use Rattle.dm_words.specs.LetterExtents.{as_letter}
 use Rattle.dm_words.specs.Pads.{padded}
 use Rattle.dm_words.specs.Plain.{FramesNoFnc1, IsPlainForm}
 use Rattle.dm_words.specs.Smallest.{IsSmallestResult}
@@ -25,28 +25,13 @@ use Rattle.dm_words.specs.inner.MarkedForms.{is_plain}
 use Rattle.dm_words.specs.inner.Ways.{IsLeastCost}
 use Rattle.dm_words.proofs.CostBounds.{no_fewer_words}
 use Rattle.dm_words.proofs.LetterBounds.{no_fewer_letter}
-use Rattle.dm_words.proofs.LetterExtents.{spelled_said, usual_spells}
+use Rattle.dm_words.proofs.MessageReadings.{usual_plain}
 use Rattle.dm_words.proofs.PadWords.{length-padded}
 use Rattle.dm_words.proofs.PlainForms.{form_is}
 use Rattle.dm_words.proofs.SmallestLaws.{one_is_smaller}
 use Rattle.dm_words.proofs.SmallestSymbols.{none_smaller, none_has, padded_spells}
 
 -- ---- messages
-
--- The least cost of a message is that of it as a letter.
-least_letter : (m : List Item) (cost : ℕ) → IsLeastCost Wide m cost → IsLeastLetterCost (as_letter m) cost
-least_letter m cost least = record {
-  parts = omega (arith, least.parts);
-  framed = λ word digit text k none e no_fnc1 marks. least.macros word digit text refl k e no_fnc1;
-}
-
--- No words that say a message as a letter, and have no macro before FNC1, are fewer than its least cost.
-no_fewer_message : (extent : Extent) (m : List Item) (cost : ℕ) → length m ≤ 3123 → IsLeastCost extent m cost
-    → (words : List ℕ) → FramesNoFnc1 words m × SaysIn extent words (as_letter m) → cost ≤ length words
-no_fewer_message Usual m cost few least words s =
-    no_fewer_words Usual words m cost least s.0 (usual_spells words (as_letter m) s.1).1
-no_fewer_message Wide m cost few least words s =
-    no_fewer_letter Wide words (as_letter m) cost (omega (arith, few)) (least_letter m cost least) s.0 s.1
 
 -- The smallest words of a message are those of it as a letter.
 pub message_letter : (extent : Extent) (choice : SizeChoice) (m : List Item) (result : Result SizeEntry TooLong)
@@ -56,21 +41,19 @@ pub message_letter : (extent : Extent) (choice : SizeChoice) (m : List Item) (re
 message_letter extent choice m (Ok size) words few r c =
     let s = r.smallest in
     let p = r.plainest in
-    let lower = no_fewer_message extent m c.0 few c.1 in
     record {
       smallest = record {
-        says = spelled_said extent words m s.spells;
+        says = s.spells;
         taken = s.taken;
         sized = s.sized;
         form = s.form;
         smallest = λ smaller other taken less sized framed says.
-            none_smaller (λ w. FramesNoFnc1 w m × SaysIn extent w (as_letter m)) choice c.0 size smaller other lower
-            c.2.smallest c.2.narrowest taken less sized (framed, says);
+            none_smaller (λ w. FramesNoFnc1 w m × Says extent w (as_letter m)) choice c.0 size smaller other
+            (λ w said. no_fewer_words extent w m c.0 c.1 said.0 said.1) c.2.smallest c.2.narrowest taken less sized (framed, says);
       };
       plainest = record {
         ascii = p.ascii;
-        usual = λ other same says. SaysIn.of_message m refl
-            (p.usual other same (usual_spells other (as_letter m) says).1) refl;
+        usual = λ other same says. p.usual other same says;
       };
       padded = of_message m refl r.padded;
       too_long = λ err size other taken sized framed says. absurd cc;
@@ -80,8 +63,8 @@ message_letter extent choice m (Err fault) words few r c = record {
   plainest = tt;
   padded = tt;
   too_long = λ err size other taken sized framed says.
-      none_has (λ w. FramesNoFnc1 w m × SaysIn extent w (as_letter m)) choice c.0 size other
-      (no_fewer_message extent m c.0 few c.1) c.2 taken sized (framed, says);
+      none_has (λ w. FramesNoFnc1 w m × Says extent w (as_letter m)) choice c.0 size other
+      (λ w said. no_fewer_words extent w m c.0 c.1 said.0 said.1) c.2 taken sized (framed, says);
 }
 
 -- A letter without a head and marks is a message.
@@ -103,17 +86,27 @@ is_no_message (Some head) marks e none nothing = absurd cc
 -- ---- letters with a head or marks
 
 -- Nothing says one in the usual extent.
-pub not_usual : (words : List ℕ) (l : LetterView) → is_plain l.head l.marks ≡ false → SaysIn Usual words l → ⊥
+not_usual : (words : List ℕ) (l : LetterView) → is_plain l.head l.marks ≡ false → Says Usual words l → ⊥
 not_usual words l marked says =
-    let e = (usual_spells words l says).0 in
+    let e = usual_plain words l says in
     let plain : is_plain l.head l.marks ≡ true = ap (λ (k : LetterView). is_plain k.head k.marks) e in
     absurd cc
 
+-- So none of any size are the smallest there.
+pub usual_too_long : (choice : SizeChoice) (l : LetterView) (fault : TooLong) (words : List ℕ)
+    → is_plain l.head l.marks ≡ false → IsSmallestLetterResult Usual choice l (Err fault) words
+usual_too_long choice l fault words marked = record {
+  smallest = tt;
+  plainest = tt;
+  padded = tt;
+  too_long = λ err size other taken sized framed says. not_usual other l marked says;
+}
+
 -- With pads behind them or not, words say a letter.
-said_padded : (words : List ℕ) (l : LetterView) → SaysThenPads Wide words l → SaysIn Wide words l
+said_padded : (words : List ℕ) (l : LetterView) → SaysThenPads Wide words l → Says Wide words l
 said_padded words l (of_message m is s) =
-    subst (SaysIn Wide words) (sym is) (spelled_said Wide words m (padded_spells Wide words m s))
-said_padded words l (of_letter is s pads) = SaysIn.of_letter is s
+    subst (Says Wide words) (sym is) (padded_spells Wide words m s)
+said_padded words l (of_letter is s pads) = s
 
 -- What is written for one, with pads, is the smallest.
 pub marked_smallest : (choice : SizeChoice) (l : LetterView) (cost count : ℕ) (size : SizeEntry) (new words : List ℕ)
@@ -134,7 +127,7 @@ marked_smallest choice l cost count size new words few marked least fit counts i
         sized = long ∙ counts;
         form = subst (λ (w : List ℕ). IsPlainForm w l) (sym is) written;
         smallest = λ smaller other taken less sized framed other_says.
-            none_smaller (λ w. FramesNoFnc1 w l.items × SaysIn Wide w l) choice cost size smaller other
+            none_smaller (λ w. FramesNoFnc1 w l.items × Says Wide w l) choice cost size smaller other
             (λ w s. no_fewer_letter Wide w l cost few least s.0 s.1) fit.smallest fit.narrowest taken less sized
             (framed, other_says);
       };
@@ -156,7 +149,7 @@ marked_too_long choice l cost fault words few least none = record {
   plainest = tt;
   padded = tt;
   too_long = λ err size other taken sized framed says.
-      none_has (λ w. FramesNoFnc1 w l.items × SaysIn Wide w l) choice cost size other
+      none_has (λ w. FramesNoFnc1 w l.items × Says Wide w l) choice cost size other
       (λ w s. no_fewer_letter Wide w l cost few least s.0 s.1) none taken sized (framed, says);
 }
 
@@ -186,6 +179,6 @@ one_letter_with_ascii l words other s o same room =
 
 -- The usual extent reads both or neither.
 pub usual_letter_or_not : (l : LetterView) (words other : List ℕ) → IsPlainestLetter words l
-    → IsPlainestLetter other l → length words ≡ length other → SaysIn Usual words l ↔ SaysIn Usual other l
+    → IsPlainestLetter other l → length words ≡ length other → Says Usual words l ↔ Says Usual other l
 usual_letter_or_not l words other s o same =
     ((λ says. o.usual words same says), (λ says. s.usual other (sym same) says))

@@ -17,7 +17,8 @@ use Rattle.dm_words.specs.Pads.{pads, padded}
 use Rattle.dm_words.specs.Plain.{FramesNoFnc1, IsPlainForm}
 use Rattle.dm_words.specs.Smallest.{IsTaken, IsSmaller, NoneSpells, IsSmallestFor, IsPlainest, ArePads, SpellsThenPads}
 use Rattle.dm_words.specs.Smallest.{plain_padded, macro_padded}
-use Rattle.dm_words.specs.Spells.{Spells, plain, by_macro, AreParts}
+use Rattle.dm_words.specs.Parts.{AreParts}
+use Rattle.dm_words.specs.Spells.{Spells}
 use Rattle.dm_words.specs.inner.Costs.{at_end, parts_cost}
 use Rattle.dm_words.specs.inner.Ways.{IsLeastCost, inner_text, IsMacroOf, HasNoMacro}
 use Rattle.dm_words.specs.inner.Written.{NoUnlatchFirst, ArePartsWritten}
@@ -26,7 +27,10 @@ use Rattle.dm_words.proofs.AsciiWords.{pads_end}
 use Rattle.dm_words.proofs.LawLemmas.{ascii_spells}
 use Rattle.dm_words.proofs.Extents.{wide_reads_the_padded}
 use Rattle.dm_words.proofs.PartsWritten.{parts_whole}
-use Rattle.dm_words.proofs.SpelledBounds.{spelled_is_few}
+use Rattle.dm_words.proofs.LetterParts.{not_wide}
+use Rattle.dm_words.proofs.SaidBounds.{spelled_is_few}
+use Rattle.dm_words.proofs.SpelledLetters.{parts_spell, macro_spells as macro_text_spells, spelled_has, HasMessage}
+use Rattle.dm_words.proofs.SpelledLetters.{in_parts, in_frame}
 use Rattle.dm_words.proofs.CostBounds.{no_fewer, no_fewer_words}
 
 -- ---- what is written spells the message
@@ -44,9 +48,9 @@ filled words count fits = omega (arith, length-pads (length words + 1) (count - 
 -- With pads behind them or not, words spell a message.
 pub padded_spells : (extent : Extent) (words : List ℕ) (m : List Item) → SpellsThenPads extent words m
     → Spells extent words m
-padded_spells extent words m (plain_padded parts pads) = plain parts
+padded_spells extent words m (plain_padded parts pads) = parts_spell extent words m parts
 padded_spells extent words m (macro_padded word digit more text is k whole parts e pads) =
-    by_macro word digit more text is k whole parts e
+    subst (Spells extent words) (sym e) (macro_text_spells extent word digit words more text is k whole parts)
 
 -- Parts of these words, which are those, with pads behind them.
 plain_at : (extent : Extent) (words same : List ℕ) (m : List Item) → words ≡ same → (parts : AreParts extent 1 same m)
@@ -179,8 +183,10 @@ wider Wide words m says = wide_reads_the_padded words m says
 
 -- No words that spell a message in the usual extent, which reads no macro, are fewer than the cost of its parts.
 usual_few : (words : List ℕ) (m : List Item) → Spells Usual words m → parts_cost (at_end Usual) m ≤ length words
-usual_few words m (plain a) = no_fewer Usual 1 words m a
-usual_few words m (by_macro word digit more text wide k e a is) = absurd cc
+usual_few words m s = by (spelled_has Usual words m s) where
+  by : HasMessage Usual words m → parts_cost (at_end Usual) m ≤ length words
+  by (in_parts a) = no_fewer Usual 1 words m a
+  by (in_frame first more digit text wide f e a is) = absurd (not_wide wide)
 
 -- ASCII is the plainest.
 pub ascii_plainest : (m : List Item) (words : List ℕ) (count : ℕ) → IsMessage m → words ≡ ascii m

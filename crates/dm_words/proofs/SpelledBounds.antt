@@ -1,5 +1,5 @@
 -- How many items codewords spell: at most two for each, and in the wide extent seven more; and some spell so many.
-use Rattle.std.proofs.Common.{◌≡◌, ℕ, zero, suc, ◌+◌, ◌*◌, ◌<◌, ◌≤◌, List, [], ◌∷◌, ◌++◌, length, refl, sym, ap, arith}
+use Rattle.std.proofs.Common.{◌≡◌, ℕ, zero, suc, ◌+◌, ◌*◌, ◌<◌, ◌≤◌, List, [], ◌∷◌, length, refl, sym, ap, arith}
 use Rattle.std.proofs.Common.{length-append}
 use Rattle.std.specs.List.{AllByRecursion}
 use Rattle.std.proofs.lemmas.List.{append-nil}
@@ -12,49 +12,9 @@ use Rattle.dm_words.specs.Joined.{Piece, spelled, gathered, AreJoined}
 use Rattle.dm_words.specs.Ascii.{digits}
 use Rattle.dm_words.specs.Macros.{macro_text, macro_trailer}
 use Rattle.dm_words.specs.Messages.{most_spelled}
-use Rattle.dm_words.specs.Spells.{IsPart, ascii, nothing, AreParts, plain, by_macro, Spells}
+use Rattle.dm_words.specs.Parts.{IsPart, ascii, nothing, AreParts}
 use Rattle.dm_words.specs.Laws.{SomeSpell}
-use Rattle.dm_words.proofs.Parts.{room_of}
-
--- ---- no more
-
--- Parts that are joined have at most two items for each codeword.
-joined_room : (extent : Extent) (place : ℕ) (ps : List (Piece (List Item))) (after : List ℕ)
-    → AreJoined (IsPart extent) place ps after → length (gathered ps) ≤ 2 * length (spelled ps)
-joined_room extent place [] after h = omega arith
-joined_room extent place (p ∷ ps) after h =
-    omega (
-      arith,
-      room_of extent place p.words (spelled ps ++ after) p.what h.0,
-      joined_room extent (place + length p.words) ps after h.1,
-      length-append p.what (gathered ps),
-      length-append p.words (spelled ps),
-    )
-
--- So have parts with an end behind them.
-parts_room : (extent : Extent) (place : ℕ) (words : List ℕ) (m : List Item) → AreParts extent place words m
-    → length m ≤ 2 * length words
-parts_room extent place words m p =
-    omega (
-      arith,
-      joined_room extent place p.parts p.after p.joined,
-      ap length p.items_are,
-      ap length p.whole,
-      length-append (spelled p.parts) p.after,
-    )
-
--- Two items for each codeword are no more than can be spelled.
-within_most : (extent : Extent) (count n : ℕ) → n ≤ 2 * count → n ≤ most_spelled extent count
-within_most Usual count n few = few
-within_most Wide zero n few = few
-within_most Wide (suc count) n few = omega (arith, few)
-
--- What codewords spell has no more items than that.
-pub spelled_is_few : (extent : Extent) (words : List ℕ) (m : List Item) → Spells extent words m
-    → length m ≤ most_spelled extent (length words)
-spelled_is_few extent words m (plain p) = within_most extent (length words) (length m) (parts_room extent 1 words m p)
-spelled_is_few extent words m (by_macro word digit more text wide k whole p e) =
-    rw (wide, whole, e) (omega (arith, parts_room extent 2 more text p, length-append text macro_trailer))
+use Rattle.dm_words.proofs.SpelledLetters.{parts_spell, macro_spells}
 
 -- ---- as many
 
@@ -106,20 +66,21 @@ zeros_spell extent n = record {
   message = gathered (double_zeros n);
   counted = zeros_counted n;
   codewords = All-from_recursion (λ w. w < 256) (spelled (double_zeros n)) (zeros_small n);
-  spells = plain (zeros_parts extent 1 n);
+  spells = parts_spell extent (spelled (double_zeros n)) (gathered (double_zeros n)) (zeros_parts extent 1 n);
   long = zeros_long n;
 }
 
 -- A macro before them spells nine items more.
-macro_spells : (n : ℕ) → SomeSpell Wide (suc n) (2 * suc n + 7)
-macro_spells n =
+zeros_behind_macro : (n : ℕ) → SomeSpell Wide (suc n) (2 * suc n + 7)
+zeros_behind_macro n =
     let text = gathered (double_zeros n) in
     record {
       words = 236 ∷ spelled (double_zeros n);
       message = macro_text 53 text;
       counted = ap suc (zeros_counted n);
       codewords = All-from_recursion (λ w. w < 256) (236 ∷ spelled (double_zeros n)) (omega arith, zeros_small n);
-      spells = by_macro 236 53 (spelled (double_zeros n)) text refl refl refl (zeros_parts Wide 2 n) refl;
+      spells = macro_spells Wide 236 53 (236 ∷ spelled (double_zeros n)) (spelled (double_zeros n)) text refl refl refl
+          (zeros_parts Wide 2 n);
       long = omega (arith, length-append text macro_trailer, zeros_long n);
     }
 
@@ -127,7 +88,7 @@ macro_spells n =
 pub some_spell_most : (extent : Extent) (count : ℕ) → SomeSpell extent count (most_spelled extent count)
 some_spell_most Usual count = zeros_spell Usual count
 some_spell_most Wide zero = zeros_spell Wide zero
-some_spell_most Wide (suc n) = macro_spells n
+some_spell_most Wide (suc n) = zeros_behind_macro n
 
 -- ---- room
 

@@ -12,7 +12,7 @@ use Rattle.dm_words.specs.Codewords.{codeword_of}
 use Rattle.dm_words.specs.Messages.{byte_of, IsItem, IsMessage}
 use Rattle.dm_words.specs.Ascii.{IsAsciiUnit, character, digits, fnc1, raised, is_digit, digit_pair}
 use Rattle.dm_words.specs.Plain as plainly
-use Rattle.dm_words.specs.Spells.{ascii}
+use Rattle.dm_words.specs.Parts.{ascii}
 use Rattle.dm_words.specs.inner.Scan.Results.{item_words}
 use Rattle.dm_words.specs.inner.Costs.{unit_cost, is_digit_item}
 use Rattle.dm_words.specs.inner.Written.{NoUnlatchFirst, IsPartWritten}

@@ -1,39 +1,33 @@
 -- What holds of all lists of codewords. Codewords and bytes are numbers of 0 to 255.
 use Rattle.std.specs.Prelude.{◌≡◌, ℕ, ◌<◌, List, ◌∷◌, ◌++◌, ◌⊎◌, All, Some, length}
 use Rattle.dm_words.specs.declared.extent.Extent.{Extent}
-use Rattle.dm_words.specs.declared.extent.Extent.TheVariants.{Wide}
+use Rattle.dm_words.specs.declared.extent.Extent.TheVariants.{Usual, Wide}
 use Rattle.dm_words.specs.declared.item.Item.{Item}
 use Rattle.dm_words.specs.declared.codeword.Codeword.TheVariants as codeword
 use Rattle.dm_words.specs.declared.fault.WordFault.{WordFault}
 use Rattle.dm_words.specs.declared.c40.set.CodeSet.{CodeSet}
 use Rattle.dm_words.specs.Values.{IsRunValue, IsSpelling}
 use Rattle.dm_words.specs.Codewords.{codeword_of}
-use Rattle.dm_words.specs.Spells.{AreParts, Spells}
-use Rattle.dm_words.specs.Refused.{Refused}
+use Rattle.dm_words.specs.Parts.{AreParts}
+use Rattle.dm_words.specs.Spells.{Spells, Refused}
 
--- In an extent, the words spell exactly one message, and are refused with no fault.
-pub record SpellsOnly (extent : Extent) (words : List ℕ) : Type 0 where
+-- In the usual extent, the words spell exactly one message, and are refused with no fault.
+pub record SpellsOnly (words : List ℕ) : Type 0 where
   pub message : List Item
-  pub spells : Spells extent words message
-  pub only : (other : List Item) → Spells extent words other → other ≡ message
-  pub not_refused : (why : WordFault) → Refused extent words why → ⊥
+  pub spells : Spells Usual words message
+  pub only : (other : List Item) → Spells Usual words other → other ≡ message
+  pub not_refused : (why : WordFault) → Refused words why → ⊥
 
--- In an extent, the words are refused with exactly one fault, and spell no message.
-pub record RefusedOnly (extent : Extent) (words : List ℕ) : Type 0 where
+-- In the usual extent, the words are refused with exactly one fault, and spell no message.
+pub record RefusedOnly (words : List ℕ) : Type 0 where
   pub why : WordFault
-  pub refused : Refused extent words why
-  pub only : (other : WordFault) → Refused extent words other → other ≡ why
-  pub not_spelled : (message : List Item) → Spells extent words message → ⊥
+  pub refused : Refused words why
+  pub only : (other : WordFault) → Refused words other → other ≡ why
+  pub not_spelled : (message : List Item) → Spells Usual words message → ⊥
 
--- In an extent, the words have one result: a message, or a fault.
-abbrev pub HasOneResult : Extent → List ℕ → Type 0
-HasOneResult extent words = SpellsOnly extent words ⊎ RefusedOnly extent words
-
--- In the wide extent this codeword can be left out at this place: structured append, reader programming and ECI
--- everywhere, a macro behind the first
--- codeword of the symbol.
-abbrev pub CanBeLeftOut : ℕ → ℕ → Type 0
-CanBeLeftOut word place = (word ≡ 233) ⊎ (word ≡ 234) ⊎ (word ≡ 241) ⊎ (((word ≡ 236) ⊎ (word ≡ 237)) × (1 < place))
+-- In the usual extent, the words have one result: a message, or a fault.
+abbrev pub HasOneResult : List ℕ → Type 0
+HasOneResult words = SpellsOnly words ⊎ RefusedOnly words
 
 -- The words are a macro of this digit and, behind it, parts with the items of this text.
 pub record AreMacro (digit : ℕ) (words : List ℕ) (text : List Item) : Type 0 where

@@ -1,10 +1,11 @@
--- Which data codewords of a symbol say which letter, and which are refused (ISO/IEC 16022, ECI encodation, structured
--- append, reader programming, 05 and 06 macro characters). The words are all data codewords of the symbol, each of 0 to
--- 255, so their end is the end of the symbol. The extents of `Spells` are those of messages; a letter says more. What
--- is left out, which fault is named and at which place, and that the places of marks count items, the header of a macro
--- with them, are choices of this project.
+-- Which data codewords of a symbol say which letter in an extent of reading, and which are refused (ISO/IEC 16022,
+-- encodation schemes, ECI encodation, structured append, reader programming, 05 and 06 macro characters). The words are
+-- all data codewords of the symbol, each of 0 to 255, so their end is the end of the symbol. Heads, marks, macros and
+-- EDIFACT are read in the wide extent alone. The extents, what is left out, which fault is named and at which place,
+-- and that the places of marks count items, the header of a macro with them, are choices of this project.
 use Rattle.std.specs.Prelude.{◌≡◌, ◌≢◌, ℕ, ◌+◌, ◌*◌, ◌≤◌, List, [], ◌∷◌, ◌++◌, length, Option, Some, None, ◌⊎◌}
 use Rattle.std.specs.Prelude.{◌==◌, if◌then◌else◌}
+use Rattle.dm_words.specs.declared.extent.Extent.{Extent}
 use Rattle.dm_words.specs.declared.extent.Extent.TheVariants.{Wide}
 use Rattle.dm_words.specs.declared.item.Item.{Item}
 use Rattle.dm_words.specs.declared.fault.WordFault.{WordFault}
@@ -20,8 +21,8 @@ use Rattle.dm_words.specs.Codewords.{codeword_of, unlatch_word}
 use Rattle.dm_words.specs.Messages.{IsMessage}
 use Rattle.dm_words.specs.Joined.{Piece, spelled, whats, AreJoined}
 use Rattle.dm_words.specs.Macros.{macro_header, macro_trailer}
-use Rattle.dm_words.specs.Spells.{IsPart, IsEnd}
-use Rattle.dm_words.specs.Refused.{IsFault}
+use Rattle.dm_words.specs.Parts.{IsPart, IsEnd}
+use Rattle.dm_words.specs.Faults.{IsFault}
 use Rattle.dm_words.specs.Designators.{eci_word, most_assigned, IsDesignator, BeginsNoDesignator}
 use Rattle.dm_words.specs.Heads.{append_word, programming_word, IsHead, SpellsHead, BeginsNoHead}
 
@@ -67,18 +68,19 @@ pub data Said : Type 0 where
   Items : List Item → Said
   Number : ℕ → Said
 
--- A part of a letter is a part of a message in the wide extent; or ECI and a designator, which say a mark and no item.
-pub data IsLetterPart (place : ℕ) (words after : List ℕ) (said : Said) : Type 0 where
-  part : (items : List Item) → IsPart Wide place words after items → said ≡ Items items
-      → IsLetterPart place words after said
-  mark : (designator : List ℕ) (number : ℕ) → IsDesignator designator number → words ≡ eci_word ∷ designator
-      → said ≡ Number number → IsLetterPart place words after said
+-- A part of a letter says the items of a unit of ASCII, a run or a segment; or in the wide extent it is ECI and a
+-- designator, which say a mark and no item.
+pub data IsLetterPart (extent : Extent) (place : ℕ) (words after : List ℕ) (said : Said) : Type 0 where
+  part : (items : List Item) → IsPart extent place words after items → said ≡ Items items
+      → IsLetterPart extent place words after said
+  mark : (designator : List ℕ) (number : ℕ) → extent ≡ Wide → IsDesignator designator number
+      → words ≡ eci_word ∷ designator → said ≡ Number number → IsLetterPart extent place words after said
 
 -- The words from a place on, up to the end of the symbol, are parts of a letter, one after the other, and then an end.
-pub record AreLetterParts (place : ℕ) (words : List ℕ) (said : List Said) : Type 0 where
+pub record AreLetterParts (extent : Extent) (place : ℕ) (words : List ℕ) (said : List Said) : Type 0 where
   pub parts : List (Piece Said)
   pub after : List ℕ
-  pub joined : AreJoined IsLetterPart place parts after
+  pub joined : AreJoined (IsLetterPart extent) place parts after
   pub ended : IsEnd after
   pub whole : words ≡ spelled parts ++ after
   pub said_are : said ≡ whats parts
@@ -128,15 +130,17 @@ pub record BeginsWithHeadWord (words : List ℕ) : Type 0 where
   pub is_head_word : (word ≡ append_word) ⊎ (word ≡ programming_word)
   pub whole : words ≡ word ∷ more
 
--- A letter opens with a head; or with a macro, behind empty runs or none; or with nothing, where the first codeword of
--- the symbol is neither 233 nor 234, and no macro begins it so. So a letter with a head has no macro, and where 233
--- begins no head there is no opening. `more` are the words behind the opening; where it is nothing, these are all of
--- the symbol.
-pub data IsOpening (words more : List ℕ) (opening : Opening) : Type 0 where
-  headed : (head : Head) → SpellsHead words head → opening ≡ Headed head → IsOpening words more opening
-  framed : (digit : ℕ) → AreFrame words digit → opening ≡ Framed digit → IsOpening words more opening
-  plain : words ≡ [] → (BeginsWithHeadWord more → ⊥) → (BeginsFrame more → ⊥) → opening ≡ Plain
-      → IsOpening words more opening
+-- In the usual extent a letter opens with nothing. In the wide one it opens with a head; or with a macro, behind empty
+-- runs or none; or with nothing, where the first codeword of the symbol is neither 233 nor 234, and no macro begins it
+-- so. So a letter with a head has no macro, and where 233 begins no head there is no opening. `more` are the words
+-- behind the opening; where it is nothing, these are all of the symbol.
+pub data IsOpening (extent : Extent) (words more : List ℕ) (opening : Opening) : Type 0 where
+  headed : (head : Head) → extent ≡ Wide → SpellsHead words head → opening ≡ Headed head
+      → IsOpening extent words more opening
+  framed : (digit : ℕ) → extent ≡ Wide → AreFrame words digit → opening ≡ Framed digit
+      → IsOpening extent words more opening
+  plain : words ≡ [] → (extent ≡ Wide → BeginsWithHeadWord more → ⊥) → (extent ≡ Wide → BeginsFrame more → ⊥)
+      → opening ≡ Plain → IsOpening extent words more opening
 
 -- An opening says this head, or none.
 abbrev pub opening_head : Opening → Option Head
@@ -167,47 +171,47 @@ said_letter opening said = record {
 }
 
 -- The words are an opening and then words from a place on.
-pub record AreOpened (words : List ℕ) (opening : Opening) (place : ℕ) (more : List ℕ) : Type 0 where
+pub record AreOpened (extent : Extent) (words : List ℕ) (opening : Opening) (place : ℕ) (more : List ℕ) : Type 0 where
   pub first : List ℕ
-  pub is_opening : IsOpening first more opening
+  pub is_opening : IsOpening extent first more opening
   pub whole : words ≡ first ++ more
   pub place_is : place ≡ 1 + length first
 
--- The words say the letter: they are an opening and then parts that say it, with pads behind them or not.
-pub record SpellsLetter (words : List ℕ) (letter : LetterView) : Type 0 where
+-- The words say the letter in an extent: they are an opening and then parts that say it, with pads behind them or not.
+pub record Says (extent : Extent) (words : List ℕ) (letter : LetterView) : Type 0 where
   pub opening : Opening
   pub place : ℕ
   pub more : List ℕ
-  pub opened : AreOpened words opening place more
+  pub opened : AreOpened extent words opening place more
   pub said : List Said
-  pub parts : AreLetterParts place more said
+  pub parts : AreLetterParts extent place more said
   pub letter_is : letter ≡ said_letter opening said
 
 -- The words don't begin with ECI.
 abbrev pub BeginNoEci : List ℕ → Type 0
 BeginNoEci words = (more : List ℕ) → words ≢ eci_word ∷ more
 
--- The codewords from a place on, up to the end of the symbol, have this fault: ECI has no designator behind it; or they
--- don't begin with ECI, and have a fault of the wide extent.
-pub data IsLetterFault (place : ℕ) (words : List ℕ) (why : LetterFault) : Type 0 where
-  designator : (more : List ℕ) → BeginsNoDesignator more → words ≡ eci_word ∷ more → why ≡ fault.Designator place
-      → IsLetterFault place words why
-  word : (of_word : WordFault) → BeginNoEci words → IsFault Wide place words of_word → why ≡ fault.Word of_word
-      → IsLetterFault place words why
+-- The codewords from a place on, up to the end of the symbol, have this fault: in the wide extent ECI has no designator
+-- behind it; or no part begins there in the extent, and in the wide one they don't begin with ECI.
+pub data IsLetterFault (extent : Extent) (place : ℕ) (words : List ℕ) (why : LetterFault) : Type 0 where
+  designator : (more : List ℕ) → extent ≡ Wide → BeginsNoDesignator more → words ≡ eci_word ∷ more
+      → why ≡ fault.Designator place → IsLetterFault extent place words why
+  word : (of_word : WordFault) → (extent ≡ Wide → BeginNoEci words) → IsFault extent place words of_word
+      → why ≡ fault.Word of_word → IsLetterFault extent place words why
 
 -- The words from a place on, up to the end of the symbol, are parts of a letter, one after the other, and then
 -- codewords with this fault.
-pub record HaveLetterFault (place : ℕ) (words : List ℕ) (why : LetterFault) : Type 0 where
+pub record HaveLetterFault (extent : Extent) (place : ℕ) (words : List ℕ) (why : LetterFault) : Type 0 where
   pub parts : List (Piece Said)
   pub after : List ℕ
-  pub joined : AreJoined IsLetterPart place parts after
+  pub joined : AreJoined (IsLetterPart extent) place parts after
   pub whole : words ≡ spelled parts ++ after
-  pub faulty : IsLetterFault (place + length (spelled parts)) after why
+  pub faulty : IsLetterFault extent (place + length (spelled parts)) after why
 
--- The words are refused with this fault: they begin with structured append, and with no head; or they are an opening
--- and then words that have the fault.
-pub data RefusedLetter (words : List ℕ) (why : LetterFault) : Type 0 where
-  no_head : (more : List ℕ) → words ≡ append_word ∷ more → BeginsNoHead words → why ≡ fault.Append 1
-      → RefusedLetter words why
-  behind : (opening : Opening) (place : ℕ) (more : List ℕ) → AreOpened words opening place more
-      → HaveLetterFault place more why → RefusedLetter words why
+-- The words are refused with this fault in an extent: in the wide one they begin with structured append, and with no
+-- head; or they are an opening and then words that have the fault.
+pub data IsRefused (extent : Extent) (words : List ℕ) (why : LetterFault) : Type 0 where
+  no_head : (more : List ℕ) → extent ≡ Wide → words ≡ append_word ∷ more → BeginsNoHead words → why ≡ fault.Append 1
+      → IsRefused extent words why
+  behind : (opening : Opening) (place : ℕ) (more : List ℕ) → AreOpened extent words opening place more
+      → HaveLetterFault extent place more why → IsRefused extent words why

@@ -12,8 +12,8 @@ pub mod Base256
 pub mod Edifact
 pub mod Macros
 pub mod NormalForm
-pub mod Spells
-pub mod Refused
+pub mod Parts
+pub mod Faults
 pub mod Outcomes
 pub mod Results
 pub mod Laws
@@ -24,6 +24,7 @@ pub mod Designations
 pub mod LetterResults
 pub mod LetterForm
 pub mod LetterExtents
+pub mod Spells
 pub mod Symbology
 pub mod Plain
 pub mod Smallest

@@ -3,7 +3,7 @@
 -- project.
 use Rattle.std.specs.Prelude.{◌≡◌, ℕ, ◌<◌, ◌≤◌, List, [], ◌∷◌, ◌++◌, length}
 use Rattle.dm_words.specs.declared.c40.set.CodeSet.{CodeSet}
-use Rattle.dm_words.specs.declared.extent.Extent.TheVariants.{Usual}
+use Rattle.dm_words.specs.declared.extent.Extent.TheVariants.{Usual, Wide}
 use Rattle.dm_words.specs.declared.item.Item.{Item}
 use Rattle.dm_words.specs.declared.letters.opening.Opening.{Opening}
 use Rattle.dm_words.specs.declared.letters.opening.Opening.TheVariants.{Framed}
@@ -16,7 +16,7 @@ use Rattle.dm_words.specs.Letters.{LetterView, Said, Items, Number, AreOpened, B
 use Rattle.dm_words.specs.Macros.{FramesFnc1}
 use Rattle.dm_words.specs.Pads.{padded}
 use Rattle.dm_words.specs.Runs.{IsRun}
-use Rattle.dm_words.specs.Spells.{IsEnd}
+use Rattle.dm_words.specs.Parts.{IsEnd}
 use Rattle.dm_words.specs.Symbology.{KeepsIdentifier}
 
 -- A plain part is a unit of ASCII; or a run or a segment of some items. All values of a run of C40, Text or X12 spell
@@ -40,7 +40,7 @@ pub record ArePlain (words : List ℕ) : Type 0 where
   pub opening : Opening
   pub place : ℕ
   pub more : List ℕ
-  pub opened : AreOpened words opening place more
+  pub opened : AreOpened Wide words opening place more
   pub macro_first : (digit : ℕ) → opening ≡ Framed digit → place ≡ 2
   pub parts : List (Piece Said)
   pub after : List ℕ

@@ -1,26 +1,24 @@
 -- What is given where codewords are read, and where those of a message are chosen. A call that leaves its result in a
 -- target promises this of its
 -- outcome.
-use Rattle.std.specs.Prelude.{◌≡◌, ◌≤◌, ◌<◌, ◌↔◌, ℕ, List, length, Result, Ok, Err, IfOk, IsErr}
+use Rattle.std.specs.Prelude.{◌≡◌, ◌≤◌, ◌<◌, ◌↔◌, ◌*◌, ℕ, List, length, Result, Ok, Err, IfOk, IsErr}
 use Rattle.arrayvec.specs.ArrayVec.{ArrayVec}
 use Rattle.dm_layout.specs.Sizes.{most_grid_data}
-use Rattle.dm_words.specs.declared.extent.Extent.{Extent}
+use Rattle.dm_words.specs.declared.extent.Extent.TheVariants.{Usual}
 use Rattle.dm_words.specs.declared.fault.TooLong.{TooLong}
 use Rattle.dm_words.specs.declared.fault.WordFault.{WordFault}
 use Rattle.dm_words.specs.declared.item.Item.{Item}
 use Rattle.dm_words.specs.declared.profile.Profile.{Profile}
-use Rattle.dm_words.specs.Messages.{IsMessage, most_spelled}
+use Rattle.dm_words.specs.Messages.{IsMessage}
 use Rattle.dm_words.specs.NormalForm.{normal_form}
-use Rattle.dm_words.specs.Refused.{Refused}
-use Rattle.dm_words.specs.Spells.{Spells}
+use Rattle.dm_words.specs.Spells.{Spells, Refused}
 
--- What reading codewords in an extent gives: a message exactly where they spell it, a fault exactly where they are
--- refused with it. The message has no
--- more items than so many codewords can spell, and its bytes are 0 to 255.
-pub record IsMessageResult (extent : Extent) (words : List ℕ) (result : Result (List Item) WordFault) : Type 0 where
-  pub message : (m : List Item) → (result ≡ Ok m) ↔ Spells extent words m
-  pub fault : (why : WordFault) → (result ≡ Err why) ↔ Refused extent words why
-  pub most : IfOk result (λ m. length m ≤ most_spelled extent (length words))
+-- What reading codewords in the usual extent gives: a message exactly where they spell it, a fault exactly where they
+-- are refused with it. The message has at most two items for each codeword, and its bytes are 0 to 255.
+pub record IsMessageResult (words : List ℕ) (result : Result (List Item) WordFault) : Type 0 where
+  pub message : (m : List Item) → (result ≡ Ok m) ↔ Spells Usual words m
+  pub fault : (why : WordFault) → (result ≡ Err why) ↔ Refused words why
+  pub most : IfOk result (λ m. length m ≤ 2 * length words)
   pub bytes : IfOk result (λ m. IsMessage m)
 
 -- What choosing the codewords of a message under a profile for a square of at most 104 rows gives: its normal form,

@@ -16,7 +16,8 @@ use Rattle.dm_words.specs.LetterExtents.{as_letter}
 use Rattle.dm_words.specs.Macros.{macro_text}
 use Rattle.dm_words.specs.Pads.{pads, padded}
 use Rattle.dm_words.specs.Plain.{FramesNoFnc1, IsPlainForm}
-use Rattle.dm_words.specs.Spells.{AreParts, Spells}
+use Rattle.dm_words.specs.Parts.{AreParts}
+use Rattle.dm_words.specs.Spells.{Spells}
 
 -- The size stands in the table, and the choice takes it.
 abbrev pub IsTaken : SizeChoice → SizeEntry → Type 0

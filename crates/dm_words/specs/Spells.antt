@@ -1,52 +1,20 @@
--- Which data codewords of a symbol spell which message (ISO/IEC 16022, encodation schemes), in each extent of reading.
--- The words are all data
--- codewords of the symbol, each of 0 to 255, so their end is the end of the symbol. The extents, `Usual` and `Wide`,
--- are a choice of this project.
-use Rattle.std.specs.Prelude.{◌≡◌, ℕ, List, [], ◌∷◌, ◌++◌, Some}
+-- Which data codewords of a symbol spell which message, and which are refused (ISO/IEC 16022, encodation schemes): a
+-- message is a letter without a head and marks. The words are all data codewords of the symbol, each of 0 to 255, so
+-- their end is the end of the symbol.
+use Rattle.std.specs.Prelude.{ℕ, List}
 use Rattle.dm_words.specs.declared.extent.Extent.{Extent}
-use Rattle.dm_words.specs.declared.extent.Extent.TheVariants.{Wide}
+use Rattle.dm_words.specs.declared.extent.Extent.TheVariants.{Usual}
 use Rattle.dm_words.specs.declared.item.Item.{Item}
-use Rattle.dm_words.specs.declared.codeword.Codeword.TheVariants as codeword
-use Rattle.dm_words.specs.declared.c40.set.CodeSet.{CodeSet}
-use Rattle.dm_words.specs.Codewords.{codeword_of}
-use Rattle.dm_words.specs.Joined.{Piece, spelled, gathered, AreJoined}
-use Rattle.dm_words.specs.Ascii.{IsAsciiUnit}
-use Rattle.dm_words.specs.Runs.{IsRun}
-use Rattle.dm_words.specs.Base256.{IsSegment}
-use Rattle.dm_words.specs.Edifact.{IsEdifactRun}
-use Rattle.dm_words.specs.Macros.{macro_text}
+use Rattle.dm_words.specs.declared.fault.WordFault.{WordFault}
+use Rattle.dm_words.specs.declared.letters.fault.LetterFault.TheVariants as fault
+use Rattle.dm_words.specs.Letters.{Says, IsRefused}
+use Rattle.dm_words.specs.LetterExtents.{as_letter}
 
--- A part of the codewords is a unit of ASCII, a run, a segment of Base 256, or in the wide extent a run of EDIFACT, and
--- spells its items. It begins
--- at a place; `after` are all codewords that follow it, up to the end of the symbol, including pads.
-pub data IsPart (extent : Extent) (place : ℕ) (words after : List ℕ) (items : List Item) : Type 0 where
-  ascii : IsAsciiUnit words items → IsPart extent place words after items
-  run : (set : CodeSet) → IsRun extent set words after items → IsPart extent place words after items
-  segment : IsSegment place words after items → IsPart extent place words after items
-  edifact : extent ≡ Wide → IsEdifactRun words after items → IsPart extent place words after items
+-- The words spell the message in an extent: they say it as a letter. In the usual extent this is so where they are
+-- parts that have its items, and then an end.
+abbrev pub Spells : Extent → List ℕ → List Item → Type 0
+Spells extent words message = Says extent words (as_letter message)
 
--- The message ends where no codeword is left, or where a pad comes next. What follows that pad is ignored, by a rule of
--- this
--- project.
-pub data IsEnd (words : List ℕ) : Type 0 where
-  nothing : words ≡ [] → IsEnd words
-  pad : (word : ℕ) (more : List ℕ) → codeword_of word ≡ Some codeword.Pad → words ≡ word ∷ more → IsEnd words
-
--- The words from a place on, up to the end of the symbol, are parts, one after the other, and then an end; the parts,
--- joined, have these items.
-pub record AreParts (extent : Extent) (place : ℕ) (words : List ℕ) (items : List Item) : Type 0 where
-  pub parts : List (Piece (List Item))
-  pub after : List ℕ
-  pub joined : AreJoined (IsPart extent) place parts after
-  pub ended : IsEnd after
-  pub whole : words ≡ spelled parts ++ after
-  pub items_are : items ≡ gathered parts
-
--- The words spell the message: they are parts that have its items, with pads behind them or not; or in the wide extent
--- the first one is a macro, the
--- others are such parts, and their items stand between the header and the trailer of the macro.
-pub data Spells (extent : Extent) (words : List ℕ) (message : List Item) : Type 0 where
-  plain : AreParts extent 1 words message → Spells extent words message
-  by_macro : (word digit : ℕ) (more : List ℕ) (text : List Item) → extent ≡ Wide → codeword_of word
-      ≡ Some (codeword.Macro digit) → words ≡ word ∷ more
-      → AreParts extent 2 more text → message ≡ macro_text digit text → Spells extent words message
+-- The words are refused with this fault, and spell no message in the usual extent.
+abbrev pub Refused : List ℕ → WordFault → Type 0
+Refused words why = IsRefused Usual words (fault.Word why)

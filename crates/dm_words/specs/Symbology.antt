@@ -2,6 +2,7 @@
 -- numbers, 1 to 6. FNC1 counts where it is a codeword of its own, 232 in ASCII encodation, by its place among the
 -- codewords and not among the items. So the number belongs to the codewords and not to the letter that they say.
 use Rattle.std.specs.Prelude.{◌≡◌, ◌↔◌, ℕ, ◌+◌, List, [], ◌∷◌, ◌++◌, length}
+use Rattle.dm_words.specs.declared.extent.Extent.TheVariants.{Wide}
 use Rattle.dm_words.specs.declared.letters.mark.Mark.{Mark}
 use Rattle.dm_words.specs.declared.letters.opening.Opening.{Opening}
 use Rattle.dm_words.specs.Codewords.{fnc1_word}
@@ -17,10 +18,10 @@ pub record IsFnc1At (words : List ℕ) (place : ℕ) : Type 0 where
   pub opening : Opening
   pub start : ℕ
   pub more : List ℕ
-  pub opened : AreOpened words opening start more
+  pub opened : AreOpened Wide words opening start more
   pub parts : List (Piece Said)
   pub after : List ℕ
-  pub joined : AreJoined IsLetterPart start parts (fnc1_word ∷ after)
+  pub joined : AreJoined (IsLetterPart Wide) start parts (fnc1_word ∷ after)
   pub whole : more ≡ spelled parts ++ fnc1_word ∷ after
   pub place_is : place ≡ start + length (spelled parts)
 

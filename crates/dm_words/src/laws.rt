@@ -6,7 +6,6 @@ ghost use Rattle.dm_layout.specs.declared.symbols.size.SizeChoice.{SizeChoice};
 ghost use Rattle.dm_layout.specs.symbols.Sizes.{SizeEntry};
 ghost use Rattle.dm_words.specs.declared.extent.Extent.{Extent};
 ghost use Rattle.dm_words.specs.declared.item.Item.{Item};
-ghost use Rattle.dm_words.specs.declared.fault.WordFault.{WordFault};
 ghost use Rattle.dm_words.specs.declared.c40.set.CodeSet.{CodeSet};
 ghost use Rattle.dm_words.specs.declared.c40.set.Shift.{Shift};
 ghost use Rattle.dm_words.specs.Messages.{IsMessage, most_data, most_spelled, byte_items};
@@ -21,26 +20,12 @@ ghost use Rattle.dm_words.specs.Values.{IsRest};
 ghost use Rattle.dm_words.specs.Macros.{macro_text};
 ghost use Rattle.dm_words.specs.Smallest.{IsPlainest, IsSmaller, IsSmallestFor, IsTaken};
 ghost use Rattle.dm_words.specs.Spells.{Spells};
-ghost use Rattle.dm_words.specs.Refused.{Refused};
-ghost use Rattle.dm_words.specs.Laws.{HasOneResult, AreCodewords, AreRunValues, BeginsNoSpelling, CanBeLeftOut};
+ghost use Rattle.dm_words.specs.Laws.{AreCodewords, AreRunValues, BeginsNoSpelling};
 ghost use Rattle.dm_words.specs.Laws.{AreMacro, SomeSpell};
 
 use crate::limits::{LARGEST_ROOM, MESSAGE_ROOM, MOST_ITEMS};
 use dm_layout::MOST_GRID_DATA;
 use dm_layout::symbols::MOST_DATA;
-
-/// In each extent, a list of codewords, however long, spells exactly one message and is refused with no fault, or is
-/// refused with exactly one fault and spells none.
-pub fn one_result()
-    ensures { (extent : Extent) (words : List ℕ) → AreCodewords words
-        → HasOneResult extent words }
-{}
-
-/// What codewords spell in either extent is a message: its bytes are 0 to 255.
-pub fn spelled_is_message()
-    ensures { (extent : Extent) (words : List ℕ) (m : List Item)
-        → Spells extent words m → IsMessage m }
-{}
 
 /// What codewords spell in an extent has at most two items for each codeword, and in the wide extent at most seven
 /// more. This bound is met, for each number of codewords.
@@ -49,19 +34,6 @@ pub fn spelled_is_few()
         → Spells extent words m → length m ≤ most_spelled extent (length words) }
     ensures met { (extent : Extent) (count : ℕ)
         → SomeSpell extent count (most_spelled extent count) }
-{}
-
-/// What codewords spell in the usual extent they spell in the wide one.
-pub fn wide_reads_the_same()
-    ensures { (words : List ℕ) (m : List Item)
-        → Spells Extent.Usual words m → Spells Extent.Wide words m }
-{}
-
-/// In the wide extent only structured append, reader programming, ECI, or a macro behind the first codeword, are left
-/// out.
-pub fn wide_leaves_few_out()
-    ensures { (words : List ℕ) (word place : ℕ)
-        → Refused Extent.Wide words (WordFault.LeftOut word place) → CanBeLeftOut word place }
 {}
 
 /// In the wide extent, the codewords behind a macro spell the message that has their items between the header and the
@@ -94,7 +66,9 @@ pub fn ascii_is_greedy()
 {}
 
 /// The normal form of a message under each profile, with pads up to any number of codewords that holds it and that a
-/// size of the table has, has that many codewords, and they spell the message in each extent.
+/// size of the table has, has that many codewords, and they spell the message in each extent. A message has at most two
+/// items for each codeword of its normal form. The shorter form is never longer than the ASCII form, nor, where the
+/// message is bytes alone, than one segment of these bytes.
 pub fn normal_form_spells()
     ensures message { (extent : Extent) (profile : Profile) (m : List Item) (count : ℕ)
         → IsMessage m → length (normal_form profile m) ≤ count → count ≤ most_data
@@ -104,20 +78,11 @@ pub fn normal_form_spells()
         → length (padded (normal_form profile m) count) ≡ count }
     ensures codewords { (profile : Profile) (m : List Item) (count : ℕ)
         → IsMessage m → AreCodewords (padded (normal_form profile m) count) }
-{}
-
-/// The shorter form of a message is never longer than its ASCII form, nor, where it is bytes alone, than one segment of
-/// these bytes.
-pub fn shorter_is_no_longer()
-    ensures ascii { (m : List Item) → length (shorter m) ≤ length (ascii m) }
+    ensures items { (profile : Profile) (m : List Item)
+        → length m ≤ 2 * length (normal_form profile m) }
+    ensures shorter { (m : List Item) → length (shorter m) ≤ length (ascii m) }
     ensures segment { (bytes : List ℕ)
         → length (shorter (byte_items bytes)) ≤ length (one_segment bytes) }
-{}
-
-/// A message has at most two items for each codeword of its normal form.
-pub fn normal_form_holds_two_items()
-    ensures { (profile : Profile) (m : List Item)
-        → length m ≤ 2 * length (normal_form profile m) }
 {}
 
 /// How far the smallest codewords of a message in an extent and a choice of sizes are determined, as

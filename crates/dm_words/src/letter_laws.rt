@@ -1,30 +1,39 @@
 //! Laws of letters. Each function has an empty body: its contract is the law.
 
-ghost use Rattle.std.specs.Prelude.{◌≡◌, ℕ, ◌≤◌, ◌↔◌, ◌⊎◌, List, [], length, map, None};
+ghost use Rattle.std.specs.Prelude.{◌≡◌, ℕ, ◌≤◌, ◌↔◌, List, length, map};
 ghost use Rattle.dm_words.specs.Messages.{most_data};
 ghost use Rattle.dm_words.specs.declared.extent.Extent.{Extent};
-ghost use Rattle.dm_words.specs.declared.item.Item.{Item};
 ghost use Rattle.dm_words.specs.declared.profile.Profile.{Profile};
-ghost use Rattle.dm_words.specs.Laws.{AreCodewords};
+ghost use Rattle.dm_words.specs.Laws.{AreCodewords, HasOneResult};
 ghost use Rattle.dm_words.specs.Messages.{most_data};
 ghost use Rattle.dm_words.specs.declared.letters.mark.Mark.{Mark};
 ghost use Rattle.dm_words.specs.Designations.{AreDesignations};
 ghost use Rattle.dm_words.specs.Designators.{IsDesignator, designator, most_assigned};
 ghost use Rattle.dm_words.specs.Pads.{padded};
 ghost use Rattle.dm_words.specs.Plain.{IsPlainWithPads};
-ghost use Rattle.dm_words.specs.Spells.{Spells};
-ghost use Rattle.dm_words.specs.Letters.{LetterView, IsLetter, SpellsLetter};
+ghost use Rattle.dm_words.specs.Letters.{LetterView, IsLetter, Says};
 ghost use Rattle.dm_words.specs.LetterForm.{letter_form};
-ghost use Rattle.dm_words.specs.LetterExtents.{SaysIn};
+ghost use Rattle.dm_words.specs.LetterExtents.{as_letter};
 ghost use Rattle.dm_words.specs.SmallestLetters.{IsSmallestLetterFor, NoSizeSays, IsPlainestLetter};
 ghost use Rattle.dm_layout.specs.declared.symbols.size.SizeChoice.{SizeChoice};
 ghost use Rattle.dm_layout.specs.symbols.Sizes.{SizeEntry};
-ghost use Rattle.dm_words.specs.LetterResults.{BeginsLateFrame, HasOneLetterResult, FaultsAreKept, FaultsAreOld};
+ghost use Rattle.dm_words.specs.LetterResults.{HasOneLetterResult};
 
-/// A list of codewords, however long, says exactly one letter and is refused with no fault, or is refused with exactly
-/// one fault and says none.
+/// In each extent, a list of codewords, however long, says exactly one letter and is refused with no fault, or is refused
+/// with exactly one fault and says none. So it spells exactly one message, or is refused with exactly one fault of a
+/// codeword.
 pub fn one_letter()
-    ensures { (words : List ℕ) → AreCodewords words → HasOneLetterResult words }
+    ensures letter { (extent : Extent) (words : List ℕ) → AreCodewords words
+        → HasOneLetterResult extent words }
+    ensures message { (words : List ℕ) → AreCodewords words → HasOneResult words }
+{}
+
+/// What codewords say in the usual extent is a message, and they say it in the wide extent too.
+pub fn usual_says_messages()
+    ensures message { (words : List ℕ) (l : LetterView)
+        → Says Extent.Usual words l → l ≡ as_letter l.items }
+    ensures wide { (words : List ℕ) (l : LetterView)
+        → Says Extent.Usual words l → Says Extent.Wide words l }
 {}
 
 /// Each number of 0 to 999999 has exactly one designator, the one that is written for it.
@@ -38,24 +47,15 @@ pub fn designators_are_read_back()
 pub fn one_list_of_designators()
     ensures list { (words : List ℕ) (found other : List Mark) → AreDesignations words found
         → AreDesignations words other → found ≡ other }
-    ensures numbers { (words : List ℕ) (l : LetterView) (found : List Mark) → SpellsLetter words l
+    ensures numbers { (words : List ℕ) (l : LetterView) (found : List Mark) → Says Extent.Wide words l
         → AreDesignations words found
         → map (λ mark. mark.number) found ≡ map (λ mark. mark.number) l.marks }
 {}
 
 /// What codewords say is a letter: its head is right, its bytes are 0 to 255, and its marks come in order.
 pub fn said_is_letter()
-    ensures { (words : List ℕ) (l : LetterView) → SpellsLetter words l → IsLetter l }
-{}
-
-/// What codewords spell in the wide extent they say as a letter without a head and marks. And what they say as such a
-/// letter they spell in the wide extent, unless empty runs stand before a macro.
-pub fn wide_is_letter()
-    ensures letter { (words : List ℕ) (m : List Item) → Spells Extent.Wide words m
-        → SpellsLetter words (record { head = None; items = m; marks = [] }) }
-    ensures wide { (words : List ℕ) (m : List Item)
-        → SpellsLetter words (record { head = None; items = m; marks = [] })
-        → Spells Extent.Wide words m ⊎ BeginsLateFrame words }
+    ensures { (extent : Extent) (words : List ℕ) (l : LetterView)
+        → Says extent words l → IsLetter l }
 {}
 
 /// The normal form of a letter under each profile, with pads up to any number of codewords that holds it and that a
@@ -64,7 +64,7 @@ pub fn wide_is_letter()
 pub fn letter_form_says()
     ensures letter { (profile : Profile) (l : LetterView) (count : ℕ) → IsLetter l
         → length (letter_form profile l) ≤ count → count ≤ most_data
-        → SpellsLetter (padded (letter_form profile l) count) l }
+        → Says Extent.Wide (padded (letter_form profile l) count) l }
     ensures count { (profile : Profile) (l : LetterView) (count : ℕ)
         → length (letter_form profile l) ≤ count
         → length (padded (letter_form profile l) count) ≡ count }
@@ -90,13 +90,5 @@ pub fn smallest_letter_words_are_alike()
         → length (letter_form Profile.Ascii l) ≤ length words → words ≡ other }
     ensures usual { (l : LetterView) (words other : List ℕ)
         → IsPlainestLetter words l → IsPlainestLetter other l → length words ≡ length other
-        → SaysIn Extent.Usual words l ↔ SaysIn Extent.Usual other l }
-{}
-
-/// What is refused in the wide extent as a message is refused as a letter with the same fault, unless this is of ECI,
-/// of structured append or reader programming as the first codeword, or of a macro behind empty runs that stand first.
-/// And nothing else is refused as a letter.
-pub fn faults_are_kept()
-    ensures kept { FaultsAreKept }
-    ensures old { FaultsAreOld }
+        → Says Extent.Usual words l ↔ Says Extent.Usual other l }
 {}

@@ -1,7 +1,6 @@
 //! Letters: what data codewords say beyond a message. A letter is a head, items and marks (ISO/IEC 16022, ECI
 //! encodation, structured append, reader programming).
 
-pub mod content;
 pub mod designation;
 pub mod designator;
 pub mod fault;

@@ -1,9 +1,9 @@
-//! Data codewords and messages of Data Matrix ECC 200 (ISO/IEC 16022): which message a list of data codewords spells,
-//! in the encodations ASCII, C40, Text, X12 and Base 256, and in a wider [`Extent`] also in EDIFACT and with macros,
-//! why other lists are refused, and the codewords in which a message is written.
+//! Data codewords of Data Matrix ECC 200 (ISO/IEC 16022): what a list of data codewords says, in the encodations ASCII,
+//! C40, Text, X12 and Base 256, and in a wider [`Extent`] also in EDIFACT, with macros, heads and marks, why other lists
+//! are refused, and the codewords in which a message or a letter is written.
 //!
 //! Reading: [`message_of()`] gives the [`Message`] of [`Item`]s that a list spells in the usual extent, or the
-//! [`WordFault`] with which the list is refused; [`message_to_as()`] reads the message in either extent into a target.
+//! [`WordFault`] with which the list is refused; [`message_to()`] reads the message into a target.
 //!
 //! Writing: [`normal_words_in()`] writes the codewords of a message under a [`Profile`] into a target, or says that
 //! they are [`TooLong`]. Under one profile they are ASCII ([`ascii_words()`]), under the other whatever is shorter,
@@ -14,7 +14,7 @@
 //! Letters: [`letter_to_as()`] reads the [`Letter`] that a list says in an extent into a target, which is a [`Head`] or
 //! none, items and [`Mark`]s, or gives the [`LetterFault`] with which the list is refused. [`content_words_in()`]
 //! writes the codewords of a letter, and [`smallest_words_to()`] some of the smallest size of a choice that has any
-//! that say it in an extent. [`head_words()`] and [`designator_words()`] write a head or a designator alone.
+//! that say it in an extent.
 //! [`designations_to()`] tells where the designators of a letter stand among its codewords, and [`eci_count()`] how
 //! many there may be.
 //!
@@ -54,18 +54,18 @@ pub use extent::Extent;
 pub use fault::{TooLong, WordFault};
 pub use item::Item;
 pub use letters::designation::{designations_to, eci_count, has_eci};
-pub use letters::designator::{DESIGNATOR_ROOM, MOST_ASSIGNED, designator_words};
+pub use letters::designator::MOST_ASSIGNED;
 pub use letters::fault::LetterFault;
-pub use letters::head::{Appended, HEAD_ROOM, Head, head_words};
+pub use letters::head::{Appended, Head};
 pub use letters::letter::{Letter, LetterIn};
 pub use letters::mark::Mark;
 pub use letters::normal_form::content_words_in;
 pub use letters::reading::letter_to_as;
-pub use letters::symbology::{message_symbology_number, symbology_number};
+pub use letters::symbology::symbology_number;
 pub use limits::{LARGEST_MARKS, LARGEST_ROOM, MESSAGE_ROOM, MOST_ITEMS, MOST_MARKS};
 pub use message::{Message, MessageIn};
 pub use normal_form::{ascii_words, normal_words_in, shorter_words};
 pub use pad::{add_pads, pad_to, padded};
 pub use profile::Profile;
-pub use reading::{message_of, message_to_as};
+pub use reading::{message_of, message_to};
 pub use smallest::smallest_words_to;

@@ -6,7 +6,7 @@ ghost use Rattle.dm_words.specs.Messages.{byte_items};
 ghost use Rattle.dm_words.specs.Macros.{macro_header, macro_trailer, macro_text, BeginsFnc1};
 ghost use Rattle.dm_words.specs.inner.Ways.{inner_text, IsMacroOf, HasNoMacro};
 ghost use Rattle.dm_words.specs.Codewords.{codeword_of};
-ghost use Rattle.dm_words.specs.inner.Scan.Prefixes.{macro_digit, digit_by};
+ghost use Rattle.dm_words.specs.inner.Scan.Prefixes.{digit_by};
 
 use crate::codeword::{Codeword, MACRO_05, MACRO_06, meaning};
 use crate::extent::Extent;
@@ -21,16 +21,6 @@ const GS: u8 = 29;
 
 /// The end of transmission.
 const EOT: u8 = 4;
-
-/// Gives the digit of the macro with which the words begin, where one is read in this extent: 5 or 6, as a character.
-pub(crate) fn macro_digit(extent: Extent, words: &[u8]) -> Option<u8>
-    ensures { result ≡ macro_digit extent words.now }
-{
-    match (extent, words.first()) {
-        (Extent::Wide, Some(first)) => digit_of(*first),
-        _ => None,
-    }
-}
 
 /// Gives the digit of a macro, `None` for any other codeword.
 pub(crate) fn digit_of(codeword: u8) -> Option<u8>

@@ -1,20 +1,15 @@
 //! Reading: the message that data codewords spell, or the fault with which they are refused.
 
 ghost use Rattle.std.specs.Prelude.{◌≡◌, ◌+◌, ◌≤◌, ◌<◌, ◌*◌, ◌/◌, ◌%◌, ◌↔◌, false, List, [], ◌∷◌, ◌++◌, length, drop};
-ghost use Rattle.std.specs.Prelude.{Ok, Err, IfOk, OnOk, Option};
+ghost use Rattle.std.specs.Prelude.{OnErr, Option};
 ghost use Rattle.dm_words.specs.declared.item.Item.{Item};
 ghost use Rattle.dm_words.specs.declared.fault.WordFault.{WordFault};
-ghost use Rattle.dm_words.specs.Messages.{IsMessage, most_spelled};
 ghost use Rattle.dm_words.specs.Codewords.{codeword_of};
-ghost use Rattle.dm_words.specs.Spells.{Spells};
-ghost use Rattle.dm_words.specs.Refused.{Refused};
 ghost use Rattle.dm_words.specs.Outcomes.{outcome};
 ghost use Rattle.dm_words.specs.Results.{IsMessageResult};
-ghost use Rattle.dm_words.specs.Macros.{macro_header};
 ghost use Rattle.dm_words.specs.inner.Scan.Prefixes.{first_part, part_by, raised_unit, is_one_word};
-ghost use Rattle.dm_words.specs.inner.Scan.Prefixes.{begins_with_one_word, read_on, and_trailer};
+ghost use Rattle.dm_words.specs.inner.Scan.Prefixes.{begins_with_one_word};
 ghost use Rattle.dm_words.specs.inner.Scan.Walk.{Step};
-ghost use Rattle.dm_words.specs.declared.letters.mark.Mark.{Mark};
 ghost use Rattle.dm_words.specs.inner.LetterScan.{items_with, letter_on};
 ghost use Rattle.dm_words.specs.inner.Scan.Results.{HasRoomAt, IsPartTakenOrEnd, IsPartTaken, IsOneWordTaken};
 
@@ -25,9 +20,12 @@ use crate::edifact::edifact_part;
 use crate::extent::Extent;
 use crate::fault::WordFault;
 use crate::item::Item;
-use crate::macros::{add_header, add_trailer, macro_digit};
+use crate::letters::fault::LetterFault;
+use crate::letters::mark::Mark;
+use crate::letters::reading::read_content;
 use crate::message::{Message, MessageIn};
 use crate::numbers::number_at;
+use arrayvec::ArrayVec;
 use dm_layout::MOST_GRID_DATA;
 use dm_layout::symbols::MOST_DATA;
 
@@ -152,7 +150,7 @@ fn one_word_part<const ROOM: usize>(word: u8, message: &mut MessageIn<ROOM>) -> 
 
 /// Takes the parts of one codeword that stand at an index, all that there are one after the other: adds their items to
 /// the message, and gives the index behind them.
-// Most codewords are such parts, of a message and of a letter, and this loop has nothing else in it.
+// Most codewords are such parts, and this loop has nothing else in it.
 pub(crate) fn one_word_parts<const ROOM: usize>(
     words: &[u8],
     start: usize,
@@ -167,12 +165,9 @@ pub(crate) fn one_word_parts<const ROOM: usize>(
         ≤ length message.old + 2 * result }
     ensures no_fewer { length message.old ≤ length message.new }
     ensures all { begins_with_one_word (drop result words.now) ≡ false }
-    ensures read { (extent : Extent)
-        → read_on extent message.new (result + 1) (drop result words.now)
-        ≡ read_on extent message.old (start + 1) (drop start words.now) }
-    ensures said { (marks : List Mark)
-        → letter_on (items_with marks message.new) (result + 1) (drop result words.now)
-        ≡ letter_on (items_with marks message.old) (start + 1) (drop start words.now) }
+    ensures said { (extent : Extent) (marks : List Mark)
+        → letter_on extent (items_with marks message.new) (result + 1) (drop result words.now)
+        ≡ letter_on extent (items_with marks message.old) (start + 1) (drop start words.now) }
 {
     let mut at = start;
     while let Some(word) = number_at(words, at) {
@@ -195,82 +190,37 @@ fn add_digits<const ROOM: usize>(number: u8, message: &mut MessageIn<ROOM>)
     message.add(Item::Byte(b'0' + number % 10));
 }
 
-/// Adds the items of all parts from an index on to the message, up to the end.
-fn add_parts<const ROOM: usize>(
-    extent: Extent,
-    words: &[u8],
-    start: usize,
-    message: &mut MessageIn<ROOM>,
-) -> Result<(), WordFault>
-    requires in_range { start ≤ length words.now }
-    requires short { length words.now ≤ MOST_DATA }
-    requires room { HasRoomAt ROOM words.now start message.old }
-    ensures read { outcome result message.new
-        ≡ read_on extent message.old (start + 1) (drop start words.now) }
-    ensures two_for_each_codeword { OnOk result
-        (length message.new + 2 * start ≤ length message.old + 2 * length words.now) }
-{
-    let mut at = one_word_parts(words, start, message);
-    while let Some(count) = next_part(extent, words, at, message)? {
-        at = one_word_parts(words, at + count, message);
-    }
-    Ok(())
-}
-
 /// Gives the message that the data codewords of a symbol spell, in any of the five encodations of the usual extent, or
 /// the fault with which they are refused. The list is the whole data part, at most `MOST_GRID_DATA` codewords, so its
 /// end is the end of the symbol. What follows the first pad is ignored. The first faulty part from the left decides;
 /// `WordFault` says when each fault comes. ISO/IEC 16022, encodation schemes.
 pub fn message_of(words: &[u8]) -> Result<Message, WordFault>
     requires { length words.now ≤ MOST_GRID_DATA }
-    ensures { IsMessageResult Extent.Usual words.now result }
+    ensures { IsMessageResult words.now result }
 {
     let mut message = Message::new();
-    match message_to_as(Extent::Usual, words, &mut message) {
+    match message_to(words, &mut message) {
         Ok(()) => Ok(message),
         Err(fault) => Err(fault),
     }
 }
 
-/// Does the same as [`message_of()`] for an extent, in a target with room for all that so many codewords, at most
-/// [`MOST_DATA`], can spell in it: after `Ok`, `message` holds the message, whatever it held before. After a fault
-/// it holds some message. At [`Extent::Wide`] EDIFACT is read too; a macro as the first codeword gives the message its
-/// header and its trailer, so it has up to seven items more than two for each codeword; and an Upper Shift that waits
-/// where a run of C40 or Text ends is dropped. ISO/IEC 16022, encodation schemes, 05 and 06 macro characters.
-pub fn message_to_as<const ROOM: usize>(
-    extent: Extent,
+/// Does the same in a target with room for two items for each codeword, of which there may be [`MOST_DATA`]: after `Ok`,
+/// `message` holds the message, whatever it held before. After a fault it is empty.
+pub fn message_to<const ROOM: usize>(
     words: &[u8],
     message: &mut MessageIn<ROOM>,
 ) -> Result<(), WordFault>
     requires short { length words.now ≤ MOST_DATA }
-    requires room { most_spelled extent (length words.now) ≤ ROOM }
-    ensures { IsMessageResult extent words.now (outcome result message.new) }
+    requires room { 2 * length words.now ≤ ROOM }
+    ensures read { IsMessageResult words.now (outcome result message.new) }
+    ensures emptied { OnErr result (message.new ≡ []) }
 {
-    message.clear();
-    match macro_digit(extent, words) {
-        Some(digit) => framed_parts(extent, digit, words, message),
-        None => add_parts(extent, words, 0, message),
+    let mut marks = ArrayVec::<Mark, 0>::new();
+    match read_content(Extent::Usual, words, message, &mut marks) {
+        Ok(_) => Ok(()),
+        Err(LetterFault::Word(fault)) => Err(fault),
+        Err(LetterFault::Designator(_)) => unreachable!(),
+        Err(LetterFault::Append(_)) => unreachable!(),
     }
-}
-
-/// Adds the header of the macro of this digit, which is the first codeword, the items of all parts behind it, and the
-/// trailer to the empty message.
-fn framed_parts<const ROOM: usize>(
-    extent: Extent,
-    digit: u8,
-    words: &[u8],
-    message: &mut MessageIn<ROOM>,
-) -> Result<(), WordFault>
-    requires some { 1 ≤ length words.now }
-    requires short { length words.now ≤ MOST_DATA }
-    requires room { 2 * length words.now + 7 ≤ ROOM }
-    requires empty { message.old ≡ [] }
-    ensures read { outcome result message.new
-        ≡ and_trailer (read_on extent (macro_header digit) 2 (drop 1 words.now)) }
-    ensures most { OnOk result (length message.new ≤ 2 * length words.now + 7) }
-{
-    add_header(digit, message);
-    add_parts(extent, words, 1, message)?;
-    add_trailer(message);
-    Ok(())
 }

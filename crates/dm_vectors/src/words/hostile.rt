@@ -1,16 +1,13 @@
 //! Codewords that no writer makes, read in the wide extent.
 
-use super::wide::{are_refused, is_refused_in, message_in, spells_widely};
+use super::wide::{are_refused, is_refused_in, letter_in, spells_widely};
 use super::*;
 
 /// Data codewords, and the fault with which the wide extent refuses them.
-static REFUSED: [(&[u8], WordFault); 33] = [
+static REFUSED: [(&[u8], WordFault); 29] = [
     (&[66, 237], WordFault::LeftOut(237, 2)),
     (&[237, 237], WordFault::LeftOut(237, 2)),
     (&[235], WordFault::Unfinished(1)),
-    (&[241, 4], WordFault::LeftOut(241, 1)),
-    (&[233], WordFault::LeftOut(233, 1)),
-    (&[234, 1], WordFault::LeftOut(234, 1)),
     (&[237, 0], WordFault::Reserved(2)),
     (&[236, 231], WordFault::Length(2)),
     (&[236, 235], WordFault::Unfinished(2)),
@@ -21,7 +18,6 @@ static REFUSED: [(&[u8], WordFault); 33] = [
     (&[240, 240, 0], WordFault::Reserved(3)),
     (&[240, 124, 233, 129], WordFault::LeftOut(233, 3)),
     (&[240, 124, 66, 234, 1], WordFault::LeftOut(234, 4)),
-    (&[240, 4, 32, 196, 241], WordFault::LeftOut(241, 5)),
     (&[240, 4, 32, 196, 5, 255], WordFault::Reserved(6)),
     (&[240, 5, 240, 236, 66], WordFault::LeftOut(236, 4)),
     (&[230, 87, 199, 0, 0], WordFault::Triplet(4)),
@@ -41,7 +37,7 @@ static REFUSED: [(&[u8], WordFault); 33] = [
 ];
 
 #[test]
-fn refuses_what_spells_no_message_in_the_wide_extent(rt: HostRuntime) {
+fn refuses_what_says_no_letter_in_the_wide_extent(rt: HostRuntime) {
     holds(&rt, are_refused(Extent::Wide, &REFUSED));
 }
 
@@ -54,9 +50,9 @@ fn of_two(first: u8, other: u8) -> [u8; 816] {
 
 /// Whether the codewords spell so many items, the last of which is this byte.
 fn spells_many(words: &[u8], count: usize, last: u8) -> bool {
-    match message_in(Extent::Wide, words) {
-        Ok(message) => {
-            let items = message.items();
+    match letter_in(Extent::Wide, words) {
+        Ok(letter) => {
+            let items = letter.items();
             items.len() == count && count > 0 && items[count - 1] == Item::Byte(last)
         }
         Err(_) => false,

@@ -1,5 +1,6 @@
 //! Letters: heads, items and marks.
 
+use super::wide::letter_in;
 use super::*;
 
 /// Codewords, and the letter that they say: its head, its items, where the byte 232 stands for FNC1, and its marks.
@@ -12,14 +13,7 @@ type Row = (
 
 /// What the codewords say, and the fault of no codeword where there are too many of them.
 pub(super) fn letter(words: &[u8]) -> Result<Letter, LetterFault> {
-    if words.len() > MOST_GRID_DATA {
-        return Err(LetterFault::Append(0));
-    }
-    let mut letter = Letter::new();
-    match letter_to_as(Extent::Wide, words, &mut letter) {
-        Ok(()) => Ok(letter),
-        Err(fault) => Err(fault),
-    }
+    letter_in(Extent::Wide, words)
 }
 
 /// The codewords of the letter in its normal form under the profile.
@@ -242,7 +236,9 @@ static OPENED_ROWS: [Row; 7] = [
 ];
 
 /// Codewords that say no letter.
-static REFUSED_ROWS: [(&[u8], LetterFault); 16] = [
+static REFUSED_ROWS: [(&[u8], LetterFault); 18] = [
+    (&[240, 4, 32, 196, 241], LetterFault::Designator(5)),
+    (&[233], LetterFault::Append(1)),
     (&[241, 207, 63, 130], LetterFault::Designator(1)),
     (&[241], LetterFault::Designator(1)),
     (&[241, 0, 66], LetterFault::Designator(1)),
@@ -351,18 +347,6 @@ fn long_letters_are_read_back(rt: HostRuntime) {
     let mut cleared = of_many_with_mark(3);
     cleared.clear();
     holds(&rt, cleared == Letter::new());
-}
-
-#[test]
-fn heads_and_designators_are_written_alone(rt: HostRuntime) {
-    holds(
-        &rt,
-        head_words(Some(Head::Programming)).as_slice() == [234].as_slice(),
-    );
-    holds(
-        &rt,
-        designator_words(20_000).as_slice() == [192, 15, 62].as_slice(),
-    );
 }
 
 #[test]

@@ -36,7 +36,7 @@ fn read_to(words: &[u8], message: &mut Message) -> Result<(), WordFault> {
     if words.len() > MOST_GRID_DATA {
         return Err(WordFault::LeftOut(0, 0));
     }
-    message_to_as(Extent::Usual, words, message)
+    message_to(words, message)
 }
 
 /// Whether the places hold the codewords of the text, and the message that these spell.

@@ -3,31 +3,31 @@
 use super::lines::are_spelled;
 use super::*;
 
-/// What the codewords spell in an extent, and the fault of no codeword where there are too many of them.
-pub(super) fn message_in(extent: Extent, words: &[u8]) -> Result<Message, WordFault> {
+/// What the codewords say in an extent, and the fault of no codeword where there are too many of them.
+pub(super) fn letter_in(extent: Extent, words: &[u8]) -> Result<Letter, LetterFault> {
     if words.len() > MOST_GRID_DATA {
-        return Err(WordFault::LeftOut(0, 0));
+        return Err(LetterFault::Append(0));
     }
-    let mut message = Message::new();
-    match message_to_as(extent, words, &mut message) {
-        Ok(()) => Ok(message),
+    let mut letter = Letter::new();
+    match letter_to_as(extent, words, &mut letter) {
+        Ok(()) => Ok(letter),
         Err(fault) => Err(fault),
     }
 }
 
 /// Whether the codewords spell these bytes in the wide extent.
 pub(super) fn spells_widely(words: &[u8], bytes: &[u8]) -> bool {
-    match message_in(Extent::Wide, words) {
-        Ok(message) => has_bytes(&message, bytes),
+    match letter_in(Extent::Wide, words) {
+        Ok(letter) => are_bytes(letter.items(), bytes),
         Err(_) => false,
     }
 }
 
 /// Whether the codewords are refused with this fault in an extent.
 pub(super) fn is_refused_in(extent: Extent, words: &[u8], fault: WordFault) -> bool {
-    match message_in(extent, words) {
+    match letter_in(extent, words) {
         Ok(_) => false,
-        Err(found) => found == fault,
+        Err(found) => found == LetterFault::Word(fault),
     }
 }
 

@@ -1,6 +1,7 @@
 -- What the private functions that read a letter part by part give.
 use Rattle.std.specs.Prelude.{◌≡◌, ℕ, ◌+◌, ◌*◌, ◌≤◌, List, ◌++◌, length, drop, Option, Some, None, Result, Ok, Err}
-use Rattle.dm_words.specs.declared.letters.content.Content.{Content}
+use Rattle.dm_words.specs.declared.extent.Extent.TheVariants.{Wide}
+use Rattle.dm_words.specs.declared.item.Item.{Item}
 use Rattle.dm_words.specs.declared.letters.fault.LetterFault.{LetterFault}
 use Rattle.dm_words.specs.declared.letters.head.Head.{Head}
 use Rattle.dm_words.specs.declared.letters.mark.Mark.{Mark}
@@ -9,14 +10,6 @@ use Rattle.dm_words.specs.Designations.{designation, designations}
 use Rattle.dm_words.specs.inner.Scan.Walk.{Step, Takes, Stops}
 use Rattle.dm_words.specs.inner.Scan.Results.{HasRoomAt}
 use Rattle.dm_words.specs.inner.LetterScan.{with_said}
-
--- Items and marks are a letter with this head.
-abbrev pub headed_view : {room most : ℕ} → Option Head → Content room most → LetterView
-headed_view head content = record { head = head; items = content.message; marks = content.marks.items }
-
--- Items and marks are a letter without a head.
-abbrev pub content_view : {room most : ℕ} → Content room most → LetterView
-content_view content = headed_view None content
 
 -- A letter with room for so many items has room for what the codewords from an index on say; the marks so far are in
 -- order, and no more than one for each two codewords before that index, or one for each ECI there.
@@ -36,10 +29,9 @@ IsLetterPartTaken (Err why) old new step = step ≡ Stops (Some why)
 
 -- Where reading gives a head, its outcome is the letter of this head and of the items and marks that were left;
 -- otherwise it is the fault.
-abbrev pub headed_outcome : {room most : ℕ} → Result (Option Head) LetterFault → Content room most
-    → Result LetterView LetterFault
-headed_outcome (Ok head) content = Ok (headed_view head content)
-headed_outcome (Err why) content = Err why
+abbrev pub headed_outcome : Result (Option Head) LetterFault → List Item → List Mark → Result LetterView LetterFault
+headed_outcome (Ok head) items marks = Ok (record { head = head; items = items; marks = marks })
+headed_outcome (Err why) items marks = Err why
 
 -- A part with the given number of words was taken behind so many codewords, and its designator, if it is one, stands
 -- behind those that were there; or the end was met; or a fault.
@@ -54,6 +46,6 @@ IsDesignationTaken (Err why) before old new step = step ≡ Stops (Some why)
 -- fault.
 abbrev pub AreDesignationsFrom : {A : Type 0} → Result A LetterFault → ℕ → List ℕ → List Mark → Type 0
 AreDesignationsFrom (Ok done) start words found =
-    (said : List Said) × (parts : AreLetterParts (start + 1) (drop start words) said)
+    (said : List Said) × (parts : AreLetterParts Wide (start + 1) (drop start words) said)
     × (found ≡ designations start parts.parts)
-AreDesignationsFrom (Err why) start words found = HaveLetterFault (start + 1) (drop start words) why
+AreDesignationsFrom (Err why) start words found = HaveLetterFault Wide (start + 1) (drop start words) why

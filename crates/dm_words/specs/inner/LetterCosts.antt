@@ -96,7 +96,7 @@ pub record AreSaid (total : ℕ) (base new : List ℕ) (seen : ℕ) (items : Lis
   pub items_are : items ≡ said_items (whats parts)
   pub marks_are : marks ≡ said_marks seen (whats parts)
   pub right : (after : List ℕ) → length new + length after ≡ total → NoUnlatchFirst after
-      → AreJoined IsLetterPart (length base + 1) parts after
+      → AreJoined (IsLetterPart Wide) (length base + 1) parts after
   pub plain : (after : List ℕ) → length new + length after ≡ total → NoUnlatchFirst after
       → AreJoined IsPlainSaid (length base + 1) parts after
 

@@ -2,7 +2,8 @@
 use Rattle.std.specs.Prelude.{ℕ, suc, ◌+◌, ◌-◌, ◌*◌, ◌/◌, ◌%◌, List, [], ◌∷◌, ◌++◌, length, drop, Option}
 use Rattle.std.specs.Prelude.{Some, None, Result, Ok, Err, Bool, true, false, slice_get, nat_le, ◌==◌, ◌&&◌}
 use Rattle.std.specs.Prelude.{if◌then◌else◌}
-use Rattle.dm_words.specs.declared.extent.Extent.TheVariants.{Wide}
+use Rattle.dm_words.specs.declared.extent.Extent.{Extent}
+use Rattle.dm_words.specs.declared.extent.Extent.TheVariants.{Usual, Wide}
 use Rattle.dm_words.specs.declared.item.Item.{Item}
 use Rattle.dm_words.specs.declared.fault.WordFault.{WordFault}
 use Rattle.dm_words.specs.declared.codeword.Codeword.{Codeword}
@@ -143,9 +144,10 @@ opened_by None true frame = None
 opened_by None false (Some frame) = Some (record { opening = Framed frame.digit; count = frame.count })
 opened_by None false None = Some (record { opening = Plain; count = 0 })
 
--- The words open with this, or are refused.
-abbrev pub opened : List ℕ → Option Opened
-opened words = opened_by (first_head words) (begins_append words) (first_frame words)
+-- The words open with this, or are refused. In the usual extent nothing opens them.
+abbrev pub opened : Extent → List ℕ → Option Opened
+opened Usual words = Some (record { opening = Plain; count = 0 })
+opened Wide words = opened_by (first_head words) (begins_append words) (first_frame words)
 
 -- ---- parts
 
@@ -160,11 +162,17 @@ abbrev pub mark_by : ℕ → Option Designator → Step Said (Option LetterFault
 mark_by place (Some designator) = Takes (1 + designator.count) (Number designator.number)
 mark_by place None = Stops (Some (fault.Designator place))
 
+-- This codeword is ECI, where it is read.
+abbrev pub is_eci : Extent → ℕ → Bool
+is_eci Usual word = false
+is_eci Wide word = word == eci_word
+
 -- The words begin with a part of a letter, the end, or a fault.
-abbrev pub first_letter_part : ℕ → List ℕ → Step Said (Option LetterFault)
-first_letter_part place [] = Stops None
-first_letter_part place (word ∷ more) =
-    if word == eci_word then mark_by place (first_designator more) else as_said (first_part Wide place (word ∷ more))
+abbrev pub first_letter_part : Extent → ℕ → List ℕ → Step Said (Option LetterFault)
+first_letter_part extent place [] = Stops None
+first_letter_part extent place (word ∷ more) =
+    if is_eci extent word then mark_by place (first_designator more)
+    else as_said (first_part extent place (word ∷ more))
 
 -- The letter has more items or one more mark, which a part says.
 abbrev pub with_said : LetterView → Said → LetterView
@@ -188,10 +196,10 @@ letter_to letter None = Ok letter
 letter_to letter (Some why) = Err why
 
 -- This is read from a place on, behind what was read before.
-unfoldable pub letter_on : LetterView → ℕ → List ℕ → Result LetterView LetterFault
-letter_on letter place words =
+unfoldable pub letter_on : Extent → LetterView → ℕ → List ℕ → Result LetterView LetterFault
+letter_on extent letter place words =
     let found =
-    walk first_letter_part None (suc (length words)) place words in letter_to (extended letter found.taken)
+    walk (first_letter_part extent) None (suc (length words)) place words in letter_to (extended letter found.taken)
     found.why
 
 -- These items stand before those of the parts, and no mark does.
@@ -205,11 +213,12 @@ and_closing opening (Ok letter) =
 and_closing opening (Err why) = Err why
 
 -- This is read behind an opening.
-abbrev pub letter_by : List ℕ → Option Opened → Result LetterView LetterFault
-letter_by words None = Err (fault.Append 1)
-letter_by words (Some found) =
-    and_closing found.opening (letter_on (opening_letter found.opening) (1 + found.count) (drop found.count words))
+abbrev pub letter_by : Extent → List ℕ → Option Opened → Result LetterView LetterFault
+letter_by extent words None = Err (fault.Append 1)
+letter_by extent words (Some found) =
+    and_closing found.opening
+    (letter_on extent (opening_letter found.opening) (1 + found.count) (drop found.count words))
 
 -- This is read from all of the words.
-abbrev pub letter_of : List ℕ → Result LetterView LetterFault
-letter_of words = letter_by words (opened words)
+abbrev pub letter_of : Extent → List ℕ → Result LetterView LetterFault
+letter_of extent words = letter_by extent words (opened extent words)

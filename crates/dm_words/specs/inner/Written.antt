@@ -16,7 +16,7 @@ use Rattle.dm_words.specs.Edifact.{IsGroup}
 use Rattle.dm_words.specs.Base256.{written, IsLengthField}
 use Rattle.dm_words.specs.NormalForm.{length_numbers}
 use Rattle.dm_words.specs.Plain.{IsPlainPart}
-use Rattle.dm_words.specs.Spells.{IsPart}
+use Rattle.dm_words.specs.Parts.{IsPart}
 use Rattle.dm_words.specs.declared.smallest.edifact.Group.{Group}
 use Rattle.dm_words.specs.declared.smallest.edifact.Group.TheVariants as group
 use Rattle.dm_words.specs.declared.extent.Extent.{Extent}

@@ -56,7 +56,7 @@ fn other_part(
     requires short { length words.now ≤ MOST_DATA }
     requires other { BeginNoEci (drop at words.now) }
     ensures { (before : ℕ) (found : List Mark) → IsDesignationTaken result before found found
-        (first_letter_part (at + 1) (drop at words.now)) }
+        (first_letter_part Extent.Wide (at + 1) (drop at words.now)) }
 {
     message.clear();
     match next_part(Extent::Wide, words, at, message) {
@@ -78,7 +78,7 @@ fn next_designation<const MARKS: usize>(
     requires marks { length words.now ≤ 2 * MARKS }
     requires few { 2 * length found.old.items ≤ at }
     ensures { IsDesignationTaken result at found.old.items found.new.items
-        (first_letter_part (at + 1) (drop at words.now)) }
+        (first_letter_part Extent.Wide (at + 1) (drop at words.now)) }
 {
     match number_at(words, at) {
         Some(ECI) => designator_part(words, at, found),
@@ -145,7 +145,7 @@ pub fn designations_to<const MARKS: usize>(words: &[u8], found: &mut ArrayVec<Ma
     ensures { AreDesignations words.now found.new.items }
 {
     found.clear();
-    let Some(opened) = opening_of(words) else {
+    let Some(opened) = opening_of(Extent::Wide, words) else {
         return;
     };
     let mut message = MessageIn::new();

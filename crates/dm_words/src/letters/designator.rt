@@ -13,7 +13,7 @@ pub(crate) const ECI: u8 = 241;
 pub const MOST_ASSIGNED: u32 = 999_999;
 
 /// The most codewords of a designator.
-pub const DESIGNATOR_ROOM: usize = 3;
+const DESIGNATOR_ROOM: usize = 3;
 
 /// The first number that takes two codewords.
 const FIRST_OF_TWO: u32 = 127;
@@ -102,7 +102,7 @@ pub(crate) fn word_at(words: &[u8], at: usize) -> Option<u8>
 }
 
 /// Gives the designator of a number of 0 to 999999. ISO/IEC 16022, ECI encodation.
-pub fn designator_words(number: u32) -> ArrayVec<u8, DESIGNATOR_ROOM>
+pub(crate) fn designator_words(number: u32) -> ArrayVec<u8, DESIGNATOR_ROOM>
     requires { number ≤ MOST_ASSIGNED }
     ensures { result.items ≡ designator number }
 {

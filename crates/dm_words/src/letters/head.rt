@@ -14,7 +14,7 @@ pub(crate) const APPEND: u8 = 233;
 pub(crate) const PROGRAMMING: u8 = 234;
 
 /// The most codewords of a head.
-pub const HEAD_ROOM: usize = 4;
+const HEAD_ROOM: usize = 4;
 
 /// Which symbol of a sequence this is (ISO/IEC 16022, structured append).
 #[derive(Clone, Copy, Debug, PartialEq, Eq)]
@@ -98,7 +98,7 @@ pub(crate) fn head_length(head: Head) -> usize
 
 /// Gives the codewords of a head: its sequence indicator is 16 times one less than `index`, and 17 less `count`.
 /// ISO/IEC 16022, structured append, reader programming.
-pub fn head_words(head: Option<Head>) -> ArrayVec<u8, HEAD_ROOM>
+pub(crate) fn head_words(head: Option<Head>) -> ArrayVec<u8, HEAD_ROOM>
     requires { IsHead head }
     ensures { result.items ≡ head_words head }
 {

@@ -5,11 +5,12 @@ ghost use Rattle.dm_words.specs.Heads.{IsHead};
 ghost use Rattle.dm_words.specs.Letters.{IsLetter, AreMarks, with_mark};
 
 use crate::item::Item;
-use crate::letters::content::Content;
 use crate::letters::designator::MOST_ASSIGNED;
 use crate::letters::head::Head;
-use crate::letters::mark::Mark;
+use crate::letters::mark::{Mark, add_mark};
 use crate::limits::{LARGEST_ROOM, MESSAGE_ROOM, MOST_MARKS};
+use crate::message::MessageIn;
+use arrayvec::ArrayVec;
 use std::marker::Model;
 
 /// A head or none, items, and marks: at most `ROOM` items and `MARKS` marks, in order, each at a place of the items. In
@@ -18,7 +19,8 @@ use std::marker::Model;
 #[derive(Clone, Debug, Drop, PartialEq, Eq)]
 pub struct LetterIn<const ROOM: usize, const MARKS: usize> {
     pub(crate) head: Option<Head>,
-    pub(crate) content: Content<ROOM, MARKS>,
+    pub(crate) message: MessageIn<ROOM>,
+    pub(crate) marks: ArrayVec<Mark, MARKS>,
 }
 
 /// A letter that has room for what each square says, up to the largest of 104 x 104.
@@ -28,19 +30,19 @@ impl<const ROOM: usize, const MARKS: usize> Model for LetterIn<ROOM, MARKS> {
     ghost use Rattle.std.specs.Prelude.{length};
     ghost use Rattle.dm_words.specs.Heads.{IsHead};
     ghost use Rattle.dm_words.specs.Letters.{LetterView, AreMarks};
-    ghost use Rattle.dm_words.specs.inner.LetterContents.{headed_view};
 
     ghost Value = { LetterView };
 
-    ghost view = { λ l. headed_view l.head l.content };
+    ghost view = { λ l. record { head = l.head; items = l.message; marks = l.marks.items } };
 
     // That the items have bytes of 0 to 255 is known of each message.
     ghost invariant = { λ l. IsHead l.head
-        × AreMarks 0 (length l.content.message) l.content.marks.items };
+        × AreMarks 0 (length l.message) l.marks.items };
 
     ghost inverse = { λ v. record {
       head = v.head;
-      content = record { message = v.items; marks = record { items = v.marks } };
+      message = v.items;
+      marks = record { items = v.marks };
     } };
 }
 
@@ -51,7 +53,8 @@ impl<const ROOM: usize, const MARKS: usize> LetterIn<ROOM, MARKS> {
     {
         LetterIn {
             head: None,
-            content: Content::new(),
+            message: MessageIn::new(),
+            marks: ArrayVec::new(),
         }
     }
 
@@ -60,7 +63,8 @@ impl<const ROOM: usize, const MARKS: usize> LetterIn<ROOM, MARKS> {
         ensures { self.new ≡ record { head = None; items = []; marks = [] } }
     {
         self.head = None;
-        self.content.clear();
+        self.message.clear();
+        self.marks.clear();
     }
 
     /// Gives the letter this head, or none. [`Appended::is_right()`](crate::Appended::is_right) says whether the
@@ -80,7 +84,7 @@ impl<const ROOM: usize, const MARKS: usize> LetterIn<ROOM, MARKS> {
         ensures unchanged { OnErr result (self.new ≡ self.old) }
         ensures given_back { IfErr result (λ i. i ≡ item) }
     {
-        self.content.message.push(item)
+        self.message.push(item)
     }
 
     /// Adds a mark of this number, 0 to 999999, behind all items that are there, in a letter with room for at most
@@ -93,10 +97,10 @@ impl<const ROOM: usize, const MARKS: usize> LetterIn<ROOM, MARKS> {
         ensures unchanged { OnErr result (self.new ≡ self.old) }
         ensures given_back { IfErr result (λ n. n ≡ number) }
     {
-        if self.content.marks.is_full() {
+        if self.marks.is_full() {
             return Err(number);
         }
-        self.content.add_mark(number);
+        add_mark(number, &self.message, &mut self.marks);
         Ok(())
     }
 
@@ -114,7 +118,7 @@ impl<const ROOM: usize, const MARKS: usize> LetterIn<ROOM, MARKS> {
         ensures most { length self.now.items ≤ ROOM }
         ensures letter { IsLetter self.now }
     {
-        self.content.message.items()
+        self.message.items()
     }
 
     /// Gives the marks, in order: at most `MARKS`.
@@ -123,7 +127,7 @@ impl<const ROOM: usize, const MARKS: usize> LetterIn<ROOM, MARKS> {
         ensures most { length self.now.marks ≤ MARKS }
         ensures in_order { AreMarks 0 (length self.now.items) self.now.marks }
     {
-        self.content.marks.as_slice()
+        self.marks.as_slice()
     }
 }
 

@@ -6,6 +6,7 @@ ghost use Rattle.dm_words.specs.inner.Scan.Prefixes.{digit_by, begins_with_one_w
 ghost use Rattle.dm_words.specs.inner.LetterScan.{begins_append, first_frame, is_empty_run, opened};
 
 use crate::codeword::{Codeword, Lone, UNLATCH, lone_of, meaning};
+use crate::extent::Extent;
 use crate::letters::designator::word_at;
 use crate::letters::head::{APPEND, Head, first_head, head_length};
 use crate::macros::digit_of;
@@ -92,24 +93,30 @@ fn begins_alone(words: &[u8]) -> bool
     }
 }
 
-/// Gives the opening of the words, `None` where structured append begins no head. Most begin with a character or a pair
-/// of digits, and then nothing else is asked for.
-pub(crate) fn opening_of(words: &[u8]) -> Option<Opened>
-    ensures { result ≡ opened words.now }
+/// Gives the opening of the words in an extent, `None` where structured append begins no head. Most begin with a
+/// character or a pair of digits, and then nothing else is asked for.
+pub(crate) fn opening_of(extent: Extent, words: &[u8]) -> Option<Opened>
+    ensures { result ≡ opened extent words.now }
 {
-    if begins_alone(words) {
-        return Some(Opened {
-            opening: Opening::Plain,
-            count: 0,
-        });
+    let nothing = Opened {
+        opening: Opening::Plain,
+        count: 0,
+    };
+    match extent {
+        Extent::Usual => Some(nothing),
+        Extent::Wide => {
+            if begins_alone(words) {
+                return Some(nothing);
+            }
+            opening_asked(words)
+        }
     }
-    opening_asked(words)
 }
 
-/// Does the same for any words. It stands by itself, so that what is read behind most openings stays short.
+/// Does the same for any words, in the wide extent. It stands by itself, so that what is read behind most openings stays short.
 #[inline(never)]
 fn opening_asked(words: &[u8]) -> Option<Opened>
-    ensures { result ≡ opened words.now }
+    ensures { result ≡ opened Extent.Wide words.now }
 {
     if let Some(head) = first_head(words) {
         return Some(Opened {

@@ -1,13 +1,12 @@
 //! The symbology identifier of a symbol, which says whether FNC1 stands at its beginning, and whether it has marks.
 
-ghost use Rattle.std.specs.Prelude.{◌≡◌, ◌≤◌, List};
-ghost use Rattle.dm_words.specs.declared.item.Item.{Item};
-ghost use Rattle.dm_words.specs.Letters.{SpellsLetter};
-ghost use Rattle.dm_words.specs.LetterExtents.{as_letter};
+ghost use Rattle.std.specs.Prelude.{◌≡◌, ◌≤◌};
+ghost use Rattle.dm_words.specs.Letters.{Says};
 ghost use Rattle.dm_words.specs.Symbology.{IsIdentifier};
 ghost use Rattle.dm_words.specs.inner.Fnc1.{fnc1_number, is_alone};
 
 use crate::codeword::{Codeword, FNC1, meaning};
+use crate::extent::Extent;
 use crate::letters::letter::LetterIn;
 use crate::letters::normal_form::head_words_length;
 
@@ -56,7 +55,7 @@ pub fn symbology_number<const ROOM: usize, const MARKS: usize>(
     words: &[u8],
     letter: &LetterIn<ROOM, MARKS>,
 ) -> u8
-    requires { SpellsLetter words.now letter.now }
+    requires { Says Extent.Wide words.now letter.now }
     ensures identifier { IsIdentifier words.now letter.now result }
     ensures least { 1 ≤ result }
     ensures most { result ≤ 6 }
@@ -67,15 +66,4 @@ pub fn symbology_number<const ROOM: usize, const MARKS: usize>(
     } else {
         number + 3
     }
-}
-
-/// Gives the number of the symbology identifier of data codewords that spell a message, 1 to 3: what
-/// [`symbology_number()`] gives for the letter with its items, and without a head and marks.
-pub fn message_symbology_number(words: &[u8]) -> u8
-    ensures identifier { (message : List Item) → SpellsLetter words.now (as_letter message)
-        → IsIdentifier words.now (as_letter message) result }
-    ensures least { 1 ≤ result }
-    ensures most { result ≤ 3 }
-{
-    fnc1_number(words)
 }

@@ -5,8 +5,7 @@ use Rattle.dm_layout.specs.symbols.Symbols.{SymbolView}
 use Rattle.dm_layout.specs.symbols.Words.{data_of}
 use Rattle.dm_layout.proofs.Exported.{row_facts}
 use Rattle.dm_words.specs.declared.extent.Extent.TheVariants.{Usual}
-use Rattle.dm_words.specs.Refused.{Refused}
-use Rattle.dm_words.specs.Spells.{Spells}
+use Rattle.dm_words.specs.Spells.{Spells, Refused}
 use Rattle.dm_symbol.specs.declared.symbol.reading.BlockReading.{BlockReading}
 use Rattle.dm_symbol.specs.declared.reading.ReadFault.TheVariants as fault
 use Rattle.dm_symbol.specs.declared.symbol.reading.Lost.TheVariants.{Border, Block}
@@ -40,8 +39,8 @@ returns-in-Err-Block-clause-read g c =
     (block_is_read c.args.grid.now c.args.border_limit c.size.ensures.grid c.in-Err-Block.index
     (subst (λ m. IsLost Usual m None c.args.border_limit (Block c.in-Err-Block.index)) c.as_symbol.ensures lost))
 
-pub message_to_as-requires : goal.message_to_as-requires
-message_to_as-requires g c =
+pub message_to-requires : goal.message_to-requires
+message_to-requires g c =
     let s = c.args.grid.now.size in
     let v = c.restore_to.new.words in
     let list = c.data_part.result.now in
@@ -67,9 +66,9 @@ returns-in-Err-clause-read g c =
     let kept = c.restore_to.new in
     let restored = subst (λ m. IsRestored Usual m None limit kept.words kept.dealing kept.blocks.items kept.faults)
     c.as_symbol.ensures c.in-Ok.ensures.restored in
-    let refused : Refused Usual (data_of kept.words) c.in-Err.fault =
-    subst (λ words. Refused Usual words c.in-Err.fault) c.data_part.ensures.value
-    ((c.in-Err.ensures.fault c.in-Err.fault).0 refl) in
+    let refused : Refused (data_of kept.words) c.in-Err.fault =
+    subst (λ words. Refused words c.in-Err.fault) c.data_part.ensures.value
+    ((c.in-Err.ensures.read.fault c.in-Err.fault).0 refl) in
     fault_is_read c.args.grid.now limit c.size.ensures.grid kept.words kept.dealing kept.blocks.items kept.faults
     restored c.in-Err.fault refused
 
@@ -78,12 +77,12 @@ returns-clause-read g c =
     let grid = c.args.grid.now in
     let limit = c.args.border_limit in
     let kept = c.restore_to.new in
-    let message = c.message_to_as.new.message in
+    let message = c.message_to.new.message in
     let restored = subst (λ m. IsRestored Usual m None limit kept.words kept.dealing kept.blocks.items kept.faults)
     c.as_symbol.ensures c.in-Ok.ensures.restored in
     let spelled : Spells Usual (data_of kept.words) message =
     subst (λ words. Spells Usual words message) c.data_part.ensures.value
-    ((c.in-Ok-message_to_as.ensures.message message).0 refl) in
+    ((c.in-Ok-message_to.ensures.read.message message).0 refl) in
     let told : c.corrected_in-reading.result.items ≡ map (λ (b : BlockReading). b.corrected) kept.blocks.items =
     c.corrected_in-reading.ensures ∙ ap (map (λ (b : BlockReading). b.corrected)) c.deref.ensures.0 in
     subst (λ xs. IsRead grid limit (Ok (reading_of message xs kept.faults))) (sym told)

@@ -1,4 +1,5 @@
-use Rattle.dm_words.proofs.SpelledBounds.{spelled_is_few, some_spell_most}
+use Rattle.dm_words.proofs.SaidBounds.{spelled_is_few}
+use Rattle.dm_words.proofs.SpelledBounds.{some_spell_most}
 use Rattle.dm_words.proofs.laws.spelled_is_few.Goals as goal
 
 pub returns : goal.returns

@@ -1,6 +1,5 @@
 use Rattle.std.proofs.Common.{arith}
-use Rattle.dm_words.proofs.LetterLoops.{one_word_said}
-use Rattle.dm_words.proofs.PartLoops.{one_word_turn}
+use Rattle.dm_words.proofs.LetterLoops.{one_word_turn}
 use Rattle.dm_words.proofs.reading.one_word_parts.Goals as goal
 
 pub loop-word-preserved : goal.loop-word-preserved
@@ -9,15 +8,11 @@ loop-word-preserved g c =
     let taken = rw c.if-not-is_taken.false at c.one_word_part-is_taken.ensures.taken in
     let r = one_word_turn c.args.words.now c.args.start c.loop-word.at c.in-Some.word c.args.message.now
     c.loop-word.message c.one_word_part-is_taken.new.message
-    (λ i. omega (arith, c.type_inv.words i)) v.in_range v.from v.room c.in-Some.ensures taken v.so_far in
-    let said = one_word_said c.args.words.now c.args.start c.loop-word.at c.in-Some.word c.args.message.now
-    c.loop-word.message c.one_word_part-is_taken.new.message
-    (λ i. omega (arith, c.type_inv.words i)) c.in-Some.ensures taken v.said in
+    (λ i. omega (arith, c.type_inv.words i)) v.room c.in-Some.ensures taken v.said in
     record {
       from = omega (arith, v.from);
       in_range = r.in_range;
       room = r.room;
       no_fewer = omega (arith, v.no_fewer, r.no_fewer);
-      so_far = r.so_far;
-      said = said;
+      said = r.said;
     }

@@ -1,6 +1,5 @@
 use Rattle.std.proofs.Common.{◌≡◌, ◌+◌, ◌-◌, ◌*◌, ◌≤◌, List, length, drop}
 use Rattle.dm_words.specs.declared.extent.Extent.{Extent}
-use Rattle.dm_words.specs.inner.Scan.Prefixes.{read_on}
 use Rattle.dm_words.specs.declared.letters.mark.Mark.{Mark}
 use Rattle.dm_words.specs.inner.LetterScan.{items_with, letter_on}
 use Rattle.dm_words.proofs.reading.one_word_parts.Given as goal
@@ -11,10 +10,9 @@ invariant-loop-word g l = record {
   in_range : l.at ≤ length l.words;
   room : length l.message + 2 * l.start ≤ length l.fn.message + 2 * l.at;
   no_fewer : length l.fn.message ≤ length l.message;
-  so_far : (extent : Extent) → read_on extent l.message (l.at + 1) (drop l.at l.words)
-      ≡ read_on extent l.fn.message (l.start + 1) (drop l.start l.words);
-  said : (marks : List Mark) → letter_on (items_with marks l.message) (l.at + 1) (drop l.at l.words)
-      ≡ letter_on (items_with marks l.fn.message) (l.start + 1) (drop l.start l.words);
+  said : (extent : Extent) (marks : List Mark)
+      → letter_on extent (items_with marks l.message) (l.at + 1) (drop l.at l.words)
+      ≡ letter_on extent (items_with marks l.fn.message) (l.start + 1) (drop l.start l.words);
 }
 
 abbrev pub decreases-loop-word : goal.decreases-loop-word

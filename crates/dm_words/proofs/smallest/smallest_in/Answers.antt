@@ -1,9 +1,9 @@
-use Rattle.std.proofs.Common.{subst, sym, ◌∙◌}
+use Rattle.std.proofs.Common.{subst, sym, ◌∙◌, Err}
 use Rattle.dm_words.specs.Letters.{LetterView}
 use Rattle.dm_words.specs.declared.extent.Extent.{Extent}
 use Rattle.dm_words.specs.SmallestLetters.{IsSmallestLetterResult}
 use Rattle.dm_words.specs.inner.LetterCosts.{view_of}
-use Rattle.dm_words.proofs.SmallestLetters.{plain_is, is_no_message}
+use Rattle.dm_words.proofs.SmallestLetters.{plain_is, is_no_message, usual_too_long}
 use Rattle.dm_words.proofs.smallest.smallest_in.Goals as goal
 
 pub returns-then-is_plain-clause-smallest : goal.returns-then-is_plain-clause-smallest
@@ -28,3 +28,10 @@ returns-in-Wide-clause-message g c = λ none nothing.
 pub returns-in-Usual-clause-message : goal.returns-in-Usual-clause-message
 returns-in-Usual-clause-message g c = λ none nothing.
     absurd (is_no_message c.args.head c.args.marks.now (sym c.is_plain.ensures ∙ c.if-is_plain.false) none nothing)
+
+pub returns-in-Usual-clause-smallest : goal.returns-in-Usual-clause-smallest
+returns-in-Usual-clause-smallest g c =
+    let a = c.args in
+    let l = view_of a.head a.items.now a.marks.now in
+    subst (λ (e : Extent). IsSmallestLetterResult e a.choice l (Err (record {})) a.words.now.items) (sym c.in-Usual.is)
+    (usual_too_long a.choice l (record {}) a.words.now.items (sym c.is_plain.ensures ∙ c.if-is_plain.false))

@@ -1,6 +1,6 @@
 -- What is a prefix of a list: a part of the words, a pair, an item among the values of a run.
-use Rattle.std.specs.Prelude.{ℕ, suc, ◌+◌, ◌-◌, ◌*◌, ◌/◌, ◌%◌, List, [], ◌∷◌, ◌++◌, length, take, drop, map, Option}
-use Rattle.std.specs.Prelude.{Some, None, Result, Ok, Err, Bool, true, false, nat_lt, ◌==◌, if◌then◌else◌}
+use Rattle.std.specs.Prelude.{ℕ, ◌+◌, ◌-◌, ◌*◌, ◌/◌, ◌%◌, List, [], ◌∷◌, length, take, map, Option}
+use Rattle.std.specs.Prelude.{Some, None, Bool, true, false, nat_lt, ◌==◌, if◌then◌else◌}
 use Rattle.dm_words.specs.declared.extent.Extent.{Extent}
 use Rattle.dm_words.specs.declared.extent.Extent.TheVariants.{Usual, Wide}
 use Rattle.dm_words.specs.declared.item.Item.{Item}
@@ -24,8 +24,7 @@ use Rattle.dm_words.specs.RunFaults.{pair_place}
 use Rattle.dm_words.specs.Base256.{random_at, most_short, long_count}
 use Rattle.dm_words.specs.Messages.{byte_items}
 use Rattle.dm_words.specs.Edifact.{unlatch_value, edifact_byte}
-use Rattle.dm_words.specs.Macros.{macro_header, macro_trailer}
-use Rattle.dm_words.specs.inner.Scan.Walk.{Step, Takes, Stops, Walked, walk, walk_all, flat}
+use Rattle.dm_words.specs.inner.Scan.Walk.{Step, Takes, Stops, Walked, walk_all, flat}
 
 -- ---- the values of a run, each below 40
 
@@ -250,37 +249,7 @@ abbrev pub first_part : Extent → ℕ → List ℕ → Step (List Item) (Option
 first_part extent place [] = Stops None
 first_part extent place (word ∷ more) = part_by extent place word more (codeword_of word)
 
--- The message is given if the walk came to the end, and else the fault.
-abbrev pub read_to : List Item → Option WordFault → Result (List Item) WordFault
-read_to items None = Ok items
-read_to items (Some why) = Err why
-
--- This is read from a place on, behind items that were read before.
-unfoldable pub read_on : Extent → List Item → ℕ → List ℕ → Result (List Item) WordFault
-read_on extent items place words = let found =
-    walk (first_part extent) None (suc (length words)) place words in read_to (items ++ flat found.taken) found.why
-
 -- A codeword with this meaning is a macro of this digit, or none.
 abbrev pub digit_by : Option Codeword → Option ℕ
 digit_by (Some (codeword.Macro digit)) = Some digit
 digit_by _ = None
-
--- The words begin with a macro of this digit, or with none that is read.
-abbrev pub macro_digit : Extent → List ℕ → Option ℕ
-macro_digit Usual words = None
-macro_digit Wide [] = None
-macro_digit Wide (word ∷ more) = digit_by (codeword_of word)
-
--- A message that was read stands before the trailer of a macro.
-abbrev pub and_trailer : Result (List Item) WordFault → Result (List Item) WordFault
-and_trailer (Ok items) = Ok (items ++ macro_trailer)
-and_trailer (Err why) = Err why
-
--- This is read from all of the words, where they begin with this macro or with none.
-abbrev pub reading_by : Extent → List ℕ → Option ℕ → Result (List Item) WordFault
-reading_by extent words None = read_on extent [] 1 words
-reading_by extent words (Some digit) = and_trailer (read_on extent (macro_header digit) 2 (drop 1 words))
-
--- This is read from all of the words.
-unfoldable pub reading : Extent → List ℕ → Result (List Item) WordFault
-reading extent words = reading_by extent words (macro_digit extent words)

@@ -6,7 +6,7 @@ use Rattle.dm_symbol.specs.declared.SizeChoice.TheVariants.{Square}
 use Rattle.dm_symbol.specs.NormalOutcomes.{IsNormalOrFault}
 use Rattle.dm_symbol.proofs.Exported.{refused_letter_result, restored_reads}
 use Rattle.dm_words.specs.Letters.{LetterView}
-use Rattle.dm_words.specs.LetterExtents.{RefusedIn, SaysIn}
+use Rattle.dm_words.specs.Letters.{IsRefused, Says}
 use Rattle.dm_symbol.specs.declared.Form.TheVariants.{Profiled}
 use Rattle.ecc200_calls.specs.Symbols.{no_symbol}
 use Rattle.ecc200_calls.specs.Writings.{IsLetterGiven}
@@ -30,8 +30,8 @@ pub returns-in-Ok : goal.returns-in-Ok
 returns-in-Ok g c symbol doubtful limit restored is =
     let a = c.args in
     let letter = c.letter_to_as.new.letter in
-    let says : SaysIn a.extent (data_of a.words.now) letter =
-    subst (λ words. SaysIn a.extent words letter) c.data_part.ensures.value
+    let says : Says a.extent (data_of a.words.now) letter =
+    subst (λ words. Says a.extent words letter) c.data_part.ensures.value
     ((c.in-Ok.ensures.read.letter letter).0 refl) in
     normal_of_letter a.extent a.profile symbol doubtful limit a.out.now c.write_content.new.out letter
     (restored_reads a.extent symbol doubtful limit a.words.now restored.dealing restored.blocks.items
@@ -45,8 +45,8 @@ pub returns-in-Err : goal.returns-in-Err
 returns-in-Err g c symbol doubtful limit restored is =
     let a = c.args in
     let why = c.in-Err.why in
-    let refused : RefusedIn a.extent (data_of a.words.now) why =
-    subst (λ words. RefusedIn a.extent words why) c.data_part.ensures.value
+    let refused : IsRefused a.extent (data_of a.words.now) why =
+    subst (λ words. IsRefused a.extent words why) c.data_part.ensures.value
     ((c.in-Err.ensures.read.fault why).0 refl) in
     record {
       result = Err (of_letter.Read (Words why));

@@ -4,7 +4,7 @@ use Rattle.dm_layout.specs.symbols.Words.{data_of}
 use Rattle.dm_symbol.specs.declared.LetterReadFault.TheVariants.{Words}
 use Rattle.dm_symbol.specs.LetterReading.{letter_reading_of}
 use Rattle.dm_symbol.proofs.Exported.{refused_letter_result, said_letter_result}
-use Rattle.dm_words.specs.LetterExtents.{RefusedIn, SaysIn}
+use Rattle.dm_words.specs.Letters.{IsRefused, Says}
 use Rattle.dm_words.specs.Symbology.{IsIdentifier}
 use Rattle.dm_words.proofs.Exported.{said_wide}
 use Rattle.ecc200_calls.specs.Readings.{no_reading, reading_shown}
@@ -36,8 +36,8 @@ returns-in-Ok g c symbol doubtful limit is =
     let restored = a.restored.now in
     let letter = c.letter_to_as.new.letter in
     let number = c.symbology_number-identifier.result in
-    let says : SaysIn a.extent list letter =
-    subst (λ words. SaysIn a.extent words letter) c.data_part-list.ensures.value
+    let says : Says a.extent list letter =
+    subst (λ words. Says a.extent words letter) c.data_part-list.ensures.value
     ((c.in-Ok.ensures.read.letter letter).0 refl) in
     let numbered : IsIdentifier list letter number =
     subst (λ words. IsIdentifier words letter number) c.data_part-list.ensures.value
@@ -55,8 +55,8 @@ pub returns-in-Err : goal.returns-in-Err
 returns-in-Err g c symbol doubtful limit is =
     let a = c.args in
     let restored = a.restored.now in
-    let refused : RefusedIn a.extent (data_of a.words.now) c.in-Err.why =
-    subst (λ words. RefusedIn a.extent words c.in-Err.why) c.data_part-list.ensures.value
+    let refused : IsRefused a.extent (data_of a.words.now) c.in-Err.why =
+    subst (λ words. IsRefused a.extent words c.in-Err.why) c.data_part-list.ensures.value
     ((c.in-Err.ensures.read.fault c.in-Err.why).0 refl) in
     record {
       result = Err (Words c.in-Err.why);

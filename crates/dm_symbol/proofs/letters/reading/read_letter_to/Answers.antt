@@ -2,7 +2,7 @@ use Rattle.std.proofs.Common.{◌≡◌, ◌∙◌, length, refl, ap, subst, ari
 use Rattle.std.specs.Prelude.{option_map}
 use Rattle.dm_layout.specs.symbols.Sizes.{SizeEntry}
 use Rattle.dm_layout.specs.symbols.Words.{data_of}
-use Rattle.dm_words.specs.LetterExtents.{SaysIn, RefusedIn}
+use Rattle.dm_words.specs.Letters.{Says, IsRefused}
 use Rattle.dm_words.specs.Symbology.{IsIdentifier}
 use Rattle.dm_words.proofs.Exported.{said_wide}
 use Rattle.dm_symbol.proofs.SymbolBelow.{data_as_many, data_fits}
@@ -38,8 +38,8 @@ returns-in-Ok-letter_to_as-clause-read g c =
     let doubt = option_map (λ d. d.now) how.doubtful in
     let letter = c.letter_to_as.new.letter in
     let number = c.symbology_number-reading.result in
-    let says : SaysIn how.extent (data_of c.restore_symbol_to.new.words) letter =
-    subst (λ words. SaysIn how.extent words letter) c.data_part-list.ensures.value
+    let says : Says how.extent (data_of c.restore_symbol_to.new.words) letter =
+    subst (λ words. Says how.extent words letter) c.data_part-list.ensures.value
     ((c.in-Ok-letter_to_as.ensures.read.letter letter).0 refl) in
     let numbered : IsIdentifier (data_of c.restore_symbol_to.new.words) letter number =
     subst (λ words. IsIdentifier words letter number) c.data_part-list.ensures.value
@@ -59,8 +59,8 @@ pub returns-in-Err-letter_to_as-clause-read : goal.returns-in-Err-letter_to_as-c
 returns-in-Err-letter_to_as-clause-read g c =
     let how = c.args.how in
     let doubt = option_map (λ d. d.now) how.doubtful in
-    let refused : RefusedIn how.extent (data_of c.restore_symbol_to.new.words) c.in-Err-letter_to_as.fault =
-    subst (λ words. RefusedIn how.extent words c.in-Err-letter_to_as.fault) c.data_part-list.ensures.value
+    let refused : IsRefused how.extent (data_of c.restore_symbol_to.new.words) c.in-Err-letter_to_as.fault =
+    subst (λ words. IsRefused how.extent words c.in-Err-letter_to_as.fault) c.data_part-list.ensures.value
     ((c.in-Err-letter_to_as.ensures.read.fault c.in-Err-letter_to_as.fault).0 refl) in
     is_letter_read how.extent c.args.symbol.now doubt how.border_limit _
     (refused_letter_result how.extent c.args.symbol.now doubt how.border_limit c.restore_symbol_to.new.words

@@ -1,4 +1,5 @@
 use Rattle.std.proofs.Common.{◌∙◌, rules, sym}
+use Rattle.dm_words.specs.declared.extent.Extent.TheVariants.{Wide}
 use Rattle.dm_words.proofs.DesignationLoops.{of_fault, of_no_opening, of_parts}
 use Rattle.dm_words.proofs.LetterReadings.{opening_room}
 use Rattle.dm_words.proofs.letters.designation.designations_to.Goals as goal
@@ -12,7 +13,7 @@ add_designations-requires g c =
     let opens = sym c.opening_of.ensures ∙ c.in-Some.is in (
       search rules,
       (
-        (opening_room c.args.words.now c.in-Some.opened opens).in_range,
+        (opening_room Wide c.args.words.now c.in-Some.opened opens).in_range,
         (c.requires.short, (c.requires.marks, c.clear.ensures)),
       ),
     )

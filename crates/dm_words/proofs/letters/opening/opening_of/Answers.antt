@@ -3,4 +3,5 @@ use Rattle.dm_words.proofs.Openings.{alone_opens}
 use Rattle.dm_words.proofs.letters.opening.opening_of.Goals as goal
 
 pub returns-then-begins_alone : goal.returns-then-begins_alone
-returns-then-begins_alone c = alone_opens c.args.words.now (sym c.begins_alone.ensures ∙ c.if-begins_alone.true)
+returns-then-begins_alone c =
+    rw c.in-Wide.is (alone_opens c.args.words.now (sym c.begins_alone.ensures ∙ c.if-begins_alone.true))

@@ -1,25 +1,21 @@
--- Which data codewords of a symbol are refused, and with which fault, in each extent of reading. The words are all data
--- codewords of the symbol, each
--- of 0 to 255, so their end is the end of the symbol. What is left out, and which fault is named, are choices of this
--- project.
-use Rattle.std.specs.Prelude.{◌≡◌, ◌≢◌, ℕ, ◌+◌, List, [], ◌∷◌, ◌++◌, length, Some, None}
+-- Which data codewords begin no part, and with which fault, in each extent of reading. The words are all data codewords
+-- of the symbol, each of 0 to 255, so their end is the end of the symbol. What is left out, and which fault is named,
+-- are choices of this project.
+use Rattle.std.specs.Prelude.{◌≡◌, ◌≢◌, ℕ, List, [], ◌∷◌, Some, None}
 use Rattle.dm_words.specs.declared.extent.Extent.{Extent}
-use Rattle.dm_words.specs.declared.extent.Extent.TheVariants.{Usual, Wide}
-use Rattle.dm_words.specs.declared.item.Item.{Item}
+use Rattle.dm_words.specs.declared.extent.Extent.TheVariants.{Usual}
 use Rattle.dm_words.specs.declared.fault.WordFault.{WordFault}
 use Rattle.dm_words.specs.declared.fault.WordFault.TheVariants as fault
 use Rattle.dm_words.specs.declared.codeword.Codeword.TheVariants as codeword
 use Rattle.dm_words.specs.declared.c40.set.CodeSet.{CodeSet}
 use Rattle.dm_words.specs.Codewords.{codeword_of}
-use Rattle.dm_words.specs.Joined.{Piece, spelled, AreJoined}
 use Rattle.dm_words.specs.RunFaults.{IsFaultyRun}
 use Rattle.dm_words.specs.Base256.{IsFaultySegment}
-use Rattle.dm_words.specs.Spells.{IsPart}
 
 -- A codeword that can begin no part begins something that is not read: in each extent structured append, reader
 -- programming, ECI or a macro; in the
--- usual extent EDIFACT too. (A macro as the first codeword of the symbol begins no part either; in the wide extent
--- `Refused` leaves that case out.)
+-- usual extent EDIFACT too. (What opens a letter in the wide extent begins no part either, nor does ECI, of which
+-- `IsLetterFault` speaks before.)
 pub data IsLeftOut (extent : Extent) (word : ℕ) : Type 0 where
   always : codeword_of word ≡ Some codeword.LeftOut → IsLeftOut extent word
   macro_behind : (digit : ℕ) → codeword_of word ≡ Some (codeword.Macro digit) → IsLeftOut extent word
@@ -42,25 +38,3 @@ pub data IsFault (extent : Extent) (place : ℕ) (words : List ℕ) (why : WordF
       → words ≡ shift ∷ word ∷ more → why ≡ fault.UpperShift place → IsFault extent place words why
   faulty_run : (set : CodeSet) → IsFaultyRun extent set place words why → IsFault extent place words why
   faulty_segment : IsFaultySegment place words → why ≡ fault.Length place → IsFault extent place words why
-
--- The words from a place on, up to the end of the symbol, are parts, one after the other, and then codewords with this
--- fault.
-pub record HaveFault (extent : Extent) (place : ℕ) (words : List ℕ) (why : WordFault) : Type 0 where
-  pub parts : List (Piece (List Item))
-  pub after : List ℕ
-  pub joined : AreJoined (IsPart extent) place parts after
-  pub whole : words ≡ spelled parts ++ after
-  pub faulty : IsFault extent (place + length (spelled parts)) after why
-
--- The words don't begin with a macro that is read.
-abbrev pub BeginNoMacro : Extent → List ℕ → Type 0
-BeginNoMacro extent words = (word digit : ℕ) (more : List ℕ) → extent ≡ Wide → codeword_of word
-    ≡ Some (codeword.Macro digit) → words ≡ word ∷ more → ⊥
-
--- The words are refused with this fault: they have it; or in the wide extent the first one is a macro, and the others
--- have it.
-pub data Refused (extent : Extent) (words : List ℕ) (why : WordFault) : Type 0 where
-  plain : BeginNoMacro extent words → HaveFault extent 1 words why → Refused extent words why
-  by_macro : (word digit : ℕ) (more : List ℕ) → extent ≡ Wide → codeword_of word ≡ Some (codeword.Macro digit) → words
-      ≡ word ∷ more
-      → HaveFault extent 2 more why → Refused extent words why

@@ -1,0 +1,133 @@
+-- The words that a symbol of any size holds are restored, or a first block of them is lost.
+use Rattle.std.proofs.Common.{◌≡◌, ◌⊎◌, ℕ, zero, suc, ◌<◌, ◌≤◌, List, Option, inl, inr, refl, sym}
+use Rattle.std.proofs.Common.{ap, subst, ◌∙◌, arith}
+use Rattle.std.proofs.lemmas.Bool.{cases_eq}
+use Rattle.dm_words.specs.declared.extent.Extent.{Extent}
+use Rattle.dm_words.specs.declared.extent.Extent.TheVariants.{Usual, Wide}
+use Rattle.dm_code.specs.Erased.{IsNearBut}
+use Rattle.dm_code.proofs.Exported.{near_but_or_none}
+use Rattle.dm_layout.specs.symbols.Sizes.{SizeEntry, block_check}
+use Rattle.dm_layout.specs.symbols.Symbols.{SymbolView}
+use Rattle.dm_layout.proofs.symbols.Exported.{blocks_make_words}
+use Rattle.dm_symbol.specs.declared.symbol.dealing.Dealing.{Dealing}
+use Rattle.dm_symbol.specs.declared.symbol.dealing.Dealing.TheVariants.{Standard, Restarted}
+use Rattle.dm_symbol.specs.Doubt.{erased_in}
+use Rattle.dm_symbol.specs.Dealings.{IsDealtTwoWays, dealt, erased_by}
+use Rattle.dm_symbol.specs.SymbolBlocks.{AreOfSize, AreHeldBy, HasNearBut, block_in}
+use Rattle.dm_symbol.specs.SymbolReading.{AreRestoredBy, AreRestored, AreLost, IsFirstLost}
+use Rattle.dm_symbol.proofs.Below.{codewords_are_bytes}
+use Rattle.dm_symbol.proofs.Choosing.{chosen}
+use Rattle.dm_symbol.proofs.SymbolBelow.{block_lengths, block_facts}
+use Rattle.dm_symbol.proofs.Dealings.{dealt_of_size, not_restarted, not_wide, undealt}
+
+-- Some codeword is near to a block but for its erased places, or none is.
+block_near_or_none : (size : SizeEntry) (erased : ℕ → List ℕ) (words : List ℕ) → AreOfSize size words → (b : ℕ)
+    → b < size.blocks
+    → HasNearBut (block_check size) (block_in size words b) (erased b)
+    ⊎ (HasNearBut (block_check size) (block_in size words b) (erased b) → ⊥)
+block_near_or_none size erased words h b hb =
+    let f = block_facts size h.size b hb in
+    let long = block_lengths size words h b hb in
+    elim (near_but_or_none (block_check size) (block_in size words b) (erased b) (omega (arith, long, f.some_data))
+    (omega (arith, long, f.short))) [
+      | inl some ↦ inl some
+      | inr none ↦ inr (λ some. none some.0 some.1)
+    ]
+
+-- Each of the first n blocks has a codeword near to it but for its erased places, or there is a first block that has
+-- none.
+pub near_or_first_lost : (size : SizeEntry) (erased : ℕ → List ℕ) (words : List ℕ) → AreOfSize size words → (n : ℕ)
+    → n ≤ size.blocks
+    → ((b : ℕ) → b < n → HasNearBut (block_check size) (block_in size words b) (erased b))
+    ⊎ ((b : ℕ) × IsFirstLost size erased words b)
+near_or_first_lost size erased words h zero hn = inl (λ b hb. absurd (omega (arith, hb)))
+near_or_first_lost size erased words h (suc n) hn =
+    elim (near_or_first_lost size erased words h n (omega (arith, hn))) [
+      | inr first ↦ inr first
+      | inl before ↦ elim (block_near_or_none size erased words h n (omega (arith, hn))) [
+        | inr none ↦ inr (n, record { in_symbol = omega (arith, hn); lost = none; first = before })
+        | inl here ↦ inl (λ b hb. elim (cases_eq b n) [
+          | inl e ↦ subst (λ x. HasNearBut (block_check size) (block_in size words x) (erased x)) (sym e) here
+          | inr other ↦ before b (omega (arith, hb, other))
+        ])
+      ]
+    ]
+
+-- Words whose blocks, dealt so, all have codewords near to them but for their erased places are restored.
+restored : (d : Dealing) (modules : SymbolView) (doubtful : Option SymbolView) (words : List ℕ)
+    → (d ≡ Restarted → IsDealtTwoWays modules.size) → AreHeldBy modules words
+    → ((b : ℕ) → b < modules.size.blocks → HasNearBut (block_check modules.size)
+    (block_in modules.size (dealt d modules.size words) b) (erased_by d modules.size doubtful b))
+    → (codewords : List ℕ) × AreRestoredBy d modules doubtful words codewords
+restored d modules doubtful words two h near =
+    let size = modules.size in
+    let word = dealt d size words in
+    let near_one = chosen size.blocks
+    (λ b c. IsNearBut (block_check size) (block_in size word b) (erased_by d size doubtful b) c) near in
+    let made = blocks_make_words size near_one.0 h.codewords.size (λ b hb. (
+      (near_one.1 b hb).long ∙ block_lengths size word (dealt_of_size d size words two h.codewords) b hb,
+      codewords_are_bytes (block_check size) (near_one.0 b) (near_one.1 b hb).codeword,
+    )) in
+    let back = undealt d size made.0.list two (subst (λ s. AreOfSize s made.0.list) made.2 made.1) in (
+      back.0,
+      record {
+        words_held = h;
+        of_size = back.1;
+        near = λ b hb. subst
+            (λ c. IsNearBut (block_check size) (block_in size word b) (erased_by d size doubtful b) c)
+            (sym (ap (λ c. block_in size c b) back.2 ∙ made.3 b hb)) (near_one.1 b hb);
+      },
+    )
+
+-- The other dealing is tried where a block is lost, or it isn't.
+tried_or_not : (extent : Extent) (size : SizeEntry) → ((extent ≡ Wide) × IsDealtTwoWays size)
+    ⊎ (extent ≡ Wide → IsDealtTwoWays size → ⊥)
+tried_or_not Usual size = inr (λ e two. not_wide e)
+tried_or_not Wide size =
+    elim (cases_eq size.rows 144) [
+      | inr other ↦ inr (λ e two. other two.0)
+      | inl rows ↦ elim (cases_eq size.columns 144) [
+        | inr other ↦ inr (λ e two. other two.1)
+        | inl columns ↦ inl (refl, (rows, columns))
+      ]
+    ]
+
+-- Words that modules hold are restored by a dealing, or they are lost.
+pub restored_or_lost : (extent : Extent) (modules : SymbolView) (doubtful : Option SymbolView) (words : List ℕ)
+    → AreHeldBy modules words
+    → ((d : Dealing) × (c : List ℕ) × AreRestored extent modules doubtful d words c)
+    ⊎ ((b : ℕ) × AreLost extent modules doubtful words b)
+restored_or_lost extent modules doubtful words h =
+    let size = modules.size in
+    elim (near_or_first_lost size (erased_in size doubtful) words h.codewords size.blocks (omega arith)) [
+      | inl near ↦
+          let c = restored Standard modules doubtful words not_restarted h near in
+          inl (Standard, c.0, record { tried = tt; by = c.1 })
+      | inr first ↦ elim (tried_or_not extent size) [
+        | inr not ↦ inr (
+          first.0,
+          record {
+            words_held = h;
+            first = first.1;
+            otherwise = λ c r. not r.tried.0 r.tried.1;
+          },
+        )
+        | inl both ↦
+            let two : Restarted ≡ Restarted → IsDealtTwoWays size = λ e. both.1 in
+            elim (near_or_first_lost size (erased_by Restarted size doubtful) (dealt Restarted size words)
+            (dealt_of_size Restarted size words two h.codewords) size.blocks (omega arith)) [
+              | inl near ↦
+                  let c = restored Restarted modules doubtful words two h near in
+                  inl (Restarted, c.0, record { tried = (both.0, both.1, first.0, first.1); by = c.1 })
+              | inr lost ↦ inr (
+                first.0,
+                record {
+                  words_held = h;
+                  first = first.1;
+                  otherwise = λ c r. lost.1.lost
+                      (block_in size (dealt Restarted size c) lost.0, r.by.near lost.0 lost.1.in_symbol);
+                },
+              )
+            ]
+      ]
+    ]
