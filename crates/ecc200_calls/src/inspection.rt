@@ -143,9 +143,7 @@ fn show_inspection<const WORDS: usize>(
     out.codeword_count = inspection.held.list().len() as u16;
     out.dealing = dealing_number(inspection.dealing);
     out.designator_count = 0;
-    put_corrected(&mut out.corrected, blocks);
-    put_erased(&mut out.erased, blocks);
-    put_left(&mut out.left, blocks);
+    put_counts(&mut out.corrected, &mut out.erased, &mut out.left, blocks);
     put_bytes(&mut out.held, inspection.held.list());
     put_bytes(&mut out.mended, inspection.mended.list());
 }
@@ -180,41 +178,40 @@ fn find_designators(out: &mut InspectionOut, words: &[u8])
     put_marks(&mut out.designators, &found);
 }
 
-/// Writes the numbers of wrong codewords of these blocks over the first ones.
-fn put_corrected(all: &mut [u8], blocks: &[Option<BlockReading>])
-    requires { length blocks.now ≤ length all.old }
-    ensures { all.new ≡ over (map corrected_shown blocks.now) all.old }
+/// Writes the counts that are shown of these blocks over the first ones, as a reading has them.
+fn put_counts(
+    corrected: &mut [u8],
+    erased: &mut [u8],
+    left: &mut [u8],
+    blocks: &[Option<BlockReading>],
+)
+    requires corrected_room { length blocks.now ≤ length corrected.old }
+    requires erased_room { length blocks.now ≤ length erased.old }
+    requires left_room { length blocks.now ≤ length left.old }
+    ensures corrected { corrected.new ≡ over (map corrected_shown blocks.now) corrected.old }
+    ensures erased { erased.new ≡ over (map erased_shown blocks.now) erased.old }
+    ensures left { left.new ≡ over (map left_shown blocks.now) left.old }
 {
     for (b, block) in blocks.iter().enumerate() {
-        all[b] = match block {
-            Some(block) => block.corrected,
-            None => BEYOND,
-        };
+        let counts = counts_of(*block);
+        corrected[b] = counts.corrected;
+        erased[b] = counts.erased;
+        left[b] = counts.left;
     }
 }
 
-/// Writes the numbers of erased codewords of these blocks over the first ones.
-fn put_erased(all: &mut [u8], blocks: &[Option<BlockReading>])
-    requires { length blocks.now ≤ length all.old }
-    ensures { all.new ≡ over (map erased_shown blocks.now) all.old }
+/// Gives the counts that are shown of a block.
+fn counts_of(block: Option<BlockReading>) -> BlockReading
+    ensures corrected { result.corrected ≡ corrected_shown block }
+    ensures erased { result.erased ≡ erased_shown block }
+    ensures left { result.left ≡ left_shown block }
 {
-    for (b, block) in blocks.iter().enumerate() {
-        all[b] = match block {
-            Some(block) => block.erased,
-            None => 0,
-        };
-    }
-}
-
-/// Writes over the first ones how many check codewords are left of these blocks.
-fn put_left(all: &mut [u8], blocks: &[Option<BlockReading>])
-    requires { length blocks.now ≤ length all.old }
-    ensures { all.new ≡ over (map left_shown blocks.now) all.old }
-{
-    for (b, block) in blocks.iter().enumerate() {
-        all[b] = match block {
-            Some(block) => block.left,
-            None => 0,
-        };
+    match block {
+        Some(counts) => counts,
+        None => BlockReading {
+            corrected: BEYOND,
+            erased: 0,
+            left: 0,
+        },
     }
 }

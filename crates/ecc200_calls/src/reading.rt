@@ -223,9 +223,7 @@ fn show_reading<const ITEMS: usize, const MARKS: usize>(
     out.columns = size.columns();
     out.border_faults = restored.border_faults;
     out.block_count = blocks.len() as u16;
-    put_corrected(&mut out.corrected, blocks);
-    put_erased(&mut out.erased, blocks);
-    put_left(&mut out.left, blocks);
+    put_counts(&mut out.corrected, &mut out.erased, &mut out.left, blocks);
     out.identifier = u16::from(identifier);
     out.dealing = dealing_number(restored.dealing);
     out.head = head_shown(letter.head());
@@ -235,32 +233,19 @@ fn show_reading<const ITEMS: usize, const MARKS: usize>(
     put_items(&mut out.items, items);
 }
 
-/// Writes the numbers of wrong codewords of these blocks over the first ones.
-fn put_corrected(all: &mut [u8], blocks: &[BlockReading])
-    requires { length blocks.now ≤ length all.old }
-    ensures { all.new ≡ over (map corrected_in blocks.now) all.old }
+/// Writes the counts of these blocks over the first ones: of wrong codewords, of erased ones, and of the check codewords
+/// that are left.
+fn put_counts(corrected: &mut [u8], erased: &mut [u8], left: &mut [u8], blocks: &[BlockReading])
+    requires corrected_room { length blocks.now ≤ length corrected.old }
+    requires erased_room { length blocks.now ≤ length erased.old }
+    requires left_room { length blocks.now ≤ length left.old }
+    ensures corrected { corrected.new ≡ over (map corrected_in blocks.now) corrected.old }
+    ensures erased { erased.new ≡ over (map erased_in blocks.now) erased.old }
+    ensures left { left.new ≡ over (map left_in blocks.now) left.old }
 {
     for (b, block) in blocks.iter().enumerate() {
-        all[b] = block.corrected;
-    }
-}
-
-/// Writes the numbers of erased codewords of these blocks over the first ones.
-fn put_erased(all: &mut [u8], blocks: &[BlockReading])
-    requires { length blocks.now ≤ length all.old }
-    ensures { all.new ≡ over (map erased_in blocks.now) all.old }
-{
-    for (b, block) in blocks.iter().enumerate() {
-        all[b] = block.erased;
-    }
-}
-
-/// Writes over the first ones how many check codewords are left of these blocks.
-fn put_left(all: &mut [u8], blocks: &[BlockReading])
-    requires { length blocks.now ≤ length all.old }
-    ensures { all.new ≡ over (map left_in blocks.now) all.old }
-{
-    for (b, block) in blocks.iter().enumerate() {
-        all[b] = block.left;
+        corrected[b] = block.corrected;
+        erased[b] = block.erased;
+        left[b] = block.left;
     }
 }
