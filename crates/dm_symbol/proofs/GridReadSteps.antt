@@ -59,7 +59,8 @@ module _ (grid : GridView) (limit : ℕ) (g : IsGrid grid) where
     pub message_is_read : (m : List Item) → Spells Usual (data_of w) m
         → IsRead grid limit (Ok (reading_of m (map (λ (b : BlockReading). b.corrected) blocks) count))
     message_is_read m spelled =
-        let number = identifier_is_there (data_of w) (as_letter m) (said_wide Usual (data_of w) (as_letter m) spelled) in
+        let said = said_wide Usual (data_of w) (as_letter m) spelled in
+        let number = identifier_is_there (data_of w) (as_letter m) said in
         is_read grid limit (Ok (reading_of m (map (λ (b : BlockReading). b.corrected) blocks) count)) (record {
           is_grid = g;
           of_symbol = Ok (letter_reading_of (as_letter m) number.0 dealing blocks count);

@@ -97,7 +97,8 @@ module _ (modules : SymbolView) (doubtful : Option SymbolView) where
     one_letter_result a b (LetterReadResult.letter p u c x m h hu s i e) (LetterReadResult.words q v d y k hv r f) =
         absurd (said_not_refused extent (first_data modules.size d) x y
         (moved (λ w. Says extent w x) p q u c v d hu hv s) r)
-    one_letter_result a b (LetterReadResult.letter p u c x m h hu s i e) (LetterReadResult.letter q v d y n k hv t j f) =
+    one_letter_result a b (LetterReadResult.letter p u c x m h hu s i e)
+        (LetterReadResult.letter q v d y n k hv t j f) =
         let same = restored_is_one modules doubtful extent extent p q u c v d hu hv in
         let list = first_data modules.size d in
         let letter : x ≡ y =
@@ -123,12 +124,15 @@ module _ (modules : SymbolView) (doubtful : Option SymbolView) where
                     let list = first_data modules.size r.1 in
                     elim (one_letter extent list (data_are_bytes modules.size r.1 r.2.by.of_size)) [
                       | inl one ↦
-                          let number = identifier_is_there list one.letter (said_wide extent list one.letter one.says) in (
+                          let said = said_wide extent list one.letter one.says in
+                          let number = identifier_is_there list one.letter said in (
                             read_as r.0 words r.1 one.letter number.0,
                             LetterReadResult.letter r.0 words r.1 one.letter number.0 few r.2 one.says number.1 refl,
                           )
-                      | inr one ↦
-                          (Err (fault.Words one.why), LetterReadResult.words r.0 words r.1 one.why few r.2 one.refused refl)
+                      | inr one ↦ (
+                        Err (fault.Words one.why),
+                        LetterReadResult.words r.0 words r.1 one.why few r.2 one.refused refl,
+                      )
                     ]
               ]
         ]

@@ -94,7 +94,8 @@ one_list words found other (of_letter opening place more opened said parts is)
     is
     ∙ same_designations (length opened.first) place parts.parts parts_too.parts more parts.after parts_too.after
     parts.whole (tails ∙ parts_too.whole) parts.joined
-    (subst (λ (n : ℕ). AreJoined (IsLetterPart Wide) n parts_too.parts parts_too.after) places parts_too.joined) parts.ended
+    (subst (λ (n : ℕ). AreJoined (IsLetterPart Wide) n parts_too.parts parts_too.after) places parts_too.joined)
+    parts.ended
     parts_too.ended
     ∙ ap (λ (n : ℕ). designations n parts_too.parts) count ∙ sym is_too
 one_list words found other (of_letter opening place more opened said parts is) (of_refused why refused none) =

@@ -236,7 +236,8 @@ no_designation place before words after said (part items p is) none = rw is refl
 no_designation place before words after said (mark d number wide e whole is) none =
     absurd (none 0 (omega (arith, ap length whole)) (ap (λ (l : List ℕ). get_or l 0 0) whole))
 
-no_designations : (place before : ℕ) (ps : List (Piece Said)) (after : List ℕ) → AreJoined (IsLetterPart Wide) place ps after
+no_designations : (place before : ℕ) (ps : List (Piece Said)) (after : List ℕ)
+    → AreJoined (IsLetterPart Wide) place ps after
     → HaveNoEci (spelled ps) → designations before ps ≡ []
 no_designations place before [] after joined none = refl
 no_designations place before (p ∷ ps) after joined none =

@@ -45,7 +45,8 @@ mark_count (Number number) = 1
 pub taken_away : (extent : Extent) (at n : ℕ) (words : List ℕ) (said : Said)
     → IsLetterPart extent (at + 1) (take n (drop at words)) (drop n (drop at words)) said
     → mark_count said + eci_count (drop (at + n) words) ≤ eci_count (drop at words)
-taken_away extent at n words said (part items p is) = rw is (omega (arith, no_more_left at (at + n) words (omega arith)))
+taken_away extent at n words said (part items p is) =
+    rw is (omega (arith, no_more_left at (at + n) words (omega arith)))
 taken_away extent at n words said (mark d number wide e whole is) =
     let some : eci_count (take n (drop at words)) ≡ 1 + eci_count d = ap eci_count whole ∙ one_counts d in
     rw is (omega (arith, in_parts n (drop at words), ap eci_count (drop-drop n at words), some))

@@ -9,7 +9,8 @@ use Rattle.dm_words.specs.declared.letters.opening.Opening.TheVariants.{Plain}
 use Rattle.dm_words.specs.Joined.{Piece, spelled, AreJoined}
 use Rattle.dm_words.specs.Values.{IsDropped, filler, waiting, AreValues}
 use Rattle.dm_words.specs.Parts.{IsPart, ascii, run, segment, edifact}
-use Rattle.dm_words.specs.Letters.{LetterView, Said, IsLetterPart, part, mark, AreLetterParts, IsOpening, headed, framed}
+use Rattle.dm_words.specs.Letters.{LetterView, Said, IsLetterPart, part, mark, AreLetterParts, IsOpening, headed}
+use Rattle.dm_words.specs.Letters.{framed}
 use Rattle.dm_words.specs.Letters.{plain, said_letter, Says, BeginsFrame}
 use Rattle.dm_words.specs.Smallest.{SpellsThenPads, plain_padded, macro_padded}
 use Rattle.dm_words.proofs.LetterParts.{not_wide}

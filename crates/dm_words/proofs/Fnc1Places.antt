@@ -425,7 +425,8 @@ parts_begin start more said are w digit ms e k = by_parts are.parts are.joined a
       let taken = ap (first_letter_part Wide start) whole ∙ c.0 in
       let eci : w ≡ 241 → ⊥ = λ same. (let g : Some (codeword.Macro digit) ≡ Some codeword.LeftOut = sym k
       ∙ ap codeword_of same in cc) in
-      let stops : first_letter_part Wide start (w ∷ ms) ≡ as_said (part_by Wide start w ms (Some (codeword.Macro digit))) =
+      let stops : first_letter_part Wide start (w ∷ ms)
+      ≡ as_said (part_by Wide start w ms (Some (codeword.Macro digit))) =
       as_part Wide start w ms (λ wide. eci) ∙ ap (λ (m : Option Codeword). as_said (part_by Wide start w ms m)) k in
       let g = sym stops ∙ taken in absurd (cc)
 

@@ -162,7 +162,8 @@ module _ (words : List ℕ) (l : LetterView) (cost : ℕ) (few : 2 * length l.it
       record { first = s.opened.first; digit = digit; more = s.more; is_frame = f; whole = s.opened.whole } in
       let items : l.items ≡ macro_text digit text = ap (λ (k : LetterView). k.items) e in
       let marks : l.marks ≡ said_marks 7 s.said = ap (λ (k : LetterView). k.marks) e in
-      let in_order : AreMarks 7 (7 + length text) l.marks = rw marks (said_in_order Wide 7 s.place s.more s.said s.parts) in
+      let in_order : AreMarks 7 (7 + length text) l.marks =
+      rw marks (said_in_order Wide 7 s.place s.more s.said s.parts) in
       let c : cost ≤ 1 + said_cost 7 s.said =
       (rw marks at (least.framed f.word digit text f.is_macro (ap (λ (k : LetterView). k.head) e) items
       (λ fnc1. no_fnc1 (digit, text, items, fnc1) begins) in_order)) in

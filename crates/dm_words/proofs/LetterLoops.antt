@@ -1,6 +1,7 @@
 -- The loop that reads one part of a letter after the other.
-use Rattle.std.proofs.Common.{◌≡◌, ℕ, suc, ◌+◌, ◌*◌, ◌/◌, ◌%◌, ◌<◌, ◌≤◌, List, [], ◌∷◌, ◌++◌, length, take, drop, refl, sym, ap}
-use Rattle.std.proofs.Common.{subst, ◌∙◌, append_assoc, arith, length-append, Option, Some, None, Result, Ok, true}
+use Rattle.std.proofs.Common.{◌≡◌, ℕ, suc, ◌+◌, ◌*◌, ◌/◌, ◌%◌, ◌<◌, ◌≤◌, List, [], ◌∷◌, ◌++◌, length, take, drop, refl}
+use Rattle.std.proofs.Common.{sym, ap, subst, ◌∙◌, append_assoc, arith, length-append, Option, Some, None, Result, Ok}
+use Rattle.std.proofs.Common.{true}
 use Rattle.std.proofs.lemmas.List.{append-nil, length-drop, length-take, drop-drop}
 use Rattle.dm_words.specs.declared.extent.Extent.{Extent}
 use Rattle.dm_words.specs.declared.extent.Extent.TheVariants.{Usual}
@@ -40,13 +41,15 @@ with_extended l (Number number) rest =
     rw (append_assoc l.marks (m ∷ []) (said_marks (length l.items) rest)) refl
 
 -- Reading on takes the first part.
-pub letter_on-takes : (extent : Extent) (so_far : LetterView) (place : ℕ) (words : List ℕ) (n : ℕ) (said : Said) → IsBytes words
+pub letter_on-takes : (extent : Extent) (so_far : LetterView) (place : ℕ) (words : List ℕ) (n : ℕ) (said : Said)
+    → IsBytes words
     → first_letter_part extent place words ≡ Takes n said
     → letter_on extent so_far place words ≡ letter_on extent (with_said so_far said) (place + n) (drop n words)
 unfolding letter_on walk
 letter_on-takes extent so_far place words n said fit e =
     let r = (letter_part_sound extent).right place words n said fit e in
-    let w = walk-fuel (first_letter_part extent) (IsLetterPart extent) IsBytes None (letter_part_sound extent) (length words)
+    let w = walk-fuel (first_letter_part extent) (IsLetterPart extent) IsBytes None (letter_part_sound extent)
+    (length words)
     (suc (length (drop n words))) (place + n) (drop n words) (omega (arith, r.1, r.2, length-drop n words))
     (omega arith) ((letter_part_sound extent).fits n words fit) in
     let rest = walk (first_letter_part extent) None (suc (length (drop n words))) (place + n) (drop n words) in
@@ -74,7 +77,8 @@ HasRoom n (Items items) = length items ≤ 2 * n
 HasRoom n (Number number) = (2 ≤ n) × (number ≤ most_assigned)
 
 -- Each part has room.
-pub room_by : (extent : Extent) (place : ℕ) (words after : List ℕ) (said : Said) → IsLetterPart extent place words after said
+pub room_by : (extent : Extent) (place : ℕ) (words after : List ℕ) (said : Said)
+    → IsLetterPart extent place words after said
     → HasRoom (length words) said
 room_by extent place words after said (part items p is) = rw is (room_of extent place words after items p)
 room_by extent place words after said (mark d number wide e whole is) =

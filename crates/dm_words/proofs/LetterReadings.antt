@@ -61,7 +61,8 @@ opening_room extent words o e =
     }
 
 -- Behind an opening, reading begins with its items and no mark.
-pub begins_at : (extent : Extent) (most : ℕ) (words : List ℕ) (o : Opened) (before items : List Item) (none marks : List Mark)
+pub begins_at : (extent : Extent) (most : ℕ) (words : List ℕ) (o : Opened) (before items : List Item)
+    (none marks : List Mark)
     → opened extent words ≡ Some o → most_spelled extent (length words) ≤ most → before ≡ [] → none ≡ []
     → items ≡ before ++ opening_items o.opening → marks ≡ none
     → let l : LetterView = record { head = None; items = items; marks = marks } in
@@ -86,14 +87,20 @@ is_letter_result extent words (Ok l) fit is =
     let said : Says extent words l = (reads extent words fit).letter_is l (sym is) in
     record {
       letter = λ k. ((λ e. (reads extent words fit).letter_is k (sym is ∙ e)), (λ s. is ∙ said_reads extent words k s));
-      fault = λ why. ((λ e. (reads extent words fit).fault_is why (sym is ∙ e)), (λ f. is ∙ refused_reads extent words why f));
+      fault = λ why. (
+        (λ e. (reads extent words fit).fault_is why (sym is ∙ e)),
+        (λ f. is ∙ refused_reads extent words why f),
+      );
       right = said_is_letter extent words l said;
       most = (said_counts extent words l said).0;
       most_marks = (said_counts extent words l said).1;
     }
 is_letter_result extent words (Err f) fit is = record {
   letter = λ k. ((λ e. (reads extent words fit).letter_is k (sym is ∙ e)), (λ s. is ∙ said_reads extent words k s));
-  fault = λ why. ((λ e. (reads extent words fit).fault_is why (sym is ∙ e)), (λ w. is ∙ refused_reads extent words why w));
+  fault = λ why. (
+    (λ e. (reads extent words fit).fault_is why (sym is ∙ e)),
+    (λ w. is ∙ refused_reads extent words why w),
+  );
   right = tt;
   most = tt;
   most_marks = tt;

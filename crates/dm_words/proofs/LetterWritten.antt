@@ -208,7 +208,8 @@ form_said total base new items marks fit are is =
       whole = is ∙ ap (λ (l : List ℕ). base ++ l) h.whole;
       items_are = sym h.items_are;
       marks_are = sym h.marks_are;
-      right = λ after fills first. free_joined (IsLetterPart Wide) (length base + 1) h.parts after (all_said h.parts h.free);
+      right = λ after fills first.
+          free_joined (IsLetterPart Wide) (length base + 1) h.parts after (all_said h.parts h.free);
       plain = λ after fills first. free_joined IsPlainSaid (length base + 1) h.parts after h.free;
     }
 
@@ -262,7 +263,8 @@ says_so words l p = of_letter refl p.spells p.pads_are
 
 -- An opening and parts say a letter, with pads behind them.
 says_padded : (words : List ℕ) (l : LetterView) (opening : Opening) (place : ℕ) (more : List ℕ) (said : List Said)
-    → AreOpened Wide words opening place more → (parts : AreLetterParts Wide place more said) → l ≡ said_letter opening said
+    → AreOpened Wide words opening place more → (parts : AreLetterParts Wide place more said)
+    → l ≡ said_letter opening said
     → ((digit : ℕ) → opening ≡ Framed digit → (place ≡ 2) × (FramesFnc1 l.items → ⊥))
     → AreJoined IsPlainSaid place parts.parts parts.after → ArePads words parts.after → SaysPlainly words l
 says_padded words l opening place more said opened parts is first plain pads = record {
@@ -340,7 +342,8 @@ says_framed count word digit base new items text marks k is one w none fits =
     says_padded (padded new count) (view_of None items marks) (Framed digit) 2 p.more p.said
     (record {
       first = word ∷ [];
-      is_opening = framed digit refl (record { runs = []; word = word; are_empty = tt; is_macro = k; whole = refl }) refl;
+      is_opening = framed digit refl (record { runs = []; word = word; are_empty = tt; is_macro = k; whole = refl })
+          refl;
       whole = p.whole;
       place_is = refl;
     })

@@ -194,7 +194,13 @@ judged_by : (words : List ℕ) (h : Option Head) (a : Bool) (f : Option Frame) �
     → OpeningJudged Wide words (opened_by h a f)
 judged_by words (Some said) a f eh ea ef =
     let b = heads.found words said eh in
-    record { first = b.first; more = b.more; is_opening = headed said refl b.spells refl; whole = b.whole; count = b.count }
+    record {
+      first = b.first;
+      more = b.more;
+      is_opening = headed said refl b.spells refl;
+      whole = b.whole;
+      count = b.count;
+    }
 judged_by words None true f eh ea ef =
     (let b = append_is words ea in record { wide = refl; more = b.0; whole = b.1; none = heads.none_begins words eh })
 judged_by words None false (Some f) eh ea ef =

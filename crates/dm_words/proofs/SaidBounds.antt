@@ -1,5 +1,5 @@
--- How many items and marks codewords say: at most two items for each, in the wide extent seven more, and a mark for each
--- two.
+-- How many items and marks codewords say: at most two items for each, in the wide extent seven more, and a mark for
+-- each two.
 use Rattle.std.proofs.Common.{◌≡◌, ℕ, zero, suc, ◌+◌, ◌*◌, ◌≤◌, List, [], ◌∷◌, ◌++◌, length, ap, ◌∙◌, arith}
 use Rattle.std.proofs.Common.{length-append, ◌⊎◌, inl, inr}
 use Rattle.dm_words.specs.declared.extent.Extent.{Extent}

@@ -49,7 +49,8 @@ message_letter extent choice m (Ok size) words few r c =
         form = s.form;
         smallest = λ smaller other taken less sized framed says.
             none_smaller (λ w. FramesNoFnc1 w m × Says extent w (as_letter m)) choice c.0 size smaller other
-            (λ w said. no_fewer_words extent w m c.0 c.1 said.0 said.1) c.2.smallest c.2.narrowest taken less sized (framed, says);
+            (λ w said. no_fewer_words extent w m c.0 c.1 said.0 said.1) c.2.smallest c.2.narrowest taken less sized
+            (framed, says);
       };
       plainest = record {
         ascii = p.ascii;

@@ -77,7 +77,8 @@ macro_faulty : (place w digit : ℕ) (more : List ℕ) → codeword_of w ≡ Som
     → IsLetterFault Wide place (w ∷ more) (fault.Word (word_fault.LeftOut w place))
 macro_faulty place w digit more k =
     word (word_fault.LeftOut w place)
-    (λ wide rest is. (let same : w ≡ 241 = cc in let l : codeword_of w ≡ Some codeword.LeftOut = ap codeword_of same in cc))
+    (λ wide rest is. (let same : w ≡ 241 = cc in
+    let l : codeword_of w ≡ Some codeword.LeftOut = ap codeword_of same in cc))
     (left_out w more (macro_behind digit k) refl refl) refl
 
 -- A macro behind empty runs is a fault, where the parts begin with those.
@@ -283,7 +284,8 @@ unmarked extent place before (p ∷ ps) after h none =
 
 -- Parts that say no mark are parts of a message.
 unmarked_parts : (extent : Extent) (place before : ℕ) (words : List ℕ) (said : List Said)
-    → AreLetterParts extent place words said → said_marks before said ≡ [] → AreParts extent place words (said_items said)
+    → AreLetterParts extent place words said → said_marks before said ≡ []
+    → AreParts extent place words (said_items said)
 unmarked_parts extent place before words said p none =
     let r = unmarked extent place before p.parts p.after p.joined (ap (said_marks before) (sym p.said_are) ∙ none) in
     record {

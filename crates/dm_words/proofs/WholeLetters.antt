@@ -39,7 +39,8 @@ the_walk extent place words fit =
     (suc (length words)) place words (omega arith) fit
 
 -- Behind what was read before, a letter is this with what parts say, and a fault is there.
-record Tells (extent : Extent) (so_far : LetterView) (place : ℕ) (words : List ℕ) (r : Result LetterView LetterFault) : Type 0 where
+record Tells (extent : Extent) (so_far : LetterView) (place : ℕ) (words : List ℕ) (r : Result LetterView LetterFault) :
+    Type 0 where
   letter_is : (l : LetterView) → r ≡ Ok l
       → (said : List Said) × (l ≡ extended so_far said) × AreLetterParts extent place words said
   fault_is : (f : LetterFault) → r ≡ Err f → HaveLetterFault extent place words f
@@ -147,12 +148,14 @@ reading_tells extent words None j fit = record {
 }
 reading_tells extent words (Some o) j fit =
     let rest : drop o.count words ≡ j.more = ap (drop o.count) j.whole ∙ drop_at j.first j.more o.count (sym j.count) in
-    let t = read_tells extent (opening_letter o.opening) (1 + o.count) (drop o.count words) (IsBytes-drop o.count words fit) in
+    let t = read_tells extent (opening_letter o.opening) (1 + o.count) (drop o.count words)
+    (IsBytes-drop o.count words fit) in
     let opens : AreOpened extent words o.opening (1 + o.count) j.more =
     record { first = j.first; is_opening = j.is_opening; whole = j.whole; place_is = omega (arith, j.count) } in
     record {
       letter_is = λ l h. (
-          let q = closing_letter o.opening (letter_on extent (opening_letter o.opening) (1 + o.count) (drop o.count words)) l
+          let q = closing_letter o.opening
+          (letter_on extent (opening_letter o.opening) (1 + o.count) (drop o.count words)) l
           h in
           let p = t.letter_is q.0 q.1 in
           let is : Ok l ≡ Ok (said_letter o.opening p.0) = q.2
@@ -169,7 +172,8 @@ reading_tells extent words (Some o) j fit =
           );
       fault_is = λ f h. (
           let g = t.fault_is f
-          (closing_fault o.opening (letter_on extent (opening_letter o.opening) (1 + o.count) (drop o.count words)) f h) in
+          (closing_fault o.opening (letter_on extent (opening_letter o.opening) (1 + o.count) (drop o.count words)) f
+          h) in
           behind o.opening (1 + o.count) j.more opens
           (subst (λ (ws : List ℕ). HaveLetterFault extent (1 + o.count) ws f) rest g)
           );
@@ -191,7 +195,8 @@ opens_so extent words opening place more a = (
 )
 
 -- A letter that is said is read.
-pub said_reads : (extent : Extent) (words : List ℕ) (l : LetterView) → Says extent words l → letter_of extent words ≡ Ok l
+pub said_reads : (extent : Extent) (words : List ℕ) (l : LetterView) → Says extent words l
+    → letter_of extent words ≡ Ok l
 said_reads extent words l s =
     let o = opens_so extent words s.opening s.place s.more s.opened in
     let read = parts_read extent (opening_letter s.opening) s.place s.more s.said s.parts in
@@ -203,8 +208,10 @@ said_reads extent words l s =
     ∙ ap (and_closing s.opening) read ∙ closed_letter s.opening s.said)
 
 -- A fault with which the codewords are refused is found.
-pub refused_reads : (extent : Extent) (words : List ℕ) (f : LetterFault) → IsRefused extent words f → letter_of extent words ≡ Err f
-refused_reads extent words f (no_head more wide e none is) = rw (wide, openings.no_head_complete words more e none, is) refl
+pub refused_reads : (extent : Extent) (words : List ℕ) (f : LetterFault) → IsRefused extent words f
+    → letter_of extent words ≡ Err f
+refused_reads extent words f (no_head more wide e none is) =
+    rw (wide, openings.no_head_complete words more e none, is) refl
 refused_reads extent words f (behind opening place more a h) =
     let o = opens_so extent words opening place more a in
     let read = fault_read extent (opening_letter opening) place more f h in
@@ -215,7 +222,8 @@ refused_reads extent words f (behind opening place more a h) =
     ∙ ap (and_closing opening) read
 
 -- Codewords have one result, by what is read from them.
-result_of : (extent : Extent) (words : List ℕ) (r : Result LetterView LetterFault) → letter_of extent words ≡ r → IsBytes words
+result_of : (extent : Extent) (words : List ℕ) (r : Result LetterView LetterFault) → letter_of extent words ≡ r
+    → IsBytes words
     → HasOneLetterResult extent words
 result_of extent words (Ok l) e fit = inl (record {
   letter = l;

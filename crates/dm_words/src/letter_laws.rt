@@ -19,9 +19,9 @@ ghost use Rattle.dm_layout.specs.declared.symbols.size.SizeChoice.{SizeChoice};
 ghost use Rattle.dm_layout.specs.symbols.Sizes.{SizeEntry};
 ghost use Rattle.dm_words.specs.LetterResults.{HasOneLetterResult};
 
-/// In each extent, a list of codewords, however long, says exactly one letter and is refused with no fault, or is refused
-/// with exactly one fault and says none. So it spells exactly one message, or is refused with exactly one fault of a
-/// codeword.
+/// In each extent, a list of codewords, however long, says exactly one letter and is refused with no fault, or is
+/// refused with exactly one fault and says none. So it spells exactly one message, or is refused with exactly one fault
+/// of a codeword.
 pub fn one_letter()
     ensures letter { (extent : Extent) (words : List ℕ) → AreCodewords words
         → HasOneLetterResult extent words }

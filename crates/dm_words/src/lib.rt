@@ -1,6 +1,6 @@
 //! Data codewords of Data Matrix ECC 200 (ISO/IEC 16022): what a list of data codewords says, in the encodations ASCII,
-//! C40, Text, X12 and Base 256, and in a wider [`Extent`] also in EDIFACT, with macros, heads and marks, why other lists
-//! are refused, and the codewords in which a message or a letter is written.
+//! C40, Text, X12 and Base 256, and in a wider [`Extent`] also in EDIFACT, with macros, heads and marks, why other
+//! lists are refused, and the codewords in which a message or a letter is written.
 //!
 //! Reading: [`message_of()`] gives the [`Message`] of [`Item`]s that a list spells in the usual extent, or the
 //! [`WordFault`] with which the list is refused; [`message_to()`] reads the message into a target.
@@ -14,9 +14,8 @@
 //! Letters: [`letter_to_as()`] reads the [`Letter`] that a list says in an extent into a target, which is a [`Head`] or
 //! none, items and [`Mark`]s, or gives the [`LetterFault`] with which the list is refused. [`content_words_in()`]
 //! writes the codewords of a letter, and [`smallest_words_to()`] some of the smallest size of a choice that has any
-//! that say it in an extent.
-//! [`designations_to()`] tells where the designators of a letter stand among its codewords, and [`eci_count()`] how
-//! many there may be.
+//! that say it in an extent. [`designations_to()`] tells where the designators of a letter stand among its codewords,
+//! and [`eci_count()`] how many there may be.
 //!
 //! Limits: up to [`MOST_DATA`] codewords are read and written. A square has up to [`MOST_GRID_DATA`], for which a
 //! [`Message`] or a [`Letter`] serves: it has room for [`MESSAGE_ROOM`] items, of which the usual extent takes

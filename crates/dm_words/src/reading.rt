@@ -205,8 +205,8 @@ pub fn message_of(words: &[u8]) -> Result<Message, WordFault>
     }
 }
 
-/// Does the same in a target with room for two items for each codeword, of which there may be [`MOST_DATA`]: after `Ok`,
-/// `message` holds the message, whatever it held before. After a fault it is empty.
+/// Does the same in a target with room for two items for each codeword, of which there may be [`MOST_DATA`]: after
+/// `Ok`, `message` holds the message, whatever it held before. After a fault it is empty.
 pub fn message_to<const ROOM: usize>(
     words: &[u8],
     message: &mut MessageIn<ROOM>,

@@ -233,8 +233,8 @@ fn show_reading<const ITEMS: usize, const MARKS: usize>(
     put_items(&mut out.items, items);
 }
 
-/// Writes the counts of these blocks over the first ones: of wrong codewords, of erased ones, and of the check codewords
-/// that are left.
+/// Writes the counts of these blocks over the first ones: of wrong codewords, of erased ones, and of the check
+/// codewords that are left.
 fn put_counts(corrected: &mut [u8], erased: &mut [u8], left: &mut [u8], blocks: &[BlockReading])
     requires corrected_room { length blocks.now ≤ length corrected.old }
     requires erased_room { length blocks.now ≤ length erased.old }

@@ -113,7 +113,8 @@ pub(crate) fn opening_of(extent: Extent, words: &[u8]) -> Option<Opened>
     }
 }
 
-/// Does the same for any words, in the wide extent. It stands by itself, so that what is read behind most openings stays short.
+/// Does the same for any words, in the wide extent. It stands by itself, so that what is read behind most openings
+/// stays short.
 #[inline(never)]
 fn opening_asked(words: &[u8]) -> Option<Opened>
     ensures { result ≡ opened Extent.Wide words.now }

@@ -1,6 +1,7 @@
 //! Reading: the letter that data codewords say, or the fault with which they are refused.
 
-ghost use Rattle.std.specs.Prelude.{◌≡◌, ◌+◌, ◌*◌, ◌≤◌, ◌<◌, ◌++◌, [], ◌∷◌, length, drop, List, None, Some, OnOk, OnErr};
+ghost use Rattle.std.specs.Prelude.{◌≡◌, ◌+◌, ◌*◌, ◌≤◌, ◌<◌, ◌++◌, [], ◌∷◌, length, drop, List, None, Some, OnOk};
+ghost use Rattle.std.specs.Prelude.{OnErr};
 ghost use Rattle.dm_words.specs.Designators.{eci_word};
 ghost use Rattle.dm_words.specs.Messages.{most_spelled};
 ghost use Rattle.dm_words.specs.Letters.{BeginNoEci, HasMarkRoom, opening_head, opening_items, closing_items};
@@ -226,9 +227,10 @@ pub(crate) fn read_content<const ROOM: usize, const MARKS: usize>(
 /// At [`Extent::Usual`] a letter is what [`message_of()`](crate::message_of()) gives, without a head and marks. At
 /// [`Extent::Wide`] EDIFACT, ECI, structured append and reader programming are read too; a macro at the beginning,
 /// behind empty runs of C40, Text or X12 or none, gives the letter its header and its trailer, so it has up to seven
-/// items more than two for each codeword; and an Upper Shift that waits where a run of C40 or Text ends is dropped. What
-/// is read at [`Extent::Usual`] is read at [`Extent::Wide`] as the same. [`LetterFault`] says when each fault comes.
-/// ISO/IEC 16022, encodation schemes, ECI encodation, structured append, reader programming, 05 and 06 macro characters.
+/// items more than two for each codeword; and an Upper Shift that waits where a run of C40 or Text ends is dropped.
+/// What is read at [`Extent::Usual`] is read at [`Extent::Wide`] as the same. [`LetterFault`] says when each fault
+/// comes. ISO/IEC 16022, encodation schemes, ECI encodation, structured append, reader programming, 05 and 06 macro
+/// characters.
 pub fn letter_to_as<const ROOM: usize, const MARKS: usize>(
     extent: Extent,
     words: &[u8],

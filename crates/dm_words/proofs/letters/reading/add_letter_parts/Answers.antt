@@ -24,7 +24,8 @@ overflow_add-at g c =
     let r = goes_on c.args.extent g.row.ROOM c.args.words.now c.args.start c.loop-count.at c.in-Some.count
     (items_with c.args.marks.now.items c.args.message.now) (items_with c.loop-count.marks.items c.loop-count.message)
     (items_with c.next_letter_part.new.marks.items c.next_letter_part.new.message)
-    (letter_on c.args.extent (items_with c.args.marks.now.items c.args.message.now) (c.args.start + 1) (drop c.args.start c.args.words.now))
+    (letter_on c.args.extent (items_with c.args.marks.now.items c.args.message.now) (c.args.start + 1)
+    (drop c.args.start c.args.words.now))
     (λ i. omega (arith, c.type_inv.words i)) v.in_range v.content v.count (rw c.in-Some.is at c.in_ok-count.ensures)
     v.so_far in
     omega (arith, r.in_range, c.requires.short)
@@ -35,7 +36,8 @@ one_word_parts-at-requires-in-Some g c =
     let r = goes_on c.args.extent g.row.ROOM c.args.words.now c.args.start c.loop-count.at c.in-Some.count
     (items_with c.args.marks.now.items c.args.message.now) (items_with c.loop-count.marks.items c.loop-count.message)
     (items_with c.next_letter_part.new.marks.items c.next_letter_part.new.message)
-    (letter_on c.args.extent (items_with c.args.marks.now.items c.args.message.now) (c.args.start + 1) (drop c.args.start c.args.words.now))
+    (letter_on c.args.extent (items_with c.args.marks.now.items c.args.message.now) (c.args.start + 1)
+    (drop c.args.start c.args.words.now))
     (λ i. omega (arith, c.type_inv.words i)) v.in_range v.content v.count (rw c.in-Some.is at c.in_ok-count.ensures)
     v.so_far in
     (search rules, (r.in_range, (c.requires.short, r.content.item_room)))
@@ -46,7 +48,8 @@ loop-count-preserved g c =
     let r = goes_on c.args.extent g.row.ROOM c.args.words.now c.args.start c.loop-count.at c.in-Some.count
     (items_with c.args.marks.now.items c.args.message.now) (items_with c.loop-count.marks.items c.loop-count.message)
     (items_with c.next_letter_part.new.marks.items c.next_letter_part.new.message)
-    (letter_on c.args.extent (items_with c.args.marks.now.items c.args.message.now) (c.args.start + 1) (drop c.args.start c.args.words.now))
+    (letter_on c.args.extent (items_with c.args.marks.now.items c.args.message.now) (c.args.start + 1)
+    (drop c.args.start c.args.words.now))
     (λ i. omega (arith, c.type_inv.words i)) v.in_range v.content v.count (rw c.in-Some.is at c.in_ok-count.ensures)
     v.so_far in
     let e = c.one_word_parts-at-in-Some.ensures in
@@ -66,7 +69,8 @@ loop-count-smaller g c =
     let r = goes_on c.args.extent g.row.ROOM c.args.words.now c.args.start c.loop-count.at c.in-Some.count
     (items_with c.args.marks.now.items c.args.message.now) (items_with c.loop-count.marks.items c.loop-count.message)
     (items_with c.next_letter_part.new.marks.items c.next_letter_part.new.message)
-    (letter_on c.args.extent (items_with c.args.marks.now.items c.args.message.now) (c.args.start + 1) (drop c.args.start c.args.words.now))
+    (letter_on c.args.extent (items_with c.args.marks.now.items c.args.message.now) (c.args.start + 1)
+    (drop c.args.start c.args.words.now))
     (λ i. omega (arith, c.type_inv.words i)) v.in_range v.content v.count (rw c.in-Some.is at c.in_ok-count.ensures)
     v.so_far in
     let e = c.one_word_parts-at-in-Some.ensures in
@@ -76,14 +80,18 @@ pub returns-clause-read : goal.returns-clause-read
 returns-clause-read g c =
     let took = rw c.in_default.is at c.in_ok-count.ensures in
     rw took.1
-    (sym (stops_on c.args.extent c.args.words.now c.loop-count.at (items_with c.loop-count.marks.items c.loop-count.message) None
-    (letter_on c.args.extent (items_with c.args.marks.now.items c.args.message.now) (c.args.start + 1) (drop c.args.start c.args.words.now)) took.0
+    (sym (stops_on c.args.extent c.args.words.now c.loop-count.at
+    (items_with c.loop-count.marks.items c.loop-count.message) None
+    (letter_on c.args.extent (items_with c.args.marks.now.items c.args.message.now) (c.args.start + 1)
+    (drop c.args.start c.args.words.now)) took.0
     c.loop-count.invariant.so_far))
 
 pub returns-in_err-count-clause-read : goal.returns-in_err-count-clause-read
 returns-in_err-count-clause-read g c =
     let p = err_from_is_err_and c.from_residual.result c.from_residual.ensures.1 in
     rw (p.1, p.2)
-    (sym (stops_on c.args.extent c.args.words.now c.loop-count.at (items_with c.loop-count.marks.items c.loop-count.message) (Some c.in_err-count.field-0.0)
-    (letter_on c.args.extent (items_with c.args.marks.now.items c.args.message.now) (c.args.start + 1) (drop c.args.start c.args.words.now))
+    (sym (stops_on c.args.extent c.args.words.now c.loop-count.at
+    (items_with c.loop-count.marks.items c.loop-count.message) (Some c.in_err-count.field-0.0)
+    (letter_on c.args.extent (items_with c.args.marks.now.items c.args.message.now) (c.args.start + 1)
+    (drop c.args.start c.args.words.now))
     c.in_err-count.ensures c.loop-count.invariant.so_far))
