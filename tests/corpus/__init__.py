@@ -1,5 +1,5 @@
 """The marks of other encoders, for all fronts. `squares.txt` has those in seven ways to encode, `wide.txt` those that
-the usual extent refuses, `letters.txt` those with texts, ECIs and heads, `sizes.txt` those in the sizes beyond the
+the usual extent refuses, `contents.txt` those with texts, ECIs and heads, `sizes.txt` those in the sizes beyond the
 squares to 104, and `shifts.txt` those with characters of each shift set; `damaged.txt` has symbols of each size with
 damage, which damage.py makes. A line is a mark, with tabs between:
 
@@ -11,13 +11,13 @@ damage, which damage.py makes. A line is a mark, with tabs between:
 - its encoder, with the options: zint -b 71, dmtxwrite, iec16022, BWIPP with the name of its encoder, or ZXing with the
   side that it is told, or 0;
 - what else is known, each as NAME=VALUE: `usual`, how `dm_tool` refuses it; `data`, its data codewords in
-  hexadecimal digits; `identifier`, that of symbology; `text`, that of the letter, with control characters spelled;
+  hexadecimal digits; `identifier`, that of symbology; `text`, that of the content, with control characters spelled;
   `given`, what the encoder was given, in UTF-8 or spelled, where that isn't the items of what it says; `found`, the
   damage: how many border modules are wrong, and of each block how many codewords are corrected, and how many erased.
 
 `texts.txt` has texts as labels have them, a line each: a script, a tab and a text. `elements.txt` has GS1 element
 strings, each with its items, spelled, or with \\no and a part of what the Python package says of its fault.
-`charsets.txt` has letters as the marks have them, each with the charsets that it is in, and its text, if it is one,
+`charsets.txt` has contents as the marks have them, each with the charsets that it is in, and its text, if it is one,
 with control characters spelled. `corpus.mjs` reads the marks and the texts too."""
 import functools
 import re
@@ -84,13 +84,13 @@ class Mark(NamedTuple):
         return "".join(found[0] for found in TOKEN.finditer(self.said) if found["item"])
 
     @property
-    def letter(self):
+    def content(self):
         """Its items, its marks, each a place and a number, and its head: None, "programming", or a part, how many there
         are, and the two numbers of their file."""
-        return letter_of(self.said)
+        return content_of(self.said)
 
 
-def letter_of(said):
+def content_of(said):
     """Gives the items, the marks and the head of what is said."""
     items, marks, head = [], [], None
     for found in TOKEN.finditer(said):

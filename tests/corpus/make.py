@@ -67,7 +67,7 @@ ENCODERS = {"zint": by_zint, "dmtxwrite": by_libdmtx, "iec16022": by_iec16022, "
 def given_to(mark):
     """The bytes that the encoder of a mark was given."""
     if "given" not in mark.more:
-        return bytes(mark.letter[0])
+        return bytes(mark.content[0])
     return re.sub(rb"\\x([0-9A-F]{2})", lambda it: bytes.fromhex(it[1].decode()), mark.more["given"].encode())
 
 

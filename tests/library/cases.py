@@ -1,7 +1,7 @@
 """Requests to the library, each with the answer that is wanted: what model.py knows by itself, or what stands here as
 it was worked out by hand. answers.c, answers.rs and answers.py answer such requests by the callers of the library, a
 line for each."""
-from tests.library.letters import USUAL, WIDE, letter_of, letter_words, said_by, symbol_of
+from tests.library.contents import USUAL, WIDE, content_of, content_words, said_by, symbol_of
 from tests.library.model import (ANY, DIGITS, EXTENDED, FIELD, FNC1, ONE, PLACES, RECTANGLE, SIZES, SIZE_OF, SQUARE,
                                  UPPER_SHIFT, ascii_words, base_256_words, bits_of, codewords, modules_of, padded,
                                  randomised, triple, words_in)
@@ -95,7 +95,7 @@ def how(form, shape, named, extent, head):
 
 
 def write(said, form=0, shape=SQUARE, named=(0, 0), extent=USUAL):
-    said = letter_of(said)
+    said = content_of(said)
     return f"write {how(form, shape, named, extent, said.head)} {marking(said.marks)} {numbers(said.items)}"
 
 
@@ -117,7 +117,7 @@ def counted(size, corrected, erased=None):
 
 def saying(said):
     """What is said, as answers have it."""
-    said = letter_of(said)
+    said = content_of(said)
     return f"items {numbers(said.items)} marks {marking(said.marks)} head {heading(said.head)}"
 
 
@@ -125,13 +125,13 @@ def reading(named, said, corrected=None, border=0, erased=None, identifier=None,
     """The answer to a reading; the identifier is that of the normal form, unless it's given."""
     size = SIZE_OF[named]
     counts = counted(size, corrected or [0] * size.blocks, erased)
-    known = identifier or said_by(letter_words(letter_of(said)))[1]
+    known = identifier or said_by(content_words(content_of(said)))[1]
     return (f"rows {named[0]} columns {named[1]} border {border} blocks {size.blocks} {counts} {saying(said)} "
             f"identifier {known} dealing {dealing}")
 
 
 def symbol(said, profile=0, shape=SQUARE, named=(0, 0)):
-    """The answer that has the symbol of these items, or of this letter."""
+    """The answer that has the symbol of these items, or of this content."""
     made = symbol_of(said, profile, shape, named)
     if not made:
         return no(14)

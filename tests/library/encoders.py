@@ -5,7 +5,7 @@ import random
 import re
 import subprocess
 
-from tests.library.letter_cases import EDGES, MOST_NUMBER
+from tests.library.content_cases import EDGES, MOST_NUMBER
 from tests.library.library import module
 
 COUNT, MARGIN, PIXELS, AT_ONCE = 1005, 4, 3, 100

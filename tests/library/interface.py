@@ -2,10 +2,10 @@
 requests that its callers are asked, each with the answer that is wanted."""
 import functools
 
-from tests.library import letter_cases, small_cases
+from tests.library import content_cases, small_cases
 from tests.library.cases import (MOST_CODEWORDS, MOST_DATA, MOST_MODULES, SMALLEST, choices, conveniences,
                                  faults, limits, messages, modules, numbers, sizes, wide, words)
-from tests.library.letters import USUAL, WIDE
+from tests.library.contents import USUAL, WIDE
 from tests.library.model import ANY, BIT, EXTENDED, FNC1, NO_MODULE, ONE, RECTANGLE, SIZES, SQUARE
 
 CONSTANTS = {
@@ -106,7 +106,7 @@ class Interface:
         yield from modules()
         yield from limits()
         yield from words(set(CODES.values()))
-        for some in (letter_cases.ALL, small_cases.ALL):
+        for some in (content_cases.ALL, small_cases.ALL):
             for requests in some:
                 yield from requests()
         yield "compatible", "1"

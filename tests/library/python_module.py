@@ -16,7 +16,7 @@ from tests.library.answers import Answers
 from tests.library.cases import (FNC1, LARGEST, MOST_DATA, NO_SIZES, REFUSED, TEN, TWELVE, WIDENED, WORDS, Symbol,
                                  grid_of, hurt, with_bad_border)
 from tests.library.interface import TEXTS, Interface
-from tests.library.letters import symbol_of
+from tests.library.contents import symbol_of
 from tests.library.model import ONE, PLACES, SIZES
 
 MODULE = os.path.abspath(sys.argv[1])

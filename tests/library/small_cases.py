@@ -1,10 +1,10 @@
 """Requests about the smallest symbol, each with its size, whether the usual extent reads it, and what it says: by the
-search of letters.py, which knows no costs, or, for long messages of one kind, by a count that this search confirms for
+search of contents.py, which knows no costs, or, for long messages of one kind, by a count that this search confirms for
 short ones."""
 import itertools
 
 from tests.library.cases import SMALLEST, USUAL, WIDE, heading, marking, no, numbers, saying, symbol, write
-from tests.library.letters import Letter, can_say, letter_of, letter_words, smallest
+from tests.library.contents import Content, can_say, content_of, content_words, smallest
 from tests.library.model import ANY, EXTENDED, FNC1, ONE, RECTANGLE, SIZES, SQUARE
 
 # A digit, a capital, a small letter, a byte above 127, one of X12 alone, FNC1, and such as two or three encodations
@@ -15,7 +15,7 @@ MACRO, TRAILER = b"[)>\x1e05\x1d", b"\x1e\x04"
 
 def asked(said, extent, shape, named=(0, 0)):
     """What is asked about the smallest symbol."""
-    said = letter_of(said)
+    said = content_of(said)
     return (f"smallest {extent} {shape} {named[0]} {named[1]} {heading(said.head)} {marking(said.marks)} "
             f"{numbers(said.items)}")
 
@@ -29,12 +29,12 @@ def answer(said, size, is_usual):
 
 def searched(said, extent, shape, named=(0, 0)):
     """The answer by a search; and where ASCII encodation is enough in this size, the symbol itself."""
-    said = letter_of(said)
+    said = content_of(said)
     size = smallest(said, extent, shape, named)
     yield asked(said, extent, shape, named), answer(said, size, size and can_say(said, size.data, USUAL))
     if size is None:
         yield write(said, SMALLEST, shape, named, extent), no(14)
-    elif len(letter_words(said)) <= size.data:
+    elif len(content_words(said)) <= size.data:
         yield write(said, SMALLEST, shape, named, extent), symbol(said, 0, shape, named)
 
 
@@ -53,18 +53,18 @@ def with_marks(step=1):
     for items in itertools.islice(every, 0, None, step):
         for place in range(len(items) + 1):
             for extent, shape in ((USUAL, ANY), (WIDE, ANY), (WIDE, SQUARE)):
-                yield from searched(Letter(items, ((26, place),)), extent, shape)
-            framed = Letter((*MACRO, *items, *TRAILER), ((16383, 7 + place),))
+                yield from searched(Content(items, ((26, place),)), extent, shape)
+            framed = Content((*MACRO, *items, *TRAILER), ((16383, 7 + place),))
             yield from searched(framed, WIDE, EXTENDED)
         for head in ("programming", (2, 5, 1, 2)):
             for extent in (USUAL, WIDE):
-                yield from searched(Letter(items, (), head), extent, RECTANGLE)
-        yield from searched(Letter((*MACRO, *items, *TRAILER), (), "programming"), WIDE, ANY)
+                yield from searched(Content(items, (), head), extent, RECTANGLE)
+        yield from searched(Content((*MACRO, *items, *TRAILER), (), "programming"), WIDE, ANY)
         yield from searched((*MACRO, *items, *TRAILER), WIDE, ANY)
     for place, items in itertools.product(range(0, 13, 2), (b"ABCDEFGHIJKL", b"123456789012", b"-./-./-./-./",
                                                             b"\xff\xfe\xfd" * 4)):
-        yield from searched(Letter(tuple(items), ((26, place),)), WIDE, ANY)
-        yield from searched(Letter(tuple(items), ((3, 0), (26, place), (26, 12))), WIDE, SQUARE)
+        yield from searched(Content(tuple(items), ((26, place),)), WIDE, ANY)
+        yield from searched(Content(tuple(items), ((3, 0), (26, place), (26, 12))), WIDE, SQUARE)
 
 
 # Of each encodation, characters for which no other is shorter, and how many codewords so many of them take at least in
@@ -93,8 +93,8 @@ def least(name, count, extent):
 def counts_are_right():
     """Whether the search says the same of short ones: what doesn't is yielded."""
     for name, extent, count in itertools.product(LONG, (USUAL, WIDE), range(1, 27)):
-        told, letter = least(name, count, extent), letter_of(message(name, count))
-        if [can_say(letter, told + more, extent) for more in (-1, 0, 1, 2)] != [False, True, True, True]:
+        told, content = least(name, count, extent), content_of(message(name, count))
+        if [can_say(content, told + more, extent) for more in (-1, 0, 1, 2)] != [False, True, True, True]:
             yield f"{count} of {name} in extent {extent}"
 
 

@@ -2,7 +2,7 @@
 and answers of cases.py."""
 import sys
 
-from tests.library import letter_cases, letters, small_cases
+from tests.library import content_cases, contents, small_cases
 from tests.library.callers import Callers, has_sanitisers
 from tests.library.cases import check_codewords_are_known
 from tests.library.library import interface, lacking_rust
@@ -20,18 +20,19 @@ class Alike(Case):
     def test_the_check_codewords_of_the_model_are_those_of_the_standards_example(self):
         self.assertTrue(check_codewords_are_known())
 
-    def test_the_model_reads_letters_as_they_were_worked_out_by_hand(self):
-        for data, items, marks, head, identifier in letter_cases.WORKED:
-            letter = letters.Letter(tuple(items), tuple(marks), head)
-            self.row(f"{data}", letters.said_by(data), (letter, identifier))
-        for data, *refusal in letter_cases.REFUSED:
-            with self.assertRaises(letters.Refusal) as why:
-                letters.said_by(data)
+    def test_the_model_reads_contents_as_they_were_worked_out_by_hand(self):
+        for data, items, marks, head, identifier in content_cases.WORKED:
+            content = contents.Content(tuple(items), tuple(marks), head)
+            self.row(f"{data}", contents.said_by(data), (content, identifier))
+        for data, *refusal in content_cases.REFUSED:
+            with self.assertRaises(contents.Refusal) as why:
+                contents.said_by(data)
             self.row(f"{data}", why.exception.args, tuple(refusal))
 
     def test_the_model_reads_each_number_that_it_writes(self):
-        for number in (*range(20_000), *range(20_000, letter_cases.MOST_NUMBER + 1, 97), letter_cases.MOST_NUMBER):
-            self.assertEqual(letters.number_of(letters.designator(number)), (number, len(letters.designator(number))))
+        for number in (*range(20_000), *range(20_000, content_cases.MOST_NUMBER + 1, 97), content_cases.MOST_NUMBER):
+            words = contents.designator(number)
+            self.assertEqual(contents.number_of(words), (number, len(words)))
 
     def test_the_least_counts_of_long_messages_are_those_of_a_search(self):
         self.assertEqual(list(small_cases.counts_are_right()), [])

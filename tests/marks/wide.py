@@ -2,13 +2,13 @@
 of reading.
 
 In the wide extent the library has to say what was printed; where an encoder was given something else, it has written
-that, and ZXing reads it too. In the usual extent it has to answer what tests/library/letters.py, a plain reader of
+that, and ZXing reads it too. In the usual extent it has to answer what tests/library/contents.py, a plain reader of
 codewords, says. The lists of codewords are laid in symbols with check codewords that are computed by
 tests/library/model.py."""
 import random
 
 from tests import corpus
-from tests.library.letters import USUAL, WIDE, Letter, Refusal, said_by
+from tests.library.contents import USUAL, WIDE, Content, Refusal, said_by
 from tests.library.library import module
 from tests.library.model import SIZE_OF, SIZES, codewords, modules_of
 
@@ -24,15 +24,15 @@ def read(modules, named, extent):
         got = ecc200.read([given[at:at + columns] for at in range(0, rows * columns, columns)], ANY_LIMIT, extent)
     except ecc200.Refused as why:
         return why.code.value, why.value, why.place
-    return Letter(got.items, tuple((number, place) for place, number in got.marks), got.head), got.symbology
+    return Content(got.items, tuple((number, place) for place, number in got.marks), got.head), got.symbology
 
 
 def wanted_of(words, extent):
     try:
-        letter, identifier = said_by(words, extent)
+        content, identifier = said_by(words, extent)
     except Refusal as why:
         return why.args
-    return letter, f"]d{identifier}"
+    return content, f"]d{identifier}"
 
 
 def data_codewords(modules, named):
@@ -98,28 +98,28 @@ def some_list(chance, count):
 def lists(count):
     """Codewords at random, in symbols of all sizes, most of them small."""
     chance = random.Random(240)
-    wrong, letters, messages = [], 0, 0
+    wrong, contents, messages = [], 0, 0
     for _ in range(count):
         size = SIZES[min(chance.randrange(len(SIZES)) for _ in range(4))]
         words = some_list(chance, size.data)
         modules = modules_of(size, codewords(size, words))
         for extent, number in EXTENTS.items():
             given, wanted = read(modules, size.named, number), wanted_of(words, number)
-            if extent == "wide" and isinstance(given[0], Letter):
-                is_letter = given[0].marks or given[0].head
-                letters, messages = letters + bool(is_letter), messages + (not is_letter)
+            if extent == "wide" and isinstance(given[0], Content):
+                is_content = given[0].marks or given[0].head
+                contents, messages = contents + bool(is_content), messages + (not is_content)
             if given != wanted:
                 wrong.append(f"{words} in the {extent} extent: {given}, and not {wanted}")
     yield f"{count} lists of codewords", "\n".join(wrong[:5]) or None
-    is_mixed = min(letters, messages) > count / 20 and letters + messages < count
-    yield "some of them are read, and some refused", None if is_mixed else f"{letters} letters, {messages} messages"
+    is_mixed = min(contents, messages) > count / 20 and contents + messages < count
+    yield "some of them are read, and some refused", None if is_mixed else f"{contents} contents, {messages} messages"
 
 
 def marks():
     """Each mark of another encoder in both extents."""
     for mark in corpus.marks("wide"):
         modules, named = mark.modules, (mark.rows, mark.columns)
-        said, wanted = read(modules, named, WIDE)[0], Letter(mark.letter[0])
+        said, wanted = read(modules, named, WIDE)[0], Content(mark.content[0])
         yield f"{mark.name}, wide", None if said == wanted else f"{said}, and not {wanted}"
         said, wanted = read(modules, named, USUAL), wanted_of(data_codewords(modules, named), USUAL)
         is_left_out = wanted[:2] in ((8, 236), (8, 237), (8, 240))

@@ -136,7 +136,7 @@ def uses():
     sizes = [[mark.name, letter_of(mark.said)] for mark in corpus.marks("sizes")]
     count.expect("every size", came("every size"), sizes)
     for mark, got in zip(corpus.marks("damaged"), came("damaged"), strict=True):
-        found = [] if mark.refusal else [list(mark.letter[0]), mark.damage[0], *map(list, mark.damage[1:])]
+        found = [] if mark.refusal else [list(mark.content[0]), mark.damage[0], *map(list, mark.damage[1:])]
         count.expect(mark.name, got, found or list(mark.refusal))
     count.expect("texts", (len(came("texts")), [text for text, read in came("texts") if text != read]), (200, []))
     count.expect("bytes in charsets", came("bytes in charsets"),
@@ -146,7 +146,7 @@ def uses():
     for (line, charset, *text), got in zip(rows, came("charsets of letters")):
         count.expect(f"the charset of {line}", got, [corpus.characters(text[0]) if text else None, charset])
     count.expect("charsets of letters", len(came("charsets of letters")), len(rows))
-    others = corpus.marks("letters")
+    others = corpus.marks("contents")
     for mark, got in zip(others, came("letters of others")):
         wanted = letter_of(mark.said), mark.more["identifier"], mark.more.get("text")
         count.expect(f"letter of another, {mark.encoder}", got_of(got), wanted)

@@ -22,7 +22,7 @@ def judged(questions):
 
 def letter_of(line, head=None):
     """The letter of a line as `ecc200 read --escapes` prints it, with this head, if the line has none."""
-    items, marks, own = corpus.letter_of(line)
+    items, marks, own = corpus.content_of(line)
     if isinstance(own, tuple):
         own = {"part": own[0], "parts": own[1], "file": list(own[2:])}
     places_of_marks = [{"place": place, "number": number} for place, number in marks]
@@ -31,13 +31,13 @@ def letter_of(line, head=None):
 
 def line_of_text(text):
     """The line of a text, as Python writes it in the smallest square."""
-    data, marks = package.imported().charsets.letter_of(text)
+    data, marks = package.imported().charsets.content_of(text)
     return "".join(f"\\E{{{number}}}" for _, number in marks) + line_of_items(data)
 
 
 def items_of(line):
     """The items of a line as the program spells them."""
-    return list(corpus.letter_of(line)[0])
+    return list(corpus.content_of(line)[0])
 
 
 def line_of_items(items):

@@ -26,7 +26,7 @@ function pictureOf(grids, dark = [20, 30, 40, 255], light = [250, 240, 230, 255]
 const plain = (grid) => ({ rows: grid.rows, columns: grid.columns, modules: grid.modules.join("") });
 const said = ({ text, items, isGs1, bytes, corrected }) => ({ text, items, isGs1, bytes: [...bytes], corrected });
 const letter = ({ text, charset, items, marks, head, symbology }) => ({ text, charset, items, marks, head, symbology });
-const others = () => marksOf("letters").map((mark) => readGrid(mark));
+const others = () => marksOf("contents").map((mark) => readGrid(mark));
 const ASCII = { form: "ascii" };
 const spoilt = (grid, count) => {
   const modules = grid.modules.slice();

@@ -68,7 +68,7 @@ try:
 except Unjoined as why:
     numbers: int = sum(why.missing + why.doubled + why.strange)
 told: charsets.Text = charsets.text_of(parts[0].items, parts[0].marks, "cp1252")
-data, own = charsets.letter_of("A")
+data, own = charsets.content_of("A")
 assigned: Optional[int] = charsets.assignment("utf-8")
 readings: Findings[Reading] = decode("a.png", most=9)
 ended: End = max(readings.ended, find("a.png").ended)

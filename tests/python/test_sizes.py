@@ -98,7 +98,7 @@ class Sizes(PackageCase):
             seen = ecc200.inspect(lines)
             self.row(f"codewords of mark {head}", (seen.held[:len(data)], seen.mended), (data, seen.held))
             reading = ecc200.read(lines)
-            self.row(f"what mark {head} says beside items", (reading.marks, reading.head), mark.letter[1:])
+            self.row(f"what mark {head} says beside items", (reading.marks, reading.head), mark.content[1:])
             self.row(f"the size of mark {head}", (reading.rows, reading.columns, reading.size),
                      (len(rows), len(rows[0]), (len(rows), len(rows[0]))))
             self.row(f"damage of mark {head}", (reading.border_faults, set(reading.corrected), set(reading.erased)),

@@ -102,7 +102,7 @@ def printed(marks):
     for mark in marks:
         text = mark.more.get("text")
         wanted = text and corpus.characters(text)
-        yield f"{mark.encoder}, {text}", ecc200.read(mark.lines), (*mark.letter[1:], mark.more["identifier"], wanted)
+        yield f"{mark.encoder}, {text}", ecc200.read(mark.lines), (*mark.content[1:], mark.more["identifier"], wanted)
 
 
 def part(number, count, data, file=(1, 2), marks=()):
@@ -131,7 +131,7 @@ class Texts(PackageCase):
         for text, charset, data, marks in WRITTEN:
             wanted = (data, marks) if marks is not None else data
             name = f"{text!r} in {charset}"
-            self.row(name, outcome(charsets.letter_of, text, charset), wanted)
+            self.row(name, outcome(charsets.content_of, text, charset), wanted)
             if marks is None:
                 for call in (ecc200.write, ecc200.encode):
                     self.row(f"{call.__name__}, {name}", outcome(lambda: call(text, charset=charset)), data)
@@ -157,7 +157,7 @@ class Texts(PackageCase):
     def test_read(self):
         """Which text and charset items and marks are."""
         for name, charset, *spelled in corpus.rows("charsets"):
-            items, marks, _ = corpus.letter_of(name)
+            items, marks, _ = corpus.content_of(name)
             text = corpus.characters(spelled[0]) if spelled else None
             for kind in (tuple, list, *([] if 256 in items else [bytes, bytearray, memoryview])):
                 given = kind(bytes(items)) if kind is memoryview else kind(items)
@@ -286,7 +286,7 @@ class Texts(PackageCase):
 
     def test_others(self):
         """What other encoders print is read as it was meant."""
-        letters = corpus.marks("letters")
+        letters = corpus.marks("contents")
         names = [name for name, *_ in printed(letters)]
         self.row("letters of others", (len(names), {name.split()[0] for name in names}), (56, {"zint", "bwipp",
                                                                                                "zxing"}))
@@ -303,7 +303,7 @@ class Texts(PackageCase):
         what = "letters of others, made anew"
         has_programs = [self.has(program, what) for program in ("zint", "gs", "java", "pngtopnm")]
         if all([*has_programs, self.is_there(BWIPP, what), self.is_there(ZXING, what)]):
-            status, records, errors = run([PYTHON, "-m", "tests.corpus.make", "letters"], cwd=TOP)
+            status, records, errors = run([PYTHON, "-m", "tests.corpus.make", "contents"], cwd=TOP)
             self.row("tests.corpus.make letters", (status, len(records.splitlines())), (0, 56))
             for name, reading, wanted in printed(map(corpus.mark_of, records.splitlines())):
                 self.row(f"{name}, {errors}", (reading.marks, reading.head, reading.symbology, reading.text), wanted)
@@ -354,7 +354,7 @@ class Texts(PackageCase):
         binary = ecc200.join([part(1, 2, b"A", marks=[(0, 899)]), part(2, 2, b"B")])
         self.row("no text", (binary.text, binary.charset, binary.data), (None, "binary", b"AB"))
         letters = {}
-        for _, reading, _ in printed(corpus.marks("letters")):
+        for _, reading, _ in printed(corpus.marks("contents")):
             if isinstance(reading.head, tuple):
                 letters.setdefault(reading.head[1:], []).append(reading)
         told = {file: ecc200.join(reversed(parts)).text for file, parts in letters.items()}

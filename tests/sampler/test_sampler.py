@@ -3,10 +3,10 @@ options, errors and statuses, hostile files, and the shared library from C and C
 library ecc200 under it is."""
 from tests.sampler.again import Again
 from tests.sampler.common import SamplerCase
+from tests.sampler.contents import Contents
 from tests.sampler.damage import Damage
 from tests.sampler.efforts import Efforts
 from tests.sampler.hard import Hard
-from tests.sampler.letters import Letters
 from tests.sampler.limits import Limits
 from tests.sampler.options import Options
 from tests.sampler.quality import Quality
@@ -18,7 +18,7 @@ from tests.support import needs
 
 
 @needs.library
-class Sampler(Again, Damage, Efforts, Hard, Letters, Limits, Options, Quality, Reading, Sheets, Sizes, Timing,
+class Sampler(Again, Damage, Efforts, Hard, Contents, Limits, Options, Quality, Reading, Sheets, Sizes, Timing,
               SamplerCase):
     """The cases of all subjects, for which the sampler is built once."""
 

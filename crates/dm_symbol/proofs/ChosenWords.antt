@@ -1,4 +1,4 @@
--- Data codewords that are chosen for a letter in a form: the symbol in which they are laid is the one in which it is
+-- Data codewords that are chosen for a content in a form: the symbol in which they are laid is the one in which it is
 -- written.
 use Rattle.std.proofs.Common.{◌≡◌, ◌∙◌, ◌<◌, ℕ, List, length, Some, None, Option, Result, Ok, Err, refl, ap, arith}
 use Rattle.std.specs.Prelude.{IfOk, IsSome, OnErr}
@@ -12,35 +12,35 @@ use Rattle.dm_layout.proofs.symbols.Exported.{size_facts}
 use Rattle.dm_words.specs.declared.extent.Extent.{Extent}
 use Rattle.dm_words.specs.declared.fault.TooLong.{TooLong}
 use Rattle.dm_words.specs.declared.item.Item.{Item}
-use Rattle.dm_words.specs.declared.letters.head.Head.{Head}
-use Rattle.dm_words.specs.declared.letters.mark.Mark.{Mark}
-use Rattle.dm_words.specs.Letters.{LetterView}
-use Rattle.dm_words.specs.LetterForm.{letter_form}
-use Rattle.dm_words.specs.SmallestLetters.{IsSmallestLetterResult}
-use Rattle.dm_symbol.specs.declared.letters.writing.Form.{Form}
-use Rattle.dm_symbol.specs.declared.letters.writing.Form.TheVariants.{Profiled, Smallest}
-use Rattle.dm_symbol.specs.SmallestLetterSymbol.{IsSmallestLetterWritten}
+use Rattle.dm_words.specs.declared.contents.head.Head.{Head}
+use Rattle.dm_words.specs.declared.contents.mark.Mark.{Mark}
+use Rattle.dm_words.specs.Contents.{ContentView}
+use Rattle.dm_words.specs.ContentForm.{content_form}
+use Rattle.dm_words.specs.SmallestContents.{IsSmallestContentResult}
+use Rattle.dm_symbol.specs.declared.contents.writing.Form.{Form}
+use Rattle.dm_symbol.specs.declared.contents.writing.Form.TheVariants.{Profiled, Smallest}
+use Rattle.dm_symbol.specs.SmallestContentSymbol.{IsSmallestContentWritten}
 use Rattle.dm_symbol.specs.SymbolBlocks.{AreCodewordsOf, first_data}
-use Rattle.dm_symbol.specs.WrittenLetter.{AreChosen, IsWrittenAs}
+use Rattle.dm_symbol.specs.WrittenContent.{AreChosen, IsWrittenAs}
 use Rattle.dm_symbol.specs.WrittenWords.{FitChoice}
-use Rattle.dm_symbol.proofs.SmallestLetterSymbols.{laid_is_smallest_letter, no_letter_written}
-use Rattle.dm_symbol.proofs.SmallestLetterSymbols.{smallest_letter_written}
+use Rattle.dm_symbol.proofs.SmallestContentSymbols.{laid_is_smallest_content, no_content_written}
+use Rattle.dm_symbol.proofs.SmallestContentSymbols.{smallest_content_written}
 use Rattle.dm_symbol.proofs.SymbolCompletions.{chosen_stands}
 use Rattle.dm_symbol.proofs.SymbolWriteSteps.{chosen_holds}
 use Rattle.dm_symbol.proofs.WrittenWords.{laid_are_written, words_are_written}
 
--- The modules in which the completed codewords are laid are the symbol in which the letter is written.
-pub chosen_written : (form : Form) (choice : SizeChoice) (l : LetterView) (size : SizeEntry) (chosen : List ℕ)
+-- The modules in which the completed codewords are laid are the symbol in which the content is written.
+pub chosen_written : (form : Form) (choice : SizeChoice) (l : ContentView) (size : SizeEntry) (chosen : List ℕ)
     (modules : SymbolView) (w : WordsView) → AreChosen form choice l size chosen → w.size ≡ size
     → first_data size w.list ≡ chosen → AreCodewordsOf size w.list → IsLaid w modules
     → IsWrittenAs form choice l (Ok modules)
 chosen_written (Profiled profile) choice l size chosen modules w is of_size front checked laid =
-    let form = letter_form profile l in
+    let form = content_form profile l in
     words_are_written choice form modules
     (laid_are_written choice form modules w size is.0 of_size (front ∙ is.1) checked laid)
 chosen_written (Smallest extent) choice l size chosen modules w is of_size front checked laid =
-    smallest_letter_written extent choice l modules
-    (laid_is_smallest_letter extent choice l modules w size chosen is.smallest is.plainest is.padded of_size front
+    smallest_content_written extent choice l modules
+    (laid_is_smallest_content extent choice l modules w size chosen is.smallest is.plainest is.padded of_size front
     checked laid)
 
 -- Codewords that are more than any size has fit none.
@@ -56,33 +56,33 @@ fits_no_size choice form long fits = by_size (entry_for choice (length form)) re
         long,
       )
 
--- What choosing the smallest words gives: the words of a size, or that there is none in which the letter is written.
-module _ (extent : Extent) (choice : SizeChoice) (l : LetterView) (words : List ℕ) where
-  pub smallest_chosen : (r : Result SizeEntry TooLong) → IsSmallestLetterResult extent choice l r words
-      → IfOk r (λ size. IsSmallestLetterResult extent choice l (Ok size) words)
+-- What choosing the smallest words gives: the words of a size, or that there is none in which the content is written.
+module _ (extent : Extent) (choice : SizeChoice) (l : ContentView) (words : List ℕ) where
+  pub smallest_chosen : (r : Result SizeEntry TooLong) → IsSmallestContentResult extent choice l r words
+      → IfOk r (λ size. IsSmallestContentResult extent choice l (Ok size) words)
   smallest_chosen (Ok size) is = is
   smallest_chosen (Err why) is = tt
 
-  pub smallest_sized : (r : Result SizeEntry TooLong) → IsSmallestLetterResult extent choice l r words
+  pub smallest_sized : (r : Result SizeEntry TooLong) → IsSmallestContentResult extent choice l r words
       → IfOk r (λ size. length words ≡ size.data_count)
   smallest_sized (Ok size) is = is.smallest.sized
   smallest_sized (Err why) is = tt
 
-  pub smallest_stands : (r : Result SizeEntry TooLong) → IsSmallestLetterResult extent choice l r words
+  pub smallest_stands : (r : Result SizeEntry TooLong) → IsSmallestContentResult extent choice l r words
       → IfOk r IsSize
   smallest_stands (Ok size) is = is.smallest.taken.0
   smallest_stands (Err why) is = tt
 
-  pub smallest_none : (r : Result SizeEntry TooLong) → IsSmallestLetterResult extent choice l r words
-      → OnErr r ((why : TooLong) → IsSmallestLetterWritten extent choice l (Err why))
+  pub smallest_none : (r : Result SizeEntry TooLong) → IsSmallestContentResult extent choice l r words
+      → OnErr r ((why : TooLong) → IsSmallestContentWritten extent choice l (Err why))
   smallest_none (Ok size) is = tt
-  smallest_none (Err e) is = λ why. no_letter_written extent choice l why (is.too_long refl)
+  smallest_none (Err e) is = λ why. no_content_written extent choice l why (is.too_long refl)
 
--- A letter is known by its head, its items and its marks.
-pub letter_is : (l : LetterView) (head : Option Head) (items : List Item) (marks : List Mark) → head ≡ l.head
+-- A content is known by its head, its items and its marks.
+pub content_is : (l : ContentView) (head : Option Head) (items : List Item) (marks : List Mark) → head ≡ l.head
     → items ≡ l.items → marks ≡ l.marks
-    → (let k : LetterView = record { head = head; items = items; marks = marks } in k) ≡ l
-letter_is l head items marks same_head same_items same_marks =
-    ap (λ (h : Option Head). let k : LetterView = record { head = h; items = items; marks = marks } in k) same_head
-    ∙ ap (λ (i : List Item). let k : LetterView = record { head = l.head; items = i; marks = marks } in k) same_items
-    ∙ ap (λ (m : List Mark). let k : LetterView = record { head = l.head; items = l.items; marks = m } in k) same_marks
+    → (let k : ContentView = record { head = head; items = items; marks = marks } in k) ≡ l
+content_is l head items marks same_head same_items same_marks =
+    ap (λ (h : Option Head). let k : ContentView = record { head = h; items = items; marks = marks } in k) same_head
+    ∙ ap (λ (i : List Item). let k : ContentView = record { head = l.head; items = i; marks = marks } in k) same_items
+    ∙ ap (λ (m : List Mark). let k : ContentView = record { head = l.head; items = l.items; marks = m } in k) same_marks

@@ -4,15 +4,15 @@ pub use Rattle.dm_symbol.proofs.GridNormals.{fits_or_not, normal_grid_fits, norm
 pub use Rattle.dm_symbol.proofs.GridNormals.{normal_result_is_there, one_normal_result}
 pub use Rattle.dm_symbol.proofs.Grids.{no_more_items_are_read, one_given, read_is_message, read_result_is_there}
 pub use Rattle.dm_symbol.proofs.Grids.{usual_fault}
-pub use Rattle.dm_symbol.proofs.LetterReadings.{read_letter_right, reads_letter_by_result}
+pub use Rattle.dm_symbol.proofs.ContentReadings.{read_content_right, reads_content_by_result}
 pub use Rattle.dm_symbol.proofs.LightDoubt.{faults_alike, light_rows, restored_alike, restored_back, said_alike}
 pub use Rattle.dm_symbol.proofs.LightDoubt.{shown_alike}
-pub use Rattle.dm_symbol.proofs.LetterDoubt.{letter_read_alike, letter_normal_alike}
-pub use Rattle.dm_symbol.proofs.LetterReadSteps.{refused_letter_result, said_letter_result, restored_reads}
-pub use Rattle.dm_symbol.proofs.NormalLetters.{one_normal_letter_result}
-pub use Rattle.dm_symbol.proofs.ChosenWords.{letter_is}
+pub use Rattle.dm_symbol.proofs.ContentDoubt.{content_read_alike, content_normal_alike}
+pub use Rattle.dm_symbol.proofs.ContentReadSteps.{refused_content_result, said_content_result, restored_reads}
+pub use Rattle.dm_symbol.proofs.NormalContents.{one_normal_content_result}
+pub use Rattle.dm_symbol.proofs.ChosenWords.{content_is}
 pub use Rattle.dm_symbol.proofs.PlainSymbols.{form_written_is_plain}
-pub use Rattle.dm_symbol.proofs.SmallestLetterSymbols.{no_letter_written}
+pub use Rattle.dm_symbol.proofs.SmallestContentSymbols.{no_content_written}
 pub use Rattle.dm_symbol.proofs.SquareSizes.{has_that_side}
 pub use Rattle.dm_symbol.proofs.SymbolReadings.{none_lost, restored_is_one}
 pub use Rattle.dm_symbol.proofs.WrittenWords.{no_words_written}

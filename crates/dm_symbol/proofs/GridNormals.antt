@@ -7,8 +7,8 @@ use Rattle.dm_words.specs.declared.extent.Extent.TheVariants.{Usual}
 use Rattle.dm_words.specs.declared.item.Item.{Item}
 use Rattle.dm_words.specs.declared.fault.TooLong.{TooLong}
 use Rattle.dm_words.specs.declared.profile.Profile.{Profile}
-use Rattle.dm_words.specs.LetterExtents.{as_letter}
-use Rattle.dm_words.specs.LetterForm.{letter_form}
+use Rattle.dm_words.specs.ContentExtents.{as_content}
+use Rattle.dm_words.specs.ContentForm.{content_form}
 use Rattle.dm_words.specs.Messages.{IsMessage}
 use Rattle.dm_words.specs.Pads.{padded}
 use Rattle.dm_words.proofs.Exported.{identifier_is_there, said_wide}
@@ -25,7 +25,7 @@ use Rattle.dm_symbol.specs.declared.normalising.NormalFault.{NormalFault}
 use Rattle.dm_symbol.specs.declared.normalising.NormalFault.TheVariants as fault
 use Rattle.dm_symbol.specs.declared.symbol.reading.BlockReading.{BlockReading}
 use Rattle.dm_symbol.specs.NormalGrid.{IsNormalGrid, FitsSomeSize, IsWritten}
-use Rattle.dm_symbol.specs.NormalLetter.{IsNormalOfLetter}
+use Rattle.dm_symbol.specs.NormalContent.{IsNormalOfContent}
 use Rattle.dm_symbol.specs.Reading.{Reads, ReadResult, reading_of}
 use Rattle.dm_symbol.specs.NormalOutcomes.{IsNormalOrFault}
 use Rattle.dm_symbol.specs.Normal.{HasNormal, HasNoNormal, NormalResult, IsNormalised}
@@ -34,9 +34,10 @@ use Rattle.dm_symbol.proofs.Grids.{no_fault, one_given, one_message, read_is_mes
 use Rattle.dm_symbol.proofs.Grids.{items_are, reads_by_result, same_grid}
 use Rattle.dm_symbol.proofs.NormalOutcomes.{AreApart, one_normalised, is_normal_given}
 use Rattle.dm_symbol.proofs.SquareSizes.{row_for_these, row_holds, same_smallest, some_smallest}
-use Rattle.dm_symbol.proofs.PlainSymbols.{message_is_letter}
-use Rattle.dm_symbol.proofs.WrittenLetters.{clean_reading, form_says, written_letter_is_read, written_letter_is_there}
-use Rattle.dm_symbol.proofs.WrittenLetters.{written_letters_tell, written_reads_letter}
+use Rattle.dm_symbol.proofs.PlainSymbols.{message_is_content}
+use Rattle.dm_symbol.proofs.WrittenContents.{clean_reading, form_says, written_content_is_read}
+use Rattle.dm_symbol.proofs.WrittenContents.{written_content_is_there}
+use Rattle.dm_symbol.proofs.WrittenContents.{written_contents_tell, written_reads_content}
 use Rattle.dm_symbol.proofs.WrittenWords.{some_is, words_written_once}
 
 -- ---- normal grids
@@ -52,8 +53,8 @@ normal_grid_is_one p m g h n o =
 pub normal_grids_tell : (p : Profile) (m n : List Item) (g h : GridView) → IsMessage m → IsMessage n
     → IsNormalGrid p m g → IsNormalGrid p n h → (g ≡ h) ↔ (m ≡ n)
 normal_grids_tell p m n g h hm hn ng nh = (
-  λ e. items_are m n (written_letters_tell Square Square p p (as_letter m) (as_letter n) (symbol_modules h)
-      (message_is_letter m hm) (message_is_letter n hn) (subst (λ x. IsNormalGrid p m x) e ng).normal nh.normal),
+  λ e. items_are m n (written_contents_tell Square Square p p (as_content m) (as_content n) (symbol_modules h)
+      (message_is_content m hm) (message_is_content n hn) (subst (λ x. IsNormalGrid p m x) e ng).normal nh.normal),
   λ e. normal_grid_is_one p n g h (subst (λ x. IsNormalGrid p x g) e ng) nh,
 )
 
@@ -79,7 +80,7 @@ too_long_fits_none p m long fits = by (row_for_words (length (normal_form p m)))
 
 -- A normal symbol of a size of the table of squares is that of a grid.
 pub grid_of_normal : (p : Profile) (m : List Item) (size : SizeRow) (modules : SymbolView)
-    → row_for_words (length (normal_form p m)) ≡ Some size → IsNormalOfLetter p (as_letter m) modules
+    → row_for_words (length (normal_form p m)) ≡ Some size → IsNormalOfContent p (as_content m) modules
     → (grid : GridView) × IsNormalGrid p m grid
 grid_of_normal p m size modules e n =
     let count = length (normal_form p m) in
@@ -91,7 +92,7 @@ grid_of_normal p m size modules e n =
       grid,
       record {
         is_grid = record { row = row_for_these count size e; height = is.height; width = is.width };
-        normal = subst (IsNormalOfLetter p (as_letter m)) whole n;
+        normal = subst (IsNormalOfContent p (as_content m)) whole n;
       },
     )
 
@@ -105,7 +106,7 @@ normal_grid_is_there p m h fits = of_size (row_for_words (length (normal_form p 
     of_size None e is = absurd (false≢true is)
     of_size (Some size) e is =
         let fit = subst IsSome (sym (same_smallest (length (normal_form p m)) size e)) refl in
-        let written = written_letter_is_there Square p (as_letter m) (message_is_letter m h) fit in
+        let written = written_content_is_there Square p (as_content m) (message_is_content m h) fit in
         grid_of_normal p m size written.0 e written.1
 
 -- The normal grid is a right result of writing.
@@ -135,7 +136,8 @@ pub normal_reads : (p : Profile) (m : List Item) (grid : GridView) (limit : ℕ)
     → IsNormalGrid p m grid → Reads grid limit m
 normal_reads p m grid limit h n = record {
   is_grid = n.is_grid;
-  read = written_reads_letter Square p (as_letter m) (symbol_modules grid) n.normal (message_is_letter m h) Usual limit
+  read = written_reads_content Square p (as_content m) (symbol_modules grid) n.normal (message_is_content m h) Usual
+      limit
       refl;
 }
 
@@ -149,16 +151,16 @@ pub normal_is_read : (p : Profile) (m : List Item) (grid : GridView) (limit : �
     (result : Result Reading ReadFault) → IsMessage m → IsNormalGrid p m grid
     → ReadResult grid limit result ↔ (result ≡ Ok (reading_of m (replicate grid.size.blocks 0) 0))
 normal_is_read p m grid limit result h n =
-    let l = as_letter m in
+    let l = as_content m in
     let g = symbol_modules grid in
-    let is = message_is_letter m h in
-    let form = padded (letter_form p l) g.size.data_count in
+    let is = message_is_content m h in
+    let form = padded (content_form p l) g.size.data_count in
     let says = form_says Square p l g n.normal is Usual refl in
     let number = identifier_is_there form l (said_wide Usual form l says) in
     let right : ReadResult grid limit (Ok (reading_of m (replicate grid.size.blocks 0) 0)) = record {
       is_grid = n.is_grid;
       of_symbol = clean_reading Square p l g n.normal is number.0;
-      read = (written_letter_is_read Square p l g n.normal is number.0 number.1 Usual limit
+      read = (written_content_is_read Square p l g n.normal is number.0 number.1 Usual limit
           (clean_reading Square p l g n.normal is number.0) refl).1 refl;
       same = ap (λ xs. Ok (reading_of m xs 0))
           (none_corrected (block_check (symbol_size grid.size)) grid.size.blocks);

@@ -3,8 +3,8 @@ use Rattle.std.proofs.Common.{ℕ, List, map, None, Ok, Err, refl}
 use Rattle.dm_words.specs.declared.extent.Extent.TheVariants.{Usual}
 use Rattle.dm_words.specs.declared.item.Item.{Item}
 use Rattle.dm_words.specs.declared.fault.WordFault.{WordFault}
-use Rattle.dm_words.specs.declared.letters.fault.LetterFault.TheVariants as words_fault
-use Rattle.dm_words.specs.LetterExtents.{as_letter}
+use Rattle.dm_words.specs.declared.contents.fault.ContentFault.TheVariants as words_fault
+use Rattle.dm_words.specs.ContentExtents.{as_content}
 use Rattle.dm_words.specs.Spells.{Spells, Refused}
 use Rattle.dm_words.proofs.Exported.{identifier_is_there, said_wide}
 use Rattle.dm_layout.specs.Grid.{GridView, IsGrid, symbol_modules}
@@ -12,15 +12,15 @@ use Rattle.dm_layout.specs.symbols.Words.{WordsView, data_of}
 use Rattle.dm_symbol.specs.declared.symbol.dealing.Dealing.{Dealing}
 use Rattle.dm_symbol.specs.declared.symbol.reading.BlockReading.{BlockReading}
 use Rattle.dm_symbol.specs.declared.symbol.reading.Lost.TheVariants.{Border, Block}
-use Rattle.dm_symbol.specs.declared.letters.LetterReadFault.TheVariants as letter
+use Rattle.dm_symbol.specs.declared.contents.ContentReadFault.TheVariants as content
 use Rattle.dm_symbol.specs.declared.reading.ReadFault.TheVariants as fault
-use Rattle.dm_symbol.specs.LetterReading.{letter_reading_of}
+use Rattle.dm_symbol.specs.ContentReading.{content_reading_of}
 use Rattle.dm_symbol.specs.Reading.{IsRead, reading_of}
 use Rattle.dm_symbol.specs.Restored.{IsRestored}
 use Rattle.dm_symbol.specs.inner.Restoring.{IsLost}
 use Rattle.dm_symbol.proofs.Grids.{is_read}
-use Rattle.dm_symbol.proofs.LetterReadSteps.{letter_border_result, letter_lost_result, refused_letter_result}
-use Rattle.dm_symbol.proofs.LetterReadSteps.{said_letter_result}
+use Rattle.dm_symbol.proofs.ContentReadSteps.{content_border_result, content_lost_result, refused_content_result}
+use Rattle.dm_symbol.proofs.ContentReadSteps.{said_content_result}
 
 module _ (grid : GridView) (limit : ℕ) (g : IsGrid grid) where
   -- More border faults than the limit are what reading gives.
@@ -28,8 +28,8 @@ module _ (grid : GridView) (limit : ℕ) (g : IsGrid grid) where
       → IsRead grid limit (Err (fault.Border count))
   border_is_read count lost = is_read grid limit (Err (fault.Border count)) (record {
     is_grid = g;
-    of_symbol = Err (letter.Border count);
-    read = letter_border_result Usual (symbol_modules grid) None limit count lost;
+    of_symbol = Err (content.Border count);
+    read = content_border_result Usual (symbol_modules grid) None limit count lost;
     same = (fault.Border count, refl, refl);
   })
 
@@ -38,8 +38,8 @@ module _ (grid : GridView) (limit : ℕ) (g : IsGrid grid) where
       → IsRead grid limit (Err (fault.Block index))
   block_is_read index lost = is_read grid limit (Err (fault.Block index)) (record {
     is_grid = g;
-    of_symbol = Err (letter.Block index);
-    read = letter_lost_result Usual (symbol_modules grid) None limit index lost;
+    of_symbol = Err (content.Block index);
+    read = content_lost_result Usual (symbol_modules grid) None limit index lost;
     same = (fault.Block index, refl, refl);
   })
 
@@ -49,8 +49,8 @@ module _ (grid : GridView) (limit : ℕ) (g : IsGrid grid) where
     pub fault_is_read : (why : WordFault) → Refused (data_of w) why → IsRead grid limit (Err (fault.Words why))
     fault_is_read why refused = is_read grid limit (Err (fault.Words why)) (record {
       is_grid = g;
-      of_symbol = Err (letter.Words (words_fault.Word why));
-      read = refused_letter_result Usual (symbol_modules grid) None limit w dealing blocks count r
+      of_symbol = Err (content.Words (words_fault.Word why));
+      read = refused_content_result Usual (symbol_modules grid) None limit w dealing blocks count r
           (words_fault.Word why) refused;
       same = (fault.Words why, refl, refl);
     })
@@ -59,12 +59,12 @@ module _ (grid : GridView) (limit : ℕ) (g : IsGrid grid) where
     pub message_is_read : (m : List Item) → Spells Usual (data_of w) m
         → IsRead grid limit (Ok (reading_of m (map (λ (b : BlockReading). b.corrected) blocks) count))
     message_is_read m spelled =
-        let said = said_wide Usual (data_of w) (as_letter m) spelled in
-        let number = identifier_is_there (data_of w) (as_letter m) said in
+        let said = said_wide Usual (data_of w) (as_content m) spelled in
+        let number = identifier_is_there (data_of w) (as_content m) said in
         is_read grid limit (Ok (reading_of m (map (λ (b : BlockReading). b.corrected) blocks) count)) (record {
           is_grid = g;
-          of_symbol = Ok (letter_reading_of (as_letter m) number.0 dealing blocks count);
-          read = said_letter_result Usual (symbol_modules grid) None limit w dealing blocks count r (as_letter m)
+          of_symbol = Ok (content_reading_of (as_content m) number.0 dealing blocks count);
+          read = said_content_result Usual (symbol_modules grid) None limit w dealing blocks count r (as_content m)
               number.0 spelled number.1;
           same = refl;
         })

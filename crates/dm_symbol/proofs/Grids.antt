@@ -5,9 +5,9 @@ use Rattle.std.specs.List.{range_with_len}
 use Rattle.std.proofs.lemmas.List.{length-take}
 use Rattle.dm_words.specs.declared.extent.Extent.TheVariants.{Usual}
 use Rattle.dm_words.specs.declared.item.Item.{Item}
-use Rattle.dm_words.specs.declared.letters.fault.LetterFault.TheVariants as words_fault
-use Rattle.dm_words.specs.Letters.{LetterView}
-use Rattle.dm_words.specs.LetterExtents.{as_letter}
+use Rattle.dm_words.specs.declared.contents.fault.ContentFault.TheVariants as words_fault
+use Rattle.dm_words.specs.Contents.{ContentView}
+use Rattle.dm_words.specs.ContentExtents.{as_content}
 use Rattle.dm_words.specs.Messages.{IsMessage}
 use Rattle.dm_words.proofs.Exported.{spelled_is_few, usual_plain, usual_word}
 use Rattle.dm_layout.specs.Sizes.{SizeRow, most_grid_data, symbol_size}
@@ -20,20 +20,20 @@ use Rattle.dm_layout.proofs.symbols.Exported.{same_size}
 use Rattle.dm_symbol.specs.declared.reading.Reading.{Reading}
 use Rattle.dm_symbol.specs.declared.reading.ReadFault.{ReadFault}
 use Rattle.dm_symbol.specs.declared.reading.ReadFault.TheVariants as fault
-use Rattle.dm_symbol.specs.declared.letters.LetterReadFault.{LetterReadFault}
-use Rattle.dm_symbol.specs.declared.letters.LetterReadFault.TheVariants as letter
+use Rattle.dm_symbol.specs.declared.contents.ContentReadFault.{ContentReadFault}
+use Rattle.dm_symbol.specs.declared.contents.ContentReadFault.TheVariants as content
 use Rattle.dm_symbol.specs.declared.symbol.dealing.Dealing.TheVariants.{Standard, Restarted}
 use Rattle.dm_symbol.specs.declared.symbol.reading.BlockReading.{BlockReading}
 use Rattle.dm_symbol.specs.Doubt.{erased_in, sure_fault_count}
 use Rattle.dm_symbol.specs.Dealings.{IsDealtTwoWays}
-use Rattle.dm_symbol.specs.Reading.{Reads, ReadResult, IsGridResult, IsRead, IsReadAs, letter_fault, reading_of}
+use Rattle.dm_symbol.specs.Reading.{Reads, ReadResult, IsGridResult, IsRead, IsReadAs, content_fault, reading_of}
 use Rattle.dm_symbol.specs.SymbolBlocks.{block_in, first_data}
 use Rattle.dm_symbol.specs.SymbolReading.{block_reading}
-use Rattle.dm_symbol.specs.LetterReading.{LetterReadingView, ReadsLetter, LetterReadResult, letter_reading_of}
+use Rattle.dm_symbol.specs.ContentReading.{ContentReadingView, ReadsContent, ContentReadResult, content_reading_of}
 use Rattle.dm_symbol.specs.SymbolLaws.{AreModulesOf, HasResultOfGrid, none_erased}
-use Rattle.dm_symbol.proofs.LetterReadings.{one_letter_result, one_symbol_letter, read_letter_right}
-use Rattle.dm_symbol.proofs.LetterReadings.{letter_no_fault, reads_letter_by_result, some_letter_result}
-use Rattle.dm_symbol.proofs.LetterReadSteps.{is_letter_read, letter_border_result}
+use Rattle.dm_symbol.proofs.ContentReadings.{one_content_result, one_symbol_content, read_content_right}
+use Rattle.dm_symbol.proofs.ContentReadings.{content_no_fault, reads_content_by_result, some_content_result}
+use Rattle.dm_symbol.proofs.ContentReadSteps.{is_content_read, content_border_result}
 use Rattle.dm_symbol.proofs.SymbolDoubt.{erased_by_none, faults_by_none}
 
 -- ---- grids and symbols
@@ -60,32 +60,32 @@ are_modules grid modules am =
 
 -- A grid is read as the modules with its cells are.
 pub grid_and_modules : (grid : GridView) (modules : SymbolView) (limit : ℕ) (m : List Item)
-    → AreModulesOf grid modules → Reads grid limit m ↔ ReadsLetter Usual modules None limit (as_letter m)
+    → AreModulesOf grid modules → Reads grid limit m ↔ ReadsContent Usual modules None limit (as_content m)
 grid_and_modules grid modules limit m am =
     let same = are_modules grid modules am in (
-      λ r. subst (λ x. ReadsLetter Usual x None limit (as_letter m)) same r.read,
+      λ r. subst (λ x. ReadsContent Usual x None limit (as_content m)) same r.read,
       λ r. record {
         is_grid = am.is_grid;
-        read = subst (λ x. ReadsLetter Usual x None limit (as_letter m)) (sym same) r;
+        read = subst (λ x. ReadsContent Usual x None limit (as_content m)) (sym same) r;
       },
     )
 
 -- ---- messages
 
--- Letters without a head and marks that are equal have equal items.
-pub items_are : (m n : List Item) → as_letter m ≡ as_letter n → m ≡ n
-items_are m n e = ap (λ (l : LetterView). l.items) e
+-- Contents without a head and marks that are equal have equal items.
+pub items_are : (m n : List Item) → as_content m ≡ as_content n → m ≡ n
+items_are m n e = ap (λ (l : ContentView). l.items) e
 
 -- A grid is read as at most one message.
 pub one_message : (grid : GridView) (k l : ℕ) (m n : List Item) → Reads grid k m → Reads grid l n → m ≡ n
 one_message grid k l m n a b =
     items_are m n
-    (one_symbol_letter (symbol_modules grid) None Usual Usual k l (as_letter m) (as_letter n) a.read b.read)
+    (one_symbol_content (symbol_modules grid) None Usual Usual k l (as_content m) (as_content n) a.read b.read)
 
 -- What is read is a message.
 pub read_is_message : (grid : GridView) (limit : ℕ) (m : List Item) → Reads grid limit m → IsMessage m
 read_is_message grid limit m r =
-    (read_letter_right (symbol_modules grid) None Usual limit (as_letter m) r.read).0.items
+    (read_content_right (symbol_modules grid) None Usual limit (as_content m) r.read).0.items
 
 -- A grid is read as at most two items for each data codeword of its size.
 pub few_items_are_read : (grid : GridView) (limit : ℕ) (m : List Item) → Reads grid limit m
@@ -107,49 +107,49 @@ no_more_items_are_read grid limit m r =
 -- ---- faults
 
 -- A fault of reading a symbol as that of a grid; any other one is this one.
-grid_fault : ReadFault → LetterReadFault → ReadFault
-grid_fault other (letter.Border count) = fault.Border count
-grid_fault other (letter.Block index) = fault.Block index
-grid_fault other (letter.Words (words_fault.Word why)) = fault.Words why
-grid_fault other (letter.Words why) = other
+grid_fault : ReadFault → ContentReadFault → ReadFault
+grid_fault other (content.Border count) = fault.Border count
+grid_fault other (content.Block index) = fault.Block index
+grid_fault other (content.Words (words_fault.Word why)) = fault.Words why
+grid_fault other (content.Words why) = other
 
 -- It takes a fault of a grid back.
-grid_fault_back : (f other : ReadFault) → grid_fault other (letter_fault f) ≡ f
+grid_fault_back : (f other : ReadFault) → grid_fault other (content_fault f) ≡ f
 unfolding grid_fault
 grid_fault_back (fault.Border count) other = refl
 grid_fault_back (fault.Block index) other = refl
 grid_fault_back (fault.Words why) other = refl
 
 -- So equal faults of the symbol are equal ones of the grid.
-same_fault : (f g : ReadFault) → letter_fault f ≡ letter_fault g → f ≡ g
+same_fault : (f g : ReadFault) → content_fault f ≡ content_fault g → f ≡ g
 same_fault f g e = sym (grid_fault_back f f) ∙ ap (grid_fault f) e ∙ grid_fault_back g f
 
 -- Two equal faults say the same.
-err_is : (a b : LetterReadFault) → ◌≡◌ {A = Result LetterReadingView LetterReadFault} (Err a) (Err b) → a ≡ b
+err_is : (a b : ContentReadFault) → ◌≡◌ {A = Result ContentReadingView ContentReadFault} (Err a) (Err b) → a ≡ b
 err_is a b e = cc
 
 -- A fault isn't a reading.
-err_no_ok : (why : LetterReadFault) (reading : LetterReadingView)
-    → ◌≡◌ {A = Result LetterReadingView LetterReadFault} (Err why) (Ok reading) → ⊥
+err_no_ok : (why : ContentReadFault) (reading : ContentReadingView)
+    → ◌≡◌ {A = Result ContentReadingView ContentReadFault} (Err why) (Ok reading) → ⊥
 err_no_ok why reading e = cc
 
 -- A symbol that is refused in the usual extent is so with a fault of a grid.
-pub usual_fault : (modules : SymbolView) (doubtful : Option SymbolView) (limit : ℕ) (why : LetterReadFault)
-    → LetterReadResult Usual modules doubtful limit (Err why) → (f : ReadFault) × (why ≡ letter_fault f)
-usual_fault modules doubtful limit why (LetterReadResult.border more e) =
+pub usual_fault : (modules : SymbolView) (doubtful : Option SymbolView) (limit : ℕ) (why : ContentReadFault)
+    → ContentReadResult Usual modules doubtful limit (Err why) → (f : ReadFault) × (why ≡ content_fault f)
+usual_fault modules doubtful limit why (ContentReadResult.border more e) =
     (fault.Border (sure_fault_count modules doubtful), err_is why _ e)
-usual_fault modules doubtful limit why (LetterReadResult.block words index few lost e) =
+usual_fault modules doubtful limit why (ContentReadResult.block words index few lost e) =
     (fault.Block index, err_is why _ e)
-usual_fault modules doubtful limit why (LetterReadResult.words d words codewords of_words few h refused e) =
+usual_fault modules doubtful limit why (ContentReadResult.words d words codewords of_words few h refused e) =
     let f = usual_word (first_data modules.size codewords) of_words refused in
-    (fault.Words f.0, err_is why _ e ∙ ap (λ w. letter.Words w) f.1)
-usual_fault modules doubtful limit why (LetterReadResult.letter d words codewords l n few h said is e) =
+    (fault.Words f.0, err_is why _ e ∙ ap (λ w. content.Words w) f.1)
+usual_fault modules doubtful limit why (ContentReadResult.content d words codewords l n few h said is e) =
     absurd (err_no_ok why _ e)
 
 -- ---- results
 
 -- Of what reading a symbol gives, one result is told of its grid.
-one_told : (o : Result LetterReadingView LetterReadFault) (a b : Result Reading ReadFault) → IsGridResult o a
+one_told : (o : Result ContentReadingView ContentReadFault) (a b : Result Reading ReadFault) → IsGridResult o a
     → IsGridResult o b → a ≡ b
 one_told (Ok reading) a b x y = x ∙ sym y
 one_told (Err why) a b (f, e, x) (g, h, y) = x ∙ ap (λ w. Err w) (same_fault f g (sym e ∙ h)) ∙ sym y
@@ -158,17 +158,17 @@ one_told (Err why) a b (f, e, x) (g, h, y) = x ∙ ap (λ w. Err w) (same_fault 
 pub one_given : (grid : GridView) (limit : ℕ) (a b : Result Reading ReadFault) → ReadResult grid limit a
     → ReadResult grid limit b → a ≡ b
 one_given grid limit a b h k =
-    let same = one_letter_result (symbol_modules grid) None Usual limit h.of_symbol k.of_symbol h.read k.read in
+    let same = one_content_result (symbol_modules grid) None Usual limit h.of_symbol k.of_symbol h.read k.read in
     one_told k.of_symbol a b (subst (λ o. IsGridResult o a) same h.same) k.same
 
 -- Each grid has a result.
 pub read_result_is_there : (grid : GridView) (limit : ℕ) → IsGrid grid
     → (result : Result Reading ReadFault) × ReadResult grid limit result
 read_result_is_there grid limit g =
-    let some = some_letter_result (symbol_modules grid) None Usual limit (is_modules grid g) in
+    let some = some_content_result (symbol_modules grid) None Usual limit (is_modules grid g) in
     told some.0 some.1
   where
-    told : (o : Result LetterReadingView LetterReadFault) → LetterReadResult Usual (symbol_modules grid) None limit o
+    told : (o : Result ContentReadingView ContentReadFault) → ContentReadResult Usual (symbol_modules grid) None limit o
         → (result : Result Reading ReadFault) × ReadResult grid limit result
     told (Ok reading) read = (_, record { is_grid = g; of_symbol = Ok reading; read = read; same = refl })
     told (Err why) read =
@@ -180,29 +180,29 @@ pub no_fault : (grid : GridView) (limit : ℕ) (m : List Item) (why : ReadFault)
     → ReadResult grid limit (Err why) → ⊥
 no_fault grid limit m why r a = by a.of_symbol a.read a.same
   where
-    by : (o : Result LetterReadingView LetterReadFault) → LetterReadResult Usual (symbol_modules grid) None limit o
+    by : (o : Result ContentReadingView ContentReadFault) → ContentReadResult Usual (symbol_modules grid) None limit o
         → IsGridResult o (Err why) → ⊥
     by (Ok reading) read e = cc
-    by (Err other) read told = letter_no_fault (symbol_modules grid) None Usual limit (as_letter m) other r.read read
+    by (Err other) read told = content_no_fault (symbol_modules grid) None Usual limit (as_content m) other r.read read
 
 -- Where the result is a reading, the grid is read as its message.
 pub reads_by_result : (grid : GridView) (limit : ℕ) (reading : Reading) → ReadResult grid limit (Ok reading)
     → Reads grid limit reading.message
 reads_by_result grid limit reading a = record { is_grid = a.is_grid; read = by a.of_symbol a.read a.same }
   where
-    by : (o : Result LetterReadingView LetterReadFault) → LetterReadResult Usual (symbol_modules grid) None limit o
+    by : (o : Result ContentReadingView ContentReadFault) → ContentReadResult Usual (symbol_modules grid) None limit o
         → IsGridResult o (Ok reading)
-        → ReadsLetter Usual (symbol_modules grid) None limit (as_letter reading.message)
+        → ReadsContent Usual (symbol_modules grid) None limit (as_content reading.message)
     by (Err why) read told = absurd (let e = told.2 in cc)
     by (Ok symbol) read e =
         let modules = symbol_modules grid in
-        let told : reading ≡ reading_of symbol.letter.items (map (λ (b : BlockReading). b.corrected) symbol.blocks)
+        let told : reading ≡ reading_of symbol.content.items (map (λ (b : BlockReading). b.corrected) symbol.blocks)
         symbol.border_faults = cc in
-        let r = reads_letter_by_result modules None Usual limit (Ok symbol) symbol.letter read refl in
-        let same : symbol.letter ≡ as_letter reading.message =
-        (read_letter_right modules None Usual limit symbol.letter r).1
-        ∙ ap as_letter (sym (ap (λ (x : Reading). x.message) told)) in
-        subst (ReadsLetter Usual modules None limit) same r
+        let r = reads_content_by_result modules None Usual limit (Ok symbol) symbol.content read refl in
+        let same : symbol.content ≡ as_content reading.message =
+        (read_content_right modules None Usual limit symbol.content r).1
+        ∙ ap as_content (sym (ap (λ (x : Reading). x.message) told)) in
+        subst (ReadsContent Usual modules None limit) same r
 
 -- More border faults than the limit are a right result.
 border_told : (grid : GridView) (limit count : ℕ) → IsGrid grid
@@ -210,8 +210,8 @@ border_told : (grid : GridView) (limit count : ℕ) → IsGrid grid
     → ReadResult grid limit (Err (fault.Border count))
 border_told grid limit count g over = record {
   is_grid = g;
-  of_symbol = Err (letter.Border count);
-  read = letter_border_result Usual (symbol_modules grid) None limit count
+  of_symbol = Err (content.Border count);
+  read = content_border_result Usual (symbol_modules grid) None limit count
       (subst (λ n. (limit < n) × (count ≡ n)) (faults_by_none (symbol_modules grid)) over);
   same = (fault.Border count, refl, refl);
 }
@@ -221,15 +221,15 @@ told_border : (grid : GridView) (limit count : ℕ) → ReadResult grid limit (E
     → (limit < border_fault_count grid) × (count ≡ border_fault_count grid)
 told_border grid limit count a = by a.of_symbol a.read a.same
   where
-    by : (o : Result LetterReadingView LetterReadFault) → LetterReadResult Usual (symbol_modules grid) None limit o
+    by : (o : Result ContentReadingView ContentReadFault) → ContentReadResult Usual (symbol_modules grid) None limit o
         → IsGridResult o (Err (fault.Border count))
         → (limit < border_fault_count grid) × (count ≡ border_fault_count grid)
     by (Ok reading) read e = absurd cc
     by (Err why) read (f, of_symbol, e) =
         let is : fault.Border count ≡ f = cc in
-        let border : why ≡ letter.Border count = of_symbol ∙ ap letter_fault (sym is) in
+        let border : why ≡ content.Border count = of_symbol ∙ ap content_fault (sym is) in
         subst (λ n. (limit < n) × (count ≡ n)) (sym (faults_by_none (symbol_modules grid)))
-        (((is_letter_read Usual (symbol_modules grid) None limit (Err why) read).border count).0
+        (((is_content_read Usual (symbol_modules grid) None limit (Err why) read).border count).0
         (ap (λ w. Err w) border))
 
 -- The result defined for a grid is what reading it gives.
@@ -278,36 +278,36 @@ one_way : (grid : GridView) → IsGrid grid → IsDealtTwoWays (symbol_size grid
 one_way grid g two = omega (arith, two.0, side_fits grid.size.side grid.size g.row)
 
 -- What is told of a grid's symbol, made of what is told of the grid.
-made_of : ℕ → LetterReadingView → LetterReadingView
+made_of : ℕ → ContentReadingView → ContentReadingView
 made_of k reading =
-    letter_reading_of (as_letter reading.letter.items) reading.identifier Standard
+    content_reading_of (as_content reading.content.items) reading.identifier Standard
     (map (none_erased k) (map (λ (b : BlockReading). b.corrected) reading.blocks)) reading.border_faults
 
 -- A reading of a symbol of which no module is doubtful, and whose size is dealt in one way, is so made.
-made_of_told : (modules : SymbolView) (limit : ℕ) (reading : LetterReadingView) → (IsDealtTwoWays modules.size → ⊥)
-    → LetterReadResult Usual modules None limit (Ok reading) → made_of (block_check modules.size) reading ≡ reading
+made_of_told : (modules : SymbolView) (limit : ℕ) (reading : ContentReadingView) → (IsDealtTwoWays modules.size → ⊥)
+    → ContentReadResult Usual modules None limit (Ok reading) → made_of (block_check modules.size) reading ≡ reading
 unfolding made_of
-made_of_told modules limit reading one (LetterReadResult.border more e) = absurd (err_no_ok _ reading (sym e))
-made_of_told modules limit reading one (LetterReadResult.block words index few lost e) =
+made_of_told modules limit reading one (ContentReadResult.border more e) = absurd (err_no_ok _ reading (sym e))
+made_of_told modules limit reading one (ContentReadResult.block words index few lost e) =
     absurd (err_no_ok _ reading (sym e))
-made_of_told modules limit reading one (LetterReadResult.words d words codewords why few h refused e) =
+made_of_told modules limit reading one (ContentReadResult.words d words codewords why few h refused e) =
     absurd (err_no_ok _ reading (sym e))
-made_of_told modules limit reading one (LetterReadResult.letter Restarted words codewords l n few h said is e) =
+made_of_told modules limit reading one (ContentReadResult.content Restarted words codewords l n few h said is e) =
     absurd (one h.tried.1)
-made_of_told modules limit reading one (LetterReadResult.letter Standard words codewords l n few h said is e) =
+made_of_told modules limit reading one (ContentReadResult.content Standard words codewords l n few h said is e) =
     let k = block_check modules.size in
     let faults = sure_fault_count modules None in
     let read : List BlockReading = map (λ b. block_reading k (erased_in modules.size None b)
     (block_in modules.size words b) (block_in modules.size codewords b)) (range_with_len 0 modules.size.blocks) in
-    let same : reading ≡ letter_reading_of l n Standard read faults = cc in
+    let same : reading ≡ content_reading_of l n Standard read faults = cc in
     let all : map (none_erased k) (map (λ (b : BlockReading). b.corrected) read) ≡ read = all_made k
     (λ b. block_reading k (erased_in modules.size None b) (block_in modules.size words b)
     (block_in modules.size codewords b))
     (λ b. none_erased_in k (erased_in modules.size None b) (block_in modules.size words b)
     (block_in modules.size codewords b) (erased_by_none modules.size b)) (range_with_len 0 modules.size.blocks) in
     subst (λ r. made_of k r ≡ r) (sym same)
-    (ap (λ rs. letter_reading_of (as_letter l.items) n Standard rs faults) all
-    ∙ ap (λ x. letter_reading_of x n Standard read faults)
+    (ap (λ rs. content_reading_of (as_content l.items) n Standard rs faults) all
+    ∙ ap (λ x. content_reading_of x n Standard read faults)
     (sym (usual_plain (first_data modules.size codewords) l said)))
 
 -- The symbol of a grid has the grid's result.
@@ -316,22 +316,22 @@ pub result_of_symbol : (grid : GridView) (limit : ℕ) (result : Result Reading 
 unfolding made_of
 result_of_symbol grid limit result g h = by result h.of_symbol h.read h.same
   where
-    by : (r : Result Reading ReadFault) (o : Result LetterReadingView LetterReadFault)
-        → LetterReadResult Usual (symbol_modules grid) None limit o → IsGridResult o r → HasResultOfGrid grid limit r
+    by : (r : Result Reading ReadFault) (o : Result ContentReadingView ContentReadFault)
+        → ContentReadResult Usual (symbol_modules grid) None limit o → IsGridResult o r → HasResultOfGrid grid limit r
     by (Ok reading) (Ok symbol) read e =
         let k = block_check (symbol_size grid.size) in
-        let told : reading ≡ reading_of symbol.letter.items (map (λ (b : BlockReading). b.corrected) symbol.blocks)
+        let told : reading ≡ reading_of symbol.content.items (map (λ (b : BlockReading). b.corrected) symbol.blocks)
         symbol.border_faults = cc in
         let made = made_of_told (symbol_modules grid) limit symbol (one_way grid g) read in (
           symbol.identifier,
-          subst (λ (r : Reading). LetterReadResult Usual (symbol_modules grid) None limit
-              (Ok (letter_reading_of (as_letter r.message) symbol.identifier Standard
+          subst (λ (r : Reading). ContentReadResult Usual (symbol_modules grid) None limit
+              (Ok (content_reading_of (as_content r.message) symbol.identifier Standard
               (map (none_erased k) r.corrected.items) r.border_faults))) (sym told)
-              (subst (λ r. LetterReadResult Usual (symbol_modules grid) None limit (Ok r)) (sym made) read),
+              (subst (λ r. ContentReadResult Usual (symbol_modules grid) None limit (Ok r)) (sym made) read),
         )
     by (Ok reading) (Err why) read told = absurd (let e = told.2 in cc)
     by (Err why) (Ok symbol) read e = absurd cc
     by (Err why) (Err other) read (f, of_symbol, e) =
         let is : why ≡ f = cc in
-        subst (λ w. LetterReadResult Usual (symbol_modules grid) None limit (Err w))
-        (of_symbol ∙ ap letter_fault (sym is)) read
+        subst (λ w. ContentReadResult Usual (symbol_modules grid) None limit (Err w))
+        (of_symbol ∙ ap content_fault (sym is)) read

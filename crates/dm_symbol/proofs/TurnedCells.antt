@@ -27,7 +27,7 @@ use Rattle.dm_layout.specs.Holds.{Holds, bit_of}
 use Rattle.dm_place.proofs.Exported.{one_bit}
 use Rattle.dm_layout.proofs.Exported.{lies_inside, row_facts, same_row, symbol_line-one, count_at_row, once_at_row}
 use Rattle.dm_layout.proofs.Exported.{every_grid_holds, laid_in_grid, length_of_block, modules_hold, word_of_block}
-use Rattle.dm_words.specs.LetterExtents.{as_letter}
+use Rattle.dm_words.specs.ContentExtents.{as_content}
 use Rattle.dm_words.specs.Messages.{IsMessage}
 use Rattle.dm_symbol.specs.declared.symbol.dealing.Dealing.TheVariants.{Standard}
 use Rattle.dm_symbol.specs.Doubt.{sure_fault_count}
@@ -40,8 +40,8 @@ use Rattle.dm_symbol.proofs.Counts.{cells_grow, none_pass, IsWitness, differing_
 use Rattle.dm_symbol.proofs.SquareSizes.{half}
 use Rattle.dm_symbol.proofs.SymbolBelow.{near_plain}
 use Rattle.dm_symbol.proofs.SymbolDoubt.{erased_by_none, faults_by_none}
-use Rattle.dm_symbol.proofs.PlainSymbols.{message_is_letter}
-use Rattle.dm_symbol.proofs.WrittenLetters.{written_says}
+use Rattle.dm_symbol.proofs.PlainSymbols.{message_is_content}
+use Rattle.dm_symbol.proofs.WrittenContents.{written_says}
 
 -- ---- bits
 
@@ -287,7 +287,8 @@ turned_reads p m normal others limit h n is_grid few at_least =
                 half size row,
               );
             });
-        said = written_says Square p (as_letter m) (symbol_modules normal) n.normal (message_is_letter m h) Usual refl;
+        said = written_says Square p (as_content m) (symbol_modules normal) n.normal (message_is_content m h) Usual
+            refl;
       };
     }
 

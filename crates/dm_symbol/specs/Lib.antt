@@ -11,12 +11,12 @@ pub mod Restored
 pub mod SymbolInspection
 pub mod SymbolLaws
 pub mod WrittenWords
-pub mod LetterReading
-pub mod NormalLetter
-pub mod LetterNormal
-pub mod LetterLaws
-pub mod SmallestLetterSymbol
-pub mod WrittenLetter
+pub mod ContentReading
+pub mod NormalContent
+pub mod ContentNormal
+pub mod ContentLaws
+pub mod SmallestContentSymbol
+pub mod WrittenContent
 pub mod PlainSymbol
 pub mod inner
 -- Modules of the layers below, which crates above this one find under its name too: `Rattle.dm_symbol.specs.Grid` is

@@ -21,10 +21,10 @@ use Rattle.dm_symbol.specs.Doubt.{erased_in, is_erased, sure_fault_count}
 use Rattle.dm_symbol.specs.Dealings.{IsDealtTwoWays, dealt, erased_by}
 use Rattle.dm_symbol.specs.SymbolBlocks.{AreOfSize, block_in, first_data}
 use Rattle.dm_symbol.specs.NormalGrid.{IsNormalGrid}
-use Rattle.dm_symbol.specs.Reading.{Reads, ReadResult, letter_fault}
-use Rattle.dm_words.specs.LetterExtents.{as_letter}
-use Rattle.dm_symbol.specs.LetterReading.{ReadsLetter, LetterReadResult, letter_reading_of}
-use Rattle.dm_symbol.specs.NormalLetter.{IsNormalOfLetter}
+use Rattle.dm_symbol.specs.Reading.{Reads, ReadResult, content_fault}
+use Rattle.dm_words.specs.ContentExtents.{as_content}
+use Rattle.dm_symbol.specs.ContentReading.{ReadsContent, ContentReadResult, content_reading_of}
+use Rattle.dm_symbol.specs.NormalContent.{IsNormalOfContent}
 use Rattle.dm_symbol.specs.SymbolInspection.{IsSymbolInspection}
 
 -- With no module doubtful, a word is near to a block but for its erased places exactly where it is near to it.
@@ -76,26 +76,26 @@ pub record AreModulesOf (grid : GridView) (modules : SymbolView) : Type 0 where
   pub cells : modules.rows ≡ grid.rows
 
 -- A grid is read as a message exactly where its modules are, in the extent `Usual` and with none of them doubtful, as
--- the letter with its items.
+-- the content with its items.
 abbrev pub GridsAreReadAsSymbols : Type 0
 GridsAreReadAsSymbols =
     (grid : GridView) (modules : SymbolView) (limit : ℕ) (message : List Item) → AreModulesOf grid modules
-    → Reads grid limit message ↔ ReadsLetter Usual modules None limit (as_letter message)
+    → Reads grid limit message ↔ ReadsContent Usual modules None limit (as_content message)
 
 -- This is said of a block of k check codewords of which so many codewords were corrected, and none was erased.
 abbrev pub none_erased : ℕ → ℕ → BlockReading
 none_erased k count = record { corrected = count; erased = 0; left = k - 2 * count }
 
--- The symbol with the cells of a grid has the result of reading the grid, with none of its modules doubtful: the letter
--- with the items, some identifier, the standard's dealing, what is said of each block by the number of its corrected
--- codewords, and as many border faults; or the same fault.
+-- The symbol with the cells of a grid has the result of reading the grid, with none of its modules doubtful: the
+-- content with the items, some identifier, the standard's dealing, what is said of each block by the number of its
+-- corrected codewords, and as many border faults; or the same fault.
 abbrev pub HasResultOfGrid : GridView → ℕ → Result Reading ReadFault → Type 0
 HasResultOfGrid grid limit (Ok reading) =
-    (identifier : ℕ) × LetterReadResult Usual (symbol_modules grid) None limit
-    (Ok (letter_reading_of (as_letter reading.message) identifier Standard
+    (identifier : ℕ) × ContentReadResult Usual (symbol_modules grid) None limit
+    (Ok (content_reading_of (as_content reading.message) identifier Standard
     (map (none_erased (squares.block_check grid.size)) reading.corrected.items) reading.border_faults))
 HasResultOfGrid grid limit (Err why) =
-    LetterReadResult Usual (symbol_modules grid) None limit (Err (letter_fault why))
+    ContentReadResult Usual (symbol_modules grid) None limit (Err (content_fault why))
 
 -- What reading a grid gives, reading the symbol with its cells gives.
 abbrev pub GridsHaveTheResultsOfSymbols : Type 0
@@ -103,8 +103,8 @@ GridsHaveTheResultsOfSymbols =
     (grid : GridView) (limit : ℕ) (result : Result Reading ReadFault) → IsGrid grid → ReadResult grid limit result
     → HasResultOfGrid grid limit result
 
--- The normal grid of a message is the normal symbol of the letter with its items.
+-- The normal grid of a message is the normal symbol of the content with its items.
 abbrev pub NormalGridsAreNormalSymbols : Type 0
 NormalGridsAreNormalSymbols =
     (profile : Profile) (message : List Item) (grid : GridView) → IsNormalGrid profile message grid
-    → IsNormalOfLetter profile (as_letter message) (symbol_modules grid)
+    → IsNormalOfContent profile (as_content message) (symbol_modules grid)

@@ -1,5 +1,5 @@
 -- The symbol in which data codewords are written, in the smallest size of a choice (ISO/IEC 16022 and ISO/IEC 21471).
--- Which codewords are written for a message or a letter is said by its normal form.
+-- Which codewords are written for a message or a content is said by its normal form.
 use Rattle.std.specs.Prelude.{◌≡◌, ℕ, List, Some, IsSome, length, Result, IfOk, IsOk, OnErr, ◌↔◌}
 use Rattle.dm_words.specs.declared.fault.TooLong.{TooLong}
 use Rattle.dm_layout.specs.declared.symbols.size.SizeChoice.{SizeChoice}

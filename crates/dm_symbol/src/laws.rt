@@ -5,7 +5,7 @@ ghost use Rattle.dm_symbol.specs.Laws.{ReadResultIsOne, NormalResultIsOne, ReadR
 ghost use Rattle.dm_symbol.specs.Laws.{ANormalGridIsThere, NormalGridIsRead, TurnedCellsAreRead, NormalTwiceIsOnce};
 ghost use Rattle.dm_symbol.specs.Laws.{TheLastProfileDecides, EqualNormalGridsMeanEqualMessages};
 
-pub mod letters;
+pub mod contents;
 pub mod symbols;
 
 /// Two normal grids under one profile are equal exactly where their messages are.

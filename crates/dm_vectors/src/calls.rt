@@ -8,9 +8,9 @@ use dm_code::{encode, syndromes};
 use dm_layout::symbols::MOST_ROWS;
 use dm_layout::{Grid, LARGEST_SIDE, MOST_GRID_CODEWORDS, Size, Words, table};
 use dm_symbol::{
-    Extent, Form, LetterReadFault, LetterReading, Message, NormalFault, Profile, ReadFault,
+    ContentReadFault, ContentReading, Extent, Form, Message, NormalFault, Profile, ReadFault,
     ReadOptions, Reading, SizeChoice, Symbol, SymbolInspection, SymbolSize, SymbolWords, TooLong,
-    WriteOptions, inspect_symbol_to, light_grid, normal_letter_to, read_letter_to,
+    WriteOptions, inspect_symbol_to, light_grid, normal_content_to, read_content_to,
     write_content_to,
 };
 use gf301::{Poly, generator};
@@ -172,8 +172,8 @@ pub(crate) fn symbol_of(grid: &Grid) -> Option<Symbol> {
 pub(crate) fn read_symbol(
     symbol: &Symbol,
     how: ReadOptions<MOST_ROWS>,
-    reading: &mut LetterReading,
-) -> Option<Result<(), LetterReadFault>> {
+    reading: &mut ContentReading,
+) -> Option<Result<(), ContentReadFault>> {
     if let Some(doubtful) = how.doubtful {
         if doubtful.size() != symbol.size() {
             return None;
@@ -183,15 +183,15 @@ pub(crate) fn read_symbol(
     // For the proof alone: what these ensure says that there is room.
     let _room = (size.data_count(), size.check_count());
     let mut words = SymbolWords::zeros(size);
-    Some(read_letter_to(symbol, how, &mut words, reading))
+    Some(read_content_to(symbol, how, &mut words, reading))
 }
 
 /// Reads a symbol none of whose modules is doubtful into `reading`, with no border fault.
-pub(crate) fn read_letter(
+pub(crate) fn read_content(
     extent: Extent,
     symbol: &Symbol,
-    reading: &mut LetterReading,
-) -> Result<(), LetterReadFault> {
+    reading: &mut ContentReading,
+) -> Result<(), ContentReadFault> {
     let size = symbol.size();
     // For the proof alone: what these ensure says that there is room.
     let _room = (size.data_count(), size.check_count());
@@ -201,12 +201,12 @@ pub(crate) fn read_letter(
         doubtful: None,
     };
     let mut words = SymbolWords::zeros(size);
-    read_letter_to(symbol, how, &mut words, reading)
+    read_content_to(symbol, how, &mut words, reading)
 }
 
-/// The normal symbol, in ASCII, of what a symbol says as a letter at `Wide` with no border fault, and none where it
+/// The normal symbol, in ASCII, of what a symbol says as a content at `Wide` with no border fault, and none where it
 /// says nothing.
-pub(crate) fn normal_letter(symbol: &Symbol) -> Option<Symbol> {
+pub(crate) fn normal_content(symbol: &Symbol) -> Option<Symbol> {
     let how = ReadOptions {
         extent: Extent::Wide,
         border_limit: 0,
@@ -216,9 +216,9 @@ pub(crate) fn normal_letter(symbol: &Symbol) -> Option<Symbol> {
     // For the proof alone: what these ensure says that there is room.
     let _room = (size.rows(), size.data_count(), size.check_count());
     let mut words = SymbolWords::zeros(size);
-    let mut reading = LetterReading::new();
+    let mut reading = ContentReading::new();
     let mut normal = Symbol::light(size);
-    match normal_letter_to(
+    match normal_content_to(
         symbol,
         how,
         Profile::Ascii,
@@ -231,11 +231,11 @@ pub(crate) fn normal_letter(symbol: &Symbol) -> Option<Symbol> {
     }
 }
 
-/// The smallest square for readers of an extent of what a symbol says as a letter at `Wide` with no border fault, and
+/// The smallest square for readers of an extent of what a symbol says as a content at `Wide` with no border fault, and
 /// none where there is none.
-pub(crate) fn smallest_letter(extent: Extent, symbol: &Symbol) -> Option<Symbol> {
-    let mut reading = LetterReading::new();
-    if read_letter(Extent::Wide, symbol, &mut reading).is_err() {
+pub(crate) fn smallest_content(extent: Extent, symbol: &Symbol) -> Option<Symbol> {
+    let mut reading = ContentReading::new();
+    if read_content(Extent::Wide, symbol, &mut reading).is_err() {
         return None;
     }
     let size = symbol.size();
@@ -243,15 +243,15 @@ pub(crate) fn smallest_letter(extent: Extent, symbol: &Symbol) -> Option<Symbol>
     let _room = (size.rows(), size.check_count());
     let mut words = SymbolWords::zeros(size);
     let mut smallest = Symbol::light(size);
-    let letter = &reading.letter;
+    let content = &reading.content;
     let how = WriteOptions {
         form: Form::Smallest(extent),
         size: SizeChoice::Square,
     };
     match write_content_to(
-        letter.head(),
-        letter.items(),
-        letter.marks(),
+        content.head(),
+        content.items(),
+        content.marks(),
         how,
         &mut words,
         &mut smallest,
@@ -277,8 +277,8 @@ pub(crate) fn read_doubtful(
     grid: &Grid,
     doubtful: &Grid,
     limit: u16,
-    reading: &mut LetterReading,
-) -> Option<Result<(), LetterReadFault>> {
+    reading: &mut ContentReading,
+) -> Option<Result<(), ContentReadFault>> {
     let doubtful = symbol_of(doubtful)?;
     let how = ReadOptions {
         extent: Extent::Usual,

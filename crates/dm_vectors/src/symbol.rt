@@ -12,12 +12,12 @@ use dm_symbol::{
     Item, Message, NormalFault, Profile, ReadFault, Reading, TooLong, WordFault, usual_limit,
 };
 
+mod contents;
 mod dealings;
 mod doubt;
 mod extents;
 mod hostile;
 mod larger;
-mod letters;
 mod places;
 mod profiles;
 

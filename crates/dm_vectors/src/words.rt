@@ -10,13 +10,13 @@ use dm_layout::Size;
 use dm_words::*;
 
 mod ascii;
+mod contents;
 mod hostile;
-mod letters;
 mod lines;
 mod places;
 mod shorter;
 mod smallest;
-mod smallest_letters;
+mod smallest_contents;
 mod wide;
 
 /// What the codewords spell, and the fault of no codeword where there are too many of them.

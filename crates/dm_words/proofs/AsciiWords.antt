@@ -18,7 +18,7 @@ use Rattle.dm_words.specs.Base256.{AreBytes}
 use Rattle.dm_words.specs.Smallest.{SpellsThenPads, plain_padded}
 use Rattle.dm_words.specs.Parts.{IsPart, ascii as ascii_part, IsEnd, nothing, pad, AreParts}
 use Rattle.dm_words.specs.Spells.{Spells}
-use Rattle.dm_words.proofs.SpelledLetters.{parts_spell}
+use Rattle.dm_words.proofs.SpelledContents.{parts_spell}
 use Rattle.dm_words.proofs.PadWords.{pads_are}
 use Rattle.dm_words.specs.Messages.{IsItem}
 use Rattle.dm_words.proofs.Segments.{AreBytes-append}

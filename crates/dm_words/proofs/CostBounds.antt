@@ -8,14 +8,14 @@ use Rattle.dm_words.specs.declared.item.Item.{Item}
 use Rattle.dm_words.specs.declared.item.Item.TheVariants.{Byte}
 use Rattle.dm_words.specs.declared.smallest.plan.Begin.TheVariants.{Edifact}
 use Rattle.dm_words.specs.declared.smallest.setting.Setting.{Setting}
-use Rattle.dm_words.specs.Letters.{BeginsFrame}
+use Rattle.dm_words.specs.Contents.{BeginsFrame}
 use Rattle.dm_words.specs.Plain.{FramesNoFnc1}
 use Rattle.dm_words.specs.Parts.{IsPart, AreParts}
 use Rattle.dm_words.specs.Spells.{Spells}
 use Rattle.dm_words.specs.inner.Costs.{Groups, never, owed_group, leave, byte_before, has_edifact, stay_edifact}
 use Rattle.dm_words.specs.inner.Costs.{or_leave_edifact, row, parts_cost, at_end, before_words}
 use Rattle.dm_words.specs.inner.Ways.{IsLeastCost}
-use Rattle.dm_words.proofs.SpelledLetters.{HasMessage, in_parts, in_frame, spelled_has}
+use Rattle.dm_words.proofs.SpelledContents.{HasMessage, in_parts, in_frame, spelled_has}
 use Rattle.dm_words.proofs.CostsMet.{least_is, nothing_costs, owes, are_costs}
 use Rattle.dm_words.proofs.LowerBounds.{leave_bounds, IsEdifactLower, part_lower, parts_lower}
 use Rattle.dm_words.proofs.EdifactBounds.{AreEdifactCosts, edifact_lower}

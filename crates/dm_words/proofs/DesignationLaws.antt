@@ -1,51 +1,51 @@
--- Codewords have one list of designators, whose numbers are those of the marks of the letter that they say.
+-- Codewords have one list of designators, whose numbers are those of the marks of the content that they say.
 use Rattle.std.proofs.Common.{◌≡◌, ℕ, ◌+◌, List, [], ◌∷◌, ◌++◌, length, drop, map, refl, sym, ap, subst, ◌∙◌}
 use Rattle.std.proofs.Common.{append_assoc, Option, Some, None}
 use Rattle.std.proofs.lemmas.List.{drop_at}
 use Rattle.dm_words.specs.declared.extent.Extent.TheVariants.{Wide}
-use Rattle.dm_words.specs.declared.letters.mark.Mark.{Mark}
-use Rattle.dm_words.specs.declared.letters.opening.Opened.{Opened}
+use Rattle.dm_words.specs.declared.contents.mark.Mark.{Mark}
+use Rattle.dm_words.specs.declared.contents.opening.Opened.{Opened}
 use Rattle.dm_words.specs.Joined.{Piece, spelled, whats, AreJoined}
-use Rattle.dm_words.specs.Letters.{LetterView, Says, Said, Items, Number, IsLetterPart, said_letter, said_marks}
-use Rattle.dm_words.specs.Letters.{opening_items, AreOpened, AreLetterParts}
-use Rattle.dm_words.specs.declared.letters.opening.Opening.{Opening}
+use Rattle.dm_words.specs.Contents.{ContentView, Says, Said, Items, Number, IsContentPart, said_content, said_marks}
+use Rattle.dm_words.specs.Contents.{opening_items, AreOpened, AreContentParts}
+use Rattle.dm_words.specs.declared.contents.opening.Opening.{Opening}
 use Rattle.dm_words.specs.Parts.{IsEnd}
-use Rattle.dm_words.specs.Designations.{designation, designations, AreDesignations, of_letter, of_refused}
+use Rattle.dm_words.specs.Designations.{designation, designations, AreDesignations, of_content, of_refused}
 use Rattle.dm_words.specs.inner.Scan.Walk.{Takes, Stops}
-use Rattle.dm_words.specs.inner.LetterScan.{first_letter_part}
-use Rattle.dm_words.proofs.LetterParts.{letter_part_complete, letter_end_complete}
-use Rattle.dm_words.proofs.WholeLetters.{opens_so}
-use Rattle.dm_words.proofs.LetterResults.{said_not_refused}
+use Rattle.dm_words.specs.inner.ContentScan.{first_content_part}
+use Rattle.dm_words.proofs.ContentParts.{content_part_complete, content_end_complete}
+use Rattle.dm_words.proofs.WholeContents.{opens_so}
+use Rattle.dm_words.proofs.ContentResults.{said_not_refused}
 
 -- Where words are parts and an end in two ways, the designators of both are the same.
 same_designations : (before place : ℕ) (ps qs : List (Piece Said)) (words after rest : List ℕ)
-    → words ≡ spelled ps ++ after → words ≡ spelled qs ++ rest → AreJoined (IsLetterPart Wide) place ps after
-    → AreJoined (IsLetterPart Wide) place qs rest → IsEnd after → IsEnd rest
+    → words ≡ spelled ps ++ after → words ≡ spelled qs ++ rest → AreJoined (IsContentPart Wide) place ps after
+    → AreJoined (IsContentPart Wide) place qs rest → IsEnd after → IsEnd rest
     → designations before ps ≡ designations before qs
 same_designations before place [] [] words after rest one other joined with_other ended end = refl
 same_designations before place [] (q ∷ qs) words after rest one other joined with_other ended end =
-    let stops : first_letter_part Wide place words ≡ Stops None =
-    ap (first_letter_part Wide place) one ∙ letter_end_complete Wide place after ended in
-    let takes : first_letter_part Wide place words ≡ Takes (length q.words) q.what =
-    ap (first_letter_part Wide place) (other ∙ append_assoc q.words (spelled qs) rest)
-    ∙ (letter_part_complete Wide place q.words (spelled qs ++ rest) q.what with_other.0).0 in
+    let stops : first_content_part Wide place words ≡ Stops None =
+    ap (first_content_part Wide place) one ∙ content_end_complete Wide place after ended in
+    let takes : first_content_part Wide place words ≡ Takes (length q.words) q.what =
+    ap (first_content_part Wide place) (other ∙ append_assoc q.words (spelled qs) rest)
+    ∙ (content_part_complete Wide place q.words (spelled qs ++ rest) q.what with_other.0).0 in
     absurd cc
 same_designations before place (p ∷ ps) [] words after rest one other joined with_other ended end =
-    let stops : first_letter_part Wide place words ≡ Stops None =
-    ap (first_letter_part Wide place) other ∙ letter_end_complete Wide place rest end in
-    let takes : first_letter_part Wide place words ≡ Takes (length p.words) p.what =
-    ap (first_letter_part Wide place) (one ∙ append_assoc p.words (spelled ps) after)
-    ∙ (letter_part_complete Wide place p.words (spelled ps ++ after) p.what joined.0).0 in
+    let stops : first_content_part Wide place words ≡ Stops None =
+    ap (first_content_part Wide place) other ∙ content_end_complete Wide place rest end in
+    let takes : first_content_part Wide place words ≡ Takes (length p.words) p.what =
+    ap (first_content_part Wide place) (one ∙ append_assoc p.words (spelled ps) after)
+    ∙ (content_part_complete Wide place p.words (spelled ps ++ after) p.what joined.0).0 in
     absurd cc
 same_designations before place (p ∷ ps) (q ∷ qs) words after rest one other joined with_other ended end =
     let first = one ∙ append_assoc p.words (spelled ps) after in
     let second = other ∙ append_assoc q.words (spelled qs) rest in
-    let takes : first_letter_part Wide place words ≡ Takes (length p.words) p.what =
-    ap (first_letter_part Wide place) first
-    ∙ (letter_part_complete Wide place p.words (spelled ps ++ after) p.what joined.0).0 in
-    let takes_other : first_letter_part Wide place words ≡ Takes (length q.words) q.what =
-    ap (first_letter_part Wide place) second
-    ∙ (letter_part_complete Wide place q.words (spelled qs ++ rest) q.what with_other.0).0 in
+    let takes : first_content_part Wide place words ≡ Takes (length p.words) p.what =
+    ap (first_content_part Wide place) first
+    ∙ (content_part_complete Wide place p.words (spelled ps ++ after) p.what joined.0).0 in
+    let takes_other : first_content_part Wide place words ≡ Takes (length q.words) q.what =
+    ap (first_content_part Wide place) second
+    ∙ (content_part_complete Wide place q.words (spelled qs ++ rest) q.what with_other.0).0 in
     let count : length p.words ≡ length q.words = cc in
     let what : p.what ≡ q.what = cc in
     let left : drop (length p.words) words ≡ spelled ps ++ after =
@@ -56,20 +56,20 @@ same_designations before place (p ∷ ps) (q ∷ qs) words after rest one other 
     let further =
     same_designations (before + length p.words) (place + length p.words) ps qs (drop (length p.words) words) after rest
     left right joined.1
-    (subst (λ (n : ℕ). AreJoined (IsLetterPart Wide) (place + n) qs rest) (sym count) with_other.1) ended end in
+    (subst (λ (n : ℕ). AreJoined (IsContentPart Wide) (place + n) qs rest) (sym count) with_other.1) ended end in
     ap (λ (said : Said). designation before said ++ designations (before + length p.words) ps) what
     ∙ ap (λ (l : List Mark). designation before q.what ++ l) further
     ∙ ap (λ (n : ℕ). designation before q.what ++ designations (before + n) qs) count
 
--- How many codewords open a letter.
+-- How many codewords open a content.
 abbrev opening_length : Option Opened → ℕ
 opening_length None = 0
 opening_length (Some opened) = opened.count
 
--- An opening and parts say a letter.
+-- An opening and parts say a content.
 says_so : {words more : List ℕ} {opening : Opening} {place : ℕ} {said : List Said}
-    → AreOpened Wide words opening place more → AreLetterParts Wide place more said
-    → Says Wide words (said_letter opening said)
+    → AreOpened Wide words opening place more → AreContentParts Wide place more said
+    → Says Wide words (said_content opening said)
 says_so {more = more} {opening = opening} {place = place} {said = said} opened parts = record {
   opening = opening;
   place = place;
@@ -77,14 +77,14 @@ says_so {more = more} {opening = opening} {place = place} {said = said} opened p
   opened = opened;
   said = said;
   parts = parts;
-  letter_is = refl;
+  content_is = refl;
 }
 
 -- Codewords have one list of designators.
 pub one_list : (words : List ℕ) (found other : List Mark) → AreDesignations words found → AreDesignations words other
     → found ≡ other
-one_list words found other (of_letter opening place more opened said parts is)
-    (of_letter opening_too place_too more_too opened_too said_too parts_too is_too) =
+one_list words found other (of_content opening place more opened said parts is)
+    (of_content opening_too place_too more_too opened_too said_too parts_too is_too) =
     let opens = opens_so Wide words opening place more opened in
     let opens_too = opens_so Wide words opening_too place_too more_too opened_too in
     let count : length opened.first ≡ length opened_too.first = ap opening_length (sym opens.0 ∙ opens_too.0) in
@@ -94,14 +94,14 @@ one_list words found other (of_letter opening place more opened said parts is)
     is
     ∙ same_designations (length opened.first) place parts.parts parts_too.parts more parts.after parts_too.after
     parts.whole (tails ∙ parts_too.whole) parts.joined
-    (subst (λ (n : ℕ). AreJoined (IsLetterPart Wide) n parts_too.parts parts_too.after) places parts_too.joined)
+    (subst (λ (n : ℕ). AreJoined (IsContentPart Wide) n parts_too.parts parts_too.after) places parts_too.joined)
     parts.ended
     parts_too.ended
     ∙ ap (λ (n : ℕ). designations n parts_too.parts) count ∙ sym is_too
-one_list words found other (of_letter opening place more opened said parts is) (of_refused why refused none) =
-    absurd (said_not_refused Wide words (said_letter opening said) why (says_so opened parts) refused)
-one_list words found other (of_refused why refused none) (of_letter opening place more opened said parts is) =
-    absurd (said_not_refused Wide words (said_letter opening said) why (says_so opened parts) refused)
+one_list words found other (of_content opening place more opened said parts is) (of_refused why refused none) =
+    absurd (said_not_refused Wide words (said_content opening said) why (says_so opened parts) refused)
+one_list words found other (of_refused why refused none) (of_content opening place more opened said parts is) =
+    absurd (said_not_refused Wide words (said_content opening said) why (says_so opened parts) refused)
 one_list words found other (of_refused why refused none) (of_refused why_too refused_too none_too) = none ∙ sym none_too
 
 -- The numbers of marks.
@@ -121,13 +121,13 @@ numbered before items (p ∷ ps) = by_said p.what (λ n. numbered (before + leng
     by_said (Items said) rest = rest (items + length said)
     by_said (Number number) rest = ap (λ (l : List ℕ). number ∷ l) (rest items)
 
--- The designators have the numbers of the marks of the letter.
-pub numbers_of_marks : (words : List ℕ) (l : LetterView) (found : List Mark) → Says Wide words l
+-- The designators have the numbers of the marks of the content.
+pub numbers_of_marks : (words : List ℕ) (l : ContentView) (found : List Mark) → Says Wide words l
     → AreDesignations words found → numbers found ≡ numbers l.marks
 numbers_of_marks words l found s are =
     let own = designations (length s.opened.first) s.parts.parts in
     let items : ℕ = length (opening_items s.opening) in
-    ap numbers (one_list words found own are (of_letter s.opening s.place s.more s.opened s.said s.parts refl))
+    ap numbers (one_list words found own are (of_content s.opening s.place s.more s.opened s.said s.parts refl))
     ∙ numbered (length s.opened.first) items s.parts.parts
     ∙ ap (λ (said : List Said). numbers (said_marks items said)) (sym s.parts.said_are)
-    ∙ ap (λ (k : LetterView). numbers k.marks) (sym s.letter_is)
+    ∙ ap (λ (k : ContentView). numbers k.marks) (sym s.content_is)

@@ -1,38 +1,39 @@
--- The loop that finds one designator of a letter after the other.
+-- The loop that finds one designator of a content after the other.
 use Rattle.std.proofs.Common.{◌≡◌, ◌≢◌, ℕ, ◌+◌, ◌*◌, ◌<◌, ◌≤◌, List, [], ◌∷◌, ◌++◌, length, take, drop, refl, sym}
 use Rattle.std.proofs.Common.{ap, subst, ◌∙◌, append_assoc, arith, length-append, get_or, Option, Some, None, Result}
 use Rattle.std.proofs.Common.{Ok, Err}
 use Rattle.std.proofs.lemmas.List.{append-nil, drop_at, length-drop, length-take, drop-drop, take-append-drop}
 use Rattle.std.proofs.lemmas.List.{get_or_append_left, get_or-append-add}
 use Rattle.dm_words.specs.declared.extent.Extent.TheVariants.{Wide}
-use Rattle.dm_words.specs.declared.letters.designator.Designator.{Designator}
-use Rattle.dm_words.specs.declared.letters.fault.LetterFault.{LetterFault}
-use Rattle.dm_words.specs.declared.letters.mark.Mark.{Mark}
-use Rattle.dm_words.specs.declared.letters.opening.Opened.{Opened}
+use Rattle.dm_words.specs.declared.contents.designator.Designator.{Designator}
+use Rattle.dm_words.specs.declared.contents.fault.ContentFault.{ContentFault}
+use Rattle.dm_words.specs.declared.contents.mark.Mark.{Mark}
+use Rattle.dm_words.specs.declared.contents.opening.Opened.{Opened}
 use Rattle.dm_words.specs.Joined.{Piece, spelled, whats, AreJoined}
-use Rattle.dm_words.specs.Letters.{LetterView, Says, part, mark}
-use Rattle.dm_words.specs.Letters.{Said, Items, Number, IsLetterPart, AreLetterParts, HaveLetterFault, IsLetterFault}
-use Rattle.dm_words.specs.Letters.{IsOpening, AreOpened, no_head, behind}
-use Rattle.dm_words.specs.Designations.{designation, designations, AreDesignations, of_letter, of_refused}
+use Rattle.dm_words.specs.Contents.{ContentView, Says, part, mark}
+use Rattle.dm_words.specs.Contents.{Said, Items, Number, IsContentPart, AreContentParts, HaveContentFault}
+use Rattle.dm_words.specs.Contents.{IsContentFault}
+use Rattle.dm_words.specs.Contents.{IsOpening, AreOpened, no_head, behind}
+use Rattle.dm_words.specs.Designations.{designation, designations, AreDesignations, of_content, of_refused}
 use Rattle.dm_words.specs.inner.Scan.Walk.{Stops}
-use Rattle.dm_words.specs.inner.LetterScan.{opened, mark_by, first_letter_part, letter_of}
-use Rattle.dm_words.specs.inner.LetterContents.{IsDesignationTaken}
+use Rattle.dm_words.specs.inner.ContentScan.{opened, mark_by, first_content_part, content_of}
+use Rattle.dm_words.specs.inner.ContentsAt.{IsDesignationTaken}
 use Rattle.dm_words.proofs.Pairs.{IsBytes, IsBytes-drop}
 use Rattle.dm_words.proofs.Pieces.{spelled-last}
 use Rattle.dm_words.proofs.Openings as openings
 use Rattle.dm_words.proofs.Openings.{OpeningJudged}
-use Rattle.dm_words.proofs.LetterParts.{letter_part_sound, letter_end_sound, letter_fault_sound}
-use Rattle.dm_words.proofs.LetterLoops.{HasRoom, room_by}
-use Rattle.dm_words.proofs.WholeLetters.{reads}
+use Rattle.dm_words.proofs.ContentParts.{content_part_sound, content_end_sound, content_fault_sound}
+use Rattle.dm_words.proofs.ContentLoops.{HasRoom, room_by}
+use Rattle.dm_words.proofs.WholeContents.{reads}
 
 -- Parts that are joined before another one are joined with it.
 joined-last : (place : ℕ) (pieces : List (Piece Said)) (words after : List ℕ) (said : Said)
-    → AreJoined (IsLetterPart Wide) place pieces (words ++ after)
-    → IsLetterPart Wide (place + length (spelled pieces)) words after said
-    → AreJoined (IsLetterPart Wide) place
+    → AreJoined (IsContentPart Wide) place pieces (words ++ after)
+    → IsContentPart Wide (place + length (spelled pieces)) words after said
+    → AreJoined (IsContentPart Wide) place
     (pieces ++ (let q : Piece Said = record { words = words; what = said } in q) ∷ []) after
 joined-last place [] words after said joined right = (
-  subst (λ (k : ℕ). IsLetterPart Wide k words after said) (omega arith) right,
+  subst (λ (k : ℕ). IsContentPart Wide k words after said) (omega arith) right,
   tt,
 )
 joined-last place (p ∷ ps) words after said joined right =
@@ -41,9 +42,9 @@ joined-last place (p ∷ ps) words after said joined right =
     sym (append_assoc (spelled ps) words after) ∙ ap (λ (l : List ℕ). l ++ after) (sym (spelled-last ps q)) in
     let there : place + length (p.words ++ spelled ps) ≡ (place + length p.words) + length (spelled ps) =
     omega (arith, length-append p.words (spelled ps)) in (
-      subst (λ (rest : List ℕ). IsLetterPart Wide place p.words rest p.what) whole joined.0,
+      subst (λ (rest : List ℕ). IsContentPart Wide place p.words rest p.what) whole joined.0,
       joined-last (place + length p.words) ps words after said joined.1
-          (subst (λ (k : ℕ). IsLetterPart Wide k words after said) there right),
+          (subst (λ (k : ℕ). IsContentPart Wide k words after said) there right),
     )
 
 -- The designators of parts, and of one behind them.
@@ -66,7 +67,7 @@ designations-last before (p ∷ ps) q =
 pub record AreTaken (words : List ℕ) (start at : ℕ) (found : List Mark) : Type 0 where
   pub pieces : List (Piece Said)
   pub whole : drop start words ≡ spelled pieces ++ drop at words
-  pub joined : AreJoined (IsLetterPart Wide) (start + 1) pieces (drop at words)
+  pub joined : AreJoined (IsContentPart Wide) (start + 1) pieces (drop at words)
   pub long : at ≡ start + length (spelled pieces)
   pub found_is : found ≡ designations start pieces
 
@@ -93,12 +94,12 @@ few_more at n old new (Number number) room few is =
 -- A part that is taken goes on with those that were.
 pub goes_on : (words : List ℕ) (start at n : ℕ) (old new : List Mark) → IsBytes words → at ≤ length words
     → 2 * length old ≤ at → AreTaken words start at old
-    → IsDesignationTaken (Ok (Some n)) at old new (first_letter_part Wide (at + 1) (drop at words))
+    → IsDesignationTaken (Ok (Some n)) at old new (first_content_part Wide (at + 1) (drop at words))
     → Leaves words start at n new
 goes_on words start at n old new fit in_range few t took =
     let said = took.0 in
-    let fits = (letter_part_sound Wide).fits at words fit in
-    let r = (letter_part_sound Wide).right (at + 1) (drop at words) n said fits took.1 in
+    let fits = (content_part_sound Wide).fits at words fit in
+    let r = (content_part_sound Wide).right (at + 1) (drop at words) n said fits took.1 in
     let long : length (take n (drop at words)) ≡ n = omega (arith, length-take n (drop at words), r.2) in
     let room : HasRoom n said =
     subst (λ (k : ℕ). HasRoom k said) long
@@ -109,8 +110,8 @@ goes_on words start at n old new fit in_range few t took =
     let place : at + 1 ≡ (start + 1) + length (spelled t.pieces) = omega (arith, t.long) in
     let joined =
     joined-last (start + 1) t.pieces (take n (drop at words)) (drop n (drop at words)) said
-    (subst (λ (l : List ℕ). AreJoined (IsLetterPart Wide) (start + 1) t.pieces l) (sym cut) t.joined)
-    (subst (λ (k : ℕ). IsLetterPart Wide k (take n (drop at words)) (drop n (drop at words)) said) place r.0) in
+    (subst (λ (l : List ℕ). AreJoined (IsContentPart Wide) (start + 1) t.pieces l) (sym cut) t.joined)
+    (subst (λ (k : ℕ). IsContentPart Wide k (take n (drop at words)) (drop n (drop at words)) said) place r.0) in
     record {
       in_range = omega (arith, r.2, length-drop at words);
       some = r.1;
@@ -121,7 +122,7 @@ goes_on words start at n old new fit in_range few t took =
             ∙ sym (append_assoc (spelled t.pieces) (take n (drop at words)) (drop n (drop at words)))
             ∙ ap (λ (l : List ℕ). l ++ drop n (drop at words)) (sym (spelled-last t.pieces q))
             ∙ ap (λ (l : List ℕ). spelled (t.pieces ++ q ∷ []) ++ l) rest;
-        joined = subst (λ (l : List ℕ). AreJoined (IsLetterPart Wide) (start + 1) (t.pieces ++ q ∷ []) l) rest joined;
+        joined = subst (λ (l : List ℕ). AreJoined (IsContentPart Wide) (start + 1) (t.pieces ++ q ∷ []) l) rest joined;
         long = omega (
           arith,
           t.long,
@@ -137,8 +138,8 @@ goes_on words start at n old new fit in_range few t took =
 
 -- At the end these are the designators of all parts.
 pub ends : (words : List ℕ) (start at : ℕ) (found : List Mark) → IsBytes words → AreTaken words start at found
-    → first_letter_part Wide (at + 1) (drop at words) ≡ Stops None
-    → (said : List Said) × (parts : AreLetterParts Wide (start + 1) (drop start words) said)
+    → first_content_part Wide (at + 1) (drop at words) ≡ Stops None
+    → (said : List Said) × (parts : AreContentParts Wide (start + 1) (drop start words) said)
     × (found ≡ designations start parts.parts)
 ends words start at found fit t e = (
   whats t.pieces,
@@ -146,7 +147,7 @@ ends words start at found fit t e = (
     parts = t.pieces;
     after = drop at words;
     joined = t.joined;
-    ended = letter_end_sound Wide (at + 1) (drop at words) (IsBytes-drop at words fit) e;
+    ended = content_end_sound Wide (at + 1) (drop at words) (IsBytes-drop at words fit) e;
     whole = t.whole;
     said_are = refl;
   },
@@ -154,9 +155,9 @@ ends words start at found fit t e = (
 )
 
 -- A fault that is met is there.
-pub fails : (words : List ℕ) (start at : ℕ) (found : List Mark) (why : LetterFault) → IsBytes words
-    → AreTaken words start at found → first_letter_part Wide (at + 1) (drop at words) ≡ Stops (Some why)
-    → HaveLetterFault Wide (start + 1) (drop start words) why
+pub fails : (words : List ℕ) (start at : ℕ) (found : List Mark) (why : ContentFault) → IsBytes words
+    → AreTaken words start at found → first_content_part Wide (at + 1) (drop at words) ≡ Stops (Some why)
+    → HaveContentFault Wide (start + 1) (drop start words) why
 fails words start at found why fit t e =
     let place : at + 1 ≡ (start + 1) + length (spelled t.pieces) = omega (arith, t.long) in
     record {
@@ -165,8 +166,8 @@ fails words start at found why fit t e =
       joined = t.joined;
       whole = t.whole;
       faulty =
-          subst (λ (k : ℕ). IsLetterFault Wide k (drop at words) why) place
-          (letter_fault_sound Wide (at + 1) (drop at words) why (IsBytes-drop at words fit) e);
+          subst (λ (k : ℕ). IsContentFault Wide k (drop at words) why) place
+          (content_fault_sound Wide (at + 1) (drop at words) why (IsBytes-drop at words fit) e);
     }
 
 -- Behind ECI, a designator is found.
@@ -198,18 +199,18 @@ opens words o j =
       j.count,
     )
 
--- The designators of the parts behind an opening are those of the letter.
+-- The designators of the parts behind an opening are those of the content.
 pub of_parts : (words : List ℕ) (o : Opened) (found : List Mark) → opened Wide words ≡ Some o
-    → (said : List Said) (parts : AreLetterParts Wide (o.count + 1) (drop o.count words) said)
+    → (said : List Said) (parts : AreContentParts Wide (o.count + 1) (drop o.count words) said)
     → found ≡ designations o.count parts.parts → AreDesignations words found
 of_parts words o found e said parts is =
     let a = opens words o (subst (OpeningJudged Wide words) e (openings.judged Wide words)) in
-    of_letter o.opening (o.count + 1) (drop o.count words) a.0 said parts
+    of_content o.opening (o.count + 1) (drop o.count words) a.0 said parts
     (is ∙ ap (λ (k : ℕ). designations k parts.parts) a.1)
 
 -- Where the parts behind an opening have a fault, there are none.
-pub of_fault : (words : List ℕ) (o : Opened) (found : List Mark) (why : LetterFault) → opened Wide words ≡ Some o
-    → HaveLetterFault Wide (o.count + 1) (drop o.count words) why → found ≡ [] → AreDesignations words found
+pub of_fault : (words : List ℕ) (o : Opened) (found : List Mark) (why : ContentFault) → opened Wide words ≡ Some o
+    → HaveContentFault Wide (o.count + 1) (drop o.count words) why → found ≡ [] → AreDesignations words found
 of_fault words o found why e fault is =
     let a = opens words o (subst (OpeningJudged Wide words) e (openings.judged Wide words)) in
     of_refused why (behind o.opening (o.count + 1) (drop o.count words) a.0 fault) is
@@ -230,14 +231,14 @@ no_eci_behind a b none i lt e =
     none (length a + i) (omega (arith, lt, length-append a b)) (get_or-append-add a b i 0 ∙ e)
 
 -- Parts without ECI have no designators.
-no_designation : (place before : ℕ) (words after : List ℕ) (said : Said) → IsLetterPart Wide place words after said
+no_designation : (place before : ℕ) (words after : List ℕ) (said : Said) → IsContentPart Wide place words after said
     → HaveNoEci words → designation before said ≡ []
 no_designation place before words after said (part items p is) none = rw is refl
 no_designation place before words after said (mark d number wide e whole is) none =
     absurd (none 0 (omega (arith, ap length whole)) (ap (λ (l : List ℕ). get_or l 0 0) whole))
 
 no_designations : (place before : ℕ) (ps : List (Piece Said)) (after : List ℕ)
-    → AreJoined (IsLetterPart Wide) place ps after
+    → AreJoined (IsContentPart Wide) place ps after
     → HaveNoEci (spelled ps) → designations before ps ≡ []
 no_designations place before [] after joined none = refl
 no_designations place before (p ∷ ps) after joined none =
@@ -247,19 +248,19 @@ no_designations place before (p ∷ ps) after joined none =
     (no_eci_behind p.words (spelled ps) none) in
     rw (here, there) refl
 
--- The parts of a letter that is said have none.
-none_said : (words : List ℕ) (l : LetterView) → Says Wide words l → HaveNoEci words → AreDesignations words []
+-- The parts of a content that is said have none.
+none_said : (words : List ℕ) (l : ContentView) → Says Wide words l → HaveNoEci words → AreDesignations words []
 none_said words l s none =
     let more : HaveNoEci s.more = no_eci_behind s.opened.first s.more
     (subst HaveNoEci s.opened.whole none) in
     let parts : HaveNoEci (spelled s.parts.parts) = no_eci_before (spelled s.parts.parts) s.parts.after
     (subst HaveNoEci s.parts.whole more) in
-    of_letter s.opening s.place s.more s.opened s.said s.parts
+    of_content s.opening s.place s.more s.opened s.said s.parts
     (sym (no_designations s.place (length s.opened.first) s.parts.parts s.parts.after s.parts.joined parts))
 
 -- Words without ECI have no designators.
 pub none_without_eci : (words : List ℕ) → IsBytes words → HaveNoEci words → AreDesignations words []
-none_without_eci words fit none = by_result (letter_of Wide words) refl where
-  by_result : (r : Result LetterView LetterFault) → letter_of Wide words ≡ r → AreDesignations words []
-  by_result (Ok l) e = none_said words l ((reads Wide words fit).letter_is l e) none
+none_without_eci words fit none = by_result (content_of Wide words) refl where
+  by_result : (r : Result ContentView ContentFault) → content_of Wide words ≡ r → AreDesignations words []
+  by_result (Ok l) e = none_said words l ((reads Wide words fit).content_is l e) none
   by_result (Err why) e = of_refused why ((reads Wide words fit).fault_is why e) refl

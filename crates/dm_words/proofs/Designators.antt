@@ -4,11 +4,11 @@ use Rattle.std.proofs.Common.{refl, sym, ap, subst, ◌∙◌, arith, Bool, true
 use Rattle.std.proofs.Common.{◌&&◌, Option, Some, None}
 use Rattle.std.specs.Prelude.{◌↔◌, slice_get, ◌==◌}
 use Rattle.std.proofs.lemmas.Bool.Decides.{nat_tests}
-use Rattle.dm_words.specs.declared.letters.designator.Designator.{Designator}
+use Rattle.dm_words.specs.declared.contents.designator.Designator.{Designator}
 use Rattle.dm_words.specs.Designators.{most_assigned, IsDesignator, one, two, three}
 use Rattle.dm_words.specs.Designators.{BeginsNoDesignator, designator}
-use Rattle.dm_words.specs.inner.LetterScan.{is_further, two_words, three_words}
-use Rattle.dm_words.specs.inner.LetterScan.{first_designator}
+use Rattle.dm_words.specs.inner.ContentScan.{is_further, two_words, three_words}
+use Rattle.dm_words.specs.inner.ContentScan.{first_designator}
 
 -- A designator that is there is found.
 pub designator_complete : (words more : List ℕ) (number : ℕ) → IsDesignator words number

@@ -6,8 +6,8 @@ use Rattle.std.proofs.lemmas.Bool.{eqb-true}
 use Rattle.std.proofs.lemmas.List.{take-append-drop, drop-drop, drop_all}
 use Rattle.dm_words.specs.declared.extent.Extent.{Extent}
 use Rattle.dm_words.specs.Designators.{eci_word}
-use Rattle.dm_words.specs.Letters.{LetterView, Said, Items, Number, IsLetterPart, part, mark, eci_count, HasMarkRoom}
-use Rattle.dm_words.specs.inner.LetterContents.{IsContentAt}
+use Rattle.dm_words.specs.Contents.{ContentView, Said, Items, Number, IsContentPart, part, mark, eci_count, HasMarkRoom}
+use Rattle.dm_words.specs.inner.ContentsAt.{IsContentAt}
 
 -- Of words behind others each is counted once.
 counted_apart : (first more : List ℕ) → eci_count (first ++ more) ≡ eci_count first + eci_count more
@@ -43,7 +43,7 @@ mark_count (Number number) = 1
 
 -- A part with a mark takes an ECI.
 pub taken_away : (extent : Extent) (at n : ℕ) (words : List ℕ) (said : Said)
-    → IsLetterPart extent (at + 1) (take n (drop at words)) (drop n (drop at words)) said
+    → IsContentPart extent (at + 1) (take n (drop at words)) (drop n (drop at words)) said
     → mark_count said + eci_count (drop (at + n) words) ≤ eci_count (drop at words)
 taken_away extent at n words said (part items p is) =
     rw is (omega (arith, no_more_left at (at + n) words (omega arith)))
@@ -52,7 +52,7 @@ taken_away extent at n words said (mark d number wide e whole is) =
     rw is (omega (arith, in_parts n (drop at words), ap eci_count (drop-drop n at words), some))
 
 -- Where ECI stands, there is room for its mark.
-pub mark_fits : (room most : ℕ) (words : List ℕ) (at : ℕ) (so_far : LetterView) → HasMarkRoom most words
+pub mark_fits : (room most : ℕ) (words : List ℕ) (at : ℕ) (so_far : ContentView) → HasMarkRoom most words
     → IsContentAt room words at so_far → at < length words → drop at words ≡ eci_word ∷ drop (at + 1) words
     → length so_far.marks < most
 mark_fits room most words at so_far (inl two) v lt here = omega (arith, two, v.mark_room, lt)

@@ -4,17 +4,17 @@ use Rattle.dm_words.specs.declared.extent.Extent.{Extent}
 use Rattle.dm_words.specs.declared.extent.Extent.TheVariants.{Usual, Wide}
 use Rattle.dm_words.specs.declared.item.Item.{Item}
 use Rattle.dm_words.specs.declared.c40.set.CodeSet.{CodeSet}
-use Rattle.dm_words.specs.declared.letters.opening.Opening.{Opening}
-use Rattle.dm_words.specs.declared.letters.opening.Opening.TheVariants.{Plain}
+use Rattle.dm_words.specs.declared.contents.opening.Opening.{Opening}
+use Rattle.dm_words.specs.declared.contents.opening.Opening.TheVariants.{Plain}
 use Rattle.dm_words.specs.Joined.{Piece, spelled, AreJoined}
 use Rattle.dm_words.specs.Values.{IsDropped, filler, waiting, AreValues}
 use Rattle.dm_words.specs.Parts.{IsPart, ascii, run, segment, edifact}
-use Rattle.dm_words.specs.Letters.{LetterView, Said, IsLetterPart, part, mark, AreLetterParts, IsOpening, headed}
-use Rattle.dm_words.specs.Letters.{framed}
-use Rattle.dm_words.specs.Letters.{plain, said_letter, Says, BeginsFrame}
+use Rattle.dm_words.specs.Contents.{ContentView, Said, IsContentPart, part, mark, AreContentParts, IsOpening, headed}
+use Rattle.dm_words.specs.Contents.{framed}
+use Rattle.dm_words.specs.Contents.{plain, said_content, Says, BeginsFrame}
 use Rattle.dm_words.specs.Smallest.{SpellsThenPads, plain_padded, macro_padded}
-use Rattle.dm_words.proofs.LetterParts.{not_wide}
-use Rattle.dm_words.proofs.SpelledLetters.{opened_plain, no_frame}
+use Rattle.dm_words.proofs.ContentParts.{not_wide}
+use Rattle.dm_words.proofs.SpelledContents.{opened_plain, no_frame}
 
 -- What is dropped in the usual extent is dropped in the wide one.
 dropped_wider : (set : CodeSet) (values : List ℕ) → IsDropped Usual set values → IsDropped Wide set values
@@ -55,24 +55,24 @@ joined_wider place [] after h = tt
 joined_wider place (p ∷ ps) after h =
     (part_wider place p.words (spelled ps ++ after) p.what h.0, joined_wider (place + length p.words) ps after h.1)
 
--- So are parts of a letter.
+-- So are parts of a content.
 said_joined_wider : (place : ℕ) (ps : List (Piece Said)) (after : List ℕ)
-    → AreJoined (IsLetterPart Usual) place ps after → AreJoined (IsLetterPart Wide) place ps after
+    → AreJoined (IsContentPart Usual) place ps after → AreJoined (IsContentPart Wide) place ps after
 said_joined_wider place [] after h = tt
 said_joined_wider place (p ∷ ps) after h =
     (by_part h.0, said_joined_wider (place + length p.words) ps after h.1) where
-      by_part : IsLetterPart Usual place p.words (spelled ps ++ after) p.what
-          → IsLetterPart Wide place p.words (spelled ps ++ after) p.what
+      by_part : IsContentPart Usual place p.words (spelled ps ++ after) p.what
+          → IsContentPart Wide place p.words (spelled ps ++ after) p.what
       by_part (part items q is) = part items (part_wider place p.words (spelled ps ++ after) items q) is
       by_part (mark d number wide e whole is) = absurd (not_wide wide)
 
 -- What codewords say in the usual extent, from the first codeword on, in parts of the wide one.
-record HasWideParts (words : List ℕ) (l : LetterView) : Type 0 where
+record HasWideParts (words : List ℕ) (l : ContentView) : Type 0 where
   said : List Said
-  parts : AreLetterParts Wide 1 words said
-  letter_is : l ≡ said_letter Plain said
+  parts : AreContentParts Wide 1 words said
+  content_is : l ≡ said_content Plain said
 
-wide_parts : (words : List ℕ) (l : LetterView) → Says Usual words l → HasWideParts words l
+wide_parts : (words : List ℕ) (l : ContentView) → Says Usual words l → HasWideParts words l
 wide_parts words l s = by_opening s.opened.is_opening where
   by_opening : IsOpening Usual s.opened.first s.more s.opening → HasWideParts words l
   by_opening (headed said wide h is) = absurd (not_wide wide)
@@ -80,7 +80,7 @@ wide_parts words l s = by_opening s.opened.is_opening where
   by_opening (plain e no_head no_frame is) =
       let whole : words ≡ s.more = s.opened.whole ∙ ap (λ (w : List ℕ). w ++ s.more) e in
       let place : s.place ≡ 1 = s.opened.place_is ∙ ap (λ (w : List ℕ). 1 + length w) e in
-      let parts : AreLetterParts Wide s.place s.more s.said = record {
+      let parts : AreContentParts Wide s.place s.more s.said = record {
         parts = s.parts.parts;
         after = s.parts.after;
         joined = said_joined_wider s.place s.parts.parts s.parts.after s.parts.joined;
@@ -90,13 +90,13 @@ wide_parts words l s = by_opening s.opened.is_opening where
       } in
       record {
         said = s.said;
-        parts = subst (λ (w : List ℕ). AreLetterParts Wide 1 w s.said) (sym whole)
-            (subst (λ (p : ℕ). AreLetterParts Wide p s.more s.said) place parts);
-        letter_is = s.letter_is ∙ ap (λ (o : Opening). said_letter o s.said) is;
+        parts = subst (λ (w : List ℕ). AreContentParts Wide 1 w s.said) (sym whole)
+            (subst (λ (p : ℕ). AreContentParts Wide p s.more s.said) place parts);
+        content_is = s.content_is ∙ ap (λ (o : Opening). said_content o s.said) is;
       }
 
 -- They say it in the wide one.
-pub usual_said_wide : (words : List ℕ) (l : LetterView) → Says Usual words l → Says Wide words l
+pub usual_said_wide : (words : List ℕ) (l : ContentView) → Says Usual words l → Says Wide words l
 usual_said_wide words l s =
     let w = wide_parts words l s in
     record {
@@ -106,15 +106,15 @@ usual_said_wide words l s =
       opened = opened_plain Wide words words w.said refl w.parts;
       said = w.said;
       parts = w.parts;
-      letter_is = w.letter_is;
+      content_is = w.content_is;
     }
 
 -- And they begin with no macro.
-pub usual_no_frame : (words : List ℕ) (l : LetterView) → Says Usual words l → BeginsFrame words → ⊥
+pub usual_no_frame : (words : List ℕ) (l : ContentView) → Says Usual words l → BeginsFrame words → ⊥
 usual_no_frame words l s = (let w = wide_parts words l s in no_frame words w.said w.parts)
 
 -- What they say in some extent they say in the wide one.
-pub said_wide : (extent : Extent) (words : List ℕ) (l : LetterView) → Says extent words l → Says Wide words l
+pub said_wide : (extent : Extent) (words : List ℕ) (l : ContentView) → Says extent words l → Says Wide words l
 said_wide Usual words l s = usual_said_wide words l s
 said_wide Wide words l s = s
 

@@ -11,14 +11,14 @@ use Rattle.dm_words.specs.declared.codeword.Codeword.TheVariants as codeword
 use Rattle.dm_words.specs.declared.extent.Extent.TheVariants.{Wide}
 use Rattle.dm_words.specs.declared.item.Item.{Item}
 use Rattle.dm_words.specs.declared.item.Item.TheVariants.{Byte, Fnc1}
-use Rattle.dm_words.specs.declared.letters.head.Head.{Head}
-use Rattle.dm_words.specs.declared.letters.opening.Opened.{Opened}
-use Rattle.dm_words.specs.declared.letters.opening.Opening.{Opening}
+use Rattle.dm_words.specs.declared.contents.head.Head.{Head}
+use Rattle.dm_words.specs.declared.contents.opening.Opened.{Opened}
+use Rattle.dm_words.specs.declared.contents.opening.Opening.{Opening}
 use Rattle.dm_words.specs.Codewords.{codeword_of}
 use Rattle.dm_words.specs.Heads.{head_words}
 use Rattle.dm_words.specs.Joined.{Piece, spelled, AreJoined}
-use Rattle.dm_words.specs.Letters.{Said, Items, IsLetterPart, part, mark, AreOpened, IsOpening, headed, framed, plain}
-use Rattle.dm_words.specs.Letters.{AreLetterParts, AreEmptyRuns, Says, LetterView, opening_head}
+use Rattle.dm_words.specs.Contents.{Said, Items, IsContentPart, part, mark, AreOpened, IsOpening, headed, framed, plain}
+use Rattle.dm_words.specs.Contents.{AreContentParts, AreEmptyRuns, Says, ContentView, opening_head}
 use Rattle.dm_words.specs.Ascii.{character, digits, fnc1, raised}
 use Rattle.dm_words.specs.Base256.{IsLengthField, to_the_end, short, long, written}
 use Rattle.dm_words.specs.Designators.{one, two, three}
@@ -27,13 +27,13 @@ use Rattle.dm_words.specs.Runs.{IsRun, IsRunEnd, unlatch, symbol_end, last_word}
 use Rattle.dm_words.specs.Values.{filler, nothing}
 use Rattle.dm_words.specs.Parts.{IsPart, ascii, run, segment, edifact, IsEnd}
 use Rattle.dm_words.specs.Parts as spells
-use Rattle.dm_words.specs.declared.letters.mark.Mark.{Mark}
+use Rattle.dm_words.specs.declared.contents.mark.Mark.{Mark}
 use Rattle.dm_words.specs.Symbology.{IsFnc1At, IsFnc1Number, IsIdentifier, marks_number}
 use Rattle.dm_words.specs.Symbology as symbology
 use Rattle.dm_words.specs.inner.Scan.Prefixes.{part_by}
-use Rattle.dm_words.specs.inner.LetterScan.{as_said, first_letter_part, opened}
+use Rattle.dm_words.specs.inner.ContentScan.{as_said, first_content_part, opened}
 use Rattle.dm_words.specs.inner.Fnc1.{fnc1_number, is_alone}
-use Rattle.dm_words.proofs.LetterParts.{as_part, letter_part_complete}
+use Rattle.dm_words.proofs.ContentParts.{as_part, content_part_complete}
 use Rattle.dm_words.proofs.Segments.{length-written}
 use Rattle.dm_words.proofs.Openings as openings
 use Rattle.dm_words.proofs.Heads as heads
@@ -103,7 +103,7 @@ record IsAlone (start w : ℕ) (more : List ℕ) : Type 0 where
   after : List ℕ
   said : Said
   whole : more ≡ 232 ∷ after
-  taken : IsLetterPart Wide start (w ∷ []) (232 ∷ after) said
+  taken : IsContentPart Wide start (w ∷ []) (232 ∷ after) said
 
 -- A list of one number has it.
 one_first : (xs : List ℕ) → length xs ≡ 1 → (x : ℕ) × (xs ≡ x ∷ [])
@@ -113,20 +113,20 @@ one_first (x ∷ y ∷ xs) e = absurd (omega arith)
 
 -- The first part is one codeword, and no other part stands before FNC1.
 alone_by : (start : ℕ) (parts : List (Piece Said)) (after more : List ℕ)
-    → AreJoined (IsLetterPart Wide) start parts (232 ∷ after) → more ≡ spelled parts ++ 232 ∷ after
+    → AreJoined (IsContentPart Wide) start parts (232 ∷ after) → more ≡ spelled parts ++ 232 ∷ after
     → length (spelled parts) ≡ 1 → (w : ℕ) × (rest : List ℕ) × (more ≡ w ∷ rest) × IsAlone start w rest
 alone_by start [] after more joined e k = absurd (omega arith)
 alone_by start (p ∷ ps) after more joined e k =
-    let c = letter_part_complete Wide start p.words (spelled ps ++ 232 ∷ after) p.what joined.0 in
+    let c = content_part_complete Wide start p.words (spelled ps ++ 232 ∷ after) p.what joined.0 in
     let sum = length-append p.words (spelled ps) in
     let none : spelled ps ≡ [] = nil_from_length (spelled ps) (omega (arith, sum, k, c.1)) in
     let w = one_first p.words (omega (arith, sum, k, c.1)) in
     let rest : spelled ps ++ 232 ∷ after ≡ 232 ∷ after = ap (λ (l : List ℕ). l ++ 232 ∷ after) none in
     let whole : more ≡ w.0 ∷ 232 ∷ after = e ∙ ap (λ (l : List ℕ). l ++ 232 ∷ after)
     (ap (λ (l : List ℕ). l ++ spelled ps) w.1 ∙ ap (λ (l : List ℕ). w.0 ∷ l) none) in
-    let there : IsLetterPart Wide start (w.0 ∷ []) (232 ∷ after) p.what =
-    subst (λ (l : List ℕ). IsLetterPart Wide start l (232 ∷ after) p.what) w.1
-    (subst (λ (l : List ℕ). IsLetterPart Wide start p.words l p.what) rest joined.0) in
+    let there : IsContentPart Wide start (w.0 ∷ []) (232 ∷ after) p.what =
+    subst (λ (l : List ℕ). IsContentPart Wide start l (232 ∷ after) p.what) w.1
+    (subst (λ (l : List ℕ). IsContentPart Wide start p.words l p.what) rest joined.0) in
     (w.0, 232 ∷ after, whole, record { after = after; said = p.what; whole = refl; taken = there })
 
 -- It is the second codeword behind the opening.
@@ -134,7 +134,7 @@ follows : (words : List ℕ) (o : Opening) (start : ℕ) (more : List ℕ) → A
     → IsFnc1At words (start + 1) → (w : ℕ) × (rest : List ℕ) × (more ≡ w ∷ rest) × IsAlone start w rest
 follows words o start more there_is x =
     let same = same_opened words o x.opening start x.start more x.more there_is x.opened in
-    let P : ℕ → Type 0 = λ n. AreJoined (IsLetterPart Wide) n x.parts (232 ∷ x.after) in
+    let P : ℕ → Type 0 = λ n. AreJoined (IsContentPart Wide) n x.parts (232 ∷ x.after) in
     alone_by start x.parts x.after more (subst P (sym same.0) x.joined) (same.1 ∙ x.whole)
     (omega (arith, x.place_is, same.0))
 
@@ -208,8 +208,8 @@ part_alone place w after items (edifact wide r) =
     let few : length after ≤ 1 = group_ends (spelled r.groups) r.end after r.last w r.latch r.whole r.ended in
     rw (ap codeword_of same ∙ r.is_latch) (grind (arith, nat_tests))
 
--- So is a part of a letter.
-alone_tests : (start w : ℕ) (after : List ℕ) (said : Said) → IsLetterPart Wide start (w ∷ []) (232 ∷ after) said
+-- So is a part of a content.
+alone_tests : (start w : ℕ) (after : List ℕ) (said : Said) → IsContentPart Wide start (w ∷ []) (232 ∷ after) said
     → is_alone (codeword_of w) (length after) ≡ true
 alone_tests start w after said (part items p is) = part_alone start w after items p
 alone_tests start w after said (mark d number wide (one f a b e is) whole all) =
@@ -222,7 +222,7 @@ alone_tests start w after said (mark d number wide (three f g h a b c k e is few
 -- A codeword that is alone, and no macro, is a part before FNC1.
 alone_part : (start w : ℕ) (after : List ℕ) (k : Option Codeword) → codeword_of w ≡ k
     → is_alone k (length after) ≡ true → ((digit : ℕ) → k ≡ Some (codeword.Macro digit) → ⊥)
-    → (said : Said) × IsLetterPart Wide start (w ∷ []) (232 ∷ after) said
+    → (said : Said) × IsContentPart Wide start (w ∷ []) (232 ∷ after) said
 alone_part start w after None e is other = absurd (cc)
 alone_part start w after (Some (codeword.Character byte)) e is other =
     let items = Byte byte ∷ [] in (Items items, part items (ascii (character w byte e refl refl)) refl)
@@ -406,7 +406,7 @@ by_frame words o start more [] word digit there_is at empty k = by_more more ref
   by_more (m ∷ ms) e = by_first m ms e (word == 232) refl
 
 -- Where parts begin no macro stands.
-parts_begin : (start : ℕ) (more : List ℕ) (said : List Said) → AreLetterParts Wide start more said → (w digit : ℕ)
+parts_begin : (start : ℕ) (more : List ℕ) (said : List Said) → AreContentParts Wide start more said → (w digit : ℕ)
     (ms : List ℕ) → more ≡ w ∷ ms → codeword_of w ≡ Some (codeword.Macro digit) → ⊥
 parts_begin start more said are w digit ms e k = by_parts are.parts are.joined are.ended are.whole where
   by_end : (after : List ℕ) → IsEnd after → more ≡ after → ⊥
@@ -415,26 +415,26 @@ parts_begin start more said are w digit ms e k = by_parts are.parts are.joined a
       let f : w ∷ ms ≡ word ∷ rest = sym e ∙ is ∙ all in let same : w ≡ word = cc in
       let g : Some (codeword.Macro digit) ≡ Some codeword.Pad = sym k ∙ ap codeword_of same ∙ p in cc
 
-  by_parts : (parts : List (Piece Said)) → AreJoined (IsLetterPart Wide) start parts are.after → IsEnd are.after
+  by_parts : (parts : List (Piece Said)) → AreJoined (IsContentPart Wide) start parts are.after → IsEnd are.after
       → more ≡ spelled parts ++ are.after → ⊥
   by_parts [] joined ended is = by_end are.after ended is
   by_parts (p ∷ ps) joined ended is =
-      let c = letter_part_complete Wide start p.words (spelled ps ++ are.after) p.what joined.0 in
+      let c = content_part_complete Wide start p.words (spelled ps ++ are.after) p.what joined.0 in
       let whole : w ∷ ms ≡ p.words ++ (spelled ps ++ are.after) = sym e ∙ is
       ∙ append_assoc p.words (spelled ps) are.after in
-      let taken = ap (first_letter_part Wide start) whole ∙ c.0 in
+      let taken = ap (first_content_part Wide start) whole ∙ c.0 in
       let eci : w ≡ 241 → ⊥ = λ same. (let g : Some (codeword.Macro digit) ≡ Some codeword.LeftOut = sym k
       ∙ ap codeword_of same in cc) in
-      let stops : first_letter_part Wide start (w ∷ ms)
+      let stops : first_content_part Wide start (w ∷ ms)
       ≡ as_said (part_by Wide start w ms (Some (codeword.Macro digit))) =
       as_part Wide start w ms (λ wide. eci) ∙ ap (λ (m : Option Codeword). as_said (part_by Wide start w ms m)) k in
       let g = sym stops ∙ taken in absurd (cc)
 
--- The words that say a letter have its head first, and a number by what follows.
-pub identified : (words : List ℕ) (l : LetterView) → Says Wide words l
+-- The words that say a content have its head first, and a number by what follows.
+pub identified : (words : List ℕ) (l : ContentView) → Says Wide words l
     → (length (head_words l.head) ≤ length words)
     × IsFnc1Number words (length (head_words l.head)) (fnc1_number (drop (length (head_words l.head)) words))
-identified words l said = rw (ap (λ (x : LetterView). x.head) said.letter_is) (by_kind said.opened.is_opening) where
+identified words l said = rw (ap (λ (x : ContentView). x.head) said.content_is) (by_kind said.opened.is_opening) where
   by_kind : IsOpening Wide said.opened.first said.more said.opening
       → (length (head_words (opening_head said.opening)) ≤ length words)
       × IsFnc1Number words (length (head_words (opening_head said.opening)))
@@ -469,7 +469,7 @@ identified words l said = rw (ap (λ (x : LetterView). x.head) said.letter_is) (
             said.parts)),
       )
 
--- A letter's marks are none, or some, as their count says.
+-- A content's marks are none, or some, as their count says.
 pub no_marks : (marks : List Mark) → (length marks == 0) ≡ true → marks_number marks ≡ 0
 no_marks [] e = refl
 no_marks (m ∷ marks) e = absurd (grind (arith, nat_tests))
@@ -490,15 +490,15 @@ one_number words behind m n (symbology.neither none nor e) (symbology.first y f)
 one_number words behind m n (symbology.neither none nor e) (symbology.second other y f) = absurd (nor y)
 one_number words behind m n (symbology.neither none nor e) (symbology.neither other others f) = e ∙ sym f
 
--- Codewords that say a letter have at most one identifier.
-pub identifier_is_one : (words : List ℕ) (l : LetterView) (a b : ℕ) → IsIdentifier words l a → IsIdentifier words l b
+-- Codewords that say a content have at most one identifier.
+pub identifier_is_one : (words : List ℕ) (l : ContentView) (a b : ℕ) → IsIdentifier words l a → IsIdentifier words l b
     → a ≡ b
 identifier_is_one words l a b x y =
     x.number_is ∙ ap (λ (n : ℕ). n + marks_number l.marks)
     (one_number words (length (head_words l.head)) x.fnc1 y.fnc1 x.is_fnc1 y.is_fnc1) ∙ sym y.number_is
 
 -- And they have one.
-pub identifier_is_there : (words : List ℕ) (l : LetterView) → Says Wide words l
+pub identifier_is_there : (words : List ℕ) (l : ContentView) → Says Wide words l
     → (number : ℕ) × IsIdentifier words l number
 identifier_is_there words l said =
     let i = identified words l said in
@@ -506,7 +506,7 @@ identifier_is_there words l said =
     (number + marks_number l.marks, record { fnc1 = number; is_fnc1 = i.1; number_is = refl })
 
 -- So a number that is made of what follows the head, and of the marks, is the identifier's.
-pub identifier_of : (words : List ℕ) (l : LetterView) (h : Option Head) (n number total : ℕ) → Says Wide words l
+pub identifier_of : (words : List ℕ) (l : ContentView) (h : Option Head) (n number total : ℕ) → Says Wide words l
     → h ≡ l.head → n ≡ length (head_words h) → number ≡ fnc1_number (take (length words - n) (drop n words))
     → total ≡ number + marks_number l.marks → IsIdentifier words l total
 identifier_of words l h n number total said head count is all =

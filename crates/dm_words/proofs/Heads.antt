@@ -4,12 +4,12 @@ use Rattle.std.proofs.Common.{refl, sym, ap, subst, ◌∙◌, arith, Bool, true
 use Rattle.std.proofs.Common.{Option, Some, None}
 use Rattle.std.specs.Prelude.{slice_get, ◌==◌}
 use Rattle.std.proofs.lemmas.Bool.Decides.{nat_tests}
-use Rattle.dm_words.specs.declared.letters.head.Appended.{Appended}
-use Rattle.dm_words.specs.declared.letters.head.Head.{Head}
-use Rattle.dm_words.specs.declared.letters.head.Head.TheVariants as head
+use Rattle.dm_words.specs.declared.contents.head.Appended.{Appended}
+use Rattle.dm_words.specs.declared.contents.head.Head.{Head}
+use Rattle.dm_words.specs.declared.contents.head.Head.TheVariants as head
 use Rattle.dm_words.specs.Heads.{IsAppended, IsHead, SpellsHead, programming, appended, BeginsNoHead}
 use Rattle.dm_words.specs.Heads.{head_words}
-use Rattle.dm_words.specs.inner.LetterScan.{is_appended, appended_symbol, append_by, first_head, head_length}
+use Rattle.dm_words.specs.inner.ContentScan.{is_appended, appended_symbol, append_by, first_head, head_length}
 
 -- The test finds a symbol of a sequence.
 pub appended_test : (symbol : Appended) → is_appended symbol ≡ true → IsAppended symbol

@@ -15,7 +15,7 @@ use Rattle.dm_words.specs.Spells.{Spells}
 use Rattle.dm_words.specs.Laws.{AreCodewords, AreRunValues, BeginsNoSpelling, AreMacro}
 use Rattle.dm_words.proofs.AsciiWords as form
 use Rattle.dm_words.proofs.ItemBytes.{macro_text_is_message}
-use Rattle.dm_words.proofs.SpelledLetters.{macro_spells}
+use Rattle.dm_words.proofs.SpelledContents.{macro_spells}
 use Rattle.dm_words.proofs.PadWords.{length-padded, padded_bytes}
 use Rattle.dm_words.proofs.Values.{rest_begins_no_spelling, no_spelling_is_rest}
 

@@ -11,15 +11,15 @@ use Rattle.std.proofs.lemmas.List.{at_drop_more, drop-drop, take-append-drop, ta
 use Rattle.std.proofs.lemmas.List.Elements.{All-append}
 use Rattle.std.proofs.Math.Seq.{take-suc, take-length}
 use Rattle.dm_words.specs.declared.item.Item.{Item}
-use Rattle.dm_words.specs.declared.letters.mark.Mark.{Mark}
+use Rattle.dm_words.specs.declared.contents.mark.Mark.{Mark}
 use Rattle.dm_words.specs.declared.extent.Extent.TheVariants.{Wide}
 use Rattle.dm_words.specs.Designators.{eci_word, designator, most_assigned}
-use Rattle.dm_words.specs.Letters.{AreMarks}
-use Rattle.dm_words.specs.LetterForm.{mark_words}
+use Rattle.dm_words.specs.Contents.{AreMarks}
+use Rattle.dm_words.specs.ContentForm.{mark_words}
 use Rattle.dm_words.specs.Messages.{IsItem, IsMessage}
 use Rattle.dm_words.specs.inner.Costs.{at_end, before_words, parts_cost}
-use Rattle.dm_words.specs.inner.LetterCosts.{marked_cost, behind_first, first_text, first_end}
-use Rattle.dm_words.proofs.LetterForms.{marks_within}
+use Rattle.dm_words.specs.inner.ContentCosts.{marked_cost, behind_first, first_text, first_end}
+use Rattle.dm_words.proofs.ContentForms.{marks_within}
 use Rattle.dm_words.proofs.Marks.{lower}
 use Rattle.dm_words.proofs.Plans.{cost_most}
 

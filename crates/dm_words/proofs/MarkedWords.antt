@@ -5,13 +5,13 @@ use Rattle.std.proofs.lemmas.List.{append-nil, at_drop_more, at_drop_all, drop-d
 use Rattle.std.proofs.lemmas.List.{length-drop}
 use Rattle.dm_words.specs.declared.item.Item.{Item}
 use Rattle.dm_words.specs.declared.ascii.Unit.{Unit}
-use Rattle.dm_words.specs.declared.letters.mark.Mark.{Mark}
+use Rattle.dm_words.specs.declared.contents.mark.Mark.{Mark}
 use Rattle.dm_words.specs.Ascii.{ascii}
 use Rattle.dm_words.specs.Designators.{most_assigned, eci_word, designator}
-use Rattle.dm_words.specs.Letters.{AreMarks}
-use Rattle.dm_words.specs.LetterForm.{mark_words, ascii_with_marks}
+use Rattle.dm_words.specs.Contents.{AreMarks}
+use Rattle.dm_words.specs.ContentForm.{mark_words, ascii_with_marks}
 use Rattle.dm_words.specs.inner.Scan.Results.{unit_words, unit_items}
-use Rattle.dm_words.proofs.LetterForms.{marks_within}
+use Rattle.dm_words.proofs.ContentForms.{marks_within}
 use Rattle.dm_words.proofs.NormalForms.{two_words}
 use Rattle.dm_words.proofs.UnitLoops.{HasUnit}
 

@@ -3,9 +3,9 @@ use Rattle.std.proofs.Common.{◌≡◌, ℕ, ◌≤◌, List, [], ◌∷◌, �
 use Rattle.std.proofs.Common.{Result, Ok, Err}
 use Rattle.std.specs.Prelude.{OnOk, OnErr}
 use Rattle.dm_words.specs.declared.item.Item.{Item}
-use Rattle.dm_words.specs.declared.letters.mark.Mark.{Mark}
+use Rattle.dm_words.specs.declared.contents.mark.Mark.{Mark}
 use Rattle.dm_words.specs.Designators.{most_assigned}
-use Rattle.dm_words.specs.Letters.{AreMarks}
+use Rattle.dm_words.specs.Contents.{AreMarks}
 
 -- Marks in order are so with more items behind them.
 pub more_items : (least most more : ℕ) (marks : List Mark) → AreMarks least most marks → most ≤ more

@@ -4,69 +4,69 @@ use Rattle.std.proofs.Common.{Err}
 use Rattle.dm_words.specs.declared.extent.Extent.TheVariants.{Usual}
 use Rattle.dm_words.specs.declared.item.Item.{Item}
 use Rattle.dm_words.specs.declared.fault.WordFault.{WordFault}
-use Rattle.dm_words.specs.declared.letters.fault.LetterFault.{LetterFault}
-use Rattle.dm_words.specs.declared.letters.fault.LetterFault.TheVariants as fault
-use Rattle.dm_words.specs.declared.letters.mark.Mark.{Mark}
-use Rattle.dm_words.specs.declared.letters.opening.Opening.{Opening}
-use Rattle.dm_words.specs.declared.letters.opening.Opening.TheVariants.{Plain}
+use Rattle.dm_words.specs.declared.contents.fault.ContentFault.{ContentFault}
+use Rattle.dm_words.specs.declared.contents.fault.ContentFault.TheVariants as fault
+use Rattle.dm_words.specs.declared.contents.mark.Mark.{Mark}
+use Rattle.dm_words.specs.declared.contents.opening.Opening.{Opening}
+use Rattle.dm_words.specs.declared.contents.opening.Opening.TheVariants.{Plain}
 use Rattle.dm_words.specs.Joined.{Piece, spelled, whats, AreJoined}
-use Rattle.dm_words.specs.Letters.{LetterView, Said, IsLetterPart, part, mark, said_items, said_marks, said_letter}
-use Rattle.dm_words.specs.Letters.{IsOpening, headed, framed, plain, Says, IsRefused, IsLetterFault}
-use Rattle.dm_words.specs.Letters as letters
-use Rattle.dm_words.specs.LetterExtents.{as_letter}
-use Rattle.dm_words.specs.LetterResults.{IsLetterResult}
+use Rattle.dm_words.specs.Contents.{ContentView, Said, IsContentPart, part, mark, said_items, said_marks, said_content}
+use Rattle.dm_words.specs.Contents.{IsOpening, headed, framed, plain, Says, IsRefused, IsContentFault}
+use Rattle.dm_words.specs.Contents as contents
+use Rattle.dm_words.specs.ContentExtents.{as_content}
+use Rattle.dm_words.specs.ContentResults.{IsContentResult}
 use Rattle.dm_words.specs.Results.{IsMessageResult}
 use Rattle.dm_words.specs.Spells.{Spells, Refused}
-use Rattle.dm_words.proofs.LetterParts.{not_wide}
+use Rattle.dm_words.proofs.ContentParts.{not_wide}
 
 -- Parts say no mark there.
-no_marks : (before place : ℕ) (ps : List (Piece Said)) (after : List ℕ) → AreJoined (IsLetterPart Usual) place ps after
+no_marks : (before place : ℕ) (ps : List (Piece Said)) (after : List ℕ) → AreJoined (IsContentPart Usual) place ps after
     → said_marks before (whats ps) ≡ []
 no_marks before place [] after h = refl
 no_marks before place (p ∷ ps) after h =
     by_part h.0 (λ n. no_marks n (place + length p.words) ps after h.1) where
-      by_part : IsLetterPart Usual place p.words (spelled ps ++ after) p.what
+      by_part : IsContentPart Usual place p.words (spelled ps ++ after) p.what
           → ((n : ℕ) → said_marks n (whats ps) ≡ []) → said_marks before (p.what ∷ whats ps) ≡ []
       by_part (mark d number wide e whole is) rest = absurd (not_wide wide)
       by_part (part items q is) rest =
           ap (λ (t : Said). said_marks before (t ∷ whats ps)) is ∙ rest (before + length items)
 
 -- What is said there is what a message is.
-pub usual_plain : (words : List ℕ) (l : LetterView) → Says Usual words l → l ≡ as_letter l.items
+pub usual_plain : (words : List ℕ) (l : ContentView) → Says Usual words l → l ≡ as_content l.items
 usual_plain words l s = by_opening s.opened.is_opening where
-  by_opening : IsOpening Usual s.opened.first s.more s.opening → l ≡ as_letter l.items
+  by_opening : IsOpening Usual s.opened.first s.more s.opening → l ≡ as_content l.items
   by_opening (headed said wide h is) = absurd (not_wide wide)
   by_opening (framed digit wide f is) = absurd (not_wide wide)
   by_opening (plain e no_head no_frame is) =
       let marks : said_marks 0 s.said ≡ [] = ap (said_marks 0) s.parts.said_are
       ∙ no_marks 0 s.place s.parts.parts s.parts.after s.parts.joined in
-      let all : l ≡ said_letter Plain s.said = s.letter_is ∙ ap (λ (o : Opening). said_letter o s.said) is in
-      all ∙ ap (λ (ms : List Mark). let k : LetterView = record {
+      let all : l ≡ said_content Plain s.said = s.content_is ∙ ap (λ (o : Opening). said_content o s.said) is in
+      all ∙ ap (λ (ms : List Mark). let k : ContentView = record {
         head = None;
         items = said_items s.said ++ [];
         marks = ms;
-      } in k) marks ∙ ap (λ (k : LetterView). as_letter k.items) (sym all)
+      } in k) marks ∙ ap (λ (k : ContentView). as_content k.items) (sym all)
 
 -- What is refused there has the fault of a codeword.
-pub usual_word : (words : List ℕ) (why : LetterFault) → IsRefused Usual words why
+pub usual_word : (words : List ℕ) (why : ContentFault) → IsRefused Usual words why
     → (of_word : WordFault) × (why ≡ fault.Word of_word)
-usual_word words why (letters.no_head more wide e none is) = absurd (not_wide wide)
-usual_word words why (letters.behind opening place more opened h) = by_fault h.faulty where
-  by_fault : IsLetterFault Usual (place + length (spelled h.parts)) h.after why
+usual_word words why (contents.no_head more wide e none is) = absurd (not_wide wide)
+usual_word words why (contents.behind opening place more opened h) = by_fault h.faulty where
+  by_fault : IsContentFault Usual (place + length (spelled h.parts)) h.after why
       → (of_word : WordFault) × (why ≡ fault.Word of_word)
-  by_fault (letters.designator rest wide none e is) = absurd (not_wide wide)
-  by_fault (letters.word f other there is) = (f, is)
+  by_fault (contents.designator rest wide none e is) = absurd (not_wide wide)
+  by_fault (contents.word f other there is) = (f, is)
 
--- A right result that is a letter is a right result that is a message.
-pub message_result : (words : List ℕ) (l : LetterView) → IsLetterResult Usual words (Ok l)
+-- A right result that is a content is a right result that is a message.
+pub message_result : (words : List ℕ) (l : ContentView) → IsContentResult Usual words (Ok l)
     → IsMessageResult words (Ok l.items)
 message_result words l r =
-    let said : Says Usual words l = (r.letter l).0 refl in
-    let plain : l ≡ as_letter l.items = usual_plain words l said in
+    let said : Says Usual words l = (r.content l).0 refl in
+    let plain : l ≡ as_content l.items = usual_plain words l said in
     record {
       message = λ m. (
         (λ e. subst (Spells Usual words) (same_items l.items m e) (subst (Says Usual words) plain said)),
-        (λ s. ap (λ (k : LetterView). Ok k.items) (same_letter l (as_letter m) ((r.letter (as_letter m)).1 s))),
+        (λ s. ap (λ (k : ContentView). Ok k.items) (same_content l (as_content m) ((r.content (as_content m)).1 s))),
       );
       fault = λ why. (
         (λ e. absurd (no_word l.items why e)),
@@ -79,23 +79,23 @@ message_result words l r =
     same_items : (m n : List Item) → ◌≡◌ {A = Result (List Item) WordFault} (Ok m) (Ok n) → m ≡ n
     same_items m n e = cc
 
-    same_letter : (k l : LetterView) → ◌≡◌ {A = Result LetterView LetterFault} (Ok k) (Ok l) → k ≡ l
-    same_letter k l e = cc
+    same_content : (k l : ContentView) → ◌≡◌ {A = Result ContentView ContentFault} (Ok k) (Ok l) → k ≡ l
+    same_content k l e = cc
 
     no_word : (m : List Item) (f : WordFault) → ◌≡◌ {A = Result (List Item) WordFault} (Ok m) (Err f) → ⊥
     no_word m f e = cc
 
-    no_fault : (l : LetterView) (f : LetterFault) → ◌≡◌ {A = Result LetterView LetterFault} (Ok l) (Err f) → ⊥
+    no_fault : (l : ContentView) (f : ContentFault) → ◌≡◌ {A = Result ContentView ContentFault} (Ok l) (Err f) → ⊥
     no_fault l f e = cc
 
 -- And so is a fault.
-pub fault_result : (words : List ℕ) (f : WordFault) → IsLetterResult Usual words (Err (fault.Word f))
+pub fault_result : (words : List ℕ) (f : WordFault) → IsContentResult Usual words (Err (fault.Word f))
     → IsMessageResult words (Err f)
 fault_result words f r =
     record {
       message = λ m. (
         (λ e. absurd (no_message m f e)),
-        (λ s. absurd (no_letter (as_letter m) (fault.Word f) ((r.letter (as_letter m)).1 s))),
+        (λ s. absurd (no_content (as_content m) (fault.Word f) ((r.content (as_content m)).1 s))),
       );
       fault = λ why. (
         (λ e. subst (Refused words) (same_word f why e) ((r.fault (fault.Word f)).0 refl)),
@@ -108,21 +108,21 @@ fault_result words f r =
     no_message : (m : List Item) (f : WordFault) → ◌≡◌ {A = Result (List Item) WordFault} (Err f) (Ok m) → ⊥
     no_message m f e = cc
 
-    no_letter : (l : LetterView) (f : LetterFault) → ◌≡◌ {A = Result LetterView LetterFault} (Err f) (Ok l) → ⊥
-    no_letter l f e = cc
+    no_content : (l : ContentView) (f : ContentFault) → ◌≡◌ {A = Result ContentView ContentFault} (Err f) (Ok l) → ⊥
+    no_content l f e = cc
 
     same_word : (f g : WordFault) → ◌≡◌ {A = Result (List Item) WordFault} (Err f) (Err g) → f ≡ g
     same_word f g e = cc
 
     same_fault : (f g : WordFault)
-        → ◌≡◌ {A = Result LetterView LetterFault} (Err (fault.Word f)) (Err (fault.Word g)) → f ≡ g
+        → ◌≡◌ {A = Result ContentView ContentFault} (Err (fault.Word f)) (Err (fault.Word g)) → f ≡ g
     same_fault f g e = cc
 
 -- Nothing else is a fault there.
-pub no_designator_fault : (words : List ℕ) (why : LetterFault) (place : ℕ) → why ≡ fault.Designator place
-    → IsLetterResult Usual words (Err why) → ⊥
+pub no_designator_fault : (words : List ℕ) (why : ContentFault) (place : ℕ) → why ≡ fault.Designator place
+    → IsContentResult Usual words (Err why) → ⊥
 no_designator_fault words why place is r = (let w = usual_word words why ((r.fault why).0 refl) in cc)
 
-pub no_append_fault : (words : List ℕ) (why : LetterFault) (place : ℕ) → why ≡ fault.Append place
-    → IsLetterResult Usual words (Err why) → ⊥
+pub no_append_fault : (words : List ℕ) (why : ContentFault) (place : ℕ) → why ≡ fault.Append place
+    → IsContentResult Usual words (Err why) → ⊥
 no_append_fault words why place is r = (let w = usual_word words why ((r.fault why).0 refl) in cc)

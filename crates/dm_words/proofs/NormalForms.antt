@@ -23,7 +23,7 @@ use Rattle.dm_words.specs.NormalForm.{has_fnc1, length_numbers, one_segment, sho
 use Rattle.dm_words.specs.Parts.{segment}
 use Rattle.dm_words.specs.Spells.{Spells}
 use Rattle.dm_words.specs.Laws.{AreCodewords}
-use Rattle.dm_words.proofs.SpelledLetters.{parts_spell}
+use Rattle.dm_words.proofs.SpelledContents.{parts_spell}
 use Rattle.dm_words.proofs.Segments.{length-written, written-append}
 use Rattle.dm_words.proofs.AsciiWords.{AreItems, pads_end, ascii_bytes}
 use Rattle.dm_words.proofs.AsciiWords as form

@@ -10,21 +10,21 @@ use Rattle.dm_words.specs.declared.extent.Extent.TheVariants.{Wide}
 use Rattle.dm_words.specs.declared.fault.TooLong.{TooLong}
 use Rattle.dm_words.specs.declared.item.Item.{Item}
 use Rattle.dm_words.specs.declared.item.Item.TheVariants.{Byte, Fnc1}
-use Rattle.dm_words.specs.declared.letters.head.Head.{Head}
-use Rattle.dm_words.specs.declared.letters.mark.Mark.{Mark}
+use Rattle.dm_words.specs.declared.contents.head.Head.{Head}
+use Rattle.dm_words.specs.declared.contents.mark.Mark.{Mark}
 use Rattle.dm_words.specs.declared.profile.Profile.{Profile}
 use Rattle.dm_words.specs.declared.profile.Profile.TheVariants.{Ascii, Shorter}
 use Rattle.dm_words.specs.Ascii.{ascii}
 use Rattle.dm_words.specs.Base256.{written}
 use Rattle.dm_words.specs.Heads.{IsHead, head_words}
-use Rattle.dm_words.specs.LetterExtents.{as_letter}
-use Rattle.dm_words.specs.LetterForm.{ascii_with_marks, form_by, letter_form}
-use Rattle.dm_words.specs.Letters.{LetterView, AreMarks, IsLetter}
+use Rattle.dm_words.specs.ContentExtents.{as_content}
+use Rattle.dm_words.specs.ContentForm.{ascii_with_marks, form_by, content_form}
+use Rattle.dm_words.specs.Contents.{ContentView, AreMarks, IsContent}
 use Rattle.dm_words.specs.Messages.{byte_of, IsItem, IsMessage}
 use Rattle.dm_words.specs.NormalForm.{has_fnc1, length_numbers, one_segment, normal_form, shorter}
 use Rattle.dm_words.specs.Pads.{padded}
 use Rattle.dm_words.specs.Plain.{IsPlainForm, IsPlainWithPads}
-use Rattle.dm_words.specs.inner.LetterCosts.{view_of}
+use Rattle.dm_words.specs.inner.ContentCosts.{view_of}
 use Rattle.dm_words.specs.inner.MarkedForms.{is_plain}
 use Rattle.dm_words.specs.inner.Signs.{sign_words}
 use Rattle.dm_words.specs.inner.Written.{ArePartsWritten}
@@ -47,7 +47,7 @@ no_fnc1_sign (Byte b ∷ Byte c ∷ Byte d ∷ m) none = refl
 -- One segment of all bytes is a plain form.
 segment_plain : (m : List Item) (count : ℕ) → AreItems m → has_fnc1 m ≡ false → 0 < length m → length m < 1750
     → length (one_segment (map byte_of m)) ≤ count
-    → IsPlainForm (padded (one_segment (map byte_of m)) count) (as_letter m)
+    → IsPlainForm (padded (one_segment (map byte_of m)) count) (as_content m)
 segment_plain m count fit none some few fits =
     let bytes = map byte_of m in
     let field = length_numbers (length bytes) in
@@ -60,21 +60,21 @@ segment_plain m count fit none some few fits =
     (λ after fills. says_count (length bytes) after (omega (arith, long, some)) (omega (arith, long, few))) in
     let parts : ArePartsWritten Wide count [] new m =
     parts_more Wide count [] [] new [] m (no_parts Wide count []) part in
-    subst (λ (l : List ℕ). IsPlainForm (padded l count) (as_letter m)) is
+    subst (λ (l : List ℕ). IsPlainForm (padded l count) (as_content m)) is
     (message_form Wide count [] new m fit refl parts
     (new, ap (λ (s : List ℕ). s ++ new) (sym (no_fnc1_sign m none))) (omega (arith, ap length is, fits)))
 
 -- So is the shorter form of a message.
 shorter_plain : (m : List Item) (count : ℕ) → AreItems m → length (shorter m) ≤ 1558 → length (shorter m) ≤ count
-    → IsPlainForm (padded (shorter m) count) (as_letter m)
+    → IsPlainForm (padded (shorter m) count) (as_content m)
 shorter_plain m count fit few fits =
     by_test (has_fnc1 m) (ltb (length (one_segment (map byte_of m))) (length (ascii m))) refl refl few fits where
       by_test : (f t : Bool) → has_fnc1 m ≡ f → ltb (length (one_segment (map byte_of m))) (length (ascii m)) ≡ t
           → length (cond (not f && t) (one_segment (map byte_of m)) (ascii m)) ≤ 1558
           → length (cond (not f && t) (one_segment (map byte_of m)) (ascii m)) ≤ count
-          → IsPlainForm (padded (cond (not f && t) (one_segment (map byte_of m)) (ascii m)) count) (as_letter m)
-      by_test true t e s few fits = ascii_plain (as_letter m) count (message_writable m fit) fits
-      by_test false false e s few fits = ascii_plain (as_letter m) count (message_writable m fit) fits
+          → IsPlainForm (padded (cond (not f && t) (one_segment (map byte_of m)) (ascii m)) count) (as_content m)
+      by_test true t e s few fits = ascii_plain (as_content m) count (message_writable m fit) fits
+      by_test false false e s few fits = ascii_plain (as_content m) count (message_writable m fit) fits
       by_test false true e s few fits =
           let less : length (one_segment (map byte_of m)) < length (ascii m) = grind (arith, nat_tests) in
           let long = length-one_segment (map byte_of m) in
@@ -84,36 +84,36 @@ shorter_plain m count fit few fits =
             some [] lt = absurd (omega (arith, lt))
             some (x ∷ m) lt = omega arith
 
--- The normal form of a letter, under each profile, is a plain form with pads up to any count.
+-- The normal form of a content, under each profile, is a plain form with pads up to any count.
 form_plain : (profile : Profile) (head : Option Head) (items : List Item) (marks : List Mark)
-    → IsWritable (view_of head items marks) → length (letter_form profile (view_of head items marks)) ≤ 1558
-    → IsPlainWithPads (letter_form profile (view_of head items marks)) (view_of head items marks)
+    → IsWritable (view_of head items marks) → length (content_form profile (view_of head items marks)) ≤ 1558
+    → IsPlainWithPads (content_form profile (view_of head items marks)) (view_of head items marks)
 form_plain Ascii head items marks w few count fits = ascii_plain (view_of head items marks) count w fits
 form_plain Shorter None items [] w few count fits = shorter_plain items count w.items few fits
 form_plain Shorter None items (m ∷ marks) w few count fits =
     ascii_plain (view_of None items (m ∷ marks)) count w fits
 form_plain Shorter (Some head) items marks w few count fits = ascii_plain (view_of (Some head) items marks) count w fits
 
-pub letter_form_plain : (profile : Profile) (l : LetterView) → IsLetter l → length (letter_form profile l) ≤ 1558
-    → IsPlainWithPads (letter_form profile l) l
-letter_form_plain profile l right few =
+pub content_form_plain : (profile : Profile) (l : ContentView) → IsContent l → length (content_form profile l) ≤ 1558
+    → IsPlainWithPads (content_form profile l) l
+content_form_plain profile l right few =
     form_plain profile l.head l.items l.marks
     (record { head = right.head; items = recursion_from_All IsItem l.items right.items; marks = right.marks }) few
 
 -- What was written is one.
-pub written_plain : (profile : Profile) (l : LetterView) (words : List ℕ) → words ≡ letter_form profile l
-    → length words ≤ 1558 → IsLetter l → IsPlainWithPads words l
+pub written_plain : (profile : Profile) (l : ContentView) (words : List ℕ) → words ≡ content_form profile l
+    → length words ≤ 1558 → IsContent l → IsPlainWithPads words l
 written_plain profile l words is few right =
     subst (λ (ws : List ℕ). IsPlainWithPads ws l) (sym is)
-    (letter_form_plain profile l right (omega (arith, ap length is, few)))
+    (content_form_plain profile l right (omega (arith, ap length is, few)))
 
--- A message is a letter.
-pub message_is_letter : (m : List Item) → IsMessage m → IsLetter (as_letter m)
-message_is_letter m fit = record { head = tt; items = fit; marks = omega arith }
+-- A message is a content.
+pub message_is_content : (m : List Item) → IsMessage m → IsContent (as_content m)
+message_is_content m fit = record { head = tt; items = fit; marks = omega arith }
 
 pub message_plain : (profile : Profile) (m : List Item) (words : List ℕ) → words ≡ normal_form profile m
-    → length words ≤ 1558 → IsMessage m → IsPlainWithPads words (as_letter m)
-message_plain profile m words is few fit = written_plain profile (as_letter m) words is few (message_is_letter m fit)
+    → length words ≤ 1558 → IsMessage m → IsPlainWithPads words (as_content m)
+message_plain profile m words is few fit = written_plain profile (as_content m) words is few (message_is_content m fit)
 
 -- Where the normal form of a head, items and marks was written, it is one.
 pub content_plain : (profile : Profile) (head : Option Head) (items : List Item) (marks : List Mark)
@@ -138,7 +138,7 @@ plain_is_normal profile None items [] plain = refl
 plain_is_normal profile None items (m ∷ marks) plain = absurd cc
 plain_is_normal profile (Some head) items marks plain = absurd cc
 
--- And that of another letter is this.
+-- And that of another content is this.
 pub marked_is_ascii : (profile : Profile) (head : Option Head) (items : List Item) (marks : List Mark)
     → is_plain head marks ≡ false → head_words head ++ ascii_with_marks 0 items marks
     ≡ form_by profile head items marks

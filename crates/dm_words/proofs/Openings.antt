@@ -10,21 +10,22 @@ use Rattle.dm_words.specs.declared.codeword.Codeword.TheVariants as codeword
 use Rattle.dm_words.specs.declared.c40.set.CodeSet.{CodeSet}
 use Rattle.dm_words.specs.declared.extent.Extent.{Extent}
 use Rattle.dm_words.specs.declared.extent.Extent.TheVariants.{Usual, Wide}
-use Rattle.dm_words.specs.declared.letters.head.Head.{Head}
-use Rattle.dm_words.specs.declared.letters.head.Head.TheVariants as head
-use Rattle.dm_words.specs.declared.letters.opening.Frame.{Frame}
-use Rattle.dm_words.specs.declared.letters.opening.Opened.{Opened}
-use Rattle.dm_words.specs.declared.letters.opening.Opening.{Opening}
-use Rattle.dm_words.specs.declared.letters.opening.Opening.TheVariants.{Plain}
+use Rattle.dm_words.specs.declared.contents.head.Head.{Head}
+use Rattle.dm_words.specs.declared.contents.head.Head.TheVariants as head
+use Rattle.dm_words.specs.declared.contents.opening.Frame.{Frame}
+use Rattle.dm_words.specs.declared.contents.opening.Opened.{Opened}
+use Rattle.dm_words.specs.declared.contents.opening.Opening.{Opening}
+use Rattle.dm_words.specs.declared.contents.opening.Opening.TheVariants.{Plain}
 use Rattle.dm_words.specs.Codewords.{codeword_of, unlatch_word}
 use Rattle.dm_words.specs.Heads.{SpellsHead, programming, appended, BeginsNoHead}
-use Rattle.dm_words.specs.Letters.{AreEmptyRuns, AreFrame, BeginsFrame, BeginsWithHeadWord, IsOpening, headed, framed}
-use Rattle.dm_words.specs.Letters.{plain}
+use Rattle.dm_words.specs.Contents.{AreEmptyRuns, AreFrame, BeginsFrame, BeginsWithHeadWord, IsOpening, headed, framed}
+use Rattle.dm_words.specs.Contents.{plain}
 use Rattle.dm_words.specs.inner.Scan.Prefixes.{digit_by, is_one_word, begins_with_one_word}
-use Rattle.dm_words.specs.inner.LetterScan.{append_by, first_head, head_length, is_latch, moved, is_empty_run, frame_by}
-use Rattle.dm_words.specs.inner.LetterScan.{first_frame, begins_append, opened_by, opened}
+use Rattle.dm_words.specs.inner.ContentScan.{append_by, first_head, head_length, is_latch, moved, is_empty_run}
+use Rattle.dm_words.specs.inner.ContentScan.{frame_by}
+use Rattle.dm_words.specs.inner.ContentScan.{first_frame, begins_append, opened_by, opened}
 use Rattle.dm_words.proofs.Heads as heads
-use Rattle.dm_words.proofs.LetterParts.{not_wide}
+use Rattle.dm_words.proofs.ContentParts.{not_wide}
 
 -- ---- frames
 
@@ -441,7 +442,7 @@ no_head_alone w more not_append not_programming = by_tests (w == 234) (w == 233)
   by_tests false true e f = absurd (not_append (grind (arith, nat_tests)))
   by_tests false false e f = refl
 
--- Where it is the first one, nothing opens the letter.
+-- Where it is the first one, nothing opens the content.
 pub alone_opens : (words : List ℕ) → begins_with_one_word words ≡ true
     → (let o : Opened = record { opening = Plain; count = 0 } in Some o) ≡ opened Wide words
 alone_opens [] e = absurd cc

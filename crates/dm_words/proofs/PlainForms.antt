@@ -10,40 +10,40 @@ use Rattle.dm_words.specs.declared.extent.Extent.{Extent}
 use Rattle.dm_words.specs.declared.extent.Extent.TheVariants.{Wide}
 use Rattle.dm_words.specs.declared.item.Item.{Item}
 use Rattle.dm_words.specs.declared.item.Item.TheVariants.{Byte, Fnc1}
-use Rattle.dm_words.specs.declared.letters.head.Head.{Head}
-use Rattle.dm_words.specs.declared.letters.mark.Mark.{Mark}
-use Rattle.dm_words.specs.declared.letters.opening.Opened.{Opened}
-use Rattle.dm_words.specs.declared.letters.opening.Opening.{Opening}
-use Rattle.dm_words.specs.declared.letters.opening.Opening.TheVariants.{Framed}
+use Rattle.dm_words.specs.declared.contents.head.Head.{Head}
+use Rattle.dm_words.specs.declared.contents.mark.Mark.{Mark}
+use Rattle.dm_words.specs.declared.contents.opening.Opened.{Opened}
+use Rattle.dm_words.specs.declared.contents.opening.Opening.{Opening}
+use Rattle.dm_words.specs.declared.contents.opening.Opening.TheVariants.{Framed}
 use Rattle.dm_words.specs.declared.profile.Profile.TheVariants.{Ascii}
 use Rattle.dm_words.specs.Ascii.{ascii, single, is_digit, digit_pair}
 use Rattle.dm_words.specs.Codewords.{codeword_of}
 use Rattle.dm_words.specs.Heads.{IsHead, head_words}
 use Rattle.dm_words.specs.Joined.{Piece, spelled, whats, AreJoined}
-use Rattle.dm_words.specs.LetterExtents.{as_letter}
-use Rattle.dm_words.specs.LetterForm.{ascii_with_marks, form_by, letter_form}
-use Rattle.dm_words.specs.Letters.{LetterView, AreMarks, Said, Items, Number, said_items, said_marks, said_letter}
-use Rattle.dm_words.specs.Letters.{IsOpening, headed, framed, plain, AreOpened, BeginsFrame, Says}
+use Rattle.dm_words.specs.ContentExtents.{as_content}
+use Rattle.dm_words.specs.ContentForm.{ascii_with_marks, form_by, content_form}
+use Rattle.dm_words.specs.Contents.{ContentView, AreMarks, Said, Items, Number, said_items, said_marks, said_content}
+use Rattle.dm_words.specs.Contents.{IsOpening, headed, framed, plain, AreOpened, BeginsFrame, Says}
 use Rattle.dm_words.specs.Macros.{macro_text, BeginsFnc1}
 use Rattle.dm_words.specs.Pads.{pads, padded}
 use Rattle.dm_words.specs.Plain.{FramesNoFnc1, IsPlainForm, IsPlainPart}
 use Rattle.dm_words.specs.Parts.{IsPart}
 use Rattle.dm_words.specs.Symbology.{IsFnc1Number, IsIdentifier, marks_number}
 use Rattle.dm_words.specs.inner.Fnc1.{fnc1_number}
-use Rattle.dm_words.specs.inner.LetterCosts.{AreSaid, first_text, view_of}
+use Rattle.dm_words.specs.inner.ContentCosts.{AreSaid, first_text, view_of}
 use Rattle.dm_words.specs.inner.Signs.{sign_words, KeepsSign}
 use Rattle.dm_words.specs.inner.Ways.{IsMacroOf, inner_text}
 use Rattle.dm_words.specs.inner.Written.{ArePartsWritten}
 use Rattle.dm_words.proofs.AsciiWords.{AreItems}
 use Rattle.dm_words.proofs.Fnc1Places.{identified, one_number}
 use Rattle.dm_words.proofs.Heads as heads
-use Rattle.dm_words.proofs.LetterBounds.{starts}
-use Rattle.dm_words.proofs.LetterWritten.{SaysPlainly, nothing_said, text_said, form_said, says_plain, says_by_head}
-use Rattle.dm_words.proofs.LetterWritten.{says_framed}
+use Rattle.dm_words.proofs.ContentBounds.{starts}
+use Rattle.dm_words.proofs.ContentWritten.{SaysPlainly, nothing_said, text_said, form_said, says_plain, says_by_head}
+use Rattle.dm_words.proofs.ContentWritten.{says_framed}
 use Rattle.dm_words.proofs.MarkedCosts.{StartAt}
 use Rattle.dm_words.proofs.PlainParts.{plain_part}
 use Rattle.dm_words.proofs.Signs.{first_said, number_of_sign, number_of_macro}
-use Rattle.dm_words.proofs.WholeLetters.{opens_so}
+use Rattle.dm_words.proofs.WholeContents.{opens_so}
 
 -- ---- the items up to the first mark
 
@@ -101,20 +101,20 @@ frame_opens words opening place more opened b =
     (opens_so Wide words (Framed b.digit) (1 + length b.first) b.more there).0
 
 -- What is said plainly has no macro before FNC1.
-no_frame : (words : List ℕ) (l : LetterView) → SaysPlainly words l → FramesNoFnc1 words l.items
+no_frame : (words : List ℕ) (l : ContentView) → SaysPlainly words l → FramesNoFnc1 words l.items
 no_frame words l p fnc1 b =
     p.no_fnc1 b.digit (frame_opens words p.spells.opening p.spells.place p.spells.more p.spells.opened b) fnc1
 
 -- ---- the number
 
-module _ (words : List ℕ) (l : LetterView) (p : SaysPlainly words l)
+module _ (words : List ℕ) (l : ContentView) (p : SaysPlainly words l)
     (sign : KeepsSign (head_words l.head) words (first_text 0 l.items l.marks)) where
   abbrev text : List Item
   text = first_text 0 l.items l.marks
 
-  -- What the letter is behind this opening.
-  letter_by : (opening : Opening) → p.spells.opening ≡ opening → l ≡ said_letter opening p.spells.said
-  letter_by opening is = p.spells.letter_is ∙ ap (λ (o : Opening). said_letter o p.spells.said) is
+  -- What the content is behind this opening.
+  content_by : (opening : Opening) → p.spells.opening ≡ opening → l ≡ said_content opening p.spells.said
+  content_by opening is = p.spells.content_is ∙ ap (λ (o : Opening). said_content o p.spells.said) is
 
   -- Where the words behind the head are those of the parts, the number is that of the sign.
   behind_head : drop (length (head_words l.head)) words ≡ p.spells.more → l.items ≡ said_items p.spells.said
@@ -135,27 +135,29 @@ module _ (words : List ℕ) (l : LetterView) (p : SaysPlainly words l)
   number_by : IsOpening Wide p.spells.opened.first p.spells.more p.spells.opening
       → fnc1_number (drop (length (head_words l.head)) words) ≡ fnc1_number (sign_words text)
   number_by (headed h wide s is) =
-      let e = letter_by _ is in
-      let head : head_words l.head ≡ p.spells.opened.first = ap (λ (k : LetterView). head_words k.head) e
+      let e = content_by _ is in
+      let head : head_words l.head ≡ p.spells.opened.first = ap (λ (k : ContentView). head_words k.head) e
       ∙ sym (heads.head_only p.spells.opened.first h s).1 in
       behind_head (ap (λ (ws : List ℕ). drop (length ws) words) head
       ∙ ap (drop (length p.spells.opened.first)) p.spells.opened.whole
       ∙ drop-append_seam p.spells.opened.first p.spells.more)
-      (ap (λ (k : LetterView). k.items) e ∙ append-nil (said_items p.spells.said)) (ap (λ (k : LetterView). k.marks) e)
+      (ap (λ (k : ContentView). k.items) e ∙ append-nil (said_items p.spells.said))
+      (ap (λ (k : ContentView). k.marks) e)
   number_by (plain none no_head no_frame is) =
-      let e = letter_by _ is in
-      let head : head_words l.head ≡ p.spells.opened.first = ap (λ (k : LetterView). head_words k.head) e ∙ sym none in
+      let e = content_by _ is in
+      let head : head_words l.head ≡ p.spells.opened.first = ap (λ (k : ContentView). head_words k.head) e ∙ sym none in
       behind_head (ap (λ (ws : List ℕ). drop (length ws) words) head
       ∙ ap (drop (length p.spells.opened.first)) p.spells.opened.whole
       ∙ drop-append_seam p.spells.opened.first p.spells.more)
-      (ap (λ (k : LetterView). k.items) e ∙ append-nil (said_items p.spells.said)) (ap (λ (k : LetterView). k.marks) e)
+      (ap (λ (k : ContentView). k.items) e ∙ append-nil (said_items p.spells.said))
+      (ap (λ (k : ContentView). k.marks) e)
   number_by (framed digit wide f is) =
-      let e = letter_by _ is in
+      let e = content_by _ is in
       let s = p.spells in
       let parts = s.parts in
-      let head : l.head ≡ None = ap (λ (k : LetterView). k.head) e in
-      let items : l.items ≡ macro_text digit (said_items s.said) = ap (λ (k : LetterView). k.items) e in
-      let marks : l.marks ≡ said_marks 7 s.said = ap (λ (k : LetterView). k.marks) e in
+      let head : l.head ≡ None = ap (λ (k : ContentView). k.head) e in
+      let items : l.items ≡ macro_text digit (said_items s.said) = ap (λ (k : ContentView). k.items) e in
+      let marks : l.marks ≡ said_marks 7 s.said = ap (λ (k : ContentView). k.marks) e in
       let none : f.runs ≡ [] = nil_from_length f.runs
       (omega (
         arith,
@@ -185,8 +187,8 @@ module _ (words : List ℕ) (l : LetterView) (p : SaysPlainly words l)
   number : fnc1_number (drop (length (head_words l.head)) words) ≡ fnc1_number (sign_words text)
   number = number_by p.spells.opened.is_opening
 
--- Words that say a letter with the same number have the same identifier.
-same_identifier : (words other : List ℕ) (l : LetterView) → Says Wide words l → Says Wide other l
+-- Words that say a content with the same number have the same identifier.
+same_identifier : (words other : List ℕ) (l : ContentView) → Says Wide words l → Says Wide other l
     → fnc1_number (drop (length (head_words l.head)) words) ≡ fnc1_number (drop (length (head_words l.head)) other)
     → (n : ℕ) → IsIdentifier words l n → IsIdentifier other l n
 same_identifier words other l s o same n x =
@@ -247,25 +249,25 @@ form_is None items [] = refl
 form_is None items (m ∷ marks) = refl
 form_is (Some head) items marks = refl
 
--- A letter that can be written.
-pub record IsWritable (l : LetterView) : Type 0 where
+-- A content that can be written.
+pub record IsWritable (l : ContentView) : Type 0 where
   pub head : IsHead l.head
   pub items : AreItems l.items
   pub marks : AreMarks 0 (length l.items) l.marks
 
--- It says the letter plainly, with pads.
-pub form_plainly : (l : LetterView) (count : ℕ) → IsWritable l → length (letter_form Ascii l) ≤ count
-    → SaysPlainly (padded (letter_form Ascii l) count) l
+-- It says the content plainly, with pads.
+pub form_plainly : (l : ContentView) (count : ℕ) → IsWritable l → length (content_form Ascii l) ≤ count
+    → SaysPlainly (padded (content_form Ascii l) count) l
 form_plainly l count w fits =
     let base = head_words l.head in
     let new = base ++ ascii_with_marks 0 l.items l.marks in
-    let is : letter_form Ascii l ≡ new = form_is l.head l.items l.marks in
+    let is : content_form Ascii l ≡ new = form_is l.head l.items l.marks in
     subst (λ (ws : List ℕ). SaysPlainly (padded ws count) l) (sym is)
     (says_by_head count base new l.head l.items l.marks w.head refl
     (form_said count base new l.items l.marks w.items w.marks refl) (omega (arith, fits, ap length is)))
 
 -- And it keeps the sign.
-pub form_sign : (l : LetterView) → KeepsSign (head_words l.head) (letter_form Ascii l) (first_text 0 l.items l.marks)
+pub form_sign : (l : ContentView) → KeepsSign (head_words l.head) (content_form Ascii l) (first_text 0 l.items l.marks)
 form_sign l =
     subst (λ (ws : List ℕ). KeepsSign (head_words l.head) ws (first_text 0 l.items l.marks))
     (sym (form_is l.head l.items l.marks))
@@ -280,11 +282,11 @@ no_pads words =
 
 -- ---- the whole
 
--- What says a letter plainly and keeps the sign is a plain form.
-pub plain_form : (words : List ℕ) (l : LetterView) → IsWritable l → SaysPlainly words l
+-- What says a content plainly and keeps the sign is a plain form.
+pub plain_form : (words : List ℕ) (l : ContentView) → IsWritable l → SaysPlainly words l
     → KeepsSign (head_words l.head) words (first_text 0 l.items l.marks) → IsPlainForm words l
 plain_form words l w p sign =
-    let form = letter_form Ascii l in
+    let form = content_form Ascii l in
     let fp : SaysPlainly form l = subst (λ (ws : List ℕ). SaysPlainly ws l) (no_pads form)
     (form_plainly l (length form) w (omega arith)) in
     let same = number words l p sign ∙ sym (number form l fp (form_sign l)) in
@@ -309,11 +311,11 @@ plain_form words l w p sign =
     }
 
 -- The ASCII form, with pads, is one.
-pub ascii_plain : (l : LetterView) (count : ℕ) → IsWritable l → length (letter_form Ascii l) ≤ count
-    → IsPlainForm (padded (letter_form Ascii l) count) l
+pub ascii_plain : (l : ContentView) (count : ℕ) → IsWritable l → length (content_form Ascii l) ≤ count
+    → IsPlainForm (padded (content_form Ascii l) count) l
 ascii_plain l count w fits =
-    plain_form (padded (letter_form Ascii l) count) l w (form_plainly l count w fits)
-    (keeps_more (head_words l.head) (letter_form Ascii l) _ (first_text 0 l.items l.marks) (form_sign l))
+    plain_form (padded (content_form Ascii l) count) l w (form_plainly l count w fits)
+    (keeps_more (head_words l.head) (content_form Ascii l) _ (first_text 0 l.items l.marks) (form_sign l))
 
 -- ---- messages
 
@@ -336,18 +338,18 @@ parts_wide extent total base new m w = record {
     joined (place + length p.words) ps after h.1,
   )
 
--- A message is a letter that can be written.
-pub message_writable : (m : List Item) → AreItems m → IsWritable (as_letter m)
+-- A message is a content that can be written.
+pub message_writable : (m : List Item) → AreItems m → IsWritable (as_content m)
 message_writable m fit = record { head = tt; items = fit; marks = omega arith }
 
 -- Parts of a message that were written, with pads, are a plain form.
 pub message_form : (extent : Extent) (count : ℕ) (base new : List ℕ) (m : List Item) → AreItems m → base ≡ []
     → ArePartsWritten extent count base new m → KeepsSign base new m → length new ≤ count
-    → IsPlainForm (padded new count) (as_letter m)
+    → IsPlainForm (padded new count) (as_content m)
 message_form extent count base new m fit none w sign fits =
     let here : ArePartsWritten Wide count [] new m =
     subst (λ (b : List ℕ). ArePartsWritten Wide count b new m) none (parts_wide extent count base new m w) in
-    plain_form (padded new count) (as_letter m) (message_writable m fit)
+    plain_form (padded new count) (as_content m) (message_writable m fit)
     (says_plain count new m [] (text_said count [] [] new 0 [] m [] (nothing_said count [] 0) here) fits)
     (keeps_more [] new _ m (subst (λ (b : List ℕ). KeepsSign b new m) none sign))
 
@@ -363,16 +365,16 @@ framed_sign words m marks digit text is le = (
 -- A macro and parts of its text that were written, with pads, are a plain form.
 pub macro_form : (extent : Extent) (count word : ℕ) (base new : List ℕ) (m text : List Item) → AreItems m
     → base ≡ word ∷ [] → text ≡ inner_text m → IsMacroOf extent m word → ArePartsWritten extent count base new text
-    → length new ≤ count → IsPlainForm (padded new count) (as_letter m)
+    → length new ≤ count → IsPlainForm (padded new count) (as_content m)
 macro_form extent count word base new m text fit one is_text is w fits =
     let framed : m ≡ macro_text is.digit text = is.framed ∙ ap (macro_text is.digit) (sym is_text) in
     let none : BeginsFnc1 text → ⊥ = λ b. is.no_fnc1 (subst BeginsFnc1 is_text b) in
-    plain_form (padded new count) (as_letter m) (message_writable m fit)
+    plain_form (padded new count) (as_content m) (message_writable m fit)
     (says_framed count word is.digit base new m text [] is.is_macro framed one
     (text_said count base base new 7 [] text [] (nothing_said count base 7) (parts_wide extent count base new text w))
     none fits) (framed_sign (padded new count) m [] is.digit text framed tt)
 
--- ---- letters
+-- ---- contents
 
 -- A text up to a mark, and the mark, keep the sign: the first ones have it, and the others leave it.
 pub sign_turn : (base words new newer part more : List ℕ) (seen : ℕ) (items : List Item) (marks : List Mark)

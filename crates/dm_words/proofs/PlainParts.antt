@@ -3,8 +3,8 @@ use Rattle.std.proofs.Common.{ℕ, List, [], ◌∷◌, ◌++◌, ◌+◌, lengt
 use Rattle.dm_words.specs.declared.extent.Extent.TheVariants.{Wide}
 use Rattle.dm_words.specs.declared.item.Item.{Item}
 use Rattle.dm_words.specs.Joined.{Piece, spelled, AreJoined}
-use Rattle.dm_words.specs.Letters.{Said, IsLetterPart}
-use Rattle.dm_words.specs.Letters as letters
+use Rattle.dm_words.specs.Contents.{Said, IsContentPart}
+use Rattle.dm_words.specs.Contents as contents
 use Rattle.dm_words.specs.Plain.{IsPlainPart, ascii, run, segment, edifact, IsPlainSaid, part, mark}
 use Rattle.dm_words.specs.Parts.{IsPart}
 use Rattle.dm_words.specs.Parts as spells
@@ -18,15 +18,15 @@ plain_part place words after items (run set r none some) = part_wider place word
 plain_part place words after items (segment s some) = spells.segment s
 plain_part place words after items (edifact r some) = spells.edifact refl r
 
--- So it is in a letter.
+-- So it is in a content.
 pub plain_said : (place : ℕ) (words after : List ℕ) (said : Said) → IsPlainSaid place words after said
-    → IsLetterPart Wide place words after said
-plain_said place words after said (part items p is) = letters.part items (plain_part place words after items p) is
-plain_said place words after said (mark d number e whole is) = letters.mark d number refl e whole is
+    → IsContentPart Wide place words after said
+plain_said place words after said (part items p is) = contents.part items (plain_part place words after items p) is
+plain_said place words after said (mark d number e whole is) = contents.mark d number refl e whole is
 
 -- And where they are joined.
 pub plain_joined : (place : ℕ) (ps : List (Piece Said)) (after : List ℕ) → AreJoined IsPlainSaid place ps after
-    → AreJoined (IsLetterPart Wide) place ps after
+    → AreJoined (IsContentPart Wide) place ps after
 plain_joined place [] after h = tt
 plain_joined place (p ∷ ps) after h = (
   plain_said place p.words (spelled ps ++ after) p.what h.0,

@@ -5,20 +5,20 @@ use Rattle.std.proofs.Common.{length-append, ◌⊎◌, inl, inr}
 use Rattle.dm_words.specs.declared.extent.Extent.{Extent}
 use Rattle.dm_words.specs.declared.extent.Extent.TheVariants.{Usual, Wide}
 use Rattle.dm_words.specs.declared.item.Item.{Item}
-use Rattle.dm_words.specs.declared.letters.opening.Opening.{Opening}
+use Rattle.dm_words.specs.declared.contents.opening.Opening.{Opening}
 use Rattle.dm_words.specs.Joined.{Piece, spelled, whats, AreJoined}
-use Rattle.dm_words.specs.Letters.{LetterView, Said, IsLetterPart, part, mark, said_items, said_marks}
-use Rattle.dm_words.specs.Letters.{IsOpening, headed, framed, plain, opening_items, closing_items, Says}
-use Rattle.dm_words.specs.LetterExtents.{as_letter}
+use Rattle.dm_words.specs.Contents.{ContentView, Said, IsContentPart, part, mark, said_items, said_marks}
+use Rattle.dm_words.specs.Contents.{IsOpening, headed, framed, plain, opening_items, closing_items, Says}
+use Rattle.dm_words.specs.ContentExtents.{as_content}
 use Rattle.dm_words.specs.Messages.{most_spelled}
 use Rattle.dm_words.specs.Spells.{Spells}
-use Rattle.dm_words.proofs.LetterLoops.{designator_some}
-use Rattle.dm_words.proofs.LetterParts.{not_wide}
+use Rattle.dm_words.proofs.ContentLoops.{designator_some}
+use Rattle.dm_words.proofs.ContentParts.{not_wide}
 use Rattle.dm_words.proofs.Parts.{room_of}
 
 -- A part, before parts that say few, says few with them.
 few_with : (extent : Extent) (place before : ℕ) (words after : List ℕ) (s : Said) (ss : List Said) (count : ℕ)
-    → IsLetterPart extent place words after s
+    → IsContentPart extent place words after s
     → ((seen : ℕ) → (length (said_items ss) ≤ 2 * count) × (2 * length (said_marks seen ss) ≤ count))
     → (length (said_items (s ∷ ss)) ≤ 2 * (length words + count))
     × (2 * length (said_marks before (s ∷ ss)) ≤ length words + count)
@@ -34,7 +34,7 @@ few_with extent place before words after s ss count (mark d number wide is w e) 
 
 -- Parts that are joined say few items and marks.
 joined_few : (extent : Extent) (place before : ℕ) (ps : List (Piece Said)) (after : List ℕ)
-    → AreJoined (IsLetterPart extent) place ps after
+    → AreJoined (IsContentPart extent) place ps after
     → (length (said_items (whats ps)) ≤ 2 * length (spelled ps))
     × (2 * length (said_marks before (whats ps)) ≤ length (spelled ps))
 joined_few extent place before [] after h = (omega arith, omega arith)
@@ -68,8 +68,8 @@ opening_few extent first more opening count n (framed digit wide f is) le few =
 opening_few extent first more opening count n (plain none no_head no_frame is) le few =
     within_most extent count n (inl (omega (arith, rw is at few)))
 
--- Codewords that say a letter say few items and marks.
-pub said_counts : (extent : Extent) (words : List ℕ) (l : LetterView) → Says extent words l
+-- Codewords that say a content say few items and marks.
+pub said_counts : (extent : Extent) (words : List ℕ) (l : ContentView) → Says extent words l
     → (length l.items ≤ most_spelled extent (length words)) × (2 * length l.marks ≤ length words)
 said_counts extent words l s =
     let o = s.opening in
@@ -80,12 +80,12 @@ said_counts extent words l s =
     ∙ length-append (spelled s.parts.parts) s.parts.after) in
     let items : length l.items ≡ length (opening_items o)
     + (length (said_items (whats s.parts.parts)) + length (closing_items o)) =
-    ap (λ (x : LetterView). length x.items) s.letter_is
+    ap (λ (x : ContentView). length x.items) s.content_is
     ∙ length-append (opening_items o) (said_items s.said ++ closing_items o)
     ∙ ap (λ n. length (opening_items o) + n) (length-append (said_items s.said) (closing_items o)
     ∙ ap (λ (ss : List Said). length (said_items ss) + length (closing_items o)) s.parts.said_are) in
     let marks : length l.marks ≡ length (said_marks (length (opening_items o)) (whats s.parts.parts)) =
-    ap (λ (x : LetterView). length x.marks) s.letter_is
+    ap (λ (x : ContentView). length x.marks) s.content_is
     ∙ ap (λ (ss : List Said). length (said_marks (length (opening_items o)) ss)) s.parts.said_are in (
       opening_few extent s.opened.first s.more o (length words) (length l.items) s.opened.is_opening
           (omega (arith, long)) (omega (arith, items, few.0, long)),
@@ -95,10 +95,10 @@ said_counts extent words l s =
 -- What codewords spell has no more items than that.
 pub spelled_is_few : (extent : Extent) (words : List ℕ) (m : List Item) → Spells extent words m
     → length m ≤ most_spelled extent (length words)
-spelled_is_few extent words m s = (said_counts extent words (as_letter m) s).0
+spelled_is_few extent words m s = (said_counts extent words (as_content m) s).0
 
 -- In any extent there are at most seven items more than two for each codeword.
-pub said_few : (extent : Extent) (words : List ℕ) (l : LetterView) → Says extent words l
+pub said_few : (extent : Extent) (words : List ℕ) (l : ContentView) → Says extent words l
     → (length l.items ≤ 2 * length words + 7) × (2 * length l.marks ≤ length words)
 said_few extent words l s =
     (let c = said_counts extent words l s in (omega (arith, c.0, most (length words) extent), c.1)) where

@@ -16,7 +16,7 @@ use Rattle.dm_words.specs.Codewords.{codeword_of}
 use Rattle.dm_words.specs.Edifact.{IsGroup, IsEdifactRun, IsEdifactEnd, few_left, first, second, third, fourth}
 use Rattle.dm_words.specs.Edifact.{edifact_byte}
 use Rattle.dm_words.specs.Joined.{Piece, spelled, gathered, whats, AreJoined}
-use Rattle.dm_words.specs.Letters.{Said, Items, Number}
+use Rattle.dm_words.specs.Contents.{Said, Items, Number}
 use Rattle.dm_words.specs.Macros.{BeginsFnc1}
 use Rattle.dm_words.specs.Messages.{byte_items}
 use Rattle.dm_words.specs.Plain.{IsPlainPart, IsPlainSaid, part, mark}

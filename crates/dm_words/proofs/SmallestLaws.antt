@@ -14,7 +14,7 @@ use Rattle.dm_words.specs.Messages.{IsMessage}
 use Rattle.dm_words.specs.NormalForm.{normal_form}
 use Rattle.dm_words.specs.Pads.{padded}
 use Rattle.dm_words.specs.Smallest.{IsPlainest, IsSmaller, IsSmallestFor, IsTaken}
-use Rattle.dm_words.specs.LetterExtents.{as_letter}
+use Rattle.dm_words.specs.ContentExtents.{as_content}
 use Rattle.dm_words.specs.Spells.{Spells}
 use Rattle.dm_words.proofs.Extents.{said_wide, usual_no_frame}
 use Rattle.dm_words.proofs.NormalForms.{normal_form_count, normal_form_spells}
@@ -68,7 +68,7 @@ pub wide_is_no_larger : (choice : SizeChoice) (size other_size : SizeEntry) (m :
     → IsSmallestFor Usual choice size words m → IsSmallestFor Wide choice other_size other m
     → IsSmaller size other_size → ⊥
 wide_is_no_larger choice size other_size m words other s o less =
-    o.smallest size words s.taken less s.sized s.form.framed (said_wide Usual words (as_letter m) s.spells)
+    o.smallest size words s.taken less s.sized s.form.framed (said_wide Usual words (as_content m) s.spells)
 
 -- A normal form with pads spells the message too.
 pub normal_is_no_smaller : (extent : Extent) (profile : Profile) (choice : SizeChoice) (size other_size : SizeEntry)
@@ -79,6 +79,6 @@ normal_is_no_smaller extent profile choice size other_size m words fit s taken r
     let count = other_size.data_count in
     let most : count ≤ 1558 = (let f = size_facts other_size taken.0 in omega (arith, f.data_fits)) in
     s.smallest other_size (padded (normal_form profile m) count) taken less (normal_form_count profile m count room)
-    (λ frames begins. usual_no_frame (padded (normal_form profile m) count) (as_letter m)
+    (λ frames begins. usual_no_frame (padded (normal_form profile m) count) (as_content m)
     (normal_form_spells Usual profile m count fit room most) begins)
     (normal_form_spells extent profile m count fit room most)

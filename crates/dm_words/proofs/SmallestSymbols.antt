@@ -12,7 +12,7 @@ use Rattle.dm_words.specs.declared.item.Item.{Item}
 use Rattle.dm_words.specs.Macros.{macro_text}
 use Rattle.dm_words.specs.Messages.{IsMessage}
 use Rattle.dm_words.specs.Ascii.{ascii}
-use Rattle.dm_words.specs.LetterExtents.{as_letter}
+use Rattle.dm_words.specs.ContentExtents.{as_content}
 use Rattle.dm_words.specs.Pads.{pads, padded}
 use Rattle.dm_words.specs.Plain.{FramesNoFnc1, IsPlainForm}
 use Rattle.dm_words.specs.Smallest.{IsTaken, IsSmaller, NoneSpells, IsSmallestFor, IsPlainest, ArePads, SpellsThenPads}
@@ -27,10 +27,10 @@ use Rattle.dm_words.proofs.AsciiWords.{pads_end}
 use Rattle.dm_words.proofs.LawLemmas.{ascii_spells}
 use Rattle.dm_words.proofs.Extents.{wide_reads_the_padded}
 use Rattle.dm_words.proofs.PartsWritten.{parts_whole}
-use Rattle.dm_words.proofs.LetterParts.{not_wide}
+use Rattle.dm_words.proofs.ContentParts.{not_wide}
 use Rattle.dm_words.proofs.SaidBounds.{spelled_is_few}
-use Rattle.dm_words.proofs.SpelledLetters.{parts_spell, macro_spells as macro_text_spells, spelled_has, HasMessage}
-use Rattle.dm_words.proofs.SpelledLetters.{in_parts, in_frame}
+use Rattle.dm_words.proofs.SpelledContents.{parts_spell, macro_spells as macro_text_spells, spelled_has, HasMessage}
+use Rattle.dm_words.proofs.SpelledContents.{in_parts, in_frame}
 use Rattle.dm_words.proofs.CostBounds.{no_fewer, no_fewer_words}
 
 -- ---- what is written spells the message
@@ -154,7 +154,7 @@ pub is_smallest : (extent : Extent) (choice : SizeChoice) (m : List Item) (cost 
     (words : List ℕ)
     → IsLeastCost extent m cost → IsTaken choice size → All (HasNoFewer choice cost size) size_table
     → All (IsNoNarrower choice cost size) size_table
-    → length words ≡ size.data_count → Spells extent words m → IsPlainForm words (as_letter m)
+    → length words ≡ size.data_count → Spells extent words m → IsPlainForm words (as_content m)
     → IsSmallestFor extent choice size words m
 is_smallest extent choice m cost size words least taken smallest narrowest long spells form = record {
   spells = spells;

@@ -14,7 +14,7 @@ use Rattle.dm_words.specs.Macros.{macro_text, macro_trailer}
 use Rattle.dm_words.specs.Messages.{most_spelled}
 use Rattle.dm_words.specs.Parts.{IsPart, ascii, nothing, AreParts}
 use Rattle.dm_words.specs.Laws.{SomeSpell}
-use Rattle.dm_words.proofs.SpelledLetters.{parts_spell, macro_spells}
+use Rattle.dm_words.proofs.SpelledContents.{parts_spell, macro_spells}
 
 -- ---- as many
 

@@ -14,8 +14,8 @@ use Rattle.dm_words.specs.Base256.{IsFaultySegment}
 
 -- A codeword that can begin no part begins something that is not read: in each extent structured append, reader
 -- programming, ECI or a macro; in the
--- usual extent EDIFACT too. (What opens a letter in the wide extent begins no part either, nor does ECI, of which
--- `IsLetterFault` speaks before.)
+-- usual extent EDIFACT too. (What opens a content in the wide extent begins no part either, nor does ECI, of which
+-- `IsContentFault` speaks before.)
 pub data IsLeftOut (extent : Extent) (word : ℕ) : Type 0 where
   always : codeword_of word ≡ Some codeword.LeftOut → IsLeftOut extent word
   macro_behind : (digit : ℕ) → codeword_of word ≡ Some (codeword.Macro digit) → IsLeftOut extent word

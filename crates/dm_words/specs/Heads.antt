@@ -1,8 +1,8 @@
 -- Heads: structured append and reader programming (ISO/IEC 16022, structured append, reader programming).
 use Rattle.std.specs.Prelude.{◌≡◌, ℕ, ◌+◌, ◌-◌, ◌*◌, ◌/◌, ◌%◌, ◌≤◌, List, [], ◌∷◌, ◌++◌, Option, Some, None}
-use Rattle.dm_words.specs.declared.letters.head.Appended.{Appended}
-use Rattle.dm_words.specs.declared.letters.head.Head.{Head}
-use Rattle.dm_words.specs.declared.letters.head.Head.TheVariants as head
+use Rattle.dm_words.specs.declared.contents.head.Appended.{Appended}
+use Rattle.dm_words.specs.declared.contents.head.Head.{Head}
+use Rattle.dm_words.specs.declared.contents.head.Head.TheVariants as head
 
 -- Structured append is this codeword.
 abbrev pub append_word : ℕ

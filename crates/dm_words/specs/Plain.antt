@@ -5,14 +5,14 @@ use Rattle.std.specs.Prelude.{◌≡◌, ℕ, ◌<◌, ◌≤◌, List, [], ◌�
 use Rattle.dm_words.specs.declared.c40.set.CodeSet.{CodeSet}
 use Rattle.dm_words.specs.declared.extent.Extent.TheVariants.{Usual, Wide}
 use Rattle.dm_words.specs.declared.item.Item.{Item}
-use Rattle.dm_words.specs.declared.letters.opening.Opening.{Opening}
-use Rattle.dm_words.specs.declared.letters.opening.Opening.TheVariants.{Framed}
+use Rattle.dm_words.specs.declared.contents.opening.Opening.{Opening}
+use Rattle.dm_words.specs.declared.contents.opening.Opening.TheVariants.{Framed}
 use Rattle.dm_words.specs.Ascii.{IsAsciiUnit}
 use Rattle.dm_words.specs.Base256.{IsSegment}
 use Rattle.dm_words.specs.Designators.{eci_word, IsDesignator}
 use Rattle.dm_words.specs.Edifact.{IsEdifactRun}
 use Rattle.dm_words.specs.Joined.{Piece, spelled, AreJoined}
-use Rattle.dm_words.specs.Letters.{LetterView, Said, Items, Number, AreOpened, BeginsFrame}
+use Rattle.dm_words.specs.Contents.{ContentView, Said, Items, Number, AreOpened, BeginsFrame}
 use Rattle.dm_words.specs.Macros.{FramesFnc1}
 use Rattle.dm_words.specs.Pads.{padded}
 use Rattle.dm_words.specs.Runs.{IsRun}
@@ -28,7 +28,7 @@ pub data IsPlainPart (place : ℕ) (words after : List ℕ) (items : List Item) 
   segment : IsSegment place words after items → 0 < length items → IsPlainPart place words after items
   edifact : IsEdifactRun words after items → 0 < length items → IsPlainPart place words after items
 
--- A plain part of a letter says items so, or is ECI and a designator.
+-- A plain part of a content says items so, or is ECI and a designator.
 pub data IsPlainSaid (place : ℕ) (words after : List ℕ) (said : Said) : Type 0 where
   part : (items : List Item) → IsPlainPart place words after items → said ≡ Items items
       → IsPlainSaid place words after said
@@ -53,13 +53,13 @@ pub record ArePlain (words : List ℕ) : Type 0 where
 abbrev pub FramesNoFnc1 : List ℕ → List Item → Type 0
 FramesNoFnc1 words items = FramesFnc1 items → BeginsFrame words → ⊥
 
--- The words say the letter as words that are written do: they are plain, have the identifier of its ASCII form, and no
+-- The words say the content as words that are written do: they are plain, have the identifier of its ASCII form, and no
 -- macro before FNC1.
-pub record IsPlainForm (words : List ℕ) (letter : LetterView) : Type 0 where
+pub record IsPlainForm (words : List ℕ) (content : ContentView) : Type 0 where
   pub plain : ArePlain words
-  pub identifier : KeepsIdentifier words letter
-  pub framed : FramesNoFnc1 words letter.items
+  pub identifier : KeepsIdentifier words content
+  pub framed : FramesNoFnc1 words content.items
 
--- With pads up to any count of codewords behind them, or none, the words say the letter so.
-abbrev pub IsPlainWithPads : List ℕ → LetterView → Type 0
-IsPlainWithPads words letter = (count : ℕ) → length words ≤ count → IsPlainForm (padded words count) letter
+-- With pads up to any count of codewords behind them, or none, the words say the content so.
+abbrev pub IsPlainWithPads : List ℕ → ContentView → Type 0
+IsPlainWithPads words content = (count : ℕ) → length words ≤ count → IsPlainForm (padded words count) content

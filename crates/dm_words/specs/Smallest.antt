@@ -12,7 +12,7 @@ use Rattle.dm_words.specs.declared.fault.TooLong.{TooLong}
 use Rattle.dm_words.specs.declared.codeword.Codeword.TheVariants as codeword
 use Rattle.dm_words.specs.Ascii.{ascii}
 use Rattle.dm_words.specs.Codewords.{codeword_of}
-use Rattle.dm_words.specs.LetterExtents.{as_letter}
+use Rattle.dm_words.specs.ContentExtents.{as_content}
 use Rattle.dm_words.specs.Macros.{macro_text}
 use Rattle.dm_words.specs.Pads.{pads, padded}
 use Rattle.dm_words.specs.Plain.{FramesNoFnc1, IsPlainForm}
@@ -36,7 +36,7 @@ pub record IsSmallestFor (extent : Extent) (choice : SizeChoice) (size : SizeEnt
   pub spells : Spells extent words message
   pub taken : IsTaken choice size
   pub sized : length words ≡ size.data_count
-  pub form : IsPlainForm words (as_letter message)
+  pub form : IsPlainForm words (as_content message)
   pub smallest : (smaller : SizeEntry) (other : List ℕ) → IsTaken choice smaller → IsSmaller smaller size
       → length other ≡ smaller.data_count → FramesNoFnc1 other message → Spells extent other message → ⊥
 

@@ -6,7 +6,7 @@ pub mod Written
 pub mod Ways
 pub mod Fnc1
 pub mod Signs
-pub mod LetterScan
-pub mod LetterContents
+pub mod ContentScan
+pub mod ContentsAt
 pub mod MarkedForms
-pub mod LetterCosts
+pub mod ContentCosts

@@ -6,7 +6,7 @@ pub enum Extent {
     /// ASCII, C40, Text, X12 and Base 256.
     #[default]
     Usual,
-    /// EDIFACT too, and macro 05 or 06 as the first codeword of the symbol. An Upper Shift that waits for its character
-    /// at the end of a run of C40 or Text is taken as a filler.
+    /// EDIFACT too, ECI, structured append and reader programming, and macro 05 or 06 at the beginning. An Upper Shift
+    /// that waits for its character at the end of a run of C40 or Text is taken as a filler.
     Wide,
 }

@@ -26,7 +26,7 @@ pub const SHORT_RUN: usize = 204;
 /// The most values of a short run.
 pub const SHORT_VALUES: usize = 3 * SHORT_RUN / 2;
 
-/// The marks for which a letter has room: one for each two data codewords of a square.
+/// The marks for which a content has room: one for each two data codewords of a square.
 pub const MOST_MARKS: usize = MOST_GRID_DATA / 2;
 
 /// The most marks that are read of a symbol of any shape.

@@ -6,7 +6,7 @@ ghost use Rattle.dm_words.specs.Ascii.{ascii};
 ghost use Rattle.dm_words.specs.NormalForm.{shorter, normal_form, one_segment, has_fnc1};
 ghost use Rattle.dm_words.specs.Results.{IsNormalFormResult};
 ghost use Rattle.dm_words.specs.Outcomes.{outcome};
-ghost use Rattle.dm_words.specs.LetterExtents.{as_letter};
+ghost use Rattle.dm_words.specs.ContentExtents.{as_content};
 ghost use Rattle.dm_words.specs.Messages.{byte_of, IsMessage};
 ghost use Rattle.dm_words.specs.Plain.{IsPlainWithPads};
 
@@ -66,7 +66,7 @@ pub fn normal_words_in<const N: usize>(
     ensures form { OnOk result (words.new.items ≡ normal_form profile items.now) }
     ensures too_long { IsErr result ↔ (N < length (normal_form profile items.now)) }
     ensures same { OnErr result (words.new.items ≡ words.old.items) }
-    ensures plain { OnOk result (IsMessage items.now → IsPlainWithPads words.new.items (as_letter items.now)) }
+    ensures plain { OnOk result (IsMessage items.now → IsPlainWithPads words.new.items (as_content items.now)) }
 {
     if !surely_fits(items, N) {
         return write_counted(profile, items, words);
@@ -90,7 +90,7 @@ fn write_counted<const N: usize>(
     ensures form { OnOk result (words.new.items ≡ normal_form profile items.now) }
     ensures too_long { IsErr result ↔ (N < length (normal_form profile items.now)) }
     ensures same { OnErr result (words.new.items ≡ words.old.items) }
-    ensures plain { OnOk result (IsMessage items.now → IsPlainWithPads words.new.items (as_letter items.now)) }
+    ensures plain { OnOk result (IsMessage items.now → IsPlainWithPads words.new.items (as_content items.now)) }
 {
     let form = form_of(profile, items, ascii_form(items));
     if form.length > N {

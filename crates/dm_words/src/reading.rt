@@ -10,19 +10,19 @@ ghost use Rattle.dm_words.specs.Results.{IsMessageResult};
 ghost use Rattle.dm_words.specs.inner.Scan.Prefixes.{first_part, part_by, raised_unit, is_one_word};
 ghost use Rattle.dm_words.specs.inner.Scan.Prefixes.{begins_with_one_word};
 ghost use Rattle.dm_words.specs.inner.Scan.Walk.{Step};
-ghost use Rattle.dm_words.specs.inner.LetterScan.{items_with, letter_on};
+ghost use Rattle.dm_words.specs.inner.ContentScan.{items_with, content_on};
 ghost use Rattle.dm_words.specs.inner.Scan.Results.{HasRoomAt, IsPartTakenOrEnd, IsPartTaken, IsOneWordTaken};
 
 use crate::base256::segment_part;
 use crate::c40::run::run_part;
 use crate::codeword::{Codeword, Lone, lone_of, meaning};
+use crate::contents::fault::ContentFault;
+use crate::contents::mark::Mark;
+use crate::contents::reading::read_content;
 use crate::edifact::edifact_part;
 use crate::extent::Extent;
 use crate::fault::WordFault;
 use crate::item::Item;
-use crate::letters::fault::LetterFault;
-use crate::letters::mark::Mark;
-use crate::letters::reading::read_content;
 use crate::message::{Message, MessageIn};
 use crate::numbers::number_at;
 use arrayvec::ArrayVec;
@@ -166,8 +166,8 @@ pub(crate) fn one_word_parts<const ROOM: usize>(
     ensures no_fewer { length message.old ≤ length message.new }
     ensures all { begins_with_one_word (drop result words.now) ≡ false }
     ensures said { (extent : Extent) (marks : List Mark)
-        → letter_on extent (items_with marks message.new) (result + 1) (drop result words.now)
-        ≡ letter_on extent (items_with marks message.old) (start + 1) (drop start words.now) }
+        → content_on extent (items_with marks message.new) (result + 1) (drop result words.now)
+        ≡ content_on extent (items_with marks message.old) (start + 1) (drop start words.now) }
 {
     let mut at = start;
     while let Some(word) = number_at(words, at) {
@@ -219,8 +219,8 @@ pub fn message_to<const ROOM: usize>(
     let mut marks = ArrayVec::<Mark, 0>::new();
     match read_content(Extent::Usual, words, message, &mut marks) {
         Ok(_) => Ok(()),
-        Err(LetterFault::Word(fault)) => Err(fault),
-        Err(LetterFault::Designator(_)) => unreachable!(),
-        Err(LetterFault::Append(_)) => unreachable!(),
+        Err(ContentFault::Word(fault)) => Err(fault),
+        Err(ContentFault::Designator(_)) => unreachable!(),
+        Err(ContentFault::Append(_)) => unreachable!(),
     }
 }

@@ -1,24 +1,24 @@
-//! The smallest symbol of a letter: data codewords that say it, of the smallest size of a choice that has any. A letter
-//! with a head or marks is written in [`letters`], and a message here.
+//! The smallest symbol of a content: data codewords that say it, of the smallest size of a choice that has any. A
+//! content with a head or marks is written in [`contents`], and a message here.
 
 ghost use Rattle.std.specs.Prelude.{◌≡◌, ◌<◌, ◌≤◌, OnErr, OnOk, IsTrue, None, [], length};
 ghost use Rattle.dm_words.specs.declared.extent.Extent.TheVariants.{Usual};
 ghost use Rattle.dm_words.specs.Ascii.{ascii};
 ghost use Rattle.dm_words.specs.Heads.{IsHead};
-ghost use Rattle.dm_words.specs.LetterExtents.{as_letter};
-ghost use Rattle.dm_words.specs.Letters.{AreMarks};
+ghost use Rattle.dm_words.specs.ContentExtents.{as_content};
+ghost use Rattle.dm_words.specs.Contents.{AreMarks};
 ghost use Rattle.dm_words.specs.Messages.{IsMessage};
 ghost use Rattle.dm_words.specs.Outcomes.{outcome};
 ghost use Rattle.dm_words.specs.Pads.{padded};
 ghost use Rattle.dm_words.specs.Plain.{IsPlainForm};
 ghost use Rattle.dm_words.specs.Smallest.{IsPlainest, IsSmallestResult, SpellsThenPads};
-ghost use Rattle.dm_words.specs.SmallestLetters.{IsSmallestLetterResult};
+ghost use Rattle.dm_words.specs.SmallestContents.{IsSmallestContentResult};
 ghost use Rattle.dm_words.specs.inner.Costs.{at_end, parts_cost, IsRightPlan};
-ghost use Rattle.dm_words.specs.inner.LetterCosts.{view_of};
+ghost use Rattle.dm_words.specs.inner.ContentCosts.{view_of};
 ghost use Rattle.dm_words.specs.inner.Ways.{IsLeastCost, IsMacroOf, IsWay, inner_text, text_of};
 
+mod contents;
 mod edifact;
-mod letters;
 mod parts;
 mod plan;
 mod row;
@@ -29,16 +29,16 @@ mod setting;
 mod values;
 
 use crate::ascii::write_ascii;
+use crate::contents::head::Head;
+use crate::contents::mark::Mark;
+use crate::contents::normal_form::is_plain;
 use crate::extent::Extent;
 use crate::fault::TooLong;
 use crate::item::Item;
-use crate::letters::head::Head;
-use crate::letters::mark::Mark;
-use crate::letters::normal_form::is_plain;
 use crate::limits::{LARGEST_MARKS, LARGEST_ROOM};
 use crate::macros::{HEADER_LENGTH, TRAILER_LENGTH, macro_of};
 use crate::pad::pad_to;
-use crate::smallest::letters::smallest_marked_to;
+use crate::smallest::contents::smallest_marked_to;
 use crate::smallest::parts::write_parts;
 use crate::smallest::plan::{StepBits, plan_to};
 use crate::smallest::setting::Setting;
@@ -60,14 +60,14 @@ const FEW_MARKS: usize = 31;
 /// The marks for which there is room beside a plan of some length.
 const SOME_MARKS: usize = 102;
 
-/// Chooses data codewords, with pads, that say a letter in an extent, in the smallest size of the choice that has any:
-/// no list of codewords of a smaller size says it there, but for lists that have a macro before FNC1. The letter has
+/// Chooses data codewords, with pads, that say a content in an extent, in the smallest size of the choice that has any:
+/// no list of codewords of a smaller size says it there, but for lists that have a macro before FNC1. The content has
 /// this head or none, these items, at most [`LARGEST_ROOM`], and these marks, at most [`LARGEST_MARKS`]; a message is
 /// one without a head and marks. After `Ok`, which has that size, `words` holds them, whatever it held before. They are
-/// plain, and their symbology identifier is that of the ASCII form. They are the letter in ASCII, as under
-/// [`Profile::Ascii`](crate::Profile::Ascii), where the size has room for that; else codewords that say the letter in
+/// plain, and their symbology identifier is that of the ASCII form. They are the content in ASCII, as under
+/// [`Profile::Ascii`](crate::Profile::Ascii), where the size has room for that; else codewords that say the content in
 /// the usual extent, where there are any. `TooLong` exactly where the codewords of no size of the choice say the
-/// letter, as in the usual extent those of no size say a head or a mark; then `words` holds what it held before.
+/// content, as in the usual extent those of no size say a head or a mark; then `words` holds what it held before.
 /// ISO/IEC 16022, encodation schemes, ECI encodation, structured append, reader programming.
 pub fn smallest_words_to(
     extent: Extent,
@@ -81,10 +81,11 @@ pub fn smallest_words_to(
     requires few { length items.now ≤ LARGEST_ROOM }
     requires few_marks { length marks.now ≤ LARGEST_MARKS }
     requires in_order { AreMarks 0 (length items.now) marks.now }
-    ensures smallest { IsSmallestLetterResult extent choice
+    ensures smallest { IsSmallestContentResult extent choice
         (record { head = head; items = items.now; marks = marks.now }) result words.new.items }
     ensures message { head ≡ None → marks.now ≡ []
         → IsSmallestResult extent choice items.now result words.new.items }
+    ensures message_items { head ≡ None → marks.now ≡ [] → IsMessage items.now }
     ensures items { OnOk result (IsMessage items.now) }
     ensures same { OnErr result (words.new.items ≡ words.old.items) }
 {
@@ -117,9 +118,10 @@ fn smallest_in<const STEPS: usize, const MARKS: usize>(
     requires most { STEPS ≤ LONG_PLAN }
     requires room { length marks.now ≤ MARKS }
     requires most_marks { MARKS ≤ LARGEST_MARKS }
-    ensures smallest { IsSmallestLetterResult extent choice (view_of head items.now marks.now) result words.new.items }
+    ensures smallest { IsSmallestContentResult extent choice (view_of head items.now marks.now) result words.new.items }
     ensures message { head ≡ None → marks.now ≡ []
         → IsSmallestResult extent choice items.now result words.new.items }
+    ensures message_items { head ≡ None → marks.now ≡ [] → IsMessage items.now }
     ensures items { OnOk result (IsMessage items.now) }
     ensures same { OnErr result (words.new.items ≡ words.old.items) }
 {
@@ -153,7 +155,7 @@ fn smallest_items_to(
     requires few { length items.now ≤ LARGEST_ROOM }
     requires steps { length items.now < length plan.old }
     ensures smallest { IsSmallestResult extent choice items.now result words.new.items }
-    ensures letter { IsSmallestLetterResult extent choice (as_letter items.now) result words.new.items }
+    ensures content { IsSmallestContentResult extent choice (as_content items.now) result words.new.items }
     ensures message { IsMessage items.now }
     ensures same { OnErr result (words.new.items ≡ words.old.items) }
 {
@@ -269,7 +271,7 @@ fn write_plainest<const N: usize>(
     ensures spells { SpellsThenPads extent (padded words.new.items count) items.now }
     ensures fits { length words.new.items ≤ count }
     ensures plainest { IsPlainest (padded words.new.items count) items.now }
-    ensures form { IsPlainForm (padded words.new.items count) (as_letter items.now) }
+    ensures form { IsPlainForm (padded words.new.items count) (as_content items.now) }
 {
     if found.ascii <= count {
         let _form = write_ascii(items, words);
@@ -298,11 +300,11 @@ fn write_usual_if_fits<const N: usize>(
     requires no_ascii { count < length (ascii items.now) }
     requires spells { SpellsThenPads extent (padded words.old.items count) items.now }
     requires fits { length words.old.items ≤ count }
-    requires form { IsPlainForm (padded words.old.items count) (as_letter items.now) }
+    requires form { IsPlainForm (padded words.old.items count) (as_content items.now) }
     ensures spells { SpellsThenPads extent (padded words.new.items count) items.now }
     ensures fits { length words.new.items ≤ count }
     ensures plainest { IsPlainest (padded words.new.items count) items.now }
-    ensures form { IsPlainForm (padded words.new.items count) (as_letter items.now) }
+    ensures form { IsPlainForm (padded words.new.items count) (as_content items.now) }
 {
     // In the usual extent a codeword spells at most two items.
     if 2 * usize::from(count) < items.len() {
@@ -334,7 +336,7 @@ fn write_way<const N: usize>(
     ensures spells { SpellsThenPads extent (padded words.new.items count) items.now }
     ensures usual { IsTrue result → SpellsThenPads Usual (padded words.new.items count) items.now }
     ensures fits { length words.new.items ≤ count }
-    ensures form { IsPlainForm (padded words.new.items count) (as_letter items.now) }
+    ensures form { IsPlainForm (padded words.new.items count) (as_content items.now) }
 {
     match way.macro_word {
         None => write_plain(extent, items, plan, words, count),
@@ -372,7 +374,7 @@ fn write_plain<const N: usize>(
     ensures spells { SpellsThenPads extent (padded words.new.items count) items.now }
     ensures usual { IsTrue result → SpellsThenPads Usual (padded words.new.items count) items.now }
     ensures fits { length words.new.items ≤ count }
-    ensures form { IsPlainForm (padded words.new.items count) (as_letter items.now) }
+    ensures form { IsPlainForm (padded words.new.items count) (as_content items.now) }
 {
     words.clear();
     write_parts(

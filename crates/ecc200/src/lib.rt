@@ -34,7 +34,7 @@ pub extern "C" fn ecc200_read(
     ecc200_calls::read(modules, doubtful, scan, out)
 }
 
-/// Writes the symbol of the letter with the items and the marks of these numbers.
+/// Writes the symbol of the content with the items and the marks of these numbers.
 #[unsafe(no_mangle)]
 pub extern "C" fn ecc200_write(
     items: &[u16],
@@ -48,7 +48,7 @@ pub extern "C" fn ecc200_write(
     ecc200_calls::write(items, marks, how, out)
 }
 
-/// Writes the symbol of the letter of these bytes, each of which is an item: what [`ecc200_write`] does for the same
+/// Writes the symbol of the content of these bytes, each of which is an item: what [`ecc200_write`] does for the same
 /// numbers and no marks.
 #[unsafe(no_mangle)]
 pub extern "C" fn ecc200_write_bytes(bytes: &[u8], how: &How, out: &mut SymbolOut) -> u16

@@ -5,8 +5,8 @@ pub mod MadeSymbols
 pub mod Limits
 pub mod OfGiven
 pub mod Rooms
-pub mod ReadLetters
-pub mod LetterNumbers
+pub mod ReadContents
+pub mod ContentNumbers
 pub mod Written
 pub mod WrittenMessages
 pub mod NormalGiven

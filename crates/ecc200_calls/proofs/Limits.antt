@@ -5,13 +5,13 @@ use Rattle.std.specs.Prelude.{IfErr, OnOk}
 use Rattle.dm_symbol.specs.declared.BlockReading.{BlockReading}
 use Rattle.dm_symbol.specs.declared.Dealing.{Dealing}
 use Rattle.dm_symbol.specs.declared.Extent.{Extent}
-use Rattle.dm_symbol.specs.declared.LetterFault.{LetterFault}
-use Rattle.dm_symbol.specs.declared.LetterReadFault.{LetterReadFault}
-use Rattle.dm_symbol.specs.declared.LetterReadFault.TheVariants as fault
+use Rattle.dm_symbol.specs.declared.ContentFault.{ContentFault}
+use Rattle.dm_symbol.specs.declared.ContentReadFault.{ContentReadFault}
+use Rattle.dm_symbol.specs.declared.ContentReadFault.TheVariants as fault
 use Rattle.dm_layout.specs.symbols.Symbols.{SymbolView}
 use Rattle.dm_layout.specs.symbols.Words.{WordsView}
 use Rattle.dm_symbol.specs.Doubt.{sure_fault_count}
-use Rattle.dm_symbol.specs.LetterReading.{LetterReadingView, LetterReadResult}
+use Rattle.dm_symbol.specs.ContentReading.{ContentReadingView, ContentReadResult}
 use Rattle.dm_symbol.specs.Restored as whole
 use Rattle.dm_symbol.specs.SymbolLaws.{AreLight}
 use Rattle.dm_symbol.specs.SymbolReading.{readings_by}
@@ -90,43 +90,44 @@ module _ (extent : Extent) (symbol : SymbolView) (doubtful : Option SymbolView) 
         ∙ ap (λ d. readings_by d symbol.size doubtful is.held words.list) one.2 ∙ sym is.readings) l.left
 
   -- A fault of the border has the number of its faults, which are more than the limit.
-  pub border_of_fault : (count : ℕ) → LetterReadResult extent symbol doubtful limit (Err (fault.Border count))
+  pub border_of_fault : (count : ℕ) → ContentReadResult extent symbol doubtful limit (Err (fault.Border count))
       → (limit < sure_fault_count symbol doubtful) × (count ≡ sure_fault_count symbol doubtful)
-  border_of_fault count (LetterReadResult.border more e) = (more, same_border count _ e)
+  border_of_fault count (ContentReadResult.border more e) = (more, same_border count _ e)
     where
       same_border : (a b : ℕ)
-          → ◌≡◌ {A = Result LetterReadingView LetterReadFault} (Err (fault.Border a)) (Err (fault.Border b)) → a ≡ b
+          → ◌≡◌ {A = Result ContentReadingView ContentReadFault} (Err (fault.Border a)) (Err (fault.Border b)) → a ≡ b
       same_border a b e = cc
-  border_of_fault count (LetterReadResult.block words index few lost e) = cc
-  border_of_fault count (LetterReadResult.words d words codewords why few restored refused e) = cc
-  border_of_fault count (LetterReadResult.letter d words codewords letter number few restored said is e) = cc
+  border_of_fault count (ContentReadResult.block words index few lost e) = cc
+  border_of_fault count (ContentReadResult.words d words codewords why few restored refused e) = cc
+  border_of_fault count (ContentReadResult.content d words codewords content number few restored said is e) = cc
 
   -- Where restoring ends in a fault, though there are no more border faults than the limit, no codewords are restored.
-  pub none_of_fault : (why : LetterReadFault) → ((refused : LetterFault) → why ≡ fault.Words refused → ⊥)
-      → sure_fault_count symbol doubtful ≤ limit → LetterReadResult extent symbol doubtful limit (Err why)
+  pub none_of_fault : (why : ContentReadFault) → ((refused : ContentFault) → why ≡ fault.Words refused → ⊥)
+      → sure_fault_count symbol doubtful ≤ limit → ContentReadResult extent symbol doubtful limit (Err why)
       → LeavesCorrections extent symbol doubtful → ⊥
-  none_of_fault why unsaid few (LetterReadResult.border more e) l = omega (arith, few, more)
-  none_of_fault why unsaid few (LetterReadResult.block words index within lost e) l =
+  none_of_fault why unsaid few (ContentReadResult.border more e) l = omega (arith, few, more)
+  none_of_fault why unsaid few (ContentReadResult.block words index within lost e) l =
       none_lost symbol doubtful extent l.dealing words l.words l.codewords index lost l.restored
-  none_of_fault why unsaid few (LetterReadResult.words d words codewords refused within restored is e) l =
+  none_of_fault why unsaid few (ContentReadResult.words d words codewords refused within restored is e) l =
       unsaid refused cc
-  none_of_fault why unsaid few (LetterReadResult.letter d words codewords letter number within restored said is e) l =
+  none_of_fault why unsaid few (ContentReadResult.content d words codewords content number within restored said is e) l
+      =
       cc
 
   -- Any other fault than one of the border comes where there are no more border faults than the limit.
-  pub few_of_fault : (why : LetterReadFault) → ((count : ℕ) → why ≡ fault.Border count → ⊥)
-      → LetterReadResult extent symbol doubtful limit (Err why) → sure_fault_count symbol doubtful ≤ limit
-  few_of_fault why other (LetterReadResult.border more e) = absurd (other (sure_fault_count symbol doubtful) cc)
-  few_of_fault why other (LetterReadResult.block words index few lost e) = few
-  few_of_fault why other (LetterReadResult.words d words codewords refused few restored is e) = few
-  few_of_fault why other (LetterReadResult.letter d words codewords letter number few restored said is e) = few
+  pub few_of_fault : (why : ContentReadFault) → ((count : ℕ) → why ≡ fault.Border count → ⊥)
+      → ContentReadResult extent symbol doubtful limit (Err why) → sure_fault_count symbol doubtful ≤ limit
+  few_of_fault why other (ContentReadResult.border more e) = absurd (other (sure_fault_count symbol doubtful) cc)
+  few_of_fault why other (ContentReadResult.block words index few lost e) = few
+  few_of_fault why other (ContentReadResult.words d words codewords refused few restored is e) = few
+  few_of_fault why other (ContentReadResult.content d words codewords content number few restored said is e) = few
 
 -- What is restored at as many border faults as there are, where each block then leaves a correction unused, is restored
 -- at as many as are sure; and so is the fault where none does.
 pub sure_for : {A : Type 0} (extent : Extent) (symbol : SymbolView) (doubtful : Option SymbolView) (usual count : ℕ)
-    (result : Result A LetterReadFault) (words : WordsView) (restored : Restored)
+    (result : Result A ContentReadFault) (words : WordsView) (restored : Restored)
     → usual ≡ usual_limit symbol.size.rows symbol.size.columns
-    → LetterReadResult extent symbol doubtful usual (Err (fault.Border count))
+    → ContentReadResult extent symbol doubtful usual (Err (fault.Border count))
     → OnOk result (LeavesCorrections extent symbol doubtful)
     → OnOk result (IsRestored extent symbol doubtful count words restored)
     → IfErr result (λ why. (why ≡ fault.Border count) × (LeavesCorrections extent symbol doubtful → ⊥))
@@ -144,5 +145,5 @@ sure_for extent symbol doubtful usual count (Err why) words restored is_usual fi
       limit = usual;
       limit_is = IsSureLimit.unsure (subst (λ n. n < sure_fault_count symbol doubtful) is_usual border.0) none.1
           is_usual;
-      restored_or = subst (λ w. LetterReadResult extent symbol doubtful usual (Err w)) (sym none.0) first;
+      restored_or = subst (λ w. ContentReadResult extent symbol doubtful usual (Err w)) (sym none.0) first;
     }

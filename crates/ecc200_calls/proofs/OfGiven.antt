@@ -5,7 +5,7 @@ use Rattle.std.proofs.Common.{nat_eq, ◌&&◌}
 use Rattle.std.proofs.lemmas.Bool.{and_parts, eqb-true}
 use Rattle.dm_symbol.specs.declared.Profile.{Profile}
 use Rattle.dm_symbol.specs.SymbolLaws.{AreLight}
-use Rattle.dm_symbol.proofs.Exported.{letter_normal_alike, letter_read_alike, light_rows}
+use Rattle.dm_symbol.proofs.Exported.{content_normal_alike, content_read_alike, light_rows}
 use Rattle.dm_symbol.proofs.Exported.{shown_alike}
 use Rattle.dm_layout.specs.symbols.Sizes.{SizeEntry, entry_with, size_table}
 use Rattle.dm_layout.proofs.symbols.Exported.{found_passes}
@@ -107,7 +107,7 @@ module _ (rows columns : ℕ) (modules doubt : List ℕ) (size : SizeEntry) (som
         limit_is = limit_alike doubtful light symbol sought.extent sought.limit r.limit r.limit_is;
         given = record {
           result = r.given.result;
-          result_is = letter_read_alike doubtful light symbol sought.extent r.limit r.given.result r.given.result_is;
+          result_is = content_read_alike doubtful light symbol sought.extent r.limit r.given.result r.given.result_is;
           shown = r.given.shown;
         };
       }) known of
@@ -127,7 +127,7 @@ module _ (rows columns : ℕ) (modules doubt : List ℕ) (size : SizeEntry) (som
         limit_is = limit_alike doubtful light symbol sought.extent sought.limit r.limit r.limit_is;
         given = record {
           result = r.given.result;
-          result_is = letter_normal_alike doubtful light symbol sought.extent r.limit profile r.given.result
+          result_is = content_normal_alike doubtful light symbol sought.extent r.limit profile r.given.result
               r.given.result_is;
           shown = r.given.shown;
         };

@@ -1,4 +1,4 @@
--- Letters that are written, and symbols that are normalised.
+-- Contents that are written, and symbols that are normalised.
 use Rattle.std.proofs.Common.{◌≡◌, ◌⊎◌, inl, inr, ℕ, ◌*◌, ◌+◌, ◌<◌, ◌≤◌, List, [], ◌∷◌, length, Option, Err}
 use Rattle.std.proofs.Common.{refl, sym, ◌∙◌, ap, subst, arith}
 use Rattle.std.specs.Prelude.{All}
@@ -11,23 +11,23 @@ use Rattle.dm_symbol.specs.declared.Profile.{Profile}
 use Rattle.dm_symbol.specs.declared.SizeChoice.{SizeChoice}
 use Rattle.dm_symbol.specs.declared.TooLong.{TooLong}
 use Rattle.dm_words.specs.Heads.{IsHead}
-use Rattle.dm_words.specs.Letters.{LetterView, IsLetter, AreMarks}
-use Rattle.dm_words.specs.LetterForm.{letter_form}
-use Rattle.dm_words.proofs.Exported.{letter_form_counts, said_few}
+use Rattle.dm_words.specs.Contents.{ContentView, IsContent, AreMarks}
+use Rattle.dm_words.specs.ContentForm.{content_form}
+use Rattle.dm_words.proofs.Exported.{content_form_counts, said_few}
 use Rattle.dm_layout.proofs.symbols.Exported.{size_facts}
 use Rattle.dm_layout.specs.symbols.Sizes.{entry_for, most_data}
-use Rattle.dm_symbol.specs.NormalLetter.{LetterFits}
-use Rattle.dm_symbol.proofs.Exported.{form_written_is_plain, no_letter_written, no_words_written}
+use Rattle.dm_symbol.specs.NormalContent.{ContentFits}
+use Rattle.dm_symbol.proofs.Exported.{form_written_is_plain, no_content_written, no_words_written}
 use Rattle.dm_symbol.specs.declared.Form.{Form}
 use Rattle.dm_symbol.specs.declared.Form.TheVariants.{Profiled, Smallest}
 use Rattle.ecc200_calls.specs.declared.mark.MarkNumbers.{MarkNumbers}
 use Rattle.ecc200_calls.specs.declared.symbol.SymbolOut.{SymbolOut}
 use Rattle.ecc200_calls.specs.Faults.{too_long}
 use Rattle.ecc200_calls.specs.Items.{number_of, numbers_of}
-use Rattle.ecc200_calls.specs.Letters.{IsLetterOf, marks_of, marks_shown}
+use Rattle.ecc200_calls.specs.Contents.{IsContentOf, marks_of, marks_shown}
 use Rattle.ecc200_calls.specs.Symbols.{no_symbol}
-use Rattle.ecc200_calls.specs.Writings.{IsLetterGiven, IsWritingGiven}
-use Rattle.dm_symbol.specs.WrittenLetter.{IsWrittenAs}
+use Rattle.ecc200_calls.specs.Writings.{IsContentGiven, IsWritingGiven}
+use Rattle.dm_symbol.specs.WrittenContent.{IsWrittenAs}
 use Rattle.ecc200_calls.proofs.Messages.{message_there, room_in}
 
 -- Marks have the numbers that stand for them.
@@ -36,24 +36,24 @@ marks_again [] = refl
 marks_again (m ∷ marks) = ap (λ ms. m ∷ ms) (marks_again marks)
 
 -- So it is given for its numbers.
-pub letter_given : (form : Form) (choice : SizeChoice) (head : Option Head) (numbers : List ℕ)
-    (marks : List MarkNumbers) (l : LetterView) (before after : SymbolOut) → IsLetter l
-    → IsLetterOf head numbers marks l
-    → IsLetterGiven form choice l before after → IsWritingGiven form choice head numbers marks before after
-letter_given form choice head numbers marks l before after right of given =
-    IsWritingGiven.letter l right of given (form_written_is_plain form choice l given.result right given.written)
+pub content_given : (form : Form) (choice : SizeChoice) (head : Option Head) (numbers : List ℕ)
+    (marks : List MarkNumbers) (l : ContentView) (before after : SymbolOut) → IsContent l
+    → IsContentOf head numbers marks l
+    → IsContentGiven form choice l before after → IsWritingGiven form choice head numbers marks before after
+content_given form choice head numbers marks l before after right of given =
+    IsWritingGiven.content l right of given (form_written_is_plain form choice l given.result right given.written)
 
 -- So is that of the items and the marks of these numbers.
 pub numbers_given : (form : Form) (choice : SizeChoice) (head : Option Head) (numbers : List ℕ)
     (marks : List MarkNumbers) (items : List Item) (made : List Mark) (before after : SymbolOut) → IsHead head
     → AreMarks 0 (length numbers) (marks_of marks) → numbers_of items ≡ numbers → IsMessage items
     → made ≡ marks_of marks
-    → IsLetterGiven form choice (record { head = head; items = items; marks = made }) before after
+    → IsContentGiven form choice (record { head = head; items = items; marks = made }) before after
     → IsWritingGiven form choice head numbers marks before after
 numbers_given form choice head numbers marks items made before after right are of_numbers fit of_marks given =
     let count : length items ≡ length numbers =
     sym (length-map items number_of) ∙ ap (λ (n : List ℕ). length n) of_numbers in
-    letter_given form choice head numbers marks (record { head = head; items = items; marks = made }) before after
+    content_given form choice head numbers marks (record { head = head; items = items; marks = made }) before after
     (record {
       head = right;
       items = fit;
@@ -61,32 +61,32 @@ numbers_given form choice head numbers marks items made before after right are o
     })
     (record { head_is = refl; items = of_numbers; marks_are = ap marks_shown of_marks ∙ marks_again marks }) given
 
--- A letter of more items or marks than the largest symbol has room for fits no size.
-fits_none : (choice : SizeChoice) (profile : Profile) (l : LetterView)
-    → (2 * most_data < length l.items) ⊎ (most_data < 2 * length l.marks) → LetterFits choice profile l → ⊥
+-- A content of more items or marks than the largest symbol has room for fits no size.
+fits_none : (choice : SizeChoice) (profile : Profile) (l : ContentView)
+    → (2 * most_data < length l.items) ⊎ (most_data < 2 * length l.marks) → ContentFits choice profile l → ⊥
 fits_none choice profile l many h =
-    let words = length (letter_form profile l) in
+    let words = length (content_form profile l) in
     let few = room_in choice words (entry_for choice words) refl h in
-    let counts = letter_form_counts profile l in
+    let counts = content_form_counts profile l in
     elim many [
       | inl items ↦ omega (arith, items, few, counts)
       | inr marks ↦ omega (arith, marks, few, counts)
     ]
 
--- What is given for the numbers of a letter where it fits no size is that it is too long.
+-- What is given for the numbers of a content where it fits no size is that it is too long.
 no_size_given : (form : Form) (choice : SizeChoice) (head : Option Head) (numbers : List ℕ)
     (marks : List MarkNumbers) (before after : SymbolOut) → IsHead head → All (λ number. number ≤ 256) numbers
     → AreMarks 0 (length numbers) (marks_of marks)
-    → ((l : LetterView) → length l.items ≡ length numbers → length l.marks ≡ length marks
+    → ((l : ContentView) → length l.items ≡ length numbers → length l.marks ≡ length marks
     → (why : TooLong) → IsWrittenAs form choice l (Err why))
     → after ≡ no_symbol too_long before → IsWritingGiven form choice head numbers marks before after
 no_size_given form choice head numbers marks before after right items are none shown =
     let there = message_there numbers items in
-    let l : LetterView = record { head = head; items = there.0; marks = marks_of marks } in
+    let l : ContentView = record { head = head; items = there.0; marks = marks_of marks } in
     let item_count : length there.0 ≡ length numbers =
     sym (length-map there.0 number_of) ∙ ap (λ (ns : List ℕ). length ns) there.2 in
     let mark_count : length (marks_of marks) ≡ length marks = length-map marks _ in
-    letter_given form choice head numbers marks l before after
+    content_given form choice head numbers marks l before after
     (record {
       head = right;
       items = there.1;
@@ -106,7 +106,7 @@ pub too_long_given : (form : Form) (choice : SizeChoice) (head : Option Head) (n
     → IsWritingGiven form choice head numbers marks before after
 too_long_given (Profiled profile) choice head numbers marks before after right items are many shown =
     no_size_given (Profiled profile) choice head numbers marks before after right items are
-    (λ l item_count mark_count why. no_words_written choice (letter_form profile l) (Err why) refl
+    (λ l item_count mark_count why. no_words_written choice (content_form profile l) (Err why) refl
     (fits_none choice profile l
     (elim many [
       | inl h ↦ inl (omega (arith, h, item_count))
@@ -114,7 +114,7 @@ too_long_given (Profiled profile) choice head numbers marks before after right i
     ]))) shown
 too_long_given (Smallest extent) choice head numbers marks before after right items are many shown =
     no_size_given (Smallest extent) choice head numbers marks before after right items are
-    (λ l item_count mark_count why. no_letter_written extent choice l why
+    (λ l item_count mark_count why. no_content_written extent choice l why
     (λ size words taken sized framed says.
     let few = said_few extent words l says in
     let most = (size_facts size taken.0).data_fits in

@@ -1,16 +1,16 @@
--- What writing a message gives, by what writing its letter gives.
+-- What writing a message gives, by what writing its content gives.
 use Rattle.std.proofs.Common.{◌≡◌, List, [], ◌∷◌, Option, None, Result, Ok, Err, refl, ◌∙◌, ap, subst, arith}
 use Rattle.std.proofs.lemmas.Bool.{false≢true}
 use Rattle.dm_symbol.specs.declared.Head.{Head}
 use Rattle.dm_symbol.specs.declared.Item.{Item}
 use Rattle.dm_symbol.specs.declared.Mark.{Mark}
 use Rattle.dm_symbol.specs.declared.TooLong.{TooLong}
-use Rattle.dm_words.specs.Letters.{LetterView}
-use Rattle.dm_words.specs.LetterExtents.{as_letter}
+use Rattle.dm_words.specs.Contents.{ContentView}
+use Rattle.dm_words.specs.ContentExtents.{as_content}
 use Rattle.dm_layout.specs.symbols.Symbols.{SymbolView}
-use Rattle.dm_symbol.specs.NormalLetter.{IsLetterWritten}
+use Rattle.dm_symbol.specs.NormalContent.{IsContentWritten}
 use Rattle.ecc200_calls.specs.Laws.{IsMessageWriting, MessagesAreWritten}
-use Rattle.ecc200_calls.specs.Letters.{marks_shown}
+use Rattle.ecc200_calls.specs.Contents.{marks_shown}
 use Rattle.ecc200_calls.specs.Writings.{IsWritingGiven, symbol_given}
 
 -- Where marks have no numbers, there are none.
@@ -18,12 +18,12 @@ no_marks : (marks : List Mark) → marks_shown marks ≡ [] → marks ≡ []
 no_marks [] e = refl
 no_marks (m ∷ marks) e = absurd cc
 
--- A letter without a head and marks is that of its items.
-letter_of_items : (head : Option Head) (items : List Item) (marks : List Mark) → head ≡ None → marks ≡ []
-    → (let l : LetterView = record { head = head; items = items; marks = marks } in l) ≡ as_letter items
-letter_of_items head items marks none nothing =
-    ap (λ (h : Option Head). let l : LetterView = record { head = h; items = items; marks = marks } in l) none
-    ∙ ap (λ (m : List Mark). let l : LetterView = record { head = None; items = items; marks = m } in l) nothing
+-- A content without a head and marks is that of its items.
+content_of_items : (head : Option Head) (items : List Item) (marks : List Mark) → head ≡ None → marks ≡ []
+    → (let l : ContentView = record { head = head; items = items; marks = marks } in l) ≡ as_content items
+content_of_items head items marks none nothing =
+    ap (λ (h : Option Head). let l : ContentView = record { head = h; items = items; marks = marks } in l) none
+    ∙ ap (λ (m : List Mark). let l : ContentView = record { head = None; items = items; marks = m } in l) nothing
 
 -- What is given for a message is what writing it gives.
 pub messages_are_written : MessagesAreWritten
@@ -31,14 +31,14 @@ messages_are_written profile choice numbers before after (IsWritingGiven.no_item
     IsMessageWriting.no_message place first shown
 messages_are_written profile choice numbers before after (IsWritingGiven.no_mark place items first shown) =
     absurd (omega (arith, first.inside))
-messages_are_written profile choice numbers before after (IsWritingGiven.letter l right of given plain) =
-    by given.result (subst (λ (x : LetterView). IsLetterWritten choice profile x given.result) same given.written)
+messages_are_written profile choice numbers before after (IsWritingGiven.content l right of given plain) =
+    by given.result (subst (λ (x : ContentView). IsContentWritten choice profile x given.result) same given.written)
     given.shown
   where
-    same : l ≡ as_letter l.items
-    same = letter_of_items l.head l.items l.marks of.head_is (no_marks l.marks of.marks_are)
+    same : l ≡ as_content l.items
+    same = content_of_items l.head l.items l.marks of.head_is (no_marks l.marks of.marks_are)
 
-    by : (result : Result SymbolView TooLong) → IsLetterWritten choice profile (as_letter l.items) result
+    by : (result : Result SymbolView TooLong) → IsContentWritten choice profile (as_content l.items) result
         → after ≡ symbol_given result before → IsMessageWriting profile choice numbers before after
     by (Ok symbol) is shown = IsMessageWriting.written l.items symbol right.items of.items is.written shown
     by (Err why) is shown =

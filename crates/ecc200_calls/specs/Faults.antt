@@ -4,12 +4,12 @@ use Rattle.dm_symbol.specs.declared.WordFault.{WordFault}
 use Rattle.dm_symbol.specs.declared.WordFault.TheVariants as word
 use Rattle.dm_symbol.specs.declared.ReadFault.{ReadFault}
 use Rattle.dm_symbol.specs.declared.ReadFault.TheVariants as read
-use Rattle.dm_symbol.specs.declared.LetterFault.{LetterFault}
-use Rattle.dm_symbol.specs.declared.LetterFault.TheVariants as letter
-use Rattle.dm_symbol.specs.declared.LetterReadFault.{LetterReadFault}
-use Rattle.dm_symbol.specs.declared.LetterReadFault.TheVariants as read_letter
-use Rattle.dm_symbol.specs.declared.LetterNormalFault.{LetterNormalFault}
-use Rattle.dm_symbol.specs.declared.LetterNormalFault.TheVariants as normal_letter
+use Rattle.dm_symbol.specs.declared.ContentFault.{ContentFault}
+use Rattle.dm_symbol.specs.declared.ContentFault.TheVariants as content
+use Rattle.dm_symbol.specs.declared.ContentReadFault.{ContentReadFault}
+use Rattle.dm_symbol.specs.declared.ContentReadFault.TheVariants as read_content
+use Rattle.dm_symbol.specs.declared.ContentNormalFault.{ContentNormalFault}
+use Rattle.dm_symbol.specs.declared.ContentNormalFault.TheVariants as normal_content
 use Rattle.ecc200_calls.specs.declared.fault.Fault.{Fault}
 
 -- A fault has these three numbers.
@@ -45,27 +45,27 @@ read_fault (read.Border count) = fault 5 count 0
 read_fault (read.Block block) = fault 6 0 block
 read_fault (read.Words why) = word_fault why
 
--- The data codewords say no letter: they are refused as those of a message are; ECI has no designator; or structured
+-- The data codewords say no content: they are refused as those of a message are; ECI has no designator; or structured
 -- append begins no head.
-abbrev pub letter_fault : LetterFault → Fault
-letter_fault (letter.Word why) = word_fault why
-letter_fault (letter.Designator place) = fault 20 0 place
-letter_fault (letter.Append place) = fault 21 0 place
+abbrev pub content_fault : ContentFault → Fault
+content_fault (content.Word why) = word_fault why
+content_fault (content.Designator place) = fault 20 0 place
+content_fault (content.Append place) = fault 21 0 place
 
--- A symbol is not read as a letter: for the same reasons as a message.
-abbrev pub read_letter_fault : LetterReadFault → Fault
-read_letter_fault (read_letter.Border count) = fault 5 count 0
-read_letter_fault (read_letter.Block block) = fault 6 0 block
-read_letter_fault (read_letter.Words why) = letter_fault why
+-- A symbol is not read as a content: for the same reasons as a message.
+abbrev pub read_content_fault : ContentReadFault → Fault
+read_content_fault (read_content.Border count) = fault 5 count 0
+read_content_fault (read_content.Block block) = fault 6 0 block
+read_content_fault (read_content.Words why) = content_fault why
 
--- A message or a letter fits no size that may be taken.
+-- A message or a content fits no size that may be taken.
 abbrev pub too_long : Fault
 too_long = fault 14 0 0
 
 -- A symbol has no normal symbol.
-abbrev pub normal_letter_fault : LetterNormalFault → Fault
-normal_letter_fault (normal_letter.Read why) = read_letter_fault why
-normal_letter_fault normal_letter.TooLong = too_long
+abbrev pub normal_content_fault : ContentNormalFault → Fault
+normal_content_fault (normal_content.Read why) = read_content_fault why
+normal_content_fault normal_content.TooLong = too_long
 
 -- This number, at this index, counted from 0, stands for no item.
 abbrev pub foreign : ℕ → ℕ → Fault

@@ -11,7 +11,7 @@ use Rattle.ecc200_calls.specs.declared.fault.Fault.{Fault}
 use Rattle.ecc200_calls.specs.declared.inspection.InspectionOut.{InspectionOut}
 use Rattle.ecc200_calls.specs.Arrays.{over}
 use Rattle.ecc200_calls.specs.Faults.{no_fault}
-use Rattle.ecc200_calls.specs.Letters.{marks_shown}
+use Rattle.ecc200_calls.specs.Contents.{marks_shown}
 use Rattle.ecc200_calls.specs.Modules.{AreGiven, IsGivenFault}
 use Rattle.ecc200_calls.specs.Readings.{dealing_shown}
 
@@ -70,7 +70,7 @@ inspection_shown rows columns inspection before =
       designators = before.designators;
     }
 
--- The designators of an inspected symbol are those of the letter that its mended data codewords say, each a mark whose
+-- The designators of an inspected symbol are those of the content that its mended data codewords say, each a mark whose
 -- place counts the codewords before its ECI. Where these are refused, or a block is beyond correction, there are none.
 pub data AreDesignatorsOf {room : ℕ} (inspection : SymbolInspectionIn room) (marks : List Mark) : Type 0 where
   restored : ((b : ℕ) → b < length inspection.blocks.items → IsSome (get_or inspection.blocks.items b None))

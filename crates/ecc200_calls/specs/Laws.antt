@@ -1,17 +1,17 @@
--- What holds of the modules of all symbols, and of messages, which are letters without a head and marks.
+-- What holds of the modules of all symbols, and of messages, which are contents without a head and marks.
 use Rattle.std.specs.Prelude.{◌≡◌, ℕ, ◌*◌, List, [], take, get_or, min, Option, None, Ok, Err}
 use Rattle.dm_layout.specs.symbols.Symbols.{SymbolView, IsSymbol}
-use Rattle.dm_words.specs.LetterExtents.{as_letter}
+use Rattle.dm_words.specs.ContentExtents.{as_content}
 use Rattle.dm_symbol.specs.declared.Extent.TheVariants.{Usual}
 use Rattle.dm_symbol.specs.declared.Item.{Item}
 use Rattle.dm_symbol.specs.declared.Profile.{Profile}
 use Rattle.dm_symbol.specs.declared.ReadFault.{ReadFault}
 use Rattle.dm_symbol.specs.declared.SizeChoice.{SizeChoice}
 use Rattle.dm_symbol.specs.declared.SizeChoice.TheVariants.{Square}
-use Rattle.dm_symbol.specs.LetterReading.{LetterReadingView, LetterReadResult, ReadsLetter}
+use Rattle.dm_symbol.specs.ContentReading.{ContentReadingView, ContentReadResult, ReadsContent}
 use Rattle.dm_symbol.specs.Messages.{IsMessage}
-use Rattle.dm_symbol.specs.NormalLetter.{IsLetterWrittenIn, IsNormalOfLetter, LetterFits}
-use Rattle.dm_symbol.specs.Reading.{letter_fault}
+use Rattle.dm_symbol.specs.NormalContent.{IsContentWrittenIn, IsNormalOfContent, ContentFits}
+use Rattle.dm_symbol.specs.Reading.{content_fault}
 use Rattle.dm_symbol.specs.declared.Form.TheVariants.{Profiled}
 use Rattle.ecc200_calls.specs.declared.reading.ReadingOut.{ReadingOut}
 use Rattle.ecc200_calls.specs.declared.symbol.SymbolOut.{SymbolOut}
@@ -34,13 +34,13 @@ OneSymbolIsMade =
     (rows columns : ℕ) (modules : List ℕ) (symbol other : SymbolView) → AreModulesOf rows columns modules symbol
     → AreModulesOf rows columns modules other → symbol ≡ other
 
--- What is given for a symbol is a reading of a message, a letter without a head and marks; or a fault of messages.
+-- What is given for a symbol is a reading of a message, a content without a head and marks; or a fault of messages.
 pub data IsMessageGiven (rows columns : ℕ) (symbol : SymbolView) (doubtful : Option SymbolView) (limit : ℕ)
     (before after : ReadingOut) : Type 0 where
-  read : (reading : LetterReadingView) → LetterReadResult Usual symbol doubtful limit (Ok reading)
-      → reading.letter ≡ as_letter reading.letter.items → after ≡ reading_shown rows columns reading before
+  read : (reading : ContentReadingView) → ContentReadResult Usual symbol doubtful limit (Ok reading)
+      → reading.content ≡ as_content reading.content.items → after ≡ reading_shown rows columns reading before
       → IsMessageGiven rows columns symbol doubtful limit before after
-  fault : (why : ReadFault) → LetterReadResult Usual symbol doubtful limit (Err (letter_fault why))
+  fault : (why : ReadFault) → ContentReadResult Usual symbol doubtful limit (Err (content_fault why))
       → after ≡ no_reading (read_fault why) before → IsMessageGiven rows columns symbol doubtful limit before after
 
 -- In the extent `Usual` a message is given for a symbol, or a fault of messages.
@@ -59,10 +59,10 @@ pub data IsMessageWriting (profile : Profile) (choice : SizeChoice) (numbers : L
       → after ≡ no_symbol (foreign (get_or numbers place 0) (min place 65535)) before
       → IsMessageWriting profile choice numbers before after
   no_size : (message : List Item) → IsMessage message → numbers_of message ≡ numbers
-      → (LetterFits choice profile (as_letter message) → ⊥) → after ≡ no_symbol too_long before
+      → (ContentFits choice profile (as_content message) → ⊥) → after ≡ no_symbol too_long before
       → IsMessageWriting profile choice numbers before after
   written : (message : List Item) (symbol : SymbolView) → IsMessage message → numbers_of message ≡ numbers
-      → IsLetterWrittenIn choice profile (as_letter message) symbol → after ≡ symbol_shown symbol before
+      → IsContentWrittenIn choice profile (as_content message) symbol → after ≡ symbol_shown symbol before
       → IsMessageWriting profile choice numbers before after
 
 -- What is given for numbers of items without a head and marks is what writing their message gives.
@@ -77,13 +77,13 @@ MessagesAreWritten =
 pub data IsNormalMessageGiven (profile : Profile) (symbol : SymbolView) (doubtful : Option SymbolView) (limit : ℕ)
     (before after : SymbolOut) : Type 0 where
   normal : (message : List Item) (normal_symbol : SymbolView)
-      → ReadsLetter Usual symbol doubtful limit (as_letter message)
-      → IsNormalOfLetter profile (as_letter message) normal_symbol → after ≡ symbol_shown normal_symbol before
+      → ReadsContent Usual symbol doubtful limit (as_content message)
+      → IsNormalOfContent profile (as_content message) normal_symbol → after ≡ symbol_shown normal_symbol before
       → IsNormalMessageGiven profile symbol doubtful limit before after
-  no_square : (message : List Item) → ReadsLetter Usual symbol doubtful limit (as_letter message)
-      → (LetterFits Square profile (as_letter message) → ⊥) → after ≡ no_symbol too_long before
+  no_square : (message : List Item) → ReadsContent Usual symbol doubtful limit (as_content message)
+      → (ContentFits Square profile (as_content message) → ⊥) → after ≡ no_symbol too_long before
       → IsNormalMessageGiven profile symbol doubtful limit before after
-  fault : (why : ReadFault) → LetterReadResult Usual symbol doubtful limit (Err (letter_fault why))
+  fault : (why : ReadFault) → ContentReadResult Usual symbol doubtful limit (Err (content_fault why))
       → after ≡ no_symbol (read_fault why) before → IsNormalMessageGiven profile symbol doubtful limit before after
 
 -- In the extent `Usual` the normal symbol of a message is given for a symbol, or that there is none, or a fault of

@@ -4,7 +4,7 @@ pub mod Extents
 pub mod Scans
 pub mod Choices
 pub mod Items
-pub mod Letters
+pub mod Contents
 pub mod Modules
 pub mod Readings
 pub mod Symbols

@@ -4,17 +4,17 @@ use Rattle.dm_symbol.specs.declared.Extent.{Extent}
 use Rattle.dm_symbol.specs.declared.BlockReading.{BlockReading}
 use Rattle.dm_symbol.specs.declared.Dealing.{Dealing}
 use Rattle.dm_symbol.specs.declared.Dealing.TheVariants.{Standard, Restarted}
-use Rattle.dm_symbol.specs.declared.LetterReadFault.{LetterReadFault}
+use Rattle.dm_symbol.specs.declared.ContentReadFault.{ContentReadFault}
 use Rattle.dm_layout.specs.symbols.Symbols.{SymbolView}
-use Rattle.dm_symbol.specs.LetterReading.{LetterReadingView, LetterReadResult}
+use Rattle.dm_symbol.specs.ContentReading.{ContentReadingView, ContentReadResult}
 use Rattle.ecc200_calls.specs.declared.fault.Fault.{Fault}
 use Rattle.ecc200_calls.specs.declared.reading.ReadingOut.{ReadingOut}
 use Rattle.ecc200_calls.specs.declared.scan.Scan.{Scan}
 use Rattle.ecc200_calls.specs.declared.scan.Sought.{Sought}
 use Rattle.ecc200_calls.specs.Arrays.{over}
-use Rattle.ecc200_calls.specs.Faults.{no_fault, read_letter_fault}
+use Rattle.ecc200_calls.specs.Faults.{no_fault, read_content_fault}
 use Rattle.ecc200_calls.specs.Items.{numbers_of}
-use Rattle.ecc200_calls.specs.Letters.{head_shown, marks_shown}
+use Rattle.ecc200_calls.specs.Contents.{head_shown, marks_shown}
 use Rattle.ecc200_calls.specs.Modules.{AreGiven, IsGivenFault}
 use Rattle.ecc200_calls.specs.Scans.{IsLimit, sought_of}
 
@@ -55,7 +55,7 @@ dealing_shown Standard = 0
 dealing_shown Restarted = 1
 
 -- A reading of a symbol with these rows and columns is given in this way.
-abbrev pub reading_shown : ℕ → ℕ → LetterReadingView → ReadingOut → ReadingOut
+abbrev pub reading_shown : ℕ → ℕ → ContentReadingView → ReadingOut → ReadingOut
 reading_shown rows columns reading before =
     record {
       fault = no_fault;
@@ -63,28 +63,28 @@ reading_shown rows columns reading before =
       columns = columns;
       border_faults = reading.border_faults;
       block_count = length reading.blocks;
-      item_count = length reading.letter.items;
-      mark_count = length reading.letter.marks;
+      item_count = length reading.content.items;
+      mark_count = length reading.content.marks;
       identifier = reading.identifier;
       dealing = dealing_shown reading.dealing;
-      head = head_shown reading.letter.head;
+      head = head_shown reading.content.head;
       corrected = over (map corrected_in reading.blocks) before.corrected;
       erased = over (map erased_in reading.blocks) before.erased;
       left = over (map left_in reading.blocks) before.left;
-      marks = over (marks_shown reading.letter.marks) before.marks;
-      items = over (numbers_of reading.letter.items) before.items;
+      marks = over (marks_shown reading.content.marks) before.marks;
+      items = over (numbers_of reading.content.items) before.items;
     }
 
 -- A result is given as its reading, or as its fault.
-abbrev pub result_shown : ℕ → ℕ → Result LetterReadingView LetterReadFault → ReadingOut → ReadingOut
+abbrev pub result_shown : ℕ → ℕ → Result ContentReadingView ContentReadFault → ReadingOut → ReadingOut
 result_shown rows columns (Ok reading) before = reading_shown rows columns reading before
-result_shown rows columns (Err why) before = no_reading (read_letter_fault why) before
+result_shown rows columns (Err why) before = no_reading (read_content_fault why) before
 
--- The result of reading a symbol as a letter in an extent, with these of its modules doubtful, is given.
+-- The result of reading a symbol as a content in an extent, with these of its modules doubtful, is given.
 pub record IsReadingGiven (extent : Extent) (rows columns : ℕ) (symbol : SymbolView) (doubtful : Option SymbolView)
     (limit : ℕ) (before after : ReadingOut) : Type 0 where
-  pub result : Result LetterReadingView LetterReadFault
-  pub result_is : LetterReadResult extent symbol doubtful limit result
+  pub result : Result ContentReadingView ContentReadFault
+  pub result_is : ContentReadResult extent symbol doubtful limit result
   pub shown : after ≡ result_shown rows columns result before
 
 -- What is sought in a symbol, with these of its modules doubtful, is given: the result of reading it in the extent at

@@ -3,15 +3,15 @@ use Rattle.std.specs.Prelude.{◌≡◌, ℕ, List, nat_eq, if◌then◌else◌,
 use Rattle.dm_symbol.specs.declared.Extent.{Extent}
 use Rattle.dm_symbol.specs.declared.Profile.{Profile}
 use Rattle.dm_symbol.specs.declared.Profile.TheVariants.{Ascii, Shorter}
-use Rattle.dm_symbol.specs.declared.LetterNormalFault.{LetterNormalFault}
+use Rattle.dm_symbol.specs.declared.ContentNormalFault.{ContentNormalFault}
 use Rattle.dm_layout.specs.symbols.Symbols.{SymbolView}
-use Rattle.dm_symbol.specs.LetterNormal.{NormalLetterResult}
+use Rattle.dm_symbol.specs.ContentNormal.{NormalContentResult}
 use Rattle.ecc200_calls.specs.declared.fault.Fault.{Fault}
 use Rattle.ecc200_calls.specs.declared.scan.Scan.{Scan}
 use Rattle.ecc200_calls.specs.declared.scan.Sought.{Sought}
 use Rattle.ecc200_calls.specs.declared.symbol.SymbolOut.{SymbolOut}
 use Rattle.ecc200_calls.specs.Arrays.{over}
-use Rattle.ecc200_calls.specs.Faults.{no_fault, normal_letter_fault, no_such_profile}
+use Rattle.ecc200_calls.specs.Faults.{no_fault, normal_content_fault, no_such_profile}
 use Rattle.ecc200_calls.specs.Modules.{AreGiven, IsGivenFault, modules_of}
 use Rattle.ecc200_calls.specs.Scans.{IsLimit, sought_of}
 
@@ -34,15 +34,15 @@ abbrev pub profile_of : ℕ → Option Profile
 profile_of number = if nat_eq number 0 then Some Ascii else (if nat_eq number 1 then Some Shorter else None)
 
 -- A result of normalising is given as its symbol, or as its fault.
-abbrev pub normal_shown : Result SymbolView LetterNormalFault → SymbolOut → SymbolOut
+abbrev pub normal_shown : Result SymbolView ContentNormalFault → SymbolOut → SymbolOut
 normal_shown (Ok normal) before = symbol_shown normal before
-normal_shown (Err why) before = no_symbol (normal_letter_fault why) before
+normal_shown (Err why) before = no_symbol (normal_content_fault why) before
 
--- The result of normalising a symbol as a letter, with these of its modules doubtful, is given.
+-- The result of normalising a symbol as a content, with these of its modules doubtful, is given.
 pub record IsNormalGiven (extent : Extent) (profile : Profile) (symbol : SymbolView) (doubtful : Option SymbolView)
     (limit : ℕ) (before after : SymbolOut) : Type 0 where
-  pub result : Result SymbolView LetterNormalFault
-  pub result_is : NormalLetterResult extent profile symbol doubtful limit result
+  pub result : Result SymbolView ContentNormalFault
+  pub result_is : NormalContentResult extent profile symbol doubtful limit result
   pub shown : after ≡ normal_shown result before
 
 -- What is sought in a symbol, with these of its modules doubtful, is normalised and given: the result in the extent at

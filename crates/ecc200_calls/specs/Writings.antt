@@ -1,4 +1,4 @@
--- What the library gives for a letter that is to be written. A message is a letter without a head and marks.
+-- What the library gives for a content that is to be written. A message is a content without a head and marks.
 use Rattle.std.specs.Prelude.{◌≡◌, ℕ, ◌≤◌, List, length, nat_eq, if◌then◌else◌, Option, Some, None}
 use Rattle.std.specs.Prelude.{All, get_or, min, Result, Ok, Err, IfOk}
 use Rattle.dm_symbol.specs.declared.Extent.{Extent}
@@ -8,10 +8,10 @@ use Rattle.dm_symbol.specs.declared.Head.{Head}
 use Rattle.dm_symbol.specs.declared.Profile.TheVariants.{Ascii, Shorter}
 use Rattle.dm_symbol.specs.declared.SizeChoice.{SizeChoice}
 use Rattle.dm_symbol.specs.declared.TooLong.{TooLong}
-use Rattle.dm_words.specs.Letters.{LetterView, IsLetter}
+use Rattle.dm_words.specs.Contents.{ContentView, IsContent}
 use Rattle.dm_layout.specs.symbols.Symbols.{SymbolView}
 use Rattle.dm_symbol.specs.PlainSymbol.{IsPlainSymbol}
-use Rattle.dm_symbol.specs.WrittenLetter.{IsWrittenAs}
+use Rattle.dm_symbol.specs.WrittenContent.{IsWrittenAs}
 use Rattle.ecc200_calls.specs.declared.how.How.{How}
 use Rattle.ecc200_calls.specs.declared.fault.Fault.{Fault}
 use Rattle.ecc200_calls.specs.declared.mark.MarkNumbers.{MarkNumbers}
@@ -21,7 +21,7 @@ use Rattle.ecc200_calls.specs.Extents.{extent_of}
 use Rattle.ecc200_calls.specs.Faults.{too_long, foreign, no_such_choice, no_such_extent, no_such_head}
 use Rattle.ecc200_calls.specs.Faults.{no_such_profile, wrong_mark}
 use Rattle.ecc200_calls.specs.Items.{IsFirstForeign}
-use Rattle.ecc200_calls.specs.Letters.{AreOfHead, IsFirstWrong, IsLetterOf}
+use Rattle.ecc200_calls.specs.Contents.{AreOfHead, IsFirstWrong, IsContentOf}
 use Rattle.ecc200_calls.specs.Symbols.{no_symbol, symbol_shown}
 
 -- The smallest symbol for readers of an extent is a form; a number that stands for no extent is a fault.
@@ -53,22 +53,22 @@ pub record AskFor (how : How) (form : Form) (choice : SizeChoice) (head : Option
   pub choice_is : choice_of how ≡ Some choice
   pub head_is : AreOfHead how.head head
 
--- A symbol is given, or that the letter fits no size.
+-- A symbol is given, or that the content fits no size.
 abbrev pub symbol_given : Result SymbolView TooLong → SymbolOut → SymbolOut
 symbol_given (Ok symbol) before = symbol_shown symbol before
 symbol_given (Err why) before = no_symbol too_long before
 
--- What writing a letter in a form and in a choice of sizes gives is given: its symbol, or that it fits no size of the
+-- What writing a content in a form and in a choice of sizes gives is given: its symbol, or that it fits no size of the
 -- choice.
-pub record IsLetterGiven (form : Form) (choice : SizeChoice) (letter : LetterView) (before after : SymbolOut)
+pub record IsContentGiven (form : Form) (choice : SizeChoice) (content : ContentView) (before after : SymbolOut)
     : Type 0 where
   pub result : Result SymbolView TooLong
-  pub written : IsWrittenAs form choice letter result
+  pub written : IsWrittenAs form choice content result
   pub shown : after ≡ symbol_given result before
 
 -- What is given for the numbers of items and of marks, and a head or none, is the first of these that there is: the
 -- first number that stands for no item, with its index, counted from 0, or with 65535 if the index is more; the index
--- of the first mark that is wrong, likewise; the result of writing the letter, whose symbol, if it is given, has plain
+-- of the first mark that is wrong, likewise; the result of writing the content, whose symbol, if it is given, has plain
 -- data codewords with the identifier of the ASCII form.
 pub data IsWritingGiven (form : Form) (choice : SizeChoice) (head : Option Head) (numbers : List ℕ)
     (marks : List MarkNumbers) (before after : SymbolOut) : Type 0 where
@@ -78,9 +78,9 @@ pub data IsWritingGiven (form : Form) (choice : SizeChoice) (head : Option Head)
   no_mark : (place : ℕ) → All (λ number. number ≤ 256) numbers → IsFirstWrong (length numbers) marks place
       → after ≡ no_symbol (wrong_mark (min place 65535)) before
       → IsWritingGiven form choice head numbers marks before after
-  letter : (letter : LetterView) → IsLetter letter → IsLetterOf head numbers marks letter
-      → (given : IsLetterGiven form choice letter before after)
-      → IfOk given.result (λ symbol. IsPlainSymbol symbol letter)
+  content : (content : ContentView) → IsContent content → IsContentOf head numbers marks content
+      → (given : IsContentGiven form choice content before after)
+      → IfOk given.result (λ symbol. IsPlainSymbol symbol content)
       → IsWritingGiven form choice head numbers marks before after
 
 -- Writing these numbers of items and of marks gives why what is asked for can't be, or the result for it.

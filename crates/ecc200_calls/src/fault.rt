@@ -1,11 +1,11 @@
 //! Faults as numbers.
 
 ghost use Rattle.std.specs.Prelude.{◌≡◌};
-ghost use Rattle.ecc200_calls.specs.Faults.{fault, foreign, letter_fault, no_fault, no_such_choice, no_such_extent};
+ghost use Rattle.ecc200_calls.specs.Faults.{fault, foreign, content_fault, no_fault, no_such_choice, no_such_extent};
 ghost use Rattle.ecc200_calls.specs.Faults.{no_such_head, no_such_limit, no_such_profile, no_such_size};
-ghost use Rattle.ecc200_calls.specs.Faults.{read_letter_fault, shape, too_long, word_fault, wrong_doubt, wrong_mark};
+ghost use Rattle.ecc200_calls.specs.Faults.{read_content_fault, shape, too_long, word_fault, wrong_doubt, wrong_mark};
 
-use dm_symbol::{LetterFault, LetterReadFault, WordFault};
+use dm_symbol::{ContentFault, ContentReadFault, WordFault};
 
 /// Why there is no result: a code of the header, and what the header says beside it. All three are 0 if there is a
 /// result.
@@ -125,24 +125,24 @@ fn word_fault(why: WordFault) -> Fault
     }
 }
 
-/// Gives the fault of a symbol that is not read as a letter.
-pub(crate) fn read_letter_fault(why: LetterReadFault) -> Fault
-    ensures { result ≡ read_letter_fault why }
+/// Gives the fault of a symbol that is not read as a content.
+pub(crate) fn read_content_fault(why: ContentReadFault) -> Fault
+    ensures { result ≡ read_content_fault why }
 {
     match why {
-        LetterReadFault::Border(count) => Fault::of(5, count, 0),
-        LetterReadFault::Block(block) => Fault::of(6, 0, u16::from(block)),
-        LetterReadFault::Words(why) => letter_fault(why),
+        ContentReadFault::Border(count) => Fault::of(5, count, 0),
+        ContentReadFault::Block(block) => Fault::of(6, 0, u16::from(block)),
+        ContentReadFault::Words(why) => content_fault(why),
     }
 }
 
-/// Gives the fault of data codewords that say no letter.
-fn letter_fault(why: LetterFault) -> Fault
-    ensures { result ≡ letter_fault why }
+/// Gives the fault of data codewords that say no content.
+fn content_fault(why: ContentFault) -> Fault
+    ensures { result ≡ content_fault why }
 {
     match why {
-        LetterFault::Word(why) => word_fault(why),
-        LetterFault::Designator(place) => Fault::of(20, 0, place),
-        LetterFault::Append(place) => Fault::of(21, 0, place),
+        ContentFault::Word(why) => word_fault(why),
+        ContentFault::Designator(place) => Fault::of(20, 0, place),
+        ContentFault::Append(place) => Fault::of(21, 0, place),
     }
 }

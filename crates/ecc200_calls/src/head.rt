@@ -1,7 +1,7 @@
 //! Heads as numbers.
 
 ghost use Rattle.std.specs.Prelude.{◌≡◌, ◌∷◌, [], IfNone, IfSome, Option};
-ghost use Rattle.ecc200_calls.specs.Letters.{AreOfHead, head_shown};
+ghost use Rattle.ecc200_calls.specs.Contents.{AreOfHead, head_shown};
 ghost use Rattle.ecc200_calls.specs.inner.Heads.{IsEmpty};
 
 use dm_symbol::{Appended, Head};

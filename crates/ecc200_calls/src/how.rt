@@ -1,4 +1,4 @@
-//! How a letter is written, as numbers.
+//! How a content is written, as numbers.
 
 ghost use Rattle.std.specs.Prelude.{IfErr, IfOk};
 ghost use Rattle.ecc200_calls.specs.Writings.{AskFor, IsHowFault};
@@ -9,9 +9,9 @@ use crate::form::form_of;
 use crate::head::{HeadNumbers, head_of};
 use dm_symbol::{Form, Head, SizeChoice};
 
-/// How a letter is written: the number of a form; the number of a choice of sizes; the rows and columns of the size
+/// How a content is written: the number of a form; the number of a choice of sizes; the rows and columns of the size
 /// that is taken where the choice is of one size; the number of the extent for whose readers the smallest symbol is,
-/// where that is the form; and the head, all 0 where the letter has none.
+/// where that is the form; and the head, all 0 where the content has none.
 #[repr(C)]
 #[derive(Clone, Copy)]
 pub struct How {

@@ -13,7 +13,7 @@
 //!
 //! Each function is total, takes no memory but its stack, and keeps nothing between calls. It writes nothing but `out`,
 //! and of the arrays in it only the elements that count. What they give is defined in `specs/`, on the definitions of
-//! `dm_symbol` for symbols of every size: `Scans`, `Readings`, `Writings`, `Symbols`, `Letters`, `Inspections`,
+//! `dm_symbol` for symbols of every size: `Scans`, `Readings`, `Writings`, `Symbols`, `Contents`, `Inspections`,
 //! `Places`, `Sizes`; `Laws` has the laws of these definitions, which the functions of [`laws`] prove. A caller's bytes
 //! are packed into rows of bits, and a symbol is unpacked over them, in `modules` alone; and `room` alone says how much
 //! room a call takes.

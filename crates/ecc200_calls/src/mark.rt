@@ -1,9 +1,9 @@
 //! Marks as numbers.
 
 ghost use Rattle.std.specs.Prelude.{◌≡◌, ◌≤◌, IfNone, IfSome, length, take};
-ghost use Rattle.dm_words.specs.Letters.{AreMarks};
+ghost use Rattle.dm_words.specs.Contents.{AreMarks};
 ghost use Rattle.ecc200_calls.specs.Arrays.{over};
-ghost use Rattle.ecc200_calls.specs.Letters.{IsFirstWrong, mark_shown, marks_of, marks_shown};
+ghost use Rattle.ecc200_calls.specs.Contents.{IsFirstWrong, mark_shown, marks_of, marks_shown};
 
 use dm_symbol::Mark;
 use dm_words::{LARGEST_ROOM, MOST_ASSIGNED};

@@ -4,7 +4,7 @@ ghost use Rattle.std.specs.Prelude.{◌≡◌, ◌≤◌, ℕ, Option, IsTrue, l
 ghost use Rattle.dm_layout.specs.symbols.Sizes.{area};
 ghost use Rattle.dm_layout.specs.symbols.Symbols.{SymbolView};
 ghost use Rattle.dm_layout.specs.symbols.Words.{data_of};
-ghost use Rattle.dm_words.specs.Letters.{HasMarkRoom};
+ghost use Rattle.dm_words.specs.Contents.{HasMarkRoom};
 ghost use Rattle.dm_words.specs.Messages.{most_spelled};
 ghost use Rattle.ecc200_calls.specs.Symbols.{IsNormalGiven, IsNormalResult, IsNormalSought, NormalisedResult};
 ghost use Rattle.ecc200_calls.specs.Symbols.{ProfileResult};
@@ -13,7 +13,7 @@ ghost use Rattle.ecc200_calls.specs.inner.Given.{IsOfGiven};
 ghost use Rattle.ecc200_calls.specs.inner.Restored.{HasRoomToSay, IsRestored};
 ghost use Rattle.ecc200_calls.specs.inner.Rooms.{HasRoom};
 
-use crate::fault::{Fault, read_letter_fault};
+use crate::fault::{Fault, read_content_fault};
 use crate::given::{Given, check_given};
 use crate::profile::profile_of;
 use crate::restoring::{Restored, has_few_marks, restore_given};
@@ -23,10 +23,10 @@ use crate::symbol::{SymbolOut, show_fault};
 use crate::writing::write_content;
 use dm_layout::symbols::SymbolWordsIn;
 use dm_symbol::{
-    Extent, Form, LARGEST_MARKS, LARGEST_ROOM, LetterIn, LetterReadFault, Profile, SizeChoice,
+    ContentIn, ContentReadFault, Extent, Form, LARGEST_MARKS, LARGEST_ROOM, Profile, SizeChoice,
     WriteOptions,
 };
-use dm_words::letter_to_as;
+use dm_words::content_to_as;
 
 /// Writes the normal symbol of what the symbol of these modules, of which these are doubtful, says by the numbers of a
 /// scan.
@@ -125,7 +125,7 @@ fn normal_given<const ROWS: usize, const WORDS: usize, const ITEMS: usize, const
         Ok(()) => {
             normal_restored::<WORDS, ITEMS, MARKS>(sought.extent, profile, &words, out);
         }
-        Err(why) => show_fault(out, read_letter_fault(why)),
+        Err(why) => show_fault(out, read_content_fault(why)),
     }
 }
 
@@ -149,7 +149,7 @@ fn normal_restored<const WORDS: usize, const ITEMS: usize, const MARKS: usize>(
     }
 }
 
-/// Does so with room for so many marks. It stands by itself, so that there is room for one letter on the stack.
+/// Does so with room for so many marks. It stands by itself, so that there is room for one content on the stack.
 #[inline(never)]
 fn normal_words<const WORDS: usize, const ITEMS: usize, const MARKS: usize>(
     extent: Extent,
@@ -165,16 +165,16 @@ fn normal_words<const WORDS: usize, const ITEMS: usize, const MARKS: usize>(
         → IsRestored extent symbol doubtful limit words.now restored
         → IsNormalGiven extent profile symbol doubtful limit out.old out.new }
 {
-    let mut letter = LetterIn::<ITEMS, MARKS>::new();
-    match letter_to_as(extent, words.data_part(), &mut letter) {
+    let mut content = ContentIn::<ITEMS, MARKS>::new();
+    match content_to_as(extent, words.data_part(), &mut content) {
         Ok(()) => {
             let size = SizeChoice::Square;
             let how = WriteOptions {
                 form: Form::Profiled(profile),
                 size,
             };
-            write_content(letter.head(), letter.items(), letter.marks(), how, out);
+            write_content(content.head(), content.items(), content.marks(), how, out);
         }
-        Err(why) => show_fault(out, read_letter_fault(LetterReadFault::Words(why))),
+        Err(why) => show_fault(out, read_content_fault(ContentReadFault::Words(why))),
     }
 }

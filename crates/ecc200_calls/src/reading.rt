@@ -4,9 +4,9 @@ ghost use Rattle.std.specs.Prelude.{◌≡◌, ◌≤◌, ◌/◌, ℕ, Option, 
 ghost use Rattle.dm_layout.specs.symbols.Sizes.{area};
 ghost use Rattle.dm_layout.specs.symbols.Symbols.{SymbolView};
 ghost use Rattle.dm_layout.specs.symbols.Words.{data_of};
-ghost use Rattle.dm_words.specs.Letters.{HasMarkRoom};
+ghost use Rattle.dm_words.specs.Contents.{HasMarkRoom};
 ghost use Rattle.dm_words.specs.Messages.{most_spelled};
-ghost use Rattle.dm_symbol.specs.LetterReading.{letter_reading_of};
+ghost use Rattle.dm_symbol.specs.ContentReading.{content_reading_of};
 ghost use Rattle.ecc200_calls.specs.Arrays.{over};
 ghost use Rattle.ecc200_calls.specs.Readings.{IsReadResult, IsReadingGiven, IsReadingSought, SoughtResult};
 ghost use Rattle.ecc200_calls.specs.Readings.{corrected_in, dealing_shown, erased_in, left_in, no_reading};
@@ -16,7 +16,7 @@ ghost use Rattle.ecc200_calls.specs.inner.Given.{IsOfGiven};
 ghost use Rattle.ecc200_calls.specs.inner.Restored.{HasRoomToSay, IsRestored};
 ghost use Rattle.ecc200_calls.specs.inner.Rooms.{HasRoom};
 
-use crate::fault::{Fault, read_letter_fault};
+use crate::fault::{Fault, read_content_fault};
 use crate::given::{Given, check_given};
 use crate::head::{HeadNumbers, head_shown};
 use crate::mark::{MarkNumbers, put_marks};
@@ -26,9 +26,9 @@ use crate::room::*;
 use crate::scan::{Scan, Sought, check_scan};
 use dm_layout::symbols::{MOST_BLOCKS, SymbolSize, SymbolWordsIn};
 use dm_symbol::{
-    BlockReading, Dealing, Extent, LARGEST_MARKS, LARGEST_ROOM, LetterIn, LetterReadFault,
+    BlockReading, ContentIn, ContentReadFault, Dealing, Extent, LARGEST_MARKS, LARGEST_ROOM,
 };
-use dm_words::{letter_to_as, symbology_number};
+use dm_words::{content_to_as, symbology_number};
 
 /// What a symbol says, and how much of it was wrong. After a fault all but the fault and the arrays is 0.
 #[repr(C)]
@@ -122,7 +122,7 @@ fn read_given<const ROWS: usize, const WORDS: usize, const ITEMS: usize, const M
         &mut restored,
     ) {
         Ok(()) => read_restored::<WORDS, ITEMS, MARKS>(sought.extent, &words, &restored, out),
-        Err(why) => show_fault(out, read_letter_fault(why)),
+        Err(why) => show_fault(out, read_content_fault(why)),
     }
 }
 
@@ -146,7 +146,7 @@ fn read_restored<const WORDS: usize, const ITEMS: usize, const MARKS: usize>(
     }
 }
 
-/// Does so with room for so many marks. It stands by itself, so that there is room for one letter on the stack.
+/// Does so with room for so many marks. It stands by itself, so that there is room for one content on the stack.
 #[inline(never)]
 fn read_words<const WORDS: usize, const ITEMS: usize, const MARKS: usize>(
     extent: Extent,
@@ -164,13 +164,13 @@ fn read_words<const WORDS: usize, const ITEMS: usize, const MARKS: usize>(
         out.new }
 {
     let list = words.data_part();
-    let mut letter = LetterIn::<ITEMS, MARKS>::new();
-    match letter_to_as(extent, list, &mut letter) {
+    let mut content = ContentIn::<ITEMS, MARKS>::new();
+    match content_to_as(extent, list, &mut content) {
         Ok(()) => {
-            let identifier = symbology_number(list, &letter);
-            show_reading(out, words.size(), &letter, identifier, restored);
+            let identifier = symbology_number(list, &content);
+            show_reading(out, words.size(), &content, identifier, restored);
         }
-        Err(why) => show_fault(out, read_letter_fault(LetterReadFault::Words(why))),
+        Err(why) => show_fault(out, read_content_fault(ContentReadFault::Words(why))),
     }
 }
 
@@ -200,24 +200,24 @@ pub(crate) fn dealing_number(dealing: Dealing) -> u16
     }
 }
 
-/// Shows what a symbol of this size says: a letter, with the number of its identifier, and what is known of its
+/// Shows what a symbol of this size says: a content, with the number of its identifier, and what is known of its
 /// restored codewords.
 #[inline]
 fn show_reading<const ITEMS: usize, const MARKS: usize>(
     out: &mut ReadingOut,
     size: SymbolSize,
-    letter: &LetterIn<ITEMS, MARKS>,
+    content: &ContentIn<ITEMS, MARKS>,
     identifier: u8,
     restored: &Restored,
 )
     requires items { ITEMS ≤ LARGEST_ROOM }
     requires marks { MARKS ≤ LARGEST_MARKS }
-    ensures { out.new ≡ reading_shown size.rows size.columns (letter_reading_of letter.now identifier
+    ensures { out.new ≡ reading_shown size.rows size.columns (content_reading_of content.now identifier
         restored.now.dealing restored.now.blocks.items restored.now.border_faults) out.old }
 {
     let blocks = restored.blocks.as_slice();
-    let marks = letter.marks();
-    let items = letter.items();
+    let marks = content.marks();
+    let items = content.items();
     out.fault = Fault::none();
     out.rows = size.rows();
     out.columns = size.columns();
@@ -226,7 +226,7 @@ fn show_reading<const ITEMS: usize, const MARKS: usize>(
     put_counts(&mut out.corrected, &mut out.erased, &mut out.left, blocks);
     out.identifier = u16::from(identifier);
     out.dealing = dealing_number(restored.dealing);
-    out.head = head_shown(letter.head());
+    out.head = head_shown(content.head());
     out.mark_count = marks.len() as u16;
     put_marks(&mut out.marks, marks);
     out.item_count = items.len() as u16;

@@ -3,9 +3,9 @@
 
 ghost use Rattle.std.specs.Prelude.{◌≡◌, ◌≤◌, All, Err, IfErr, IfSome, IsTrue, OnOk, false, length, option_map};
 ghost use Rattle.dm_layout.specs.symbols.Sizes.{area, codeword_count};
-ghost use Rattle.dm_symbol.specs.declared.LetterFault.{LetterFault};
+ghost use Rattle.dm_symbol.specs.declared.ContentFault.{ContentFault};
 ghost use Rattle.dm_symbol.specs.Doubt.{sure_fault_count};
-ghost use Rattle.dm_words.specs.Letters.{eci_count};
+ghost use Rattle.dm_words.specs.Contents.{eci_count};
 ghost use Rattle.ecc200_calls.specs.Scans.{LeavesCorrection, LeavesCorrections};
 ghost use Rattle.ecc200_calls.specs.inner.Given.{IsOfGiven};
 ghost use Rattle.ecc200_calls.specs.inner.Restored.{IsRestored, IsRestoredFor, IsRestoredOr};
@@ -18,7 +18,7 @@ use crate::room::{FAIR_MARKS, SMALL_MARKS};
 use crate::scan::{BorderLimit, Sought};
 use arrayvec::ArrayVec;
 use dm_layout::symbols::{MOST_BLOCKS, MOST_DATA, SymbolIn, SymbolWordsIn};
-use dm_symbol::{BlockReading, Dealing, Extent, LetterReadFault, ReadOptions, restore_symbol_to};
+use dm_symbol::{BlockReading, ContentReadFault, Dealing, Extent, ReadOptions, restore_symbol_to};
 use dm_words::eci_count;
 
 /// How many check codewords a correction takes.
@@ -53,7 +53,7 @@ pub(crate) fn restore_given<const ROWS: usize, const WORDS: usize>(
     given: Given,
     words: &mut SymbolWordsIn<WORDS>,
     restored: &mut Restored,
-) -> Result<(), LetterReadFault>
+) -> Result<(), ContentReadFault>
     requires room { IsRoom ROWS WORDS }
     requires high { given.size.rows ≤ ROWS }
     requires long { codeword_count given.size ≤ WORDS }
@@ -83,7 +83,7 @@ fn restore_symbol<const ROWS: usize, const WORDS: usize>(
     doubtful: Option<&SymbolIn<ROWS>>,
     words: &mut SymbolWordsIn<WORDS>,
     restored: &mut Restored,
-) -> Result<(), LetterReadFault>
+) -> Result<(), ContentReadFault>
     requires doubtful { IfSome doubtful (λ doubtful. doubtful.now.size ≡ symbol.now.size) }
     requires codewords { codeword_count symbol.now.size ≤ WORDS }
     ensures restored { IsRestoredFor sought.limit sought.extent symbol.now
@@ -107,12 +107,12 @@ fn restore_within<const ROWS: usize, const WORDS: usize>(
     border_limit: u16,
     words: &mut SymbolWordsIn<WORDS>,
     restored: &mut Restored,
-) -> Result<(), LetterReadFault>
+) -> Result<(), ContentReadFault>
     requires doubtful { IfSome doubtful (λ doubtful. doubtful.now.size ≡ symbol.now.size) }
     requires codewords { codeword_count symbol.now.size ≤ WORDS }
     ensures restored { IsRestoredOr extent symbol.now (option_map (λ d. d.now) doubtful.entry)
         border_limit result words.new restored.new }
-    ensures unsaid { (why : LetterFault) → result ≡ Err (LetterReadFault.Words why) → ⊥ }
+    ensures unsaid { (why : ContentFault) → result ≡ Err (ContentReadFault.Words why) → ⊥ }
     ensures size { OnOk result (words.new.size ≡ symbol.now.size) }
 {
     let how = ReadOptions {
@@ -138,7 +138,7 @@ fn restore_surely<const ROWS: usize, const WORDS: usize>(
     doubtful: Option<&SymbolIn<ROWS>>,
     words: &mut SymbolWordsIn<WORDS>,
     restored: &mut Restored,
-) -> Result<(), LetterReadFault>
+) -> Result<(), ContentReadFault>
     requires doubtful { IfSome doubtful (λ doubtful. doubtful.now.size ≡ symbol.now.size) }
     requires codewords { codeword_count symbol.now.size ≤ WORDS }
     ensures restored { IsRestoredFor BorderLimit.Sure extent symbol.now
@@ -149,11 +149,11 @@ fn restore_surely<const ROWS: usize, const WORDS: usize>(
     let usual = usual_limit(size.rows(), size.columns());
     match restore_within(extent, symbol, doubtful, usual, words, restored) {
         Ok(()) => Ok(()),
-        Err(LetterReadFault::Border(count)) => {
+        Err(ContentReadFault::Border(count)) => {
             restore_if_sure(extent, symbol, doubtful, count, words, restored)
         }
-        Err(LetterReadFault::Block(index)) => Err(LetterReadFault::Block(index)),
-        Err(LetterReadFault::Words(why)) => Err(LetterReadFault::Words(why)),
+        Err(ContentReadFault::Block(index)) => Err(ContentReadFault::Block(index)),
+        Err(ContentReadFault::Words(why)) => Err(ContentReadFault::Words(why)),
     }
 }
 
@@ -166,7 +166,7 @@ fn restore_if_sure<const ROWS: usize, const WORDS: usize>(
     count: u16,
     words: &mut SymbolWordsIn<WORDS>,
     restored: &mut Restored,
-) -> Result<(), LetterReadFault>
+) -> Result<(), ContentReadFault>
     requires doubtful { IfSome doubtful (λ doubtful. doubtful.now.size ≡ symbol.now.size) }
     requires codewords { codeword_count symbol.now.size ≤ WORDS }
     requires count { count ≡ sure_fault_count symbol.now (option_map (λ d. d.now) doubtful) }
@@ -174,7 +174,7 @@ fn restore_if_sure<const ROWS: usize, const WORDS: usize>(
         (option_map (λ d. d.now) doubtful.entry)) }
     ensures restored { OnOk result (IsRestored extent symbol.now
         (option_map (λ d. d.now) doubtful.entry) count words.new restored.new) }
-    ensures unsure { IfErr result (λ why. (why ≡ LetterReadFault.Border count)
+    ensures unsure { IfErr result (λ why. (why ≡ ContentReadFault.Border count)
         × (LeavesCorrections extent symbol.now (option_map (λ d. d.now) doubtful.entry) → ⊥)) }
     ensures size { OnOk result (words.new.size ≡ symbol.now.size) }
 {
@@ -183,10 +183,10 @@ fn restore_if_sure<const ROWS: usize, const WORDS: usize>(
             if leave_corrections(&restored.blocks) {
                 Ok(())
             } else {
-                Err(LetterReadFault::Border(count))
+                Err(ContentReadFault::Border(count))
             }
         }
-        Err(_) => Err(LetterReadFault::Border(count)),
+        Err(_) => Err(ContentReadFault::Border(count)),
     }
 }
 

@@ -7,7 +7,7 @@ ghost use Rattle.ecc200_calls.specs.inner.Rooms.{HasRoom};
 use dm_layout::symbols::{MOST_CODEWORDS, MOST_ROWS, SymbolSize};
 use dm_words::{LARGEST_ROOM, MESSAGE_ROOM, MOST_MARKS};
 
-/// The marks of a letter for which the largest room has room: those that any symbol says.
+/// The marks of a content for which the largest room has room: those that any symbol says.
 pub(crate) use dm_words::LARGEST_MARKS;
 
 /// The most data codewords of a symbol for which the small room serves. All symbols with at most 1,024 modules have no
@@ -21,7 +21,7 @@ pub(crate) const SMALL_WORDS: usize = 98;
 
 pub(crate) const SMALL_ITEMS: usize = 131;
 
-/// The marks of a letter for which the small room has room.
+/// The marks of a content for which the small room has room.
 pub(crate) const SMALL_MARKS: usize = 31;
 
 /// The most data codewords of a symbol for which the fair room serves: of squares up to side 52 and of all rectangles.
@@ -109,7 +109,7 @@ impl Room {
         }
     }
 
-    /// Gives the room for a letter of so many items and marks.
+    /// Gives the room for a content of so many items and marks.
     pub(crate) fn of_counts(items: usize, marks: usize) -> Room
         requires items { items ≤ LARGEST_ITEMS }
         requires marks { marks ≤ LARGEST_MARKS }

@@ -2,11 +2,11 @@
 
 ghost use Rattle.std.specs.Prelude.{◌≡◌, ◌<◌, ◌≤◌, ◌⊎◌, All, IsTrue, [], false, length};
 ghost use Rattle.dm_words.specs.Heads.{IsHead};
-ghost use Rattle.dm_words.specs.Letters.{AreMarks, LetterView};
+ghost use Rattle.dm_words.specs.Contents.{AreMarks, ContentView};
 ghost use Rattle.dm_layout.specs.symbols.Sizes.{codeword_count};
-ghost use Rattle.dm_symbol.specs.WrittenLetter.{AreChosen};
-ghost use Rattle.ecc200_calls.specs.Letters.{marks_of};
-ghost use Rattle.ecc200_calls.specs.Writings.{IsLetterGiven, IsWriteResult, IsWritingGiven};
+ghost use Rattle.dm_symbol.specs.WrittenContent.{AreChosen};
+ghost use Rattle.ecc200_calls.specs.Contents.{marks_of};
+ghost use Rattle.ecc200_calls.specs.Writings.{IsContentGiven, IsWriteResult, IsWritingGiven};
 ghost use Rattle.ecc200_calls.specs.inner.Rooms.{IsRoom};
 
 use crate::fault::Fault;
@@ -19,7 +19,7 @@ use arrayvec::ArrayVec;
 use dm_layout::symbols::{MOST_DATA, SizeChoice, SymbolIn, SymbolSize, SymbolWordsIn};
 use dm_symbol::{Form, Head, Item, Mark, TooLong, WriteOptions, choose_words_to, lay_words_to};
 
-/// Writes the symbol of the letter with the items and the marks of these numbers.
+/// Writes the symbol of the content with the items and the marks of these numbers.
 pub fn write(items: &[u16], marks: &[MarkNumbers], how: &How, out: &mut SymbolOut) -> u16
     ensures out { IsWriteResult items.now marks.now how.now out.old out.new }
     ensures code { result ≡ out.new.fault.code }
@@ -31,7 +31,7 @@ pub fn write(items: &[u16], marks: &[MarkNumbers], how: &How, out: &mut SymbolOu
     out.fault.code
 }
 
-/// Writes the symbol of the letter of these bytes, each of which is an item: what [`write()`] does for the same
+/// Writes the symbol of the content of these bytes, each of which is an item: what [`write()`] does for the same
 /// numbers and no marks.
 pub fn write_bytes(bytes: &[u8], how: &How, out: &mut SymbolOut) -> u16
     ensures out { IsWriteResult bytes.now [] how.now out.old out.new }
@@ -44,7 +44,7 @@ pub fn write_bytes(bytes: &[u8], how: &How, out: &mut SymbolOut) -> u16
     out.fault.code
 }
 
-/// Shows the symbol of the letter of these numbers, or why there is none.
+/// Shows the symbol of the content of these numbers, or why there is none.
 fn write_wanted(items: &[u16], marks: &[MarkNumbers], wanted: Wanted, out: &mut SymbolOut)
     requires { IsHead wanted.head }
     ensures { IsWritingGiven wanted.form wanted.size wanted.head items.now
@@ -75,7 +75,7 @@ fn write_items(items: &[u16], marks: &[MarkNumbers], wanted: Wanted, out: &mut S
     }
 }
 
-/// Does so where the marks are right too. A letter with more items or marks than any symbol says fits no size.
+/// Does so where the marks are right too. A content with more items or marks than any symbol says fits no size.
 fn write_numbers(items: &[u16], marks: &[MarkNumbers], wanted: Wanted, out: &mut SymbolOut)
     requires head { IsHead wanted.head }
     requires items { All (λ item. item ≤ 256) items.now }
@@ -90,12 +90,12 @@ fn write_numbers(items: &[u16], marks: &[MarkNumbers], wanted: Wanted, out: &mut
     } else if marks.is_empty() {
         in_room!(
             Room::of_items(items.len()),
-            write_letter_of_numbers::<ITEMS, 0>(items, marks, how, head, out)
+            write_content_of_numbers::<ITEMS, 0>(items, marks, how, head, out)
         );
     } else {
         in_room!(
             Room::of_counts(items.len(), marks.len()),
-            write_letter_of_numbers::<ITEMS, MARKS>(items, marks, how, head, out)
+            write_content_of_numbers::<ITEMS, MARKS>(items, marks, how, head, out)
         );
     }
 }
@@ -108,7 +108,7 @@ fn may_be_said(items: usize, marks: usize) -> bool
     items <= LARGEST_ITEMS && marks <= LARGEST_MARKS
 }
 
-/// Shows the symbol of the letter of these bytes, or why there is none, as for numbers.
+/// Shows the symbol of the content of these bytes, or why there is none, as for numbers.
 fn write_wanted_bytes(bytes: &[u8], wanted: Wanted, out: &mut SymbolOut)
     requires { IsHead wanted.head }
     ensures { IsWritingGiven wanted.form wanted.size wanted.head bytes.now [] out.old out.new }
@@ -120,15 +120,15 @@ fn write_wanted_bytes(bytes: &[u8], wanted: Wanted, out: &mut SymbolOut)
     } else {
         in_room!(
             Room::of_items(bytes.len()),
-            write_letter_of_bytes::<ITEMS>(bytes, how, head, out)
+            write_content_of_bytes::<ITEMS>(bytes, how, head, out)
         );
     }
 }
 
-/// Shows the symbol of the letter of these numbers, or that it fits no size of the choice, in a room that serves for
-/// the letter. It stands by itself, so that no other room is left for it on the stack.
+/// Shows the symbol of the content of these numbers, or that it fits no size of the choice, in a room that serves for
+/// the content. It stands by itself, so that no other room is left for it on the stack.
 #[inline(never)]
-fn write_letter_of_numbers<const ITEMS: usize, const MARKS: usize>(
+fn write_content_of_numbers<const ITEMS: usize, const MARKS: usize>(
     items: &[u16],
     marks: &[MarkNumbers],
     how: WriteOptions,
@@ -153,9 +153,9 @@ fn write_letter_of_numbers<const ITEMS: usize, const MARKS: usize>(
     write_content(head, items, marks, how, out);
 }
 
-/// Shows the symbol of the letter of these bytes, likewise.
+/// Shows the symbol of the content of these bytes, likewise.
 #[inline(never)]
-fn write_letter_of_bytes<const ITEMS: usize>(
+fn write_content_of_bytes<const ITEMS: usize>(
     bytes: &[u8],
     how: WriteOptions,
     head: Option<Head>,
@@ -171,7 +171,7 @@ fn write_letter_of_bytes<const ITEMS: usize>(
     write_content(head, &all[..bytes.len()], &[], how, out);
 }
 
-/// Shows the symbol in which a letter is written, or that it fits no size of the choice, in a room that serves for it.
+/// Shows the symbol in which a content is written, or that it fits no size of the choice, in a room that serves for it.
 #[inline(never)]
 pub(crate) fn write_content(
     head: Option<Head>,
@@ -184,7 +184,7 @@ pub(crate) fn write_content(
     requires few { length items.now ≤ LARGEST_ITEMS }
     requires few_marks { length marks.now ≤ LARGEST_MARKS }
     requires in_order { AreMarks 0 (length items.now) marks.now }
-    ensures { IsLetterGiven how.form how.size
+    ensures { IsContentGiven how.form how.size
         (record { head = head; items = items.now; marks = marks.now }) out.old out.new }
 {
     let mut list = ArrayVec::<u8, MOST_DATA>::new();
@@ -206,9 +206,9 @@ fn show_words<const ROWS: usize, const WORDS: usize>(
     requires room { IsRoom ROWS WORDS }
     requires high { size.rows ≤ ROWS }
     requires long { codeword_count size ≤ WORDS }
-    ensures { (form : Form) (choice : SizeChoice) (letter : LetterView)
-        → AreChosen form choice letter size list.now
-        → IsLetterGiven form choice letter out.old out.new }
+    ensures { (form : Form) (choice : SizeChoice) (content : ContentView)
+        → AreChosen form choice content size list.now
+        → IsContentGiven form choice content out.old out.new }
 {
     let mut words = SymbolWordsIn::<WORDS>::zeros(size);
     let mut symbol = SymbolIn::<ROWS>::light(size);

@@ -92,7 +92,7 @@ def encode(message: Message, gs1: bool = False, profile: Optional[Profile] = Non
     columns, with the encodations that readers of the wide extent read, as most readers are, or of another `extent`.
     A `profile`, or a `form`, is written instead where one is named, and with Profile.ASCII the normal grid. With `gs1`
     a text is an element string with its identifiers in brackets, which is checked (with `unknown` those that aren't in
-    the table pass); other text becomes bytes and marks as `charsets.letter_of` has it, without marks for Extent.USUAL.
+    the table pass); other text becomes bytes and marks as `charsets.content_of` has it, without marks for Extent.USUAL.
     `marks` and a `head` are those of `write`."""
     if gs1 and isinstance(message, str):
         message = element_strings.message(element_strings.parse(message, unknown))

@@ -837,7 +837,7 @@ def _of_text(text: str, gs1: bool, charset: Optional[str], marks: Tuple[Mark, ..
         return unmarked(text, charset), marks
     if marks:
         return encoded(text, charset or _usual(text)), marks
-    data, own = letter_in(text, charset, gs1, how)
+    data, own = content_in(text, charset, gs1, how)
     return data, _behind(own, gs1)
 
 
@@ -869,7 +869,7 @@ def write(message: Message, gs1: bool = False, profile: Profile = Profile.ASCII,
           size: Optional[Tuple[int, int]] = None, shape: Optional[Shape] = None, marks: Iterable[Mark] = (),
           head: Head = None, form: Optional[Form] = None, extent: Extent = Extent.WIDE) -> Rows:
     """The symbol of a message, given as bytes, as items, which are 0 to 255 or FNC1, or as text, which becomes bytes
-    and marks as `charsets.letter_of` has it. With `gs1`, FNC1 stands in front, as the first codeword in each form, and
+    and marks as `charsets.content_of` has it. With `gs1`, FNC1 stands in front, as the first codeword in each form, and
     in place of each 0x1D. It is the normal grid, which is a square, unless another `shape` is chosen, whose smallest
     symbol is written, or a `size` by its rows and columns.
 
@@ -1109,8 +1109,8 @@ def _usual(text: str) -> str:
     return _LATIN_1 if all(letter < "\u0100" for letter in text) else _UTF_8
 
 
-def letter_in(text: str, charset: Optional[str], gs1: bool, how: bytes) -> Tuple[bytes, Tuple[Mark, ...]]:
-    """The same as `letter_of`, for a symbol that is written in one way, behind an FNC1 or without one."""
+def content_in(text: str, charset: Optional[str], gs1: bool, how: bytes) -> Tuple[bytes, Tuple[Mark, ...]]:
+    """The same as `content_of`, for a symbol that is written in one way, behind an FNC1 or without one."""
     name = charset or _usual(text)
     if charset is None and name == _UTF_8:
         return min(_writings(text), key=lambda way: _area(way[0], gs1, _behind(way[1], gs1), how))
@@ -1121,13 +1121,13 @@ def letter_in(text: str, charset: Optional[str], gs1: bool, how: bytes) -> Tuple
     return data, () if number is None else ((0, number),)
 
 
-def letter_of(text: str, charset: Optional[str] = None) -> Tuple[bytes, Tuple[Mark, ...]]:
+def content_of(text: str, charset: Optional[str] = None) -> Tuple[bytes, Tuple[Mark, ...]]:
     """The bytes of a text, and the marks by which they are read as it. What ISO/IEC 8859-1 has is that. Other text is
     in the charset whose smallest square is smallest among those that zxing-cpp reads as they were written, of equal
     ones in UTF-8, behind its mark; `write` and `encode` look at the symbol that they are asked for. Or a `charset` is
     named. Else the mark of the charset stands in front where some reader would take the bytes for another text without
     it, as those of "20 \u00b0C" for Shift JIS; a charset that has no ECI assignment is never marked."""
-    return letter_in(text, charset, False, _how(Form.SMALLEST, Shape.SQUARE, 0, 0, Extent.WIDE))
+    return content_in(text, charset, False, _how(Form.SMALLEST, Shape.SQUARE, 0, 0, Extent.WIDE))
 
 
 # ---- Symbols in pictures, which the library ecc200_sample finds: the structs are those of ecc200_sample.h.

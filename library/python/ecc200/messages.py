@@ -14,7 +14,7 @@ from .labels import Label, printed
 from .sources import Trouble, open_input
 from .spelling import of_spelling, shown, spelled
 
-__all__ = ["Unclear", "Unwritten", "in_words", "labelled", "labels", "letter_of"]
+__all__ = ["Unclear", "Unwritten", "in_words", "labelled", "labels", "content_of"]
 
 _LINE_END = "(\r\n|\n|\r)\\Z"
 _UTF16 = (b"\xff\xfe", b"\xfe\xff")
@@ -101,7 +101,7 @@ def _of_hexadecimal(text: str) -> bytes:
                        f"{len(''.join(text.split()))}: {text}") from None
 
 
-class _Letter(NamedTuple):
+class _Content(NamedTuple):
     """What a symbol is to say: items, marks among them, and a head; its text in parts; and whether this reads like GS1
     data and isn't."""
     items: Sequence[int]
@@ -122,13 +122,13 @@ def _marked(text: str, number: int, given: argparse.Namespace) -> Tuple[bytes, T
     charset of those before it would hold, so that its own is marked, unless it is ASCII."""
     head = _of_message(given.head, number)
     how = core._chosen(Form[given.form.upper()], _size(given), _shape(given), given.extent, head)
-    data, marks = core.letter_in(text, given.charset, False, how)
+    data, marks = core.content_in(text, given.charset, False, how)
     eci = core.assignment(given.charset or "iso-8859-1")
     is_alone = not isinstance(given.head, tuple) or data.isascii()
     return data, marks if marks or is_alone or eci is None else ((0, eci),)
 
 
-def _of_text(text: str, number: int, given: argparse.Namespace) -> _Letter:
+def _of_text(text: str, number: int, given: argparse.Namespace) -> _Content:
     """What a text says: with the marks by which it is read as it was written, unless its charset is asked for by its
     number, or its readers know no marks."""
     marks: Tuple[Mark, ...] = ()
@@ -138,25 +138,25 @@ def _of_text(text: str, number: int, given: argparse.Namespace) -> _Letter:
         data, marks = _marked(text, number, given)
     else:
         data = core.unmarked(text, given.charset)
-    return _Letter(data, marks, None, printed(text), gs1.resembles(text))
+    return _Content(data, marks, None, printed(text), gs1.resembles(text))
 
 
-def _of_spelling(text: str, given: argparse.Namespace) -> _Letter:
+def _of_spelling(text: str, given: argparse.Namespace) -> _Content:
     """What a text says that is spelled."""
     items, marks, head = of_spelling(text, _charset(given))
     if head is not None and given.head is not None:
         raise Unclear("it begins with a head, and --append and --programming are another")
-    return _Letter(items, tuple(marks), head, printed(spelled(items, marks)))
+    return _Content(items, tuple(marks), head, printed(spelled(items, marks)))
 
 
-def letter_of(text: str, number: int, given: argparse.Namespace) -> _Letter:
+def content_of(text: str, number: int, given: argparse.Namespace) -> _Content:
     """What a message says."""
     if given.gs1:
         elements = gs1.parse(text, given.unknown)
-        return _Letter(gs1.items(elements), (), None, tuple(gs1.text([element]) for element in elements))
+        return _Content(gs1.items(elements), (), None, tuple(gs1.text([element]) for element in elements))
     if given.hex:
         data = _of_hexadecimal(text)
-        return _Letter(data, (), None, (data.hex(),))
+        return _Content(data, (), None, (data.hex(),))
     return _of_spelling(text, given) if given.escapes else _of_text(text, number, given)
 
 
@@ -170,14 +170,14 @@ def _of_message(head: Head, number: int) -> Head:
     return part + number - 1, of, first, second
 
 
-def _whole(letter: _Letter, number: int, given: argparse.Namespace) -> _Letter:
+def _whole(content: _Content, number: int, given: argparse.Namespace) -> _Content:
     """What a symbol is to say with what the command line says of each."""
-    head, marks = letter.head or _of_message(given.head, number), letter.marks
+    head, marks = content.head or _of_message(given.head, number), content.marks
     if given.eci is not None:
-        marks = ((int(tuple(letter.items[:1]) == (FNC1,)), given.eci), *marks)
+        marks = ((int(tuple(content.items[:1]) == (FNC1,)), given.eci), *marks)
     if given.extent == Extent.USUAL and (marks or head):
         raise Unclear("the readers that --basic is for know neither ECI nor structured append nor reader programming")
-    return letter._replace(marks=marks, head=head)
+    return content._replace(marks=marks, head=head)
 
 
 def _size(given: argparse.Namespace) -> Optional[Tuple[int, int]]:
@@ -192,8 +192,8 @@ def _shape(given: argparse.Namespace) -> Optional[Shape]:
     return None if given.shape is None else Shape[given.shape.upper()]
 
 
-def labelled(letter: _Letter, number: int, given: argparse.Namespace) -> Label:
-    whole = _whole(letter, number, given)
+def labelled(content: _Content, number: int, given: argparse.Namespace) -> Label:
+    whole = _whole(content, number, given)
     rows = core.write(whole.items, size=_size(given), shape=_shape(given), marks=whole.marks, head=whole.head,
                       form=Form[given.form.upper()], extent=given.extent)
     return Label(number, whole.parts, rows, whole.only_looks_gs1)
@@ -210,7 +210,7 @@ def in_words(why: ValueError, given: argparse.Namespace) -> str:
 def _of_bytes(data: bytes, number: int, name: str, given: argparse.Namespace) -> Union[Label, Unwritten]:
     marks = () if given.eci is None else ((0, given.eci),)
     try:
-        return labelled(_Letter(data, (), None, printed(shown(data, marks))), number, given)
+        return labelled(_Content(data, (), None, printed(shown(data, marks))), number, given)
     except ValueError as why:
         return Unwritten(number, name, in_words(why, given))
 
@@ -243,6 +243,6 @@ def labels(given: argparse.Namespace) -> Iterator[Union[Label, Unwritten]]:
             if is_batch and not given.blank and not text.strip():
                 raise Unclear("it is blank, and has no symbol; --blank makes symbols of blank lines too")
             _check(text, is_batch)
-            yield labelled(letter_of(text, number, given), number, given)
+            yield labelled(content_of(text, number, given), number, given)
         except ValueError as why:
             yield Unwritten(number, name, in_words(why, given))

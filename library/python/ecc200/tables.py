@@ -14,7 +14,7 @@ from typing import Dict, Iterator, List, NamedTuple, Optional, Sequence, Tuple, 
 from . import core, gs1
 from .core import Reading, Refused, Shape
 from .labels import Label, printed
-from .messages import Unclear, Unwritten, in_words, labelled, letter_of
+from .messages import Unclear, Unwritten, in_words, labelled, content_of
 from .sources import Source, Trouble, Unreadable, open_input, whole
 from .spelling import plain
 from .terminal import say
@@ -191,11 +191,11 @@ def _label(table: Table, row: Sequence[str], number: int, given: argparse.Namesp
         text = _kept(table.cell(row, MESSAGE), kept)
         if not given.blank and not text.strip():
             raise Unclear("its message is blank, and has no symbol; --blank makes symbols of blank ones too")
-        letter = letter_of(text, number, _of_kind(table.cell(row, KIND), sized))
+        content = content_of(text, number, _of_kind(table.cell(row, KIND), sized))
     else:
-        letter = letter_of(_elements(table, row), number, _of_kind("gs1", sized))
+        content = content_of(_elements(table, row), number, _of_kind("gs1", sized))
     try:
-        label = labelled(letter, number, sized)
+        label = labelled(content, number, sized)
     except Refused as why:
         raise Unclear(in_words(why, sized)) from None
     parts = printed(_kept(table.cell(row, TEXT), kept)) if table.has(TEXT) else label.parts

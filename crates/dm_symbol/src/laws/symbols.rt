@@ -1,6 +1,6 @@
 //! Laws of the definitions of symbols of all sizes. Each function has an empty body: its contract is the law.
 
-ghost use Rattle.dm_symbol.specs.LetterLaws.{LightDoubtReadsLettersAlike, LightDoubtNormalisesLettersAlike};
+ghost use Rattle.dm_symbol.specs.ContentLaws.{LightDoubtReadsContentsAlike, LightDoubtNormalisesContentsAlike};
 ghost use Rattle.dm_symbol.specs.SymbolLaws.{NoDoubtIsNearness, NoDoubtCountsAllFaults, LightDoubtShowsAlike};
 ghost use Rattle.dm_symbol.specs.SymbolLaws.{OtherDealingRestarts, OtherDealingErases, GridsAreReadAsSymbols};
 ghost use Rattle.dm_symbol.specs.SymbolLaws.{GridsHaveTheResultsOfSymbols, NormalGridsAreNormalSymbols};
@@ -15,8 +15,8 @@ pub fn no_doubt_changes_nothing()
 /// Where the modules that are given as doubtful are all light, what reading, normalising and inspecting a symbol gives
 /// is what it gives with none given.
 pub fn light_doubt_changes_nothing()
-    ensures read { LightDoubtReadsLettersAlike }
-    ensures normal { LightDoubtNormalisesLettersAlike }
+    ensures read { LightDoubtReadsContentsAlike }
+    ensures normal { LightDoubtNormalisesContentsAlike }
     ensures shown { LightDoubtShowsAlike }
 {}
 
@@ -33,7 +33,7 @@ pub fn a_grid_is_read_as_its_modules()
 {}
 
 /// What reading a grid gives is what reading the symbol with its cells in the usual extent gives, faults and numbers
-/// too; and the normal grid of a message is the normal symbol of the letter with its items. So squares may be read and
+/// too; and the normal grid of a message is the normal symbol of the content with its items. So squares may be read and
 /// written as grids.
 pub fn a_grid_has_the_results_of_its_symbol()
     ensures read { GridsHaveTheResultsOfSymbols }

@@ -59,7 +59,7 @@ impl<const WORDS: usize> SymbolInspectionIn<WORDS> {
 
 /// Inspects a symbol: leaves in `inspection`, whatever it held before, the codewords that the symbol holds, and the
 /// same with each block restored to which a codeword is near but for what is doubtful. Where
-/// [`read_letter_to`](crate::read_letter_to()) refuses a border or a block, or finds codewords that say no letter,
+/// [`read_content_to`](crate::read_content_to()) refuses a border or a block, or finds codewords that say no content,
 /// this goes on, so that a program can show what is wrong with a symbol. A symbol of 144 x 144 of which a block is lost
 /// is shown by the other [`Dealing`], where no block is lost by it. Doubtful modules, where there are any, are a
 /// symbol of the same size, dark where a module of the symbol is doubtful.

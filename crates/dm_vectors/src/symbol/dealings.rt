@@ -2,13 +2,13 @@
 
 ghost use Rattle.std.specs.Prelude.{◌<◌};
 
-use crate::calls::{checks_of, inspect_symbol, normal_letter, read_symbol};
+use crate::calls::{checks_of, inspect_symbol, normal_content, read_symbol};
 use crate::claims::holds;
 use crate::modules::{laid, words_of};
 use arrayvec::ArrayVec;
 use dm_layout::symbols::MOST_CODEWORDS;
 use dm_symbol::{
-    BlockReading, Dealing, Extent, Item, LetterReadFault, LetterReading, ReadOptions, Symbol,
+    BlockReading, ContentReadFault, ContentReading, Dealing, Extent, Item, ReadOptions, Symbol,
 };
 
 /// The data codewords of 144 x 144.
@@ -23,8 +23,8 @@ const CHECKS: usize = 62;
 /// All codewords of 144 x 144.
 type List = [u8; MOST_CODEWORDS];
 
-/// The letter at a place of the message: A to W, over and over, so that no two blocks are alike.
-fn letter_at(place: usize) -> u8 {
+/// The content at a place of the message: A to W, over and over, so that no two blocks are alike.
+fn content_at(place: usize) -> u8 {
     b'A' + (place % 23) as u8
 }
 
@@ -60,11 +60,11 @@ fn deal_checks(list: &mut List, dealing: Dealing, b: usize)
     }
 }
 
-/// The codewords of the letters by a dealing.
+/// The codewords of the contents by a dealing.
 fn dealt(dealing: Dealing) -> List {
     let mut list = [0; MOST_CODEWORDS];
     for place in 0..DATA {
-        list[place] = letter_at(place).saturating_add(1);
+        list[place] = content_at(place).saturating_add(1);
     }
     for b in 0..BLOCKS {
         deal_checks(&mut list, dealing, b);
@@ -81,7 +81,7 @@ fn spoil(list: &mut List, b: usize, count: usize) {
     }
 }
 
-/// The codewords of the letters by a dealing, with so many wrong in each block.
+/// The codewords of the contents by a dealing, with so many wrong in each block.
 fn spoilt(dealing: Dealing, count: usize) -> List {
     let mut list = dealt(dealing);
     for b in 0..BLOCKS {
@@ -90,7 +90,7 @@ fn spoilt(dealing: Dealing, count: usize) -> List {
     list
 }
 
-/// The codewords of the letters by a dealing, with one more wrong in block 5 than can be corrected.
+/// The codewords of the contents by a dealing, with one more wrong in block 5 than can be corrected.
 fn lost(dealing: Dealing) -> List {
     let mut list = dealt(dealing);
     spoil(&mut list, 5, CHECKS / 2 + 1);
@@ -107,8 +107,8 @@ fn symbol_with(list: &List) -> Option<Symbol> {
 fn read(
     list: &List,
     extent: Extent,
-    reading: &mut LetterReading,
-) -> Option<Result<(), LetterReadFault>> {
+    reading: &mut ContentReading,
+) -> Option<Result<(), ContentReadFault>> {
     let how = ReadOptions {
         extent,
         border_limit: 0,
@@ -117,13 +117,13 @@ fn read(
     read_symbol(&symbol_with(list)?, how, reading)
 }
 
-/// Whether the items are the letters.
-fn are_letters(items: &[Item]) -> bool {
+/// Whether the items are the contents.
+fn are_contents(items: &[Item]) -> bool {
     if items.len() != DATA {
         return false;
     }
     for place in 0..DATA {
-        if items[place] != Item::Byte(letter_at(place)) {
+        if items[place] != Item::Byte(content_at(place)) {
             return false;
         }
     }
@@ -139,19 +139,19 @@ fn corrected(count: u8) -> BlockReading {
     }
 }
 
-/// Whether the symbol of these codewords is read as the letters by this dealing, with so many wrong in each block.
+/// Whether the symbol of these codewords is read as the contents by this dealing, with so many wrong in each block.
 fn is_read(list: &List, extent: Extent, dealing: Dealing, count: u8) -> bool {
-    let mut reading = LetterReading::new();
+    let mut reading = ContentReading::new();
     read(list, extent, &mut reading) == Some(Ok(()))
-        && are_letters(reading.letter.items())
+        && are_contents(reading.content.items())
         && reading.dealing == dealing
         && reading.blocks.as_slice() == [corrected(count); BLOCKS].as_slice()
 }
 
 /// Whether the symbol of these codewords is refused for this block.
 fn is_refused(list: &List, extent: Extent, b: u8) -> bool {
-    let mut reading = LetterReading::new();
-    read(list, extent, &mut reading) == Some(Err(LetterReadFault::Block(b)))
+    let mut reading = ContentReading::new();
+    read(list, extent, &mut reading) == Some(Err(ContentReadFault::Block(b)))
 }
 
 /// The other dealing is read at `Wide` alone, and the standard's in both extents.
@@ -186,12 +186,12 @@ fn what_both_dealings_lose_has_the_fault_of_the_first(rt: HostRuntime) {
     holds(&rt, is_refused(&lost(Dealing::Restarted), Extent::Wide, 0));
 }
 
-/// Whether the normal symbol of these codewords is that of the letters, dealt as the standard deals.
+/// Whether the normal symbol of these codewords is that of the contents, dealt as the standard deals.
 fn becomes_standard(list: &List) -> bool {
     let Some(symbol) = symbol_with(list) else {
         return false;
     };
-    match normal_letter(&symbol) {
+    match normal_content(&symbol) {
         Some(normal) => symbol_with(&dealt(Dealing::Standard)) == Some(normal),
         None => false,
     }
@@ -249,7 +249,7 @@ fn without_checks(dealing: Dealing, mut list: List) -> List {
     list
 }
 
-/// Whether the letters are read by a dealing of which all check codewords of block 0 are wrong and doubtful.
+/// Whether the contents are read by a dealing of which all check codewords of block 0 are wrong and doubtful.
 fn is_read_without_checks(dealing: Dealing) -> bool {
     let damaged = without_checks(dealing, dealt(dealing));
     let marks = without_checks(dealing, [0; MOST_CODEWORDS]);
@@ -267,9 +267,9 @@ fn is_read_without_checks(dealing: Dealing) -> bool {
         erased: 62,
         left: 0,
     };
-    let mut reading = LetterReading::new();
+    let mut reading = ContentReading::new();
     read_symbol(&symbol, how, &mut reading) == Some(Ok(()))
-        && are_letters(reading.letter.items())
+        && are_contents(reading.content.items())
         && reading.dealing == dealing
         && reading.blocks.as_slice() == blocks.as_slice()
 }

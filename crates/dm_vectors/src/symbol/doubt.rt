@@ -1,7 +1,7 @@
 //! Squares of whose modules some are doubtful.
 
 use super::*;
-use dm_symbol::{BlockReading, LetterReadFault, LetterReading};
+use dm_symbol::{BlockReading, ContentReadFault, ContentReading};
 
 /// The grid of side 10 that is dark where these two are unlike.
 fn unlike(a: &Grid, b: &Grid) -> Grid {
@@ -15,8 +15,8 @@ fn unlike(a: &Grid, b: &Grid) -> Grid {
 }
 
 /// Whether the reading is of `123456`, with one block, which became this, and with no border faults.
-fn is_digits(reading: &LetterReading, block: BlockReading) -> bool {
-    are_bytes(reading.letter.items(), b"123456")
+fn is_digits(reading: &ContentReading, block: BlockReading) -> bool {
+    are_bytes(reading.content.items(), b"123456")
         && reading.blocks.as_slice() == [block].as_slice()
         && reading.border_faults == 0
 }
@@ -32,7 +32,7 @@ fn restored(corrected: u8, erased: u8) -> BlockReading {
 }
 
 /// Whether these codewords are read so, where the cells that `123456` has otherwise are doubtful.
-fn is_read(reading: &mut LetterReading, words: &[u8; 8], erased: u8) -> bool {
+fn is_read(reading: &mut ContentReading, words: &[u8; 8], erased: u8) -> bool {
     let grid = grid_of(10, words);
     let doubtful = unlike(&grid, &grid_of(10, &DIGITS));
     match read_doubtful(&grid, &doubtful, 0, reading) {
@@ -44,7 +44,7 @@ fn is_read(reading: &mut LetterReading, words: &[u8; 8], erased: u8) -> bool {
 /// Twice as many codewords are restored where it is known which are wrong, also into what held another reading.
 #[test]
 fn restores_as_many_codewords_as_there_are_checks(rt: HostRuntime) {
-    let mut reading = LetterReading::new();
+    let mut reading = ContentReading::new();
     holds(
         &rt,
         is_read(&mut reading, &[17, 164, 186, 114, 25, 5, 88, 102], 1),
@@ -69,15 +69,15 @@ fn restores_as_many_codewords_as_there_are_checks(rt: HostRuntime) {
 fn counts_no_doubtful_border_cell(rt: HostRuntime) {
     let right = grid_of(10, &DIGITS);
     let doubtful = unlike(&plain(10, false), &plain(10, true));
-    let mut reading = LetterReading::new();
+    let mut reading = ContentReading::new();
     let wrong = plain(10, false);
     holds(
         &rt,
         read_doubtful(&wrong, &unlike(&right, &right), 2, &mut reading)
-            == Some(Err(LetterReadFault::Border(27))),
+            == Some(Err(ContentReadFault::Border(27))),
     );
     holds(
         &rt,
-        read_doubtful(&wrong, &doubtful, 0, &mut reading) == Some(Err(LetterReadFault::Block(0))),
+        read_doubtful(&wrong, &doubtful, 0, &mut reading) == Some(Err(ContentReadFault::Block(0))),
     );
 }

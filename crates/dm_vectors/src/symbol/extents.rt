@@ -2,7 +2,7 @@
 //! run.
 
 use super::*;
-use dm_symbol::{Extent, LetterReading, MESSAGE_ROOM, Symbol, light_grid, normal_to, read_to};
+use dm_symbol::{ContentReading, Extent, MESSAGE_ROOM, Symbol, light_grid, normal_to, read_to};
 
 /// Sides, data codewords, the fault with which the usual extent refuses them, and the bytes that the wide extent reads.
 static ROWS: [(u16, &[u8], WordFault, &[u8]); 6] = [
@@ -54,12 +54,12 @@ fn says_widely(grid: &Grid, text: &[u8], normal: &Grid) -> bool {
     let (Some(symbol), Some(normal)) = (symbol_of(grid), symbol_of(normal)) else {
         return false;
     };
-    let mut reading = LetterReading::new();
-    read_letter(Extent::Wide, &symbol, &mut reading).is_ok()
-        && reading.letter.head().is_none()
-        && reading.letter.marks().is_empty()
-        && are_bytes(reading.letter.items(), text)
-        && normal_letter(&symbol) == Some(normal)
+    let mut reading = ContentReading::new();
+    read_content(Extent::Wide, &symbol, &mut reading).is_ok()
+        && reading.content.head().is_none()
+        && reading.content.marks().is_empty()
+        && are_bytes(reading.content.items(), text)
+        && normal_content(&symbol) == Some(normal)
 }
 
 /// Whether the grid is refused with this fault, by each of its calls.
@@ -101,7 +101,7 @@ fn fullest() -> Grid {
 
 /// The rows of the normal symbol of what a symbol says, and 0 where there is none.
 fn normal_rows(symbol: &Symbol) -> u16 {
-    match normal_letter(symbol) {
+    match normal_content(symbol) {
         Some(normal) => normal.size().rows(),
         None => 0,
     }
@@ -112,9 +112,9 @@ fn says_most(grid: &Grid) -> bool {
     let Some(symbol) = symbol_of(grid) else {
         return false;
     };
-    let mut reading = LetterReading::new();
-    read_letter(Extent::Wide, &symbol, &mut reading).is_ok()
-        && reading.letter.items().len() == MESSAGE_ROOM
+    let mut reading = ContentReading::new();
+    read_content(Extent::Wide, &symbol, &mut reading).is_ok()
+        && reading.content.items().len() == MESSAGE_ROOM
         && normal_rows(&symbol) == 120
 }
 

@@ -64,13 +64,13 @@ fn fills_a_message(rt: HostRuntime) {
     holds(&rt, spells(&[207; MOST_GRID_DATA], digits.items()));
 }
 
-/// Whether so many letters take as many codewords.
+/// Whether so many contents take as many codewords.
 fn takes_one_each(count: usize) -> bool {
     is_written(&of_many(b'A', count), 66, count)
 }
 
 #[test]
-fn letters_take_a_codeword_each(rt: HostRuntime) {
+fn contents_take_a_codeword_each(rt: HostRuntime) {
     holds(
         &rt,
         takes_one_each(204) && takes_one_each(205) && takes_one_each(MOST_GRID_DATA),

@@ -1,6 +1,6 @@
 //! Codewords that no writer makes, read in the wide extent.
 
-use super::wide::{are_refused, is_refused_in, letter_in, spells_widely};
+use super::wide::{are_refused, content_in, is_refused_in, spells_widely};
 use super::*;
 
 /// Data codewords, and the fault with which the wide extent refuses them.
@@ -37,7 +37,7 @@ static REFUSED: [(&[u8], WordFault); 29] = [
 ];
 
 #[test]
-fn refuses_what_says_no_letter_in_the_wide_extent(rt: HostRuntime) {
+fn refuses_what_says_no_content_in_the_wide_extent(rt: HostRuntime) {
     holds(&rt, are_refused(Extent::Wide, &REFUSED));
 }
 
@@ -50,9 +50,9 @@ fn of_two(first: u8, other: u8) -> [u8; 816] {
 
 /// Whether the codewords spell so many items, the last of which is this byte.
 fn spells_many(words: &[u8], count: usize, last: u8) -> bool {
-    match letter_in(Extent::Wide, words) {
-        Ok(letter) => {
-            let items = letter.items();
+    match content_in(Extent::Wide, words) {
+        Ok(content) => {
+            let items = content.items();
             items.len() == count && count > 0 && items[count - 1] == Item::Byte(last)
         }
         Err(_) => false,

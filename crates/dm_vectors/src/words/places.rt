@@ -50,7 +50,7 @@ fn hold(places: &mut Places, text: &[u8], expected: &[u8]) -> bool {
 }
 
 /// Whether the normal codewords of the letter A are written into their place under the profile.
-fn holds_letter(profile: Profile, places: &mut Places) -> bool {
+fn holds_content(profile: Profile, places: &mut Places) -> bool {
     normal_words_in(profile, places.message.items(), &mut places.words).is_ok()
         && places.words.as_slice() == [66].as_slice()
 }
@@ -80,6 +80,6 @@ fn writes_and_reads_in_places(rt: HostRuntime) {
     );
     holds(
         &rt,
-        holds_letter(Profile::Ascii, &mut places) && holds_letter(Profile::Shorter, &mut places),
+        holds_content(Profile::Ascii, &mut places) && holds_content(Profile::Shorter, &mut places),
     );
 }

@@ -125,14 +125,14 @@ fn takes(message: &Message, length: usize, is_segment: bool) -> bool {
 }
 
 /// The message of so many letters A and then so many bytes 200.
-fn letters_and_bytes(letters: usize, bytes: usize) -> Message {
-    let mut message = of_many(b'A', letters);
+fn contents_and_bytes(contents: usize, bytes: usize) -> Message {
+    let mut message = of_many(b'A', contents);
     add_many(&mut message, 200, bytes);
     message
 }
 
 /// Letters A and bytes 200, how many codewords they take, and whether these are a segment: where both forms are equally
-/// long it is ASCII, in which a byte of 128 or more takes one codeword more; one such byte in place of a letter breaks
+/// long it is ASCII, in which a byte of 128 or more takes one codeword more; one such byte in place of a content breaks
 /// the tie.
 static TIES: [(usize, usize, usize, bool); 9] = [
     (0, 2, 4, false),
@@ -148,10 +148,10 @@ static TIES: [(usize, usize, usize, bool); 9] = [
 
 #[test]
 fn takes_ascii_at_a_tie_and_a_segment_behind_it(rt: HostRuntime) {
-    for (letters, bytes, length, is_segment) in &TIES {
+    for (contents, bytes, length, is_segment) in &TIES {
         holds(
             &rt,
-            takes(&letters_and_bytes(*letters, *bytes), *length, *is_segment),
+            takes(&contents_and_bytes(*contents, *bytes), *length, *is_segment),
         );
     }
 }

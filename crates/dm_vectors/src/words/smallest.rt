@@ -24,7 +24,7 @@ fn is_smallest(extent: Extent, message: &Message, expected: &[u8]) -> bool {
 
 /// Whether the codewords are read in an extent as the message.
 fn is_read(extent: Extent, words: &[u8], message: &Message) -> bool {
-    match super::wide::letter_in(extent, words) {
+    match super::wide::content_in(extent, words) {
         Ok(found) => found.items() == message.items(),
         Err(_) => false,
     }

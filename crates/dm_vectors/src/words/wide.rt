@@ -4,30 +4,30 @@ use super::lines::are_spelled;
 use super::*;
 
 /// What the codewords say in an extent, and the fault of no codeword where there are too many of them.
-pub(super) fn letter_in(extent: Extent, words: &[u8]) -> Result<Letter, LetterFault> {
+pub(super) fn content_in(extent: Extent, words: &[u8]) -> Result<Content, ContentFault> {
     if words.len() > MOST_GRID_DATA {
-        return Err(LetterFault::Append(0));
+        return Err(ContentFault::Append(0));
     }
-    let mut letter = Letter::new();
-    match letter_to_as(extent, words, &mut letter) {
-        Ok(()) => Ok(letter),
+    let mut content = Content::new();
+    match content_to_as(extent, words, &mut content) {
+        Ok(()) => Ok(content),
         Err(fault) => Err(fault),
     }
 }
 
 /// Whether the codewords spell these bytes in the wide extent.
 pub(super) fn spells_widely(words: &[u8], bytes: &[u8]) -> bool {
-    match letter_in(Extent::Wide, words) {
-        Ok(letter) => are_bytes(letter.items(), bytes),
+    match content_in(Extent::Wide, words) {
+        Ok(content) => are_bytes(content.items(), bytes),
         Err(_) => false,
     }
 }
 
 /// Whether the codewords are refused with this fault in an extent.
 pub(super) fn is_refused_in(extent: Extent, words: &[u8], fault: WordFault) -> bool {
-    match letter_in(extent, words) {
+    match content_in(extent, words) {
         Ok(_) => false,
-        Err(found) => found == LetterFault::Word(fault),
+        Err(found) => found == ContentFault::Word(fault),
     }
 }
 
@@ -152,7 +152,7 @@ static ENDED_FOURTH: &[u8] = b"\
 240 4 32 196 4 32 31 66 67 129 =ABCDAB@AB
 ";
 
-/// The latch to C40 at the last places of a symbol, behind a letter.
+/// The latch to C40 at the last places of a symbol, behind a content.
 static LATCHED_C40: &[u8] = b"\
 66 230 =A
 66 230 91 =AZ

@@ -61,11 +61,11 @@ never = 16384
 
 -- ---- values of a run
 
--- The letters that are one value of a set are the 26 from this one on.
-abbrev pub first_letter : CodeSet → ℕ
-first_letter C40 = 65
-first_letter Text = 97
-first_letter X12 = 65
+-- The contents that are one value of a set are the 26 from this one on.
+abbrev pub first_content : CodeSet → ℕ
+first_content C40 = 65
+first_content Text = 97
+first_content X12 = 65
 
 -- Three other bytes are one value of X12: CR, * and >.
 abbrev pub is_sign : CodeSet → ℕ → Bool
@@ -73,7 +73,7 @@ is_sign C40 byte = false
 is_sign Text byte = false
 is_sign X12 byte = byte == 13 || byte == 42 || byte == 62
 
--- A byte is one value of a set: a space, a digit, a letter of the basic case, or in X12 one of three others.
+-- A byte is one value of a set: a space, a digit, a content of the basic case, or in X12 one of three others.
 abbrev pub is_basic : CodeSet → ℕ → Bool
 is_basic C40 byte = byte == 32 || is_digit byte || (nat_le 65 byte && nat_le byte 90)
 is_basic Text byte = byte == 32 || is_digit byte || (nat_le 97 byte && nat_le byte 122)

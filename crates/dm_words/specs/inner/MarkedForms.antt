@@ -1,7 +1,7 @@
--- What the private functions that write a letter look at.
+-- What the private functions that write a content look at.
 use Rattle.std.specs.Prelude.{List, [], ◌∷◌, Bool, true, false, Option, Some, None}
-use Rattle.dm_words.specs.declared.letters.head.Head.{Head}
-use Rattle.dm_words.specs.declared.letters.mark.Mark.{Mark}
+use Rattle.dm_words.specs.declared.contents.head.Head.{Head}
+use Rattle.dm_words.specs.declared.contents.mark.Mark.{Mark}
 
 -- There is no head and no mark.
 abbrev pub is_plain : Option Head → List Mark → Bool

@@ -5,7 +5,7 @@ ghost use Rattle.dm_words.specs.declared.c40.set.CodeSet.{CodeSet};
 ghost use Rattle.dm_words.specs.declared.c40.set.Basic.TheVariants as Basic;
 ghost use Rattle.dm_words.specs.CodeSets.{basic_of};
 ghost use Rattle.dm_words.specs.Values.{IsSpelling};
-ghost use Rattle.dm_words.specs.inner.Costs.{first_letter, is_basic, is_one_value, is_sign, set_values};
+ghost use Rattle.dm_words.specs.inner.Costs.{first_content, is_basic, is_one_value, is_sign, set_values};
 ghost use Rattle.dm_words.specs.inner.Written.{HasShifts, IsHeldBy, IsLow, IsCharacterPushed};
 
 use crate::c40::set::{CodeSet, Shift};
@@ -21,15 +21,15 @@ pub enum Low {
     Shifted(Shift, u8),
 }
 
-/// Gives the value of a byte in a basic set, if it is one value there. Letters come first, since most bytes are.
+/// Gives the value of a byte in a basic set, if it is one value there. Contents come first, since most bytes are.
 fn basic_value(set: CodeSet, byte: u8) -> Option<u8>
     ensures value { IfSome result (λ value. basic_of set value ≡ Some (Basic.Character byte)) }
     ensures small { IfSome result (λ value. value < 40) }
     ensures none { IfNone result (is_basic set byte ≡ false) }
 {
-    let letter = byte.wrapping_sub(first_letter(set));
-    if letter < 26 {
-        return Some(letter + 14);
+    let content = byte.wrapping_sub(first_content(set));
+    if content < 26 {
+        return Some(content + 14);
     }
     match byte {
         b'0'..=b'9' => Some(byte - 44),
@@ -38,9 +38,9 @@ fn basic_value(set: CodeSet, byte: u8) -> Option<u8>
     }
 }
 
-/// Gives the first of the letters that are one value of a set.
-fn first_letter(set: CodeSet) -> u8
-    ensures { result ≡ first_letter set }
+/// Gives the first of the contents that are one value of a set.
+fn first_content(set: CodeSet) -> u8
+    ensures { result ≡ first_content set }
 {
     match set {
         CodeSet::C40 | CodeSet::X12 => b'A',
@@ -48,7 +48,8 @@ fn first_letter(set: CodeSet) -> u8
     }
 }
 
-/// Gives the value of a byte that is neither a letter nor a digit nor a space in a basic set, if it is one value there.
+/// Gives the value of a byte that is neither a content nor a digit nor a space in a basic set, if it is one value
+/// there.
 fn sign_value(set: CodeSet, byte: u8) -> Option<u8>
     ensures value { IfSome result (λ value. basic_of set value ≡ Some (Basic.Character byte)) }
     ensures small { IfSome result (λ value. value < 3) }

@@ -2,10 +2,10 @@
 use Rattle.std.specs.Prelude.{ℕ, ◌*◌, ◌≤◌, Option, Result, Ok, Err}
 use Rattle.dm_symbol.specs.declared.Extent.{Extent}
 use Rattle.dm_symbol.specs.declared.Extent.TheVariants.{Wide}
-use Rattle.dm_symbol.specs.declared.LetterReadFault.{LetterReadFault}
+use Rattle.dm_symbol.specs.declared.ContentReadFault.{ContentReadFault}
 use Rattle.dm_layout.specs.symbols.Symbols.{SymbolView}
 use Rattle.dm_layout.specs.symbols.Words.{WordsView}
-use Rattle.dm_symbol.specs.LetterReading.{LetterReadResult}
+use Rattle.dm_symbol.specs.ContentReading.{ContentReadResult}
 use Rattle.dm_symbol.specs.Messages.{most_data, most_spelled}
 use Rattle.dm_symbol.specs.Restored as whole
 use Rattle.ecc200_calls.specs.declared.restoring.Restored.{Restored}
@@ -18,16 +18,16 @@ IsRestored extent symbol doubtful limit words restored =
     whole.IsRestored extent symbol doubtful limit words restored.dealing restored.blocks.items restored.border_faults
 
 -- They are so restored, or the symbol is refused with this fault.
-abbrev pub IsRestoredOr : {A : Type 0} → Extent → SymbolView → Option SymbolView → ℕ → Result A LetterReadFault
+abbrev pub IsRestoredOr : {A : Type 0} → Extent → SymbolView → Option SymbolView → ℕ → Result A ContentReadFault
     → WordsView → Restored → Type 0
 IsRestoredOr extent symbol doubtful limit (Ok done) words restored =
     IsRestored extent symbol doubtful limit words restored
 IsRestoredOr extent symbol doubtful limit (Err why) words restored =
-    LetterReadResult extent symbol doubtful limit (Err why)
+    ContentReadResult extent symbol doubtful limit (Err why)
 
 -- They are so restored, or the symbol is refused, at the border limit that is asked for.
 pub record IsRestoredFor {A : Type 0} (asked : BorderLimit) (extent : Extent) (symbol : SymbolView)
-    (doubtful : Option SymbolView) (result : Result A LetterReadFault) (words : WordsView) (restored : Restored)
+    (doubtful : Option SymbolView) (result : Result A ContentReadFault) (words : WordsView) (restored : Restored)
     : Type 0 where
   pub limit : ℕ
   pub limit_is : IsLimit asked extent symbol doubtful limit

@@ -1,5 +1,5 @@
 use Rattle.std.proofs.Common.{arith}
-use Rattle.dm_words.proofs.LetterLoops.{one_word_turn}
+use Rattle.dm_words.proofs.ContentLoops.{one_word_turn}
 use Rattle.dm_words.proofs.reading.one_word_parts.Goals as goal
 
 pub loop-word-preserved : goal.loop-word-preserved

@@ -1,7 +1,7 @@
 use Rattle.std.proofs.Common.{◌≡◌, ◌+◌, ◌-◌, ◌*◌, ◌≤◌, List, length, drop}
 use Rattle.dm_words.specs.declared.extent.Extent.{Extent}
-use Rattle.dm_words.specs.declared.letters.mark.Mark.{Mark}
-use Rattle.dm_words.specs.inner.LetterScan.{items_with, letter_on}
+use Rattle.dm_words.specs.declared.contents.mark.Mark.{Mark}
+use Rattle.dm_words.specs.inner.ContentScan.{items_with, content_on}
 use Rattle.dm_words.proofs.reading.one_word_parts.Given as goal
 
 abbrev pub invariant-loop-word : goal.invariant-loop-word
@@ -11,8 +11,8 @@ invariant-loop-word g l = record {
   room : length l.message + 2 * l.start ≤ length l.fn.message + 2 * l.at;
   no_fewer : length l.fn.message ≤ length l.message;
   said : (extent : Extent) (marks : List Mark)
-      → letter_on extent (items_with marks l.message) (l.at + 1) (drop l.at l.words)
-      ≡ letter_on extent (items_with marks l.fn.message) (l.start + 1) (drop l.start l.words);
+      → content_on extent (items_with marks l.message) (l.at + 1) (drop l.at l.words)
+      ≡ content_on extent (items_with marks l.fn.message) (l.start + 1) (drop l.start l.words);
 }
 
 abbrev pub decreases-loop-word : goal.decreases-loop-word

@@ -1,23 +1,23 @@
 use Rattle.std.proofs.Common.{subst, sym, ◌∙◌, Err}
-use Rattle.dm_words.specs.Letters.{LetterView}
+use Rattle.dm_words.specs.Contents.{ContentView}
 use Rattle.dm_words.specs.declared.extent.Extent.{Extent}
-use Rattle.dm_words.specs.SmallestLetters.{IsSmallestLetterResult}
-use Rattle.dm_words.specs.inner.LetterCosts.{view_of}
-use Rattle.dm_words.proofs.SmallestLetters.{plain_is, is_no_message, usual_too_long}
+use Rattle.dm_words.specs.SmallestContents.{IsSmallestContentResult}
+use Rattle.dm_words.specs.inner.ContentCosts.{view_of}
+use Rattle.dm_words.proofs.SmallestContents.{plain_is, is_no_message, usual_too_long}
 use Rattle.dm_words.proofs.smallest.smallest_in.Goals as goal
 
 pub returns-then-is_plain-clause-smallest : goal.returns-then-is_plain-clause-smallest
 returns-then-is_plain-clause-smallest g c =
     let a = c.args in
-    subst (λ (l : LetterView). IsSmallestLetterResult a.extent a.choice l c.smallest_items_to.result
+    subst (λ (l : ContentView). IsSmallestContentResult a.extent a.choice l c.smallest_items_to.result
     c.smallest_items_to.new.words.items)
     (plain_is (view_of a.head a.items.now a.marks.now) (sym c.is_plain.ensures ∙ c.if-is_plain.true))
-    c.smallest_items_to.ensures.letter
+    c.smallest_items_to.ensures.content
 
 pub returns-in-Wide-clause-smallest : goal.returns-in-Wide-clause-smallest
 returns-in-Wide-clause-smallest g c =
     let a = c.args in
-    subst (λ (e : Extent). IsSmallestLetterResult e a.choice (view_of a.head a.items.now a.marks.now)
+    subst (λ (e : Extent). IsSmallestContentResult e a.choice (view_of a.head a.items.now a.marks.now)
     c.smallest_marked_to.result c.smallest_marked_to.new.words.items) (sym c.in-Wide.is)
     c.smallest_marked_to.ensures.smallest
 
@@ -33,5 +33,13 @@ pub returns-in-Usual-clause-smallest : goal.returns-in-Usual-clause-smallest
 returns-in-Usual-clause-smallest g c =
     let a = c.args in
     let l = view_of a.head a.items.now a.marks.now in
-    subst (λ (e : Extent). IsSmallestLetterResult e a.choice l (Err (record {})) a.words.now.items) (sym c.in-Usual.is)
+    subst (λ (e : Extent). IsSmallestContentResult e a.choice l (Err (record {})) a.words.now.items) (sym c.in-Usual.is)
     (usual_too_long a.choice l (record {}) a.words.now.items (sym c.is_plain.ensures ∙ c.if-is_plain.false))
+
+pub returns-in-Wide-clause-message_items : goal.returns-in-Wide-clause-message_items
+returns-in-Wide-clause-message_items g c = λ none nothing.
+    absurd (is_no_message c.args.head c.args.marks.now (sym c.is_plain.ensures ∙ c.if-is_plain.false) none nothing)
+
+pub returns-in-Usual-clause-message_items : goal.returns-in-Usual-clause-message_items
+returns-in-Usual-clause-message_items g c = λ none nothing.
+    absurd (is_no_message c.args.head c.args.marks.now (sym c.is_plain.ensures ∙ c.if-is_plain.false) none nothing)

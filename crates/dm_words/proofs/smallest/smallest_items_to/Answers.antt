@@ -1,9 +1,9 @@
 use Rattle.std.proofs.Common.{◌≡◌, ◌∙◌, ℕ, List, length, ap, sym, subst, arith}
-use Rattle.dm_words.specs.LetterExtents.{as_letter}
+use Rattle.dm_words.specs.ContentExtents.{as_content}
 use Rattle.dm_words.specs.Pads.{padded}
 use Rattle.dm_words.specs.Plain.{IsPlainForm}
 use Rattle.dm_words.specs.Smallest.{IsPlainest, SpellsThenPads}
-use Rattle.dm_words.proofs.SmallestLetters.{message_letter}
+use Rattle.dm_words.proofs.SmallestContents.{message_content}
 use Rattle.dm_words.proofs.SmallestSymbols.{is_smallest, none_spells, padded_spells}
 use Rattle.dm_words.proofs.smallest.smallest_items_to.Goals as goal
 
@@ -32,22 +32,22 @@ returns-in-Some-clause-smallest c =
       smallest = is_smallest extent c.args.choice m c.least_way-found.result.way.cost c.in-Some.size
           c.pad_to.new.words.items c.least_way-found.ensures.least (size.size, size.chosen) size.smallest size.narrowest
           long (padded_spells extent c.pad_to.new.words.items m spells)
-          (subst (λ (l : List ℕ). IsPlainForm l (as_letter m)) (sym is) c.write_plainest.ensures.form);
+          (subst (λ (l : List ℕ). IsPlainForm l (as_content m)) (sym is) c.write_plainest.ensures.form);
       plainest = subst (λ (l : List ℕ). IsPlainest l m) (sym is) c.write_plainest.ensures.plainest;
       padded = spells;
       too_long = λ err size other taken sized framed says. absurd (cc);
     }
 
-pub returns-in-None-clause-letter : goal.returns-in-None-clause-letter
-returns-in-None-clause-letter c =
-    message_letter c.args.extent c.args.choice c.args.items.now _ c.args.words.now.items
+pub returns-in-None-clause-content : goal.returns-in-None-clause-content
+returns-in-None-clause-content c =
+    message_content c.args.extent c.args.choice c.args.items.now _ c.args.words.now.items
     (omega (arith, c.requires.few)) (returns-in-None-clause-smallest c)
     (c.least_way-found.result.way.cost, c.least_way-found.ensures.least, c.in-None.ensures.none)
 
-pub returns-in-Some-clause-letter : goal.returns-in-Some-clause-letter
-returns-in-Some-clause-letter c =
+pub returns-in-Some-clause-content : goal.returns-in-Some-clause-content
+returns-in-Some-clause-content c =
     let size = c.in-Some.ensures in
-    message_letter c.args.extent c.args.choice c.args.items.now _ c.pad_to.new.words.items
+    message_content c.args.extent c.args.choice c.args.items.now _ c.pad_to.new.words.items
     (omega (arith, c.requires.few)) (returns-in-Some-clause-smallest c) (
       c.least_way-found.result.way.cost,
       c.least_way-found.ensures.least,

@@ -4,7 +4,7 @@ use Rattle.dm_words.specs.Smallest.{SpellsThenPads}
 use Rattle.dm_words.proofs.LawLemmas.{ascii_padded}
 use Rattle.dm_words.proofs.SmallestSymbols.{ascii_plainest, usual_plainest}
 use Rattle.std.proofs.lemmas.List.Elements.{recursion_from_All}
-use Rattle.dm_words.specs.LetterExtents.{as_letter}
+use Rattle.dm_words.specs.ContentExtents.{as_content}
 use Rattle.dm_words.specs.Messages.{IsItem}
 use Rattle.dm_words.specs.Plain.{IsPlainForm}
 use Rattle.dm_words.proofs.PlainForms.{ascii_plain, message_writable}
@@ -30,8 +30,8 @@ returns-else-not-is_usual-clause-plainest g c =
 
 pub returns-then-found-count-clause-form : goal.returns-then-found-count-clause-form
 returns-then-found-count-clause-form g c =
-    subst (λ (l : List ℕ). IsPlainForm (padded l c.args.count) (as_letter c.args.items.now))
+    subst (λ (l : List ℕ). IsPlainForm (padded l c.args.count) (as_content c.args.items.now))
     (sym c.write_ascii-form.ensures.words)
-    (ascii_plain (as_letter c.args.items.now) c.args.count
+    (ascii_plain (as_content c.args.items.now) c.args.count
     (message_writable c.args.items.now (recursion_from_All IsItem c.args.items.now c.requires.message))
     (omega (arith, c.requires.ascii, c.if-found-count.true)))

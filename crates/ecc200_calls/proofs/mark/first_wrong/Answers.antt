@@ -1,6 +1,6 @@
 use Rattle.std.proofs.Common.{refl, arith}
 use Rattle.ecc200_calls.specs.declared.mark.MarkNumbers.{MarkNumbers}
-use Rattle.ecc200_calls.proofs.LetterNumbers.{all_right, first_is_wrong, one_more_right}
+use Rattle.ecc200_calls.proofs.ContentNumbers.{all_right, first_is_wrong, one_more_right}
 use Rattle.ecc200_calls.proofs.mark.first_wrong.Goals.{then-place-least-via-then-place-least}
 use Rattle.ecc200_calls.proofs.mark.first_wrong.Goals.{then-place-least-via-else-place-least+then-place-count}
 use Rattle.ecc200_calls.proofs.mark.first_wrong.Goals.{

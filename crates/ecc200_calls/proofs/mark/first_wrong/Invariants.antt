@@ -1,5 +1,5 @@
 use Rattle.std.proofs.Common.{◌≤◌}
-use Rattle.ecc200_calls.proofs.LetterNumbers.{AreInOrder}
+use Rattle.ecc200_calls.proofs.ContentNumbers.{AreInOrder}
 use Rattle.ecc200_calls.proofs.mark.first_wrong.Given as goal
 
 abbrev pub invariant-loop-i : goal.invariant-loop-i

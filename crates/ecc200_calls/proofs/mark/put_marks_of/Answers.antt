@@ -1,5 +1,5 @@
 use Rattle.std.proofs.Common.{arith}
-use Rattle.ecc200_calls.proofs.LetterNumbers.{next_within}
+use Rattle.ecc200_calls.proofs.ContentNumbers.{next_within}
 use Rattle.ecc200_calls.proofs.mark.put_marks_of.Goals as goal
 
 pub overflow_cast-all : goal.overflow_cast-all

@@ -1,5 +1,5 @@
 use Rattle.std.proofs.Common.{Err, rules, refl, ◌∙◌, ap}
-use Rattle.dm_symbol.specs.declared.LetterNormalFault.TheVariants as of_letter
+use Rattle.dm_symbol.specs.declared.ContentNormalFault.TheVariants as of_content
 use Rattle.dm_symbol.specs.NormalOutcomes.{IsNormalOrFault}
 use Rattle.ecc200_calls.specs.Symbols.{no_symbol}
 use Rattle.ecc200_calls.proofs.OfGiven.{given_too}
@@ -29,8 +29,8 @@ returns-in-Err g c =
       limit = r.limit;
       limit_is = r.limit_is;
       given = record {
-        result = Err (of_letter.Read c.in-Err.why);
+        result = Err (of_content.Read c.in-Err.why);
         result_is = IsNormalOrFault.fault c.in-Err.why r.restored_or refl;
-        shown = c.show_fault.ensures ∙ ap (λ why. no_symbol why a.out.now) c.read_letter_fault.ensures;
+        shown = c.show_fault.ensures ∙ ap (λ why. no_symbol why a.out.now) c.read_content_fault.ensures;
       };
     }) c.in-Err.ensures.restored

@@ -31,6 +31,6 @@ returns-in-Err g c =
       given = record {
         result = Err c.in-Err.why;
         result_is = r.restored_or;
-        shown = c.show_fault.ensures ∙ ap (λ why. no_reading why a.out.now) c.read_letter_fault.ensures;
+        shown = c.show_fault.ensures ∙ ap (λ why. no_reading why a.out.now) c.read_content_fault.ensures;
       };
     }) c.in-Err.ensures.restored

@@ -1,8 +1,8 @@
 use Rattle.std.proofs.Common.{◌≡◌, ◌≤◌, Err, refl, subst}
 use Rattle.std.specs.Prelude.{option_map}
-use Rattle.dm_symbol.specs.declared.LetterReadFault.TheVariants.{Block}
+use Rattle.dm_symbol.specs.declared.ContentReadFault.TheVariants.{Block}
 use Rattle.dm_symbol.specs.Doubt.{sure_fault_count}
-use Rattle.dm_symbol.specs.LetterReading.{LetterReadResult}
+use Rattle.dm_symbol.specs.ContentReading.{ContentReadResult}
 use Rattle.ecc200_calls.specs.Scans.{IsSureLimit, usual_limit}
 use Rattle.ecc200_calls.proofs.Limits.{few_of_fault, sure_for}
 use Rattle.ecc200_calls.proofs.restoring.restore_surely.Goals as goal
@@ -16,7 +16,7 @@ returns-in-Err-Border-clause-restored g c =
     sure_for a.extent a.symbol.now doubt usual c.in-Err-Border.count done.result done.new.words done.new.restored
     (rw (c.usual_limit-usual.ensures.value, c.rows.ensures.value, c.columns.ensures.value, c.size-size.ensures.value)
     refl)
-    (subst (λ why. LetterReadResult a.extent a.symbol.now doubt usual (Err why)) c.in-Err-Border.field-0-is
+    (subst (λ why. ContentReadResult a.extent a.symbol.now doubt usual (Err why)) c.in-Err-Border.field-0-is
     c.in-Err-Border.ensures.restored)
     done.ensures.sure done.ensures.restored done.ensures.unsure
 
@@ -29,7 +29,7 @@ returns-in-Err-Block-clause-restored g c =
     let is : usual ≡ usual_limit size.rows size.columns =
     rw (c.usual_limit-usual.ensures.value, c.rows.ensures.value, c.columns.ensures.value, c.size-size.ensures.value)
     refl in
-    let lost = subst (λ why. LetterReadResult a.extent a.symbol.now doubt usual (Err why)) c.in-Err-Block.field-0-is
+    let lost = subst (λ why. ContentReadResult a.extent a.symbol.now doubt usual (Err why)) c.in-Err-Block.field-0-is
     c.in-Err-Block.ensures.restored in
     record {
       limit = usual;

@@ -1,0 +1,129 @@
+-- The results of reading a symbol of any size as a content, from the restored codewords; and what a
+-- result says.
+use Rattle.std.proofs.Common.{◌≡◌, ◌↔◌, ℕ, ◌<◌, List, Option, Result, Ok, Err, refl, sym, ap, subst, ◌∙◌}
+use Rattle.dm_words.specs.declared.extent.Extent.{Extent}
+use Rattle.dm_words.specs.declared.contents.fault.ContentFault.{ContentFault}
+use Rattle.dm_words.specs.Contents.{ContentView}
+use Rattle.dm_words.specs.Contents.{Says, IsRefused}
+use Rattle.dm_layout.specs.symbols.Symbols.{SymbolView}
+use Rattle.dm_layout.specs.symbols.Words.{WordsView, data_of}
+use Rattle.dm_symbol.specs.declared.contents.ContentReadFault.{ContentReadFault}
+use Rattle.dm_symbol.specs.declared.contents.ContentReadFault.TheVariants as fault
+use Rattle.dm_symbol.specs.declared.symbol.reading.BlockReading.{BlockReading}
+use Rattle.dm_symbol.specs.declared.symbol.dealing.Dealing.{Dealing}
+use Rattle.dm_symbol.specs.Doubt.{sure_fault_count}
+use Rattle.dm_symbol.specs.SymbolBlocks.{first_data}
+use Rattle.dm_symbol.specs.SymbolReading.{readings_by}
+use Rattle.dm_symbol.specs.ContentReading.{ContentReadingView, ContentReadResult, IsContentRead, ReadsContent}
+use Rattle.dm_words.specs.Symbology.{IsIdentifier}
+use Rattle.dm_symbol.specs.ContentReading.{content_reading_of}
+use Rattle.dm_symbol.proofs.ContentReadings.{one_content_result, content_by_result, reads_content_by_result}
+use Rattle.dm_symbol.specs.declared.symbol.reading.Lost.TheVariants.{Border, Block}
+use Rattle.dm_symbol.specs.Restored.{IsRestored}
+use Rattle.dm_symbol.specs.inner.Restoring.{IsLost}
+use Rattle.dm_symbol.proofs.Restoring.{restored_data}
+
+-- Equal faults of the border have equal numbers of modules.
+same_border : (a b : ℕ)
+    → ◌≡◌ {A = Result ContentReadingView ContentReadFault} (Err (fault.Border a)) (Err (fault.Border b)) → a ≡ b
+same_border a b e = cc
+
+-- The fault of a block isn't one of the border.
+block_no_border : (n b : ℕ)
+    → ◌≡◌ {A = Result ContentReadingView ContentReadFault} (Err (fault.Block b)) (Err (fault.Border n)) → ⊥
+block_no_border n b e = cc
+
+-- The fault of data codewords isn't one of the border.
+words_no_border : (n : ℕ) (why : ContentFault)
+    → ◌≡◌ {A = Result ContentReadingView ContentReadFault} (Err (fault.Words why)) (Err (fault.Border n)) → ⊥
+words_no_border n why e = cc
+
+-- A reading isn't a fault of the border.
+content_no_border : (n : ℕ) (r : ContentReadingView)
+    → ◌≡◌ {A = Result ContentReadingView ContentReadFault} (Ok r) (Err (fault.Border n)) → ⊥
+content_no_border n r e = cc
+
+module _ (extent : Extent) (modules : SymbolView) (doubtful : Option SymbolView) (limit : ℕ) where
+  -- The surely wrong modules of the borders.
+  abbrev faults : ℕ
+  faults = sure_fault_count modules doubtful
+
+  -- More sure faults than the limit are a right result.
+  pub content_border_result : (count : ℕ) → IsLost extent modules doubtful limit (Border count)
+      → ContentReadResult extent modules doubtful limit (Err (fault.Border count))
+  content_border_result count lost = ContentReadResult.border lost.0 (ap (λ n. Err (fault.Border n)) lost.1)
+
+  -- Where a block can't be restored, the first such block is a right result.
+  pub content_lost_result : (b : ℕ) → IsLost extent modules doubtful limit (Block b)
+      → ContentReadResult extent modules doubtful limit (Err (fault.Block b))
+  content_lost_result b (few, held, lost) = ContentReadResult.block held b few lost refl
+
+  module _ (w : WordsView) (dealing : Dealing) (blocks : List BlockReading) (count : ℕ)
+      (r : IsRestored extent modules doubtful limit w dealing blocks count) where
+    -- The data codewords are those of the restored codewords.
+    data_words : data_of w ≡ first_data modules.size w.list
+    data_words = restored_data extent modules doubtful limit w dealing blocks count r
+
+    -- Where the data codewords are refused, their fault is a right result.
+    pub refused_content_result : (why : ContentFault) → IsRefused extent (data_of w) why
+        → ContentReadResult extent modules doubtful limit (Err (fault.Words why))
+    refused_content_result why refused =
+        ContentReadResult.words dealing r.held w.list why r.few r.restored
+        (subst (λ words. IsRefused extent words why) data_words refused) refl
+
+    -- Where the data codewords say a content, the symbol is read as it.
+    pub restored_reads : (content : ContentView) → Says extent (data_of w) content
+        → ReadsContent extent modules doubtful limit content
+    restored_reads content says = record {
+      border = r.few;
+      dealing = dealing;
+      words = r.held;
+      codewords = w.list;
+      restored = r.restored;
+      said = subst (λ words. Says extent words content) data_words says;
+    }
+
+    -- Where the data codewords say a content, the reading is a right result.
+    pub said_content_result : (content : ContentView) (identifier : ℕ) → Says extent (data_of w) content
+        → IsIdentifier (data_of w) content identifier
+        → ContentReadResult extent modules doubtful limit
+        (Ok (content_reading_of content identifier dealing blocks count))
+    said_content_result content identifier says number =
+        ContentReadResult.content dealing r.held w.list content identifier r.few r.restored
+        (subst (λ words. Says extent words content) data_words says)
+        (subst (λ words. IsIdentifier words content identifier) data_words number)
+        (ap (λ xs. Ok (content_reading_of content identifier dealing xs count)) r.readings
+        ∙ ap (λ n. Ok (content_reading_of content identifier dealing
+        (readings_by dealing modules.size doubtful r.held w.list) n)) r.faults_are)
+
+  -- A result is a fault of the border exactly where there are more sure faults than the limit, and tells their number.
+  says_border : (result : Result ContentReadingView ContentReadFault)
+      → ContentReadResult extent modules doubtful limit result → (count : ℕ)
+      → (result ≡ Err (fault.Border count)) ↔ ((limit < faults) × (count ≡ faults))
+  says_border result a count = (
+    λ e. told result a e,
+    λ p. one_content_result modules doubtful extent limit result (Err (fault.Border count)) a
+        (content_border_result count p),
+  )
+    where
+      told : (result : Result ContentReadingView ContentReadFault) → ContentReadResult extent modules doubtful limit
+          result
+          → result ≡ Err (fault.Border count) → (limit < faults) × (count ≡ faults)
+      told result (ContentReadResult.border more e) f = (more, same_border count faults (sym f ∙ e))
+      told result (ContentReadResult.block u b few lost e) f = absurd (block_no_border count b (sym e ∙ f))
+      told result (ContentReadResult.words d u c why few hu refused e) f = absurd
+          (words_no_border count why (sym e ∙ f))
+      told result (ContentReadResult.content d u c x n few hu said is e) f = absurd
+          (content_no_border count _ (sym e ∙ f))
+
+  -- The result defined for a symbol is what reading it gives.
+  pub is_content_read : (result : Result ContentReadingView ContentReadFault)
+      → ContentReadResult extent modules doubtful limit result → IsContentRead extent modules doubtful limit result
+  is_content_read result a = record {
+    result_is = a;
+    content = λ x. (
+      reads_content_by_result modules doubtful extent limit result x a,
+      content_by_result modules doubtful extent limit result x a,
+    );
+    border = says_border result a;
+  }

@@ -1,0 +1,88 @@
+use Rattle.std.proofs.Common.{Err, Ok, refl, rules, subst}
+use Rattle.std.specs.Prelude.{option_map}
+use Rattle.std.proofs.lemmas.Bool.{false≢true}
+use Rattle.dm_words.specs.Contents.{ContentView}
+use Rattle.dm_layout.specs.declared.symbols.size.SizeChoice.TheVariants.{Square}
+use Rattle.dm_layout.proofs.symbols.Exported.{size_facts}
+use Rattle.dm_symbol.specs.NormalContent.{IsContentWritten}
+use Rattle.dm_symbol.proofs.ChosenWords.{content_is}
+use Rattle.dm_symbol.specs.NormalOutcomes.{IsNormalOrFault}
+use Rattle.dm_symbol.proofs.NormalContents.{is_content_normalised}
+use Rattle.dm_symbol.proofs.contents.normalising.normal_content_to.Goals as goal
+
+pub returns-in-Err : goal.returns-in-Err
+returns-in-Err g c =
+    let how = c.args.how in
+    let doubt = option_map (λ d. d.now) how.doubtful in
+    record {
+      normal =
+          is_content_normalised how.extent c.args.profile c.args.symbol.now doubt how.border_limit _
+          (IsNormalOrFault.fault c.in-Err.fault c.in-Err.ensures.read.result_is refl);
+      reading_is = tt;
+      reading_of_long = λ e. cc;
+      same = refl;
+    }
+
+pub returns-in-Ok-write_content_to : goal.returns-in-Ok-write_content_to
+returns-in-Ok-write_content_to g c =
+    let how = c.args.how in
+    let doubt = option_map (λ d. d.now) how.doubtful in
+    let content = c.read_content_to.new.reading.content in
+    let same = content_is content c.head.result c.items-items.result.now c.marks-marks.result.now c.head.ensures.value
+    c.items-items.ensures.value c.marks-marks.ensures.value in
+    record {
+      normal =
+          is_content_normalised how.extent c.args.profile c.args.symbol.now doubt how.border_limit _
+          (IsNormalOrFault.normal c.write_content_to.new.symbol
+          (record {
+            content = content;
+            read = (c.in-Ok.ensures.read.content content).0 refl;
+            normal_symbol = (subst (λ (l : ContentView). IsContentWritten Square c.args.profile l
+                (Ok c.write_content_to.new.symbol)) same c.in-Ok-write_content_to.ensures.written).written;
+          }) refl);
+      reading_is = c.in-Ok.ensures.read.result_is;
+      reading_of_long = λ e. cc;
+      same = tt;
+    }
+
+pub returns-in-Err-write_content_to : goal.returns-in-Err-write_content_to
+returns-in-Err-write_content_to g c =
+    let how = c.args.how in
+    let doubt = option_map (λ d. d.now) how.doubtful in
+    let content = c.read_content_to.new.reading.content in
+    let same = content_is content c.head.result c.items-items.result.now c.marks-marks.result.now c.head.ensures.value
+    c.items-items.ensures.value c.marks-marks.ensures.value in
+    record {
+      normal =
+          is_content_normalised how.extent c.args.profile c.args.symbol.now doubt how.border_limit _
+          (IsNormalOrFault.too_long
+          (record {
+            content = content;
+            read = (c.in-Ok.ensures.read.content content).0 refl;
+            too_long = λ fits. false≢true ((subst
+                (λ (l : ContentView). IsContentWritten Square c.args.profile l (Err _))
+                same c.in-Err-write_content_to.ensures.written).fits.1 fits);
+          }) refl);
+      reading_is = tt;
+      reading_of_long = λ e. c.in-Ok.ensures.read.result_is;
+      same = c.in-Err-write_content_to.ensures.same;
+    }
+
+pub read_content_to-requires : goal.read_content_to-requires
+read_content_to-requires g c =
+    let facts = size_facts c.args.symbol.now.size c.size-size.ensures.modules.size in (
+      search rules,
+      (
+        search rules,
+        (
+          search rules,
+          (
+            search rules,
+            (
+              c.requires.doubtful,
+              (facts.codewords, (c.requires.items, (c.requires.room, c.requires.marks))),
+            ),
+          ),
+        ),
+      ),
+    )

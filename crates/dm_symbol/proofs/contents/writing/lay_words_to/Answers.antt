@@ -1,0 +1,19 @@
+use Rattle.std.proofs.Common.{ap, arith, rules}
+use Rattle.dm_layout.specs.symbols.Sizes.{SizeEntry}
+use Rattle.dm_symbol.proofs.ChosenWords.{chosen_written}
+use Rattle.dm_symbol.proofs.contents.writing.lay_words_to.Goals as goal
+
+pub lay_to-requires : goal.lay_to-requires
+lay_to-requires g c =
+    let same = ap (λ (s : SizeEntry). s.rows) c.complete_with.ensures.size in
+    (search rules, (search rules, omega (arith, c.requires.high, same)))
+
+pub returns : goal.returns
+returns g c = λ form choice content chosen.
+    chosen_written form choice content c.args.size c.args.list.now c.lay_to.new.symbol c.complete_with.new.words chosen
+    c.complete_with.ensures.size c.complete_with.ensures.data_words c.complete_with.ensures.checked
+    (record {
+      holds = c.lay_to.ensures.holds;
+      border = c.lay_to.ensures.border;
+      fixed_square = c.lay_to.ensures.fixed_square;
+    })

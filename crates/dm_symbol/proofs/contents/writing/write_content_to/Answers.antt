@@ -1,0 +1,35 @@
+use Rattle.std.proofs.Common.{List, ℕ, arith, ap, length, rules, subst, sym, ◌∙◌}
+use Rattle.dm_words.specs.Contents.{ContentView}
+use Rattle.dm_layout.proofs.symbols.Exported.{size_facts}
+use Rattle.dm_symbol.specs.WrittenContent.{AreChosen}
+use Rattle.dm_symbol.proofs.PlainSymbols.{form_written_is_plain}
+use Rattle.dm_symbol.proofs.contents.writing.write_content_to.Goals as goal
+
+pub lay_words_to-requires : goal.lay_words_to-requires
+lay_words_to-requires c =
+    let facts = size_facts c.in-Ok.size c.in-Ok.ensures.size in (
+      search rules,
+      (
+        search rules,
+        (
+          ap length c.deref.ensures.0 ∙ c.in-Ok.ensures.count,
+          (omega (arith, facts.codewords), omega (arith, facts.rows_fit)),
+        ),
+      ),
+    )
+
+pub returns-in-Ok-clause-written : goal.returns-in-Ok-clause-written
+returns-in-Ok-clause-written c =
+    let a = c.args in
+    let l : ContentView = record { head = a.head; items = a.items.now; marks = a.marks.now } in
+    c.lay_words_to.ensures a.how.form a.how.size l
+    (subst (λ (ws : List ℕ). AreChosen a.how.form a.how.size l c.in-Ok.size ws) (sym c.deref.ensures.0)
+    c.in-Ok.ensures.chosen)
+
+pub returns-in-Ok-clause-plain : goal.returns-in-Ok-clause-plain
+returns-in-Ok-clause-plain c = λ fit.
+    let a = c.args in
+    let l : ContentView = record { head = a.head; items = a.items.now; marks = a.marks.now } in
+    form_written_is_plain a.how.form a.how.size l _
+    (record { head = c.requires.head; items = fit; marks = c.requires.in_order })
+    (returns-in-Ok-clause-written c)

@@ -1,0 +1,117 @@
+//! Reading a symbol of any size as a content.
+
+ghost use Rattle.std.specs.Prelude.{◌≡◌, ◌≤◌, ◌*◌, ℕ, List, OnOk, IfErr, IfSome, option_map, Err};
+ghost use Rattle.dm_layout.specs.symbols.Sizes.{codeword_count};
+ghost use Rattle.dm_words.specs.Messages.{most_spelled};
+ghost use Rattle.dm_words.specs.Outcomes.{outcome};
+ghost use Rattle.dm_words.specs.declared.contents.fault.ContentFault.{ContentFault};
+ghost use Rattle.dm_symbol.specs.SymbolReading.{AreRestored};
+ghost use Rattle.dm_symbol.specs.ContentReading.{IsContentRead, ContentReadResult, content_reading_in};
+ghost use Rattle.dm_symbol.specs.Restored.{IsRestored};
+
+use crate::contents::{ContentReadFault, ContentReadingIn};
+use crate::symbol::dealing::Dealing;
+use crate::symbol::reading::{BlockReading, Lost, ReadOptions, restore_to};
+use arrayvec::ArrayVec;
+use dm_layout::symbols::{MOST_BLOCKS, SymbolIn, SymbolWordsIn};
+use dm_words::{LARGEST_ROOM, content_to_as, symbology_number};
+
+/// Restores the codewords of a symbol, the first steps of [`read_content_to()`], whatever they say: after `Ok`, `words`
+/// are these, `dealing` is the one by which they are restored, `blocks` says what became of each block, and `faults` is
+/// the number of wrong modules of the borders. The fault is `Border` or `Block`, as there; after `Border` these three
+/// are as they were. So what the codewords say can be read in room that is chosen by them.
+pub fn restore_symbol_to<const ROWS: usize, const WORDS: usize>(
+    symbol: &SymbolIn<ROWS>,
+    how: ReadOptions<ROWS>,
+    words: &mut SymbolWordsIn<WORDS>,
+    dealing: &mut Dealing,
+    blocks: &mut ArrayVec<BlockReading, MOST_BLOCKS>,
+    faults: &mut u16,
+) -> Result<(), ContentReadFault>
+    requires doubtful { IfSome how.doubtful (λ doubtful. doubtful.now.size ≡ symbol.now.size) }
+    requires codewords { codeword_count symbol.now.size ≤ WORDS }
+    ensures restored { OnOk result (IsRestored how.entry.extent symbol.now
+        (option_map (λ d. d.now) how.entry.doubtful) how.entry.border_limit words.new dealing.new
+        blocks.new.items faults.new) }
+    ensures lost { IfErr result (λ why. ContentReadResult how.entry.extent symbol.now
+        (option_map (λ d. d.now) how.entry.doubtful) how.entry.border_limit (Err why)) }
+    ensures unsaid { (why : ContentFault) → result ≡ Err (ContentReadFault.Words why) → ⊥ }
+    ensures same { (count : ℕ) → result ≡ Err (ContentReadFault.Border count)
+        → (dealing.new ≡ dealing.old) × (blocks.new ≡ blocks.old) × (faults.new ≡ faults.old) }
+{
+    match restore_to(symbol, how, words, dealing, blocks, faults) {
+        Ok(()) => Ok(()),
+        Err(Lost::Border(count)) => Err(ContentReadFault::Border(count)),
+        Err(Lost::Block(index)) => Err(ContentReadFault::Block(index)),
+    }
+}
+
+/// Reads a symbol of any size as a content, which is a head or none, items and marks (ISO/IEC 16022, decode algorithm,
+/// ECI encodation, structured append, reader programming): refuses it if more modules of its borders than
+/// `how.border_limit` have the wrong colour and aren't doubtful; restores the blocks in order; and reads the restored
+/// data codewords as the content that they say in the extent. The first of these steps that fails gives the fault:
+/// `Border` with the number of such modules, `Block` with the first block that is beyond correction, `Words`. At
+/// [`Extent::Usual`](crate::Extent::Usual) the content has no head and no marks. What is read there is read at
+/// [`Extent::Wide`](crate::Extent::Wide) as the same.
+///
+/// A block with k check codewords is restored where twice the number of its wrong codewords, and the number of its
+/// erased ones, of which a module is doubtful, are together at most k. Where no module is doubtful, that is up to half
+/// of its check codewords, rounded down. At `Wide` a symbol of 144 x 144 of which a block is lost is restored as some
+/// encoders deal its check codewords into blocks, where all blocks can be:
+/// [`dealing`](ContentReadingIn::dealing) then is [`Dealing::Restarted`]. The fixed square isn't looked at, nor is what
+/// follows the first pad. The symbol is taken to be upright. One with more damage may be near the codewords of another
+/// content, and is then read as that content. Where a block has erased codewords and its [`left`](BlockReading::left)
+/// is 0, that is likely.
+///
+/// After `Ok`, `reading` holds what the symbol says, whatever it held before, and the number of the symbology
+/// identifier of its codewords. After `Border` it is as it was, and after another fault it holds some reading. `words`
+/// is room for the codewords, whatever they were before; after `Ok` it holds them as they were restored.
+///
+/// Doubtful modules, where there are any, are a symbol of the same size. The rooms are for what a symbol of this size
+/// has: all its codewords, the items that its data codewords can spell in the extent, two for each and at `Wide` seven
+/// more, and a mark for each two codewords. Small rooms are made faster than those that serve every symbol.
+pub fn read_content_to<
+    const ROWS: usize,
+    const WORDS: usize,
+    const ITEMS: usize,
+    const MARKS: usize,
+>(
+    symbol: &SymbolIn<ROWS>,
+    how: ReadOptions<ROWS>,
+    words: &mut SymbolWordsIn<WORDS>,
+    reading: &mut ContentReadingIn<ITEMS, MARKS>,
+) -> Result<(), ContentReadFault>
+    requires doubtful { IfSome how.doubtful (λ doubtful. doubtful.now.size ≡ symbol.now.size) }
+    requires codewords { codeword_count symbol.now.size ≤ WORDS }
+    requires items { most_spelled how.extent symbol.now.size.data_count ≤ ITEMS }
+    requires most { ITEMS ≤ LARGEST_ROOM }
+    requires marks { symbol.now.size.data_count ≤ 2 * MARKS }
+    ensures read { IsContentRead how.entry.extent symbol.now
+        (option_map (λ d. d.now) how.entry.doubtful) how.entry.border_limit
+        (outcome result (content_reading_in reading.new)) }
+    ensures same { (count : ℕ) → result ≡ Err (ContentReadFault.Border count)
+        → reading.new ≡ reading.old }
+    ensures restored { OnOk result ((held : List ℕ) × AreRestored how.entry.extent symbol.now
+        (option_map (λ d. d.now) how.entry.doubtful) reading.new.dealing held words.new.list) }
+    ensures size { OnOk result (words.new.size ≡ symbol.now.size) }
+{
+    match restore_symbol_to(
+        symbol,
+        how,
+        words,
+        &mut reading.dealing,
+        &mut reading.blocks,
+        &mut reading.border_faults,
+    ) {
+        Ok(()) => {}
+        Err(fault) => return Err(fault),
+    }
+    let list = words.data_part();
+    match content_to_as(how.extent, list, &mut reading.content) {
+        Ok(()) => {
+            reading.identifier = symbology_number(list, &reading.content);
+            Ok(())
+        }
+        Err(fault) => Err(ContentReadFault::Words(fault)),
+    }
+}

@@ -1,0 +1,60 @@
+-- How many items and marks the codewords of a content hold.
+use Rattle.std.proofs.Common.{◌≡◌, ℕ, ◌+◌, ◌-◌, ◌*◌, ◌≤◌, Bool, true, false, if◌then◌else◌, nat_lt, List}
+use Rattle.std.proofs.Common.{[], ◌∷◌, ◌++◌, length, take, drop, Option, Some, None, sym, ◌∙◌, ap, arith, length-append}
+use Rattle.std.proofs.lemmas.List.{take-append-drop}
+use Rattle.dm_words.specs.declared.item.Item.{Item}
+use Rattle.dm_words.specs.declared.contents.head.Head.{Head}
+use Rattle.dm_words.specs.declared.contents.mark.Mark.{Mark}
+use Rattle.dm_words.specs.declared.profile.Profile.{Profile}
+use Rattle.dm_words.specs.Ascii.{ascii}
+use Rattle.dm_words.specs.Designators.{designator}
+use Rattle.dm_words.specs.Heads.{head_words}
+use Rattle.dm_words.specs.Contents.{ContentView}
+use Rattle.dm_words.specs.ContentForm.{mark_words, ascii_with_marks, form_by, content_form}
+use Rattle.dm_words.proofs.NormalForms.{normal_form_items, two_items}
+
+-- A list that is chosen from two has a codeword where both have.
+chosen_some : (b : Bool) (xs ys : List ℕ) → 1 ≤ length xs → 1 ≤ length ys → 1 ≤ length (if b then xs else ys)
+chosen_some true xs ys hx hy = hx
+chosen_some false xs ys hx hy = hy
+
+-- A designator has a codeword.
+designator_some : (number : ℕ) → 1 ≤ length (designator number)
+designator_some number =
+    chosen_some (nat_lt number 127) _ _ (omega arith)
+    (chosen_some (nat_lt number 16383) _ _ (omega arith) (omega arith))
+
+-- Items with marks have at least one codeword for each two items, and two for each mark.
+marked_counts : (before : ℕ) (items : List Item) (marks : List Mark)
+    → length items + 4 * length marks ≤ 2 * length (ascii_with_marks before items marks)
+marked_counts before items [] = omega (arith, two_items items)
+marked_counts before items (mark ∷ marks) =
+    let n = mark.place - before in
+    let whole : length items ≡ length (take n items) + length (drop n items) =
+    sym (ap (λ (xs : List Item). length xs) (take-append-drop n items)) ∙ length-append (take n items) (drop n items) in
+    omega (
+      arith,
+      whole,
+      two_items (take n items),
+      designator_some mark.number,
+      marked_counts mark.place (drop n items) marks,
+      length-append (ascii (take n items))
+          (mark_words mark ++ ascii_with_marks mark.place (drop n items) marks),
+      length-append (mark_words mark) (ascii_with_marks mark.place (drop n items) marks),
+    )
+
+-- The normal form of a content has at least one codeword for each two items, and two for each mark.
+pub content_form_counts : (profile : Profile) (l : ContentView)
+    → length l.items + 4 * length l.marks ≤ 2 * length (content_form profile l)
+content_form_counts profile l = by l.head l.items l.marks where
+  by : (head : Option Head) (items : List Item) (marks : List Mark)
+      → length items + 4 * length marks ≤ 2 * length (form_by profile head items marks)
+  by None items [] = omega (arith, normal_form_items profile items)
+  by None items (mark ∷ marks) = marked_counts 0 items (mark ∷ marks)
+  by (Some head) items marks =
+      omega (
+        arith,
+        marked_counts 0 items marks,
+        length-append (head_words (Some head))
+            (ascii_with_marks 0 items marks),
+      )

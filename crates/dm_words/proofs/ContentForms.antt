@@ -1,0 +1,232 @@
+-- The normal form of a content says it.
+use Rattle.std.proofs.Common.{◌≡◌, ℕ, zero, suc, ◌+◌, ◌-◌, ◌≤◌, List, [], ◌∷◌, ◌++◌, length, take, drop, refl}
+use Rattle.std.proofs.Common.{sym, subst, ap, ◌∙◌, append_assoc, arith, length-append, Option, Some, None}
+use Rattle.std.specs.List.{AllByRecursion}
+use Rattle.std.proofs.lemmas.List.{append-nil, length-take, length-drop, take-append-drop}
+use Rattle.std.proofs.lemmas.List.Elements.{recursion_from_All}
+use Rattle.dm_words.specs.Messages.{most_data}
+use Rattle.dm_words.specs.declared.extent.Extent.TheVariants.{Wide}
+use Rattle.dm_words.specs.declared.item.Item.{Item}
+use Rattle.dm_words.specs.declared.contents.head.Head.{Head}
+use Rattle.dm_words.specs.declared.contents.mark.Mark.{Mark}
+use Rattle.dm_words.specs.declared.contents.opening.Opening.TheVariants.{Headed}
+use Rattle.dm_words.specs.declared.profile.Profile.{Profile}
+use Rattle.dm_words.specs.Messages.{IsItem, most_data}
+use Rattle.dm_words.specs.Ascii.{IsAsciiUnit, ascii}
+use Rattle.dm_words.specs.Joined.{Piece, spelled, gathered, whats, AreJoined}
+use Rattle.dm_words.specs.Pads.{pads, padded}
+use Rattle.dm_words.specs.Plain.{IsPlainSaid}
+use Rattle.dm_words.specs.Plain as plainly
+use Rattle.dm_words.specs.Designators.{designator}
+use Rattle.dm_words.specs.Heads.{IsHead, head_words}
+use Rattle.dm_words.specs.Contents.{ContentView, AreMarks, IsContent, Said, Items, Number, IsContentPart}
+use Rattle.dm_words.specs.Contents.{AreContentParts, said_items, said_marks, headed, Says}
+use Rattle.dm_words.specs.ContentForm.{mark_words, ascii_with_marks, form_by, content_form}
+use Rattle.dm_words.proofs.AsciiWords.{AreItems, units_of, pads_end}
+use Rattle.dm_words.proofs.Designators.{designator_says}
+use Rattle.dm_words.proofs.Heads.{head_says}
+use Rattle.dm_words.proofs.NormalForms.{normal_form_spells}
+use Rattle.dm_words.proofs.PadWords.{length-padded}
+use Rattle.dm_words.proofs.PlainParts.{plain_said}
+use Rattle.dm_words.proofs.SpelledContents.{plain_content}
+
+-- A piece is right wherever it stands.
+abbrev pub IsPlace : (ℕ → List ℕ → List ℕ → Said → Type 0) → Piece Said → Type 0
+IsPlace R p = (place : ℕ) (after : List ℕ) → R place p.words after p.what
+
+-- A plain part of a content is one wherever it stands.
+abbrev pub IsFree : Piece Said → Type 0
+IsFree = IsPlace IsPlainSaid
+
+-- Such parts are joined.
+pub free_joined : (R : ℕ → List ℕ → List ℕ → Said → Type 0) (place : ℕ) (ps : List (Piece Said)) (after : List ℕ)
+    → AllByRecursion (IsPlace R) ps → AreJoined R place ps after
+free_joined R place [] after h = tt
+free_joined R place (p ∷ ps) after h =
+    (h.0 place (spelled ps ++ after), free_joined R (place + length p.words) ps after h.1)
+
+-- What is plain is a part of a content.
+pub all_said : (ps : List (Piece Said)) → AllByRecursion IsFree ps → AllByRecursion (IsPlace (IsContentPart Wide)) ps
+all_said [] h = tt
+all_said (p ∷ ps) h = ((λ place after. plain_said place p.words after p.what (h.0 place after)), all_said ps h.1)
+
+-- Units of ASCII as parts of a content, before others.
+abbrev units_then : List (Piece (List Item)) → List (Piece Said) → List (Piece Said)
+units_then [] rest = rest
+units_then (u ∷ us) rest = record { words = u.words; what = Items u.what } ∷ units_then us rest
+
+-- They are parts wherever they stand.
+units_free : (us : List (Piece (List Item))) (rest : List (Piece Said))
+    → AllByRecursion (λ u. IsAsciiUnit u.words u.what) us → AllByRecursion IsFree rest
+    → AllByRecursion IsFree (units_then us rest)
+units_free [] rest each h = h
+units_free (u ∷ us) rest each h =
+    ((λ place after. plainly.part u.what (plainly.ascii each.0) refl), units_free us rest each.1 h)
+
+-- Their words.
+units_words : (us : List (Piece (List Item))) (rest : List (Piece Said)) → spelled (units_then us rest) ≡ spelled us
+    ++ spelled rest
+units_words [] rest = refl
+units_words (u ∷ us) rest = ap (λ (r : List ℕ). u.words ++ r) (units_words us rest)
+    ∙ sym (append_assoc u.words (spelled us) (spelled rest))
+
+-- Their items.
+units_items : (us : List (Piece (List Item))) (rest : List (Piece Said)) → said_items (whats (units_then us rest))
+    ≡ gathered us ++ said_items (whats rest)
+units_items [] rest = refl
+units_items (u ∷ us) rest = ap (λ (r : List Item). u.what ++ r) (units_items us rest)
+    ∙ sym (append_assoc u.what (gathered us) (said_items (whats rest)))
+
+-- The marks behind them.
+units_marks : (before : ℕ) (us : List (Piece (List Item))) (rest : List (Piece Said))
+    → said_marks before (whats (units_then us rest)) ≡ said_marks (before + length (gathered us)) (whats rest)
+units_marks before [] rest = (let e : before ≡ before + 0 = omega arith in ap (λ (n : ℕ). said_marks n (whats rest)) e)
+units_marks before (u ∷ us) rest =
+    let e : (before + length u.what) + length (gathered us) ≡ before + length (u.what ++ gathered us) =
+    omega (arith, length-append u.what (gathered us)) in
+    units_marks (before + length u.what) us rest ∙ ap (λ (n : ℕ). said_marks n (whats rest)) e
+
+-- Items with marks are what these parts say, whose words are these.
+pub record HasParts (before : ℕ) (items : List Item) (marks : List Mark) (words : List ℕ) : Type 0 where
+  pub parts : List (Piece Said)
+  pub free : AllByRecursion IsFree parts
+  pub whole : words ≡ spelled parts
+  pub items_are : said_items (whats parts) ≡ items
+  pub marks_are : said_marks before (whats parts) ≡ marks
+
+-- The first items are items, and so are the others.
+pub items_take : (n : ℕ) (items : List Item) → AreItems items → AreItems (take n items) × AreItems (drop n items)
+items_take zero items h = (tt, h)
+items_take (suc n) [] h = (tt, tt)
+items_take (suc n) (i ∷ items) h = (let r = items_take n items h.1 in ((h.0, r.0), r.1))
+
+-- Marks lie no further back than the last place.
+pub marks_within : (least most : ℕ) (marks : List Mark) → AreMarks least most marks → least ≤ most
+marks_within least most [] are = are
+marks_within least most (m ∷ marks) are = (let r = marks_within m.place most marks are.2 in omega (arith, are.0, r))
+
+-- A mark is its place and its number.
+same_mark : (m : Mark) (place : ℕ) → place ≡ m.place
+    → (let n : Mark = record { place = place; number = m.number } in n) ≡ m
+same_mark m place e = rw e refl
+
+-- The ASCII form of items is what units say.
+ascii_parts : (before : ℕ) (items : List Item) (rest : List (Piece Said)) (words : List ℕ) (marks : List Mark)
+    → AreItems items → AllByRecursion IsFree rest → words ≡ spelled rest
+    → said_marks (before + length items) (whats rest) ≡ marks
+    → HasParts before (items ++ said_items (whats rest)) marks (ascii items ++ words)
+ascii_parts before items rest words marks fit free whole are =
+    let u = units_of items fit in
+    record {
+      parts = units_then u.units rest;
+      free = units_free u.units rest u.each free;
+      whole = rw (whole, u.whole) (sym (units_words u.units rest));
+      items_are = units_items u.units rest ∙ ap (λ (r : List Item). r ++ said_items (whats rest)) (sym u.items);
+      marks_are = units_marks before u.units rest
+          ∙ ap (λ (r : List Item). said_marks (before + length r) (whats rest)) (sym u.items) ∙ are;
+    }
+
+-- Items with marks are what parts say, whose words are the items in ASCII from mark to mark, and the marks.
+pub parts_of : (before : ℕ) (items : List Item) (marks : List Mark) → AreItems items
+    → AreMarks before (before + length items) marks → HasParts before items marks (ascii_with_marks before items marks)
+parts_of before items [] fit are =
+    let h = ascii_parts before items [] [] [] fit tt refl refl in
+    subst (λ (i : List Item). HasParts before i [] (ascii items)) (append-nil items)
+    (subst (λ (w : List ℕ). HasParts before (items ++ []) [] w) (append-nil (ascii items)) h)
+parts_of before items (m ∷ marks) fit are =
+    let n = m.place - before in
+    let within = marks_within m.place (before + length items) marks are.2 in
+    let long : length (take n items) ≡ n = omega (arith, length-take n items, within, are.0) in
+    let there : before + length (take n items) ≡ m.place = omega (arith, long, are.0) in
+    let last : before + length items ≡ m.place + length (drop n items) =
+    omega (arith, length-drop n items, within, are.0) in
+    let fits = items_take n items fit in
+    let r = parts_of m.place (drop n items) marks fits.1 (subst (λ (k : ℕ). AreMarks m.place k marks) last are.2) in
+    let p : Piece Said = record { words = mark_words m; what = Number m.number } in
+    let free : IsFree p =
+    λ place after. plainly.mark (designator m.number) m.number (designator_says m.number are.1) refl refl in
+    let first = same_mark m (before + length (take n items)) there in
+    let marked : said_marks (before + length (take n items)) (whats (p ∷ r.parts)) ≡ m ∷ marks =
+    ap (λ (k : ℕ). (let q : Mark = record { place = k; number = m.number } in q) ∷ said_marks k (whats r.parts)) there
+    ∙ ap (λ (ms : List Mark). m ∷ ms) r.marks_are in
+    let h = ascii_parts before (take n items) (p ∷ r.parts) (mark_words m
+    ++ ascii_with_marks m.place (drop n items) marks) (m ∷ marks) fits.0 (free, r.free)
+    (ap (λ (w : List ℕ). mark_words m ++ w) r.whole) marked in
+    subst (λ (i : List Item). HasParts before i (m ∷ marks) (ascii_with_marks before items (m ∷ marks)))
+    (ap (λ (i : List Item). take n items ++ i) r.items_are ∙ take-append-drop n items) h
+
+-- Parts that say this, and pads behind them, from a place on.
+content_parts : (place first count : ℕ) (ps : List (Piece Said)) (words : List ℕ) → AllByRecursion IsFree ps → words
+    ≡ spelled ps → AreContentParts Wide place (words ++ pads first count) (whats ps)
+content_parts place first count ps words free whole = record {
+  parts = ps;
+  after = pads first count;
+  joined = free_joined (IsContentPart Wide) place ps (pads first count) (all_said ps free);
+  ended = pads_end first count;
+  whole = ap (λ (w : List ℕ). w ++ pads first count) whole;
+  said_are = refl;
+}
+
+-- A content with marks and without a head is said by its form.
+marked_says : (items : List Item) (marks : List Mark) (count : ℕ) → AreItems items → AreMarks 0 (length items) marks
+    → Says Wide (padded (ascii_with_marks 0 items marks) count)
+    (record { head = None; items = items; marks = marks })
+marked_says items marks count fit are =
+    let words = ascii_with_marks 0 items marks in
+    let whole : length items ≡ 0 + length items = omega arith in
+    let h = parts_of 0 items marks fit (subst (λ (k : ℕ). AreMarks 0 k marks) whole are) in
+    subst (λ (ms : List Mark). Says Wide (padded words count) (record { head = None; items = items; marks = ms }))
+    h.marks_are
+    (plain_content Wide (padded words count) (whats h.parts) items
+    (content_parts 1 (length words + 1) (count - length words) h.parts words h.free h.whole) h.items_are)
+
+-- A content with a head is said by its form.
+headed_says : (said : Head) (items : List Item) (marks : List Mark) (count : ℕ) → IsHead (Some said) → AreItems items
+    → AreMarks 0 (length items) marks
+    → Says Wide (padded (head_words (Some said) ++ ascii_with_marks 0 items marks) count)
+    (record { head = Some said; items = items; marks = marks })
+headed_says said items marks count right fit are =
+    let first = head_words (Some said) in
+    let words = ascii_with_marks 0 items marks in
+    let all = first ++ words in
+    let p = pads (length all + 1) (count - length all) in
+    let whole : length items ≡ 0 + length items = omega arith in
+    let h = parts_of 0 items marks fit (subst (λ (k : ℕ). AreMarks 0 k marks) whole are) in
+    record {
+      opening = Headed said;
+      place = 1 + length first;
+      more = words ++ p;
+      opened = record {
+        first = first;
+        is_opening = headed said refl (head_says said right) refl;
+        whole = append_assoc first words p;
+        place_is = refl;
+      };
+      said = whats h.parts;
+      parts = content_parts (1 + length first) (length all + 1) (count - length all) h.parts words h.free h.whole;
+      content_is = rw (h.items_are, h.marks_are, append-nil items) refl;
+    }
+
+-- The form of a content, with pads up to a count, says the content.
+form_says : (profile : Profile) (said : Option Head) (items : List Item) (marks : List Mark) (count : ℕ)
+    → IsContent (record { head = said; items = items; marks = marks })
+    → length (form_by profile said items marks) ≤ count → count ≤ most_data
+    → Says Wide (padded (form_by profile said items marks) count)
+    (record { head = said; items = items; marks = marks })
+form_says profile None items [] count right le most =
+    normal_form_spells Wide profile items count right.items le most
+form_says profile None items (m ∷ marks) count right le most =
+    marked_says items (m ∷ marks) count (recursion_from_All IsItem items right.items) right.marks
+form_says profile (Some said) items marks count right le most =
+    headed_says said items marks count right.head (recursion_from_All IsItem items right.items) right.marks
+
+-- The normal form of a content, with pads up to a count, says the content.
+pub content_form_says : (profile : Profile) (l : ContentView) (count : ℕ) → IsContent l
+    → length (content_form profile l) ≤ count → count ≤ most_data
+    → Says Wide (padded (content_form profile l) count) l
+content_form_says profile l count right le most = form_says profile l.head l.items l.marks count right le most
+
+-- With pads it has as many codewords as asked for.
+pub content_form_count : (profile : Profile) (l : ContentView) (count : ℕ) → length (content_form profile l) ≤ count
+    → length (padded (content_form profile l) count) ≡ count
+content_form_count profile l count le = length-padded (content_form profile l) count le

@@ -1,0 +1,110 @@
+-- What the calls that read a content leave.
+use Rattle.std.proofs.Common.{◌≡◌, ℕ, zero, suc, ◌+◌, ◌*◌, ◌≤◌, List, [], ◌∷◌, ◌++◌, length, refl, sym, ap}
+use Rattle.std.proofs.Common.{subst, ◌∙◌, arith, length-append, Option, Some, None, Result, Ok, Err}
+use Rattle.dm_words.specs.declared.extent.Extent.{Extent}
+use Rattle.dm_words.specs.declared.extent.Extent.TheVariants.{Wide}
+use Rattle.dm_words.specs.declared.item.Item.{Item}
+use Rattle.dm_words.specs.declared.contents.fault.ContentFault.{ContentFault}
+use Rattle.dm_words.specs.declared.contents.mark.Mark.{Mark}
+use Rattle.dm_words.specs.declared.contents.opening.Opened.{Opened}
+use Rattle.dm_words.specs.declared.contents.opening.Opening.{Opening}
+use Rattle.dm_words.specs.Messages.{most_spelled}
+use Rattle.dm_words.specs.Contents.{ContentView, IsOpening, headed, framed, plain, Says}
+use Rattle.dm_words.specs.Contents.{opening_items, closing_items}
+use Rattle.dm_words.specs.ContentResults.{IsContentResult}
+use Rattle.dm_words.specs.inner.ContentScan.{opened, opening_content, content_of}
+use Rattle.dm_words.specs.inner.ContentsAt.{IsContentAt}
+use Rattle.dm_words.proofs.Pairs.{IsBytes}
+use Rattle.dm_words.proofs.Openings as openings
+use Rattle.dm_words.proofs.Openings.{OpeningJudged}
+use Rattle.dm_words.proofs.EciCounts.{no_more_behind}
+use Rattle.dm_words.proofs.SaidBounds.{said_counts}
+use Rattle.dm_words.proofs.SaidContents.{said_is_content}
+use Rattle.dm_words.proofs.SpelledBounds.{room_of_two}
+use Rattle.dm_words.proofs.WholeContents.{reads, said_reads, refused_reads}
+
+-- An opening that is found stands in the words, and where all that they can spell has room, so have its items, those
+-- that close it, and two for each codeword behind it.
+pub record HasOpeningRoom (extent : Extent) (words : List ℕ) (o : Opened) : Type 0 where
+  pub in_range : o.count ≤ length words
+  pub room : (most : ℕ) → most_spelled extent (length words) ≤ most
+      → length (opening_items o.opening) + length (closing_items o.opening) + 2 * length words ≤ most + 2 * o.count
+
+-- Where there are codewords, seven items more than two for each can be spelled.
+some_room : (count most : ℕ) → 1 ≤ count → most_spelled Wide count ≤ most → 2 * count + 7 ≤ most
+some_room zero most some le = absurd (omega (arith, some))
+some_room (suc count) most some le = le
+
+-- The items of an opening have room, and so have those that close it.
+room_by : (extent : Extent) (words more : List ℕ) (opening : Opening) (count most : ℕ)
+    → IsOpening extent words more opening → length words ≤ count → most_spelled extent count ≤ most
+    → length (opening_items opening) + length (closing_items opening) + 2 * count ≤ most + 2 * length words
+room_by extent words more opening count most (headed said wide s is) short le =
+    rw is (omega (arith, room_of_two most extent count le))
+room_by extent words more opening count most (framed digit wide f is) short le =
+    let some : 1 ≤ length words = omega (arith, ap length f.whole, length-append f.runs (f.word ∷ [])) in
+    rw is (omega (arith, some, some_room count most (omega (arith, some, short)) (rw wide at le)))
+room_by extent words more opening count most (plain e no_head no_frame is) short le =
+    rw is (omega (arith, room_of_two most extent count le))
+
+-- What is found has room.
+pub opening_room : (extent : Extent) (words : List ℕ) (o : Opened) → opened extent words ≡ Some o
+    → HasOpeningRoom extent words o
+opening_room extent words o e =
+    let j = (let P : Option Opened → Type 0 = λ x. OpeningJudged extent words x in
+    subst P e (openings.judged extent words)) in
+    let within : length j.first ≤ length words = omega (arith, ap length j.whole, length-append j.first j.more) in
+    record {
+      in_range = omega (arith, j.count, within);
+      room = λ most le.
+          omega (arith, j.count, room_by extent j.first j.more o.opening (length words) most j.is_opening within le);
+    }
+
+-- Behind an opening, reading begins with its items and no mark.
+pub begins_at : (extent : Extent) (most : ℕ) (words : List ℕ) (o : Opened) (before items : List Item)
+    (none marks : List Mark)
+    → opened extent words ≡ Some o → most_spelled extent (length words) ≤ most → before ≡ [] → none ≡ []
+    → items ≡ before ++ opening_items o.opening → marks ≡ none
+    → let l : ContentView = record { head = None; items = items; marks = marks } in
+    IsContentAt most words o.count l × (l ≡ opening_content o.opening)
+begins_at extent most words o before items none marks e le message empty is same =
+    let r = (opening_room extent words o e).room most le in
+    let all : items ≡ opening_items o.opening = is ∙ ap (λ (l : List Item). l ++ opening_items o.opening) message in
+    let no_mark : marks ≡ [] = same ∙ empty in (
+      record {
+        item_room = rw all (omega (arith, r));
+        mark_room = rw no_mark (omega arith);
+        eci_left = rw no_mark (omega (arith, no_more_behind o.count words));
+        in_order = rw no_mark (omega arith);
+      },
+      rw (all, no_mark) refl,
+    )
+
+-- Where a call gives what is read, this is the right result.
+pub is_content_result : (extent : Extent) (words : List ℕ) (result : Result ContentView ContentFault) → IsBytes words
+    → result ≡ content_of extent words → IsContentResult extent words result
+is_content_result extent words (Ok l) fit is =
+    let said : Says extent words l = (reads extent words fit).content_is l (sym is) in
+    record {
+      content = λ k. (
+        (λ e. (reads extent words fit).content_is k (sym is ∙ e)),
+        (λ s. is ∙ said_reads extent words k s),
+      );
+      fault = λ why. (
+        (λ e. (reads extent words fit).fault_is why (sym is ∙ e)),
+        (λ f. is ∙ refused_reads extent words why f),
+      );
+      right = said_is_content extent words l said;
+      most = (said_counts extent words l said).0;
+      most_marks = (said_counts extent words l said).1;
+    }
+is_content_result extent words (Err f) fit is = record {
+  content = λ k. ((λ e. (reads extent words fit).content_is k (sym is ∙ e)), (λ s. is ∙ said_reads extent words k s));
+  fault = λ why. (
+    (λ e. (reads extent words fit).fault_is why (sym is ∙ e)),
+    (λ w. is ∙ refused_reads extent words why w),
+  );
+  right = tt;
+  most = tt;
+  most_marks = tt;
+}

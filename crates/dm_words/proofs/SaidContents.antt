@@ -1,0 +1,129 @@
+-- What codewords say is a content: bytes of 0 to 255, and marks in order.
+use Rattle.std.proofs.Common.{◌≡◌, ℕ, ◌+◌, ◌≤◌, ◌<◌, List, [], ◌∷◌, ◌++◌, length, sym, subst, arith}
+use Rattle.std.proofs.Common.{length-append}
+use Rattle.std.specs.List.{AllByRecursion}
+use Rattle.std.proofs.lemmas.List.Elements.{All-from_recursion}
+use Rattle.dm_words.specs.declared.extent.Extent.{Extent}
+use Rattle.dm_words.specs.declared.contents.opening.Opening.{Opening}
+use Rattle.dm_words.specs.Messages.{IsItem, IsMessage}
+use Rattle.dm_words.specs.declared.item.Item.{Item}
+use Rattle.dm_words.specs.ContentExtents.{as_content}
+use Rattle.dm_words.specs.Spells.{Spells}
+use Rattle.dm_words.specs.Joined.{Piece, spelled, whats, AreJoined}
+use Rattle.dm_words.specs.Designators.{most_assigned, IsDesignator, one, two, three}
+use Rattle.dm_words.specs.Heads.{IsHead}
+use Rattle.dm_words.specs.Contents.{ContentView, AreMarks, IsContent, Said, Items, Number, IsContentPart, part, mark}
+use Rattle.dm_words.specs.Contents.{said_items, said_marks, IsOpening, headed, framed, plain, opening_head}
+use Rattle.dm_words.specs.Contents.{opening_items, closing_items, said_content, AreContentParts, Says}
+use Rattle.dm_words.proofs.AsciiWords.{AreItems}
+use Rattle.dm_words.proofs.ItemBytes.{part_items, items-append, macro_byte}
+use Rattle.dm_words.proofs.Heads.{head_only}
+use Rattle.dm_words.proofs.Marks.{more_items, lower}
+
+-- What a part says is right: bytes of 0 to 255, or the number of an assignment.
+abbrev IsRight : Said → Type 0
+IsRight (Items items) = AreItems items
+IsRight (Number number) = number ≤ most_assigned
+
+-- A designator says the number of an assignment.
+pub assigned : (words : List ℕ) (number : ℕ) → IsDesignator words number → number ≤ most_assigned
+assigned words n (one a l h e is) = omega (arith, is, h)
+assigned words n (two a b l h f e is) = omega (arith, is, h, f.1)
+assigned words n (three a b c l h f g e is k) = k
+
+-- What a part says is right.
+part_right : (extent : Extent) (place : ℕ) (words after : List ℕ) (said : Said)
+    → IsContentPart extent place words after said → IsRight said
+part_right extent place words after said (part items p is) = rw is (part_items extent place words after items p)
+part_right extent place words after said (mark d number wide e whole is) = rw is (assigned d number e)
+
+-- What parts say is right.
+parts_right : (extent : Extent) (place : ℕ) (ps : List (Piece Said)) (after : List ℕ)
+    → AreJoined (IsContentPart extent) place ps after
+    → AllByRecursion IsRight (whats ps)
+parts_right extent place [] after h = tt
+parts_right extent place (p ∷ ps) after h = (
+  part_right extent place p.words (spelled ps ++ after) p.what h.0,
+  parts_right extent (place + length p.words) ps after h.1,
+)
+
+-- The items that are said are items.
+items_right : (said : List Said) → AllByRecursion IsRight said → AreItems (said_items said)
+items_right [] h = tt
+items_right (Items items ∷ said) h = items-append items (said_items said) h.0 (items_right said h.1)
+items_right (Number number ∷ said) h = items_right said h.1
+
+-- The marks that are said are in order.
+marks_right : (before : ℕ) (said : List Said) → AllByRecursion IsRight said
+    → AreMarks before (before + length (said_items said)) (said_marks before said)
+marks_right before [] h = omega arith
+marks_right before (Items items ∷ said) h =
+    let count : (before + length items) + length (said_items said) ≡ before + length (items ++ said_items said) =
+    omega (arith, length-append items (said_items said)) in
+    lower (before + length items) before (before + length (items ++ said_items said))
+    (said_marks (before + length items) said)
+    (subst (λ (k : ℕ). AreMarks (before + length items) k (said_marks (before + length items) said)) count
+    (marks_right (before + length items) said h.1)) (omega arith)
+marks_right before (Number number ∷ said) h = (omega arith, h.0, marks_right before said h.1)
+
+-- The marks that parts of a content say are in order.
+pub said_in_order : (extent : Extent) (before place : ℕ) (words : List ℕ) (said : List Said)
+    → AreContentParts extent place words said
+    → AreMarks before (before + length (said_items said)) (said_marks before said)
+said_in_order extent before place words said p =
+    marks_right before said
+    (subst (AllByRecursion IsRight) (sym p.said_are) (parts_right extent place p.parts p.after p.joined))
+
+-- An opening is right: its head, and the items before and behind those of the parts.
+record IsRightOpening (opening : Opening) : Type 0 where
+  head : IsHead (opening_head opening)
+  before : AreItems (opening_items opening)
+  behind : AreItems (closing_items opening)
+
+-- An opening that is there is right.
+opening_right : (extent : Extent) (words more : List ℕ) (opening : Opening) → IsOpening extent words more opening
+    → IsRightOpening opening
+opening_right extent words more opening (headed said wide s is) =
+    rw is (record { head = (head_only words said s).0; before = tt; behind = tt })
+opening_right extent words more opening (framed digit wide f is) =
+    let lt : digit < 256 = macro_byte f.word digit f.is_macro in
+    rw is (record {
+      head = tt;
+      before = (omega arith, (omega arith, (omega arith, (omega arith, (omega arith, (lt, (omega arith, tt)))))));
+      behind = (omega arith, (omega arith, tt));
+    })
+opening_right extent words more opening (plain e no_head no_frame is) =
+    rw is (record { head = tt; before = tt; behind = tt })
+
+-- What a right opening and right parts say is a content.
+said_right : (opening : Opening) (said : List Said) → IsRightOpening opening → AllByRecursion IsRight said
+    → IsContent (said_content opening said)
+said_right opening said o r =
+    let before = opening_items opening in
+    let middle = said_items said in
+    let behind = closing_items opening in
+    let le : length before + length middle ≤ length (before ++ (middle ++ behind)) =
+    omega (arith, length-append before (middle ++ behind), length-append middle behind) in
+    record {
+      head = o.head;
+      items = All-from_recursion IsItem (before
+          ++ (middle ++ behind))
+          (items-append before (middle ++ behind) o.before (items-append middle behind (items_right said r) o.behind));
+      marks = lower (length before) 0 (length (before ++ (middle ++ behind))) (said_marks (length before) said)
+          (more_items (length before) (length before + length middle) (length (before ++ (middle ++ behind)))
+          (said_marks (length before) said) (marks_right (length before) said r) le)
+          (omega arith);
+    }
+
+-- What codewords say is a content.
+pub said_is_content : (extent : Extent) (words : List ℕ) (l : ContentView) → Says extent words l → IsContent l
+said_is_content extent words l s =
+    let right =
+    subst (AllByRecursion IsRight) (sym s.parts.said_are)
+    (parts_right extent s.place s.parts.parts s.parts.after s.parts.joined) in
+    subst IsContent (sym s.content_is)
+    (said_right s.opening s.said (opening_right extent s.opened.first s.more s.opening s.opened.is_opening) right)
+
+-- What they spell is a message.
+pub spelled_is_message : (extent : Extent) (words : List ℕ) (m : List Item) → Spells extent words m → IsMessage m
+spelled_is_message extent words m s = (said_is_content extent words (as_content m) s).items

@@ -1,0 +1,340 @@
+-- Codewords that spell a message are parts of it, and parts of a message say it as a content.
+use Rattle.std.proofs.Common.{◌≡◌, ℕ, ◌+◌, List, [], ◌∷◌, ◌++◌, length, refl, sym, subst, ap, ◌∙◌}
+use Rattle.std.proofs.Common.{append_assoc, arith, Some, None, inl, inr, ◌⊎◌}
+use Rattle.std.proofs.lemmas.List.{append-nil}
+use Rattle.dm_words.specs.declared.codeword.Codeword.TheVariants as codeword
+use Rattle.dm_words.specs.declared.c40.set.CodeSet.{CodeSet}
+use Rattle.dm_words.specs.declared.extent.Extent.{Extent}
+use Rattle.dm_words.specs.declared.extent.Extent.TheVariants.{Wide}
+use Rattle.dm_words.specs.declared.item.Item.{Item}
+use Rattle.dm_words.specs.declared.fault.WordFault.TheVariants as word_fault
+use Rattle.dm_words.specs.declared.contents.fault.ContentFault.{ContentFault}
+use Rattle.dm_words.specs.declared.contents.fault.ContentFault.TheVariants as fault
+use Rattle.dm_words.specs.declared.contents.mark.Mark.{Mark}
+use Rattle.dm_words.specs.declared.contents.head.Head.{Head}
+use Rattle.dm_words.specs.declared.contents.opening.Opening.{Opening}
+use Rattle.dm_words.specs.declared.contents.opening.Opening.TheVariants.{Plain, Framed}
+use Rattle.dm_words.specs.Codewords.{codeword_of, unlatch_word}
+use Rattle.dm_words.specs.Joined.{Piece, spelled, gathered, whats, AreJoined}
+use Rattle.dm_words.specs.Runs.{unlatch}
+use Rattle.dm_words.specs.Values.{filler, nothing}
+use Rattle.dm_words.specs.Parts.{IsPart, run, AreParts}
+use Rattle.dm_words.specs.Spells.{Spells}
+use Rattle.dm_words.specs.Faults.{left_out, always, macro_behind}
+use Rattle.dm_words.specs.Contents.{ContentView, Said, Items, Number, IsContentPart, part, mark, AreContentParts}
+use Rattle.dm_words.specs.Contents.{said_items, said_marks, AreEmptyRuns, AreFrame, BeginsFrame, BeginsWithHeadWord}
+use Rattle.dm_words.specs.Contents.{IsOpening, headed, framed, plain as opens_plain, opening_head, opening_items}
+use Rattle.dm_words.specs.Contents.{closing_items, AreOpened, Says, IsContentFault, word, HaveContentFault}
+use Rattle.dm_words.specs.Macros.{macro_text}
+use Rattle.dm_words.specs.Plain.{IsPlainPart, IsPlainSaid}
+use Rattle.dm_words.specs.Plain as plainly
+use Rattle.dm_words.proofs.WholeContents.{parts_read, fault_read}
+
+-- An empty run is a part of a message.
+empty_run : (place latch unlatch_there : ℕ) (set : CodeSet) (after : List ℕ) → codeword_of latch
+    ≡ Some (codeword.Latch set) → unlatch_there ≡ unlatch_word
+    → IsPart Wide place (latch ∷ unlatch_there ∷ []) after []
+empty_run place latch unlatch_there set after k is =
+    run set (record {
+      latch = latch;
+      is_latch = k;
+      pairs = [];
+      each = tt;
+      end = unlatch_word ∷ [];
+      ended = unlatch refl;
+      whole = ap (λ (u : ℕ). latch ∷ u ∷ []) is;
+      values = record {
+        spellings = [];
+        each = tt;
+        filler = [];
+        ended = filler (nothing refl);
+        whole = refl;
+        items_are = refl;
+      };
+    })
+
+-- Empty runs are parts of a content.
+record HasRuns (place : ℕ) (runs after : List ℕ) : Type 0 where
+  parts : List (Piece Said)
+  joined : AreJoined (IsContentPart Wide) place parts after
+  whole : runs ≡ spelled parts
+
+-- Empty runs are parts of a content, one after the other.
+runs_are : (place : ℕ) (runs after : List ℕ) → AreEmptyRuns runs → HasRuns place runs after
+runs_are place [] after are = record { parts = []; joined = tt; whole = refl }
+runs_are place (l ∷ []) after are = absurd are
+runs_are place (l ∷ u ∷ runs) after are =
+    let rest = runs_are (place + 2) runs after are.2 in
+    let p : Piece Said = record { words = l ∷ u ∷ []; what = Items [] } in
+    record {
+      parts = p ∷ rest.parts;
+      joined = (part [] (empty_run place l u are.0.0 (spelled rest.parts ++ after) are.0.1 are.1) refl, rest.joined);
+      whole = ap (λ (r : List ℕ). l ∷ u ∷ r) rest.whole;
+    }
+
+-- A macro begins no part of a content.
+macro_faulty : (place w digit : ℕ) (more : List ℕ) → codeword_of w ≡ Some (codeword.Macro digit)
+    → IsContentFault Wide place (w ∷ more) (fault.Word (word_fault.LeftOut w place))
+macro_faulty place w digit more k =
+    word (word_fault.LeftOut w place)
+    (λ wide rest is. (let same : w ≡ 241 = cc in
+    let l : codeword_of w ≡ Some codeword.LeftOut = ap codeword_of same in cc))
+    (left_out w more (macro_behind digit k) refl refl) refl
+
+-- A macro behind empty runs is a fault, where the parts begin with those.
+frame_faulty : (words : List ℕ) → BeginsFrame words → (f : ContentFault) × HaveContentFault Wide 1 words f
+frame_faulty words b =
+    let f = b.is_frame in
+    let r = runs_are 1 f.runs (f.word ∷ b.more) f.are_empty in
+    let whole : words ≡ spelled r.parts ++ (f.word ∷ b.more) =
+    b.whole ∙ ap (λ (x : List ℕ). x ++ b.more) f.whole ∙ append_assoc f.runs (f.word ∷ []) b.more
+    ∙ ap (λ (x : List ℕ). x ++ (f.word ∷ b.more)) r.whole in (
+      fault.Word (word_fault.LeftOut f.word (1 + length (spelled r.parts))),
+      record {
+        parts = r.parts;
+        after = f.word ∷ b.more;
+        joined = r.joined;
+        whole = whole;
+        faulty = macro_faulty (1 + length (spelled r.parts)) f.word b.digit b.more f.is_macro;
+      },
+    )
+
+-- Nothing was read.
+abbrev nothing_read : ContentView
+nothing_read = record { head = None; items = []; marks = [] }
+
+-- Parts of a content begin with no macro behind empty runs.
+pub no_frame : (words : List ℕ) (said : List Said) → AreContentParts Wide 1 words said → BeginsFrame words → ⊥
+no_frame words said parts b =
+    let f = frame_faulty words b in
+    let reads = parts_read Wide nothing_read 1 words said parts in
+    let refuses = fault_read Wide nothing_read 1 words f.0 f.1 in
+    absurd cc
+
+-- The codewords of a head are left out where a part would begin.
+head_faulty : (words : List ℕ) → BeginsWithHeadWord words → (f : ContentFault) × HaveContentFault Wide 1 words f
+head_faulty words b = (
+  fault.Word (word_fault.LeftOut b.word 1),
+  record { parts = []; after = words; joined = tt; whole = refl; faulty = by_word b.is_head_word },
+) where
+  there : (w : ℕ) → b.word ≡ w → codeword_of w ≡ Some codeword.LeftOut → (w ≡ 241 → ⊥)
+      → IsContentFault Wide 1 words (fault.Word (word_fault.LeftOut b.word 1))
+  there w is k other =
+      word (word_fault.LeftOut b.word 1)
+      (λ wide rest e. (let same : b.word ∷ b.more ≡ 241 ∷ rest = sym b.whole ∙ e in
+      let eci : b.word ≡ 241 = cc in other (sym is ∙ eci)))
+      (left_out b.word b.more (always (ap codeword_of is ∙ k)) b.whole refl) refl
+
+  by_word : (b.word ≡ 233) ⊎ (b.word ≡ 234) → IsContentFault Wide 1 words (fault.Word (word_fault.LeftOut b.word 1))
+  by_word (inl is) = there 233 is refl (λ e. absurd (omega (arith, e)))
+  by_word (inr is) = there 234 is refl (λ e. absurd (omega (arith, e)))
+
+-- Parts of a content begin with neither of them.
+pub no_head_word : (words : List ℕ) (said : List Said) → AreContentParts Wide 1 words said
+    → BeginsWithHeadWord words → ⊥
+no_head_word words said parts b =
+    let f = head_faulty words b in
+    let reads = parts_read Wide nothing_read 1 words said parts in
+    let refuses = fault_read Wide nothing_read 1 words f.0 f.1 in
+    absurd cc
+
+-- Parts of a content from the first place on have nothing before them.
+pub opened_plain : (extent : Extent) (words more : List ℕ) (said : List Said) → words ≡ more
+    → AreContentParts extent 1 more said → AreOpened extent words Plain 1 more
+opened_plain extent words more said whole parts =
+    let wider = λ (wide : extent ≡ Wide). subst (λ (e : Extent). AreContentParts e 1 more said) wide parts in
+    record {
+      first = [];
+      is_opening = opens_plain refl (λ wide. no_head_word more said (wider wide))
+          (λ wide. no_frame more said (wider wide)) refl;
+      whole = whole;
+      place_is = refl;
+    }
+
+-- Parts of a content from the first place on say a content without a head.
+pub plain_content : (extent : Extent) (words : List ℕ) (said : List Said) (items : List Item)
+    → AreContentParts extent 1 words said → said_items said ≡ items
+    → Says extent words (record { head = None; items = items; marks = said_marks 0 said })
+plain_content extent words said items parts is = record {
+  opening = Plain;
+  place = 1;
+  more = words;
+  opened = opened_plain extent words words said refl parts;
+  said = said;
+  parts = parts;
+  content_is =
+      ap (λ (i : List Item). let l : ContentView = record { head = None; items = i; marks = said_marks 0 said } in l)
+      (sym is ∙ sym (append-nil (said_items said)));
+}
+
+-- Pieces of a message, as pieces of a content.
+abbrev pub as_said : List (Piece (List Item)) → List (Piece Said)
+as_said [] = []
+as_said (p ∷ ps) = record { words = p.words; what = Items p.what } ∷ as_said ps
+
+-- They have the same words.
+pub said_words : (ps : List (Piece (List Item))) → spelled (as_said ps) ≡ spelled ps
+said_words [] = refl
+said_words (p ∷ ps) = ap (λ (r : List ℕ). p.words ++ r) (said_words ps)
+
+-- They say the same items.
+pub same_items : (ps : List (Piece (List Item))) → said_items (whats (as_said ps)) ≡ gathered ps
+same_items [] = refl
+same_items (p ∷ ps) = ap (λ (r : List Item). p.what ++ r) (same_items ps)
+
+-- They say no mark.
+pub no_marks : (before : ℕ) (ps : List (Piece (List Item))) → said_marks before (whats (as_said ps)) ≡ []
+no_marks before [] = refl
+no_marks before (p ∷ ps) = no_marks (before + length p.what) ps
+
+-- They are parts of a content.
+pub said_joined : (extent : Extent) (place : ℕ) (ps : List (Piece (List Item))) (after : List ℕ)
+    → AreJoined (IsPart extent) place ps after → AreJoined (IsContentPart extent) place (as_said ps) after
+said_joined extent place [] after h = tt
+said_joined extent place (p ∷ ps) after h = (
+  part p.what (subst (λ (r : List ℕ). IsPart extent place p.words (r ++ after) p.what) (sym (said_words ps)) h.0) refl,
+  said_joined extent (place + length p.words) ps after h.1,
+)
+
+-- Plain parts are plain parts of a content.
+pub plainly_joined : (place : ℕ) (ps : List (Piece (List Item))) (after : List ℕ) → AreJoined IsPlainPart place ps after
+    → AreJoined IsPlainSaid place (as_said ps) after
+plainly_joined place [] after h = tt
+plainly_joined place (p ∷ ps) after h = (
+  plainly.part p.what (subst (λ (r : List ℕ). IsPlainPart place p.words (r ++ after) p.what) (sym (said_words ps)) h.0)
+      refl,
+  plainly_joined (place + length p.words) ps after h.1,
+)
+
+-- Parts of a message are parts of a content.
+pub said_parts : (extent : Extent) (place : ℕ) (words : List ℕ) (items : List Item)
+    (p : AreParts extent place words items) → AreContentParts extent place words (whats (as_said p.parts))
+said_parts extent place words items p = record {
+  parts = as_said p.parts;
+  after = p.after;
+  joined = said_joined extent place p.parts p.after p.joined;
+  ended = p.ended;
+  whole = p.whole ∙ ap (λ (r : List ℕ). r ++ p.after) (sym (said_words p.parts));
+  said_are = refl;
+}
+
+-- Codewords that are parts of a message spell it.
+pub parts_spell : (extent : Extent) (words : List ℕ) (m : List Item) → AreParts extent 1 words m
+    → Spells extent words m
+parts_spell extent words m p =
+    let l = plain_content extent words (whats (as_said p.parts)) m (said_parts extent 1 words m p)
+    (same_items p.parts ∙ sym p.items_are) in
+    subst (λ (marks : List Mark). Says extent words (record { head = None; items = m; marks = marks }))
+    (no_marks 0 p.parts) l
+
+-- Behind a macro they spell its text, in the wide extent.
+pub macro_spells : (extent : Extent) (w digit : ℕ) (words more : List ℕ) (text : List Item) → extent ≡ Wide
+    → codeword_of w ≡ Some (codeword.Macro digit) → words ≡ w ∷ more → AreParts extent 2 more text
+    → Spells extent words (macro_text digit text)
+macro_spells extent w digit words more text wide k whole p = record {
+  opening = Framed digit;
+  place = 2;
+  more = more;
+  opened = record {
+    first = w ∷ [];
+    is_opening = framed digit wide (record { runs = []; word = w; are_empty = tt; is_macro = k; whole = refl })
+        refl;
+    whole = whole;
+    place_is = refl;
+  };
+  said = whats (as_said p.parts);
+  parts = said_parts extent 2 more text p;
+  content_is = rw (same_items p.parts, no_marks 7 p.parts, ← p.items_are) refl;
+}
+
+-- ---- the other way
+
+-- Parts of a content that say no mark, as parts of a message.
+record Unmarked (extent : Extent) (place : ℕ) (ps : List (Piece Said)) (after : List ℕ) : Type 0 where
+  parts : List (Piece (List Item))
+  joined : AreJoined (IsPart extent) place parts after
+  words : spelled ps ≡ spelled parts
+  items : said_items (whats ps) ≡ gathered parts
+
+-- Parts of a content that say no mark are parts of a message.
+unmarked : (extent : Extent) (place before : ℕ) (ps : List (Piece Said)) (after : List ℕ)
+    → AreJoined (IsContentPart extent) place ps after → said_marks before (whats ps) ≡ []
+    → Unmarked extent place ps after
+unmarked extent place before [] after h none = record { parts = []; joined = tt; words = refl; items = refl }
+unmarked extent place before (p ∷ ps) after h none =
+    by_part h.0 (λ b e. unmarked extent (place + length p.words) b ps after h.1 e) where
+      by_part : IsContentPart extent place p.words (spelled ps ++ after) p.what
+          → ((b : ℕ) → said_marks b (whats ps) ≡ [] → Unmarked extent (place + length p.words) ps after)
+          → Unmarked extent place (p ∷ ps) after
+      by_part (mark d number wide e whole is) again =
+          let some : said_marks before (Number number ∷ whats ps)
+          ≡ [] = ap (λ (s : Said). said_marks before (s ∷ whats ps)) (sym is) ∙ none in
+          absurd cc
+      by_part (part items q is) again =
+          let rest : said_marks (before + length items) (whats ps)
+          ≡ [] = ap (λ (s : Said). said_marks before (s ∷ whats ps)) (sym is) ∙ none in
+          let r = again (before + length items) rest in
+          let one : Piece (List Item) = record { words = p.words; what = items } in
+          record {
+            parts = one ∷ r.parts;
+            joined = (subst (λ (w : List ℕ). IsPart extent place p.words (w ++ after) items) r.words q, r.joined);
+            words = ap (λ (w : List ℕ). p.words ++ w) r.words;
+            items = ap (λ (s : Said). said_items (s ∷ whats ps)) is ∙ ap (λ (i : List Item). items ++ i) r.items;
+          }
+
+-- Parts that say no mark are parts of a message.
+unmarked_parts : (extent : Extent) (place before : ℕ) (words : List ℕ) (said : List Said)
+    → AreContentParts extent place words said → said_marks before said ≡ []
+    → AreParts extent place words (said_items said)
+unmarked_parts extent place before words said p none =
+    let r = unmarked extent place before p.parts p.after p.joined (ap (said_marks before) (sym p.said_are) ∙ none) in
+    record {
+      parts = r.parts;
+      after = p.after;
+      joined = r.joined;
+      ended = p.ended;
+      whole = p.whole ∙ ap (λ (w : List ℕ). w ++ p.after) r.words;
+      items_are = ap said_items p.said_are ∙ r.items;
+    }
+
+-- Codewords that spell a message are parts of it; or a macro behind empty runs and parts of its text.
+pub data HasMessage (extent : Extent) (words : List ℕ) (m : List Item) : Type 0 where
+  in_parts : AreParts extent 1 words m → HasMessage extent words m
+  in_frame : (first more : List ℕ) (digit : ℕ) (text : List Item) → extent ≡ Wide → AreFrame first digit
+      → words ≡ first ++ more → AreParts extent (1 + length first) more text → m ≡ macro_text digit text
+      → HasMessage extent words m
+
+-- There is no head where there is none.
+no_head : (said : Head) → None ≡ Some said → ⊥
+no_head said e = cc
+
+-- What codewords spell they have.
+pub spelled_has : (extent : Extent) (words : List ℕ) (m : List Item) → Spells extent words m
+    → HasMessage extent words m
+spelled_has extent words m s = by_opening s.opened.is_opening where
+  marks_by : (o : Opening) → s.opening ≡ o → said_marks (length (opening_items o)) s.said ≡ []
+  marks_by o is = sym (ap (λ (l : ContentView). l.marks) s.content_is
+      ∙ ap (λ (o : Opening). said_marks (length (opening_items o)) s.said) is)
+
+  items_by : (o : Opening) → s.opening ≡ o → m ≡ opening_items o ++ (said_items s.said ++ closing_items o)
+  items_by o is = ap (λ (l : ContentView). l.items) s.content_is
+      ∙ ap (λ (o : Opening). opening_items o ++ (said_items s.said ++ closing_items o)) is
+
+  parts_at : (place : ℕ) → s.place ≡ place → AreContentParts extent place s.more s.said
+  parts_at place is = subst (λ (p : ℕ). AreContentParts extent p s.more s.said) is s.parts
+
+  by_opening : IsOpening extent s.opened.first s.more s.opening → HasMessage extent words m
+  by_opening (headed said wide h is) =
+      absurd (no_head said (ap (λ (l : ContentView). l.head) s.content_is ∙ ap opening_head is))
+  by_opening (framed digit wide f is) =
+      let place = 1 + length s.opened.first in
+      in_frame s.opened.first s.more digit (said_items s.said) wide f s.opened.whole
+      (unmarked_parts extent place 7 s.more s.said (parts_at place s.opened.place_is) (marks_by (Framed digit) is))
+      (items_by (Framed digit) is)
+  by_opening (opens_plain e no_head_there no_frame_there is) =
+      let whole : words ≡ s.more = s.opened.whole ∙ ap (λ (l : List ℕ). l ++ s.more) e in
+      let parts = unmarked_parts extent 1 0 s.more s.said
+      (parts_at 1 (s.opened.place_is ∙ ap (λ (l : List ℕ). 1 + length l) e)) (marks_by Plain is) in
+      let items : m ≡ said_items s.said = items_by Plain is ∙ append-nil (said_items s.said) in
+      in_parts (subst (λ (w : List ℕ). AreParts extent 1 w m) (sym whole)
+      (subst (AreParts extent 1 s.more) (sym items) parts))

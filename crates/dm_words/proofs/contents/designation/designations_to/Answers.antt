@@ -1,0 +1,31 @@
+use Rattle.std.proofs.Common.{◌∙◌, rules, sym}
+use Rattle.dm_words.specs.declared.extent.Extent.TheVariants.{Wide}
+use Rattle.dm_words.proofs.DesignationLoops.{of_fault, of_no_opening, of_parts}
+use Rattle.dm_words.proofs.ContentReadings.{opening_room}
+use Rattle.dm_words.proofs.contents.designation.designations_to.Goals as goal
+
+pub returns-in_default : goal.returns-in_default
+returns-in_default g c =
+    of_no_opening c.args.words.now c.clear.new.self.items (sym c.opening_of.ensures ∙ c.in_default.is) c.clear.ensures
+
+pub add_designations-requires : goal.add_designations-requires
+add_designations-requires g c =
+    let opens = sym c.opening_of.ensures ∙ c.in-Some.is in (
+      search rules,
+      (
+        (opening_room Wide c.args.words.now c.in-Some.opened opens).in_range,
+        (c.requires.short, (c.requires.marks, c.clear.ensures)),
+      ),
+    )
+
+pub returns-in-Ok : goal.returns-in-Ok
+returns-in-Ok g c =
+    let opens = sym c.opening_of.ensures ∙ c.in-Some.is in
+    let from = c.in-Ok.ensures in
+    of_parts c.args.words.now c.in-Some.opened c.add_designations.new.found.items opens from.0 from.1 from.2
+
+pub returns-in-Err : goal.returns-in-Err
+returns-in-Err g c =
+    let opens = sym c.opening_of.ensures ∙ c.in-Some.is in
+    of_fault c.args.words.now c.in-Some.opened c.clear-in-Err.new.self.items c.in-Err.field-0 opens
+    c.in-Err.ensures c.clear-in-Err.ensures

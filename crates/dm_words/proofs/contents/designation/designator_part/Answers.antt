@@ -1,0 +1,11 @@
+use Rattle.std.proofs.Common.{◌∙◌, ◌+◌, sym, ap}
+use Rattle.std.proofs.lemmas.List.{take_rest}
+use Rattle.dm_words.specs.inner.ContentScan.{first_designator}
+use Rattle.dm_words.proofs.DesignationLoops.{designator_found}
+use Rattle.dm_words.proofs.contents.designation.designator_part.Goals as goal
+
+pub returns-in-Some : goal.returns-in-Some
+returns-in-Some g c =
+    designator_found c.args.at _ c.in-Some.designator c.args.found.now.items c.push.new.self.items
+    (ap first_designator (sym (take_rest c.args.words.now (c.args.at + 1))) ∙ sym c.first_designator.ensures
+    ∙ c.in-Some.is) c.push.ensures.items

@@ -1,0 +1,24 @@
+use Rattle.std.proofs.Common.{◌∙◌, ◌++◌, sym}
+use Rattle.dm_words.specs.Heads.{head_words}
+use Rattle.dm_words.specs.ContentForm.{ascii_with_marks}
+use Rattle.dm_words.specs.NormalForm.{normal_form}
+use Rattle.dm_words.proofs.NormalPlain.{content_plain, plain_is_normal, marked_is_ascii}
+use Rattle.dm_words.proofs.contents.normal_form.content_words_in.Goals as goal
+
+pub returns-then-is_plain-clause-plain : goal.returns-then-is_plain-clause-plain
+returns-then-is_plain-clause-plain g c =
+    let a = c.args in
+    content_plain a.profile a.head a.items.now a.marks.now c.normal_words_in.new.words.items
+    (normal_form a.profile a.items.now) g.row.N c.normal_words_in.result c.requires.head c.requires.in_order
+    c.requires.most (plain_is_normal a.profile a.head a.items.now a.marks.now
+    (sym c.is_plain.ensures ∙ c.if-is_plain.true))
+    c.normal_words_in.ensures.form c.normal_words_in.ensures.too_long
+
+pub returns-clause-plain : goal.returns-clause-plain
+returns-clause-plain g c =
+    let a = c.args in
+    content_plain a.profile a.head a.items.now a.marks.now c.write_marked.new.words.items
+    (head_words a.head ++ ascii_with_marks 0 a.items.now a.marks.now) g.row.N c.write_marked.result c.requires.head
+    c.requires.in_order c.requires.most
+    (marked_is_ascii a.profile a.head a.items.now a.marks.now (sym c.is_plain.ensures ∙ c.if-is_plain.false))
+    c.write_marked.ensures.form c.write_marked.ensures.too_long

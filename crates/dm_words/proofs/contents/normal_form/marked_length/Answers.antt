@@ -1,0 +1,85 @@
+use Rattle.std.proofs.Common.{length, arith}
+use Rattle.dm_words.proofs.MarkedWords.{turn, piece_short, count_turn}
+use Rattle.dm_words.proofs.contents.normal_form.marked_length.Goals as goal
+
+pub slice_bounds-ascii_form-end : goal.slice_bounds-ascii_form-end
+slice_bounds-ascii_form-end c =
+    let t = turn c.args.items.now c.args.marks.now c.loop-mark.before c.loop-mark.mark-index
+    (record { place = 0; number = 0 }) c.loop-mark-test.true c.loop-mark.invariant.in_order in
+    omega (arith, t.within)
+
+pub overflow_add-length : goal.overflow_add-length
+overflow_add-length c =
+    let t = turn c.args.items.now c.args.marks.now c.loop-mark.before c.loop-mark.mark-index
+    (record { place = 0; number = 0 }) c.loop-mark-test.true c.loop-mark.invariant.in_order in
+    let p = piece_short c.args.items.now c.loop-mark.before _ t.from t.within in
+    omega (arith, t.from, t.within, p, c.ascii_form.ensures.length, c.mark_length.ensures.most, c.requires.few)
+
+pub overflow_add-length-in-loop-mark : goal.overflow_add-length-in-loop-mark
+overflow_add-length-in-loop-mark c =
+    let t = turn c.args.items.now c.args.marks.now c.loop-mark.before c.loop-mark.mark-index
+    (record { place = 0; number = 0 }) c.loop-mark-test.true c.loop-mark.invariant.in_order in
+    let p = piece_short c.args.items.now c.loop-mark.before _ t.from t.within in
+    omega (
+      arith,
+      t.from,
+      t.within,
+      p,
+      c.ascii_form.ensures.length,
+      c.mark_length.ensures.most,
+      c.requires.few,
+      c.requires.few_marks,
+      c.loop-mark.invariant.room,
+      c.loop-mark-test.true,
+    )
+
+pub loop-mark-preserved : goal.loop-mark-preserved
+loop-mark-preserved c =
+    let t = turn c.args.items.now c.args.marks.now c.loop-mark.before c.loop-mark.mark-index
+    (record { place = 0; number = 0 }) c.loop-mark-test.true c.loop-mark.invariant.in_order in
+    let p = piece_short c.args.items.now c.loop-mark.before _ t.from t.within in
+    record {
+      within = t.within;
+      in_order = t.in_order;
+      room = omega (
+        arith,
+        t.from,
+        p,
+        c.ascii_form.ensures.length,
+        c.mark_length.ensures.most,
+        c.loop-mark.invariant.room,
+      );
+      so_far = count_turn c.args.items.now c.args.marks.now c.loop-mark.before c.loop-mark.mark-index _ _ _
+          c.loop-mark.length c.ascii_form.result.length c.mark_length.result t c.ascii_form.ensures.length
+          c.mark_length.ensures.value c.loop-mark.invariant.so_far;
+    }
+
+pub overflow_add-result : goal.overflow_add-result
+overflow_add-result c =
+    let p = piece_short c.args.items.now c.loop-mark.before (length c.args.items.now) c.loop-mark.invariant.within
+    (omega arith) in
+    omega (
+      arith,
+      p,
+      c.ascii_form-2.ensures.length,
+      c.requires.few,
+      c.requires.few_marks,
+      c.loop-mark.invariant.room,
+      c.loop-mark.invariant.within,
+      c.loop-mark.auto.mark-index-end,
+    )
+
+pub returns-clause-most : goal.returns-clause-most
+returns-clause-most c =
+    let p = piece_short c.args.items.now c.loop-mark.before (length c.args.items.now) c.loop-mark.invariant.within
+    (omega arith) in
+    omega (
+      arith,
+      p,
+      c.ascii_form-2.ensures.length,
+      c.requires.few,
+      c.requires.few_marks,
+      c.loop-mark.invariant.room,
+      c.loop-mark.invariant.within,
+      c.loop-mark.auto.mark-index-end,
+    )

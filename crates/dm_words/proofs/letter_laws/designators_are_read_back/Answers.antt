@@ -1,5 +1,0 @@
-use Rattle.dm_words.proofs.Designators.{designator_is}
-use Rattle.dm_words.proofs.letter_laws.designators_are_read_back.Goals as goal
-
-pub returns : goal.returns
-returns c = designator_is

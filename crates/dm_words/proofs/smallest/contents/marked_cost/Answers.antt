@@ -1,0 +1,71 @@
+use Rattle.std.proofs.Common.{◌≡◌, ◌∙◌, ◌<◌, ℕ, ◌+◌, ◌-◌, take, drop, ap, arith, rules}
+use Rattle.std.proofs.lemmas.List.{length-take}
+use Rattle.dm_words.specs.inner.Costs.{before_words, parts_cost}
+use Rattle.dm_words.specs.inner.ContentCosts.{behind_first}
+use Rattle.dm_words.proofs.MarkedCosts.{all_items, back, cost_turn, behind_turn, more_items}
+use Rattle.dm_words.proofs.smallest.contents.marked_cost.Goals as goal
+
+pub overflow_sub-from : goal.overflow_sub-from
+overflow_sub-from c =
+    let v = c.loop-k.invariant in
+    let b = back c.args.seen c.args.items.now c.args.marks.now c.loop-k.k c.loop-k.end
+    (record { place = 0; number = 0 }) (omega (arith, c.loop-k-test.true)) v.in_range c.requires.in_order v.end_is in
+    omega (arith, b.from, c.from.ensures)
+
+pub slice_bounds-text_cost-count : goal.slice_bounds-text_cost-count
+slice_bounds-text_cost-count c =
+    let v = c.loop-k.invariant in
+    let b = back c.args.seen c.args.items.now c.args.marks.now c.loop-k.k c.loop-k.end
+    (record { place = 0; number = 0 }) (omega (arith, c.loop-k-test.true)) v.in_range c.requires.in_order v.end_is in
+    omega (arith, b.within, c.from.ensures)
+
+pub slice_bounds-text_cost-start : goal.slice_bounds-text_cost-start
+slice_bounds-text_cost-start c =
+    let v = c.loop-k.invariant in
+    let b = back c.args.seen c.args.items.now c.args.marks.now c.loop-k.k c.loop-k.end
+    (record { place = 0; number = 0 }) (omega (arith, c.loop-k-test.true)) v.in_range c.requires.in_order v.end_is in
+    omega (arith, b.within, v.within, c.from.ensures)
+
+pub loop-k-preserved : goal.loop-k-preserved
+loop-k-preserved c =
+    let v = c.loop-k.invariant in
+    let seen = c.args.seen in
+    let items = c.args.items.now in
+    let marks = c.args.marks.now in
+    let k = c.loop-k.k in
+    let end = c.loop-k.end in
+    let some : 0 < k = omega (arith, c.loop-k-test.true) in
+    let b = back seen items marks k end (record { place = 0; number = 0 }) some v.in_range c.requires.in_order v.end_is
+    in
+    let text = c.text_cost-text.ensures.cost
+    ∙ ap (λ (p : ℕ). parts_cost (before_words c.loop-k.cost) (take (end - (p - seen)) (drop (p - seen) items)))
+    c.from.ensures in
+    let cost : c.mark_length.result + c.text_cost-text.result ≡ behind_first seen items (drop (k - 1) marks) =
+    cost_turn seen items marks k _ _ end c.loop-k.cost c.text_cost-text.result c.mark_length.result b v.cost text
+    c.mark_length.ensures.value in
+    record {
+      in_range = omega (arith, v.in_range);
+      steps = search rules;
+      room = search rules;
+      within = omega (arith, b.within, v.within, c.from.ensures);
+      message = more_items items (c.from.result - seen) end (omega (arith, b.within, c.from.ensures))
+          c.text_cost-text.ensures.message v.message;
+      end_is = ap (λ (n : ℕ). n - seen) c.from.ensures ∙ b.end_is;
+      cost = cost;
+      few = omega (
+        arith,
+        v.few,
+        some,
+        b.within,
+        c.from.ensures,
+        c.mark_length.ensures.most,
+        c.text_cost-text.ensures.most,
+        length-take (end - (c.from.result - seen)) (drop (c.from.result - seen) items),
+      );
+      behind = behind_turn seen items marks k (c.mark_length.result + c.text_cost-text.result) c.loop-k.behind some
+          v.in_range v.room cost v.behind;
+    }
+
+pub returns-clause-message : goal.returns-clause-message
+returns-clause-message c =
+    all_items c.args.items.now c.loop-k.end c.text_cost.ensures.message c.loop-k.invariant.message

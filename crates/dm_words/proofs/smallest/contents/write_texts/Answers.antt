@@ -1,0 +1,125 @@
+use Rattle.std.proofs.Common.{◌≡◌, ◌∙◌, ℕ, ◌+◌, ◌-◌, ◌∷◌, length, take, drop, get_or, ap, sym, subst, arith, refl}
+use Rattle.std.proofs.Common.{rules}
+use Rattle.std.proofs.Common.{length-append}
+use Rattle.std.proofs.lemmas.List.{length-take, length-drop}
+use Rattle.std.proofs.lemmas.List.Elements.{All-drop, All-take}
+use Rattle.dm_words.specs.Designators.{eci_word, designator}
+use Rattle.dm_words.specs.Joined.{spelled}
+use Rattle.dm_words.specs.Contents.{AreMarks}
+use Rattle.dm_words.specs.Messages.{IsItem}
+use Rattle.dm_words.specs.inner.Costs.{before_words, parts_cost}
+use Rattle.dm_words.specs.inner.ContentCosts.{marked_cost}
+use Rattle.dm_words.proofs.ContentWritten.{nothing_said, texts_turn, texts_end}
+use Rattle.dm_words.proofs.MarkedCosts.{forth, behind_few}
+use Rattle.dm_words.proofs.PlainForms.{sign_turn, sign_end}
+use Rattle.dm_words.proofs.smallest.contents.write_texts.Goals as goal
+
+pub loop-k-init : goal.loop-k-init
+loop-k-init g c =
+    let here : c.args.seen ≡ c.args.seen + 0 = omega arith in
+    record {
+      within = omega arith;
+      steps = c.requires.steps;
+      in_order = subst
+          (λ (p : ℕ). AreMarks p (c.args.seen + length c.args.items.now) c.args.marks.now) here c.requires.in_order;
+      said = nothing_said c.args.total c.args.words.now.items c.args.seen;
+      budget = omega (
+        arith,
+        c.requires.budget,
+        ap (λ (p : ℕ). marked_cost p c.args.items.now c.args.marks.now) here,
+      );
+      first = λ e. (refl, refl);
+      sign = λ some. absurd (omega (arith, some));
+    }
+
+pub slice_bounds-write_text-end : goal.slice_bounds-write_text-end
+slice_bounds-write_text-end g c =
+    let f = forth c.args.seen c.args.items.now c.args.marks.now c.loop-k.k c.loop-k.from
+    (record { place = 0; number = 0 }) c.loop-k-test.true c.loop-k.invariant.in_order in
+    omega (arith, f.within, c.from.ensures)
+
+pub write_text-requires : goal.write_text-requires
+write_text-requires g c =
+    let v = c.loop-k.invariant in
+    let seen = c.args.seen in
+    let items = c.args.items.now in
+    let marks = c.args.marks.now in
+    let k = c.loop-k.k in
+    let from = c.loop-k.from in
+    let f = forth seen items marks k from (record { place = 0; number = 0 }) c.loop-k-test.true v.in_order in
+    let count = c.from.result - seen - from in
+    let behind = c.requires.behind k c.loop-k-test.true in
+    let paid = ap (λ (p : ℕ). parts_cost (before_words (get_or c.args.behind.now k 0))
+    (take (p - seen - from) (drop from items))) c.from.ensures
+    ∙ ap (λ (n : ℕ). parts_cost (before_words n) (take ((get_or marks k (record { place = 0; number = 0 })).place - seen
+    - from) (drop from items))) behind in (
+      search rules,
+      (
+        omega (arith, c.requires.few, length-take count (drop from items), length-drop from items),
+        (
+          omega (
+            arith,
+            behind,
+            behind_few seen items marks k from _ _ _ f c.requires.few c.requires.few_marks c.loop-k-test.true,
+          ),
+          (
+            All-take IsItem count (drop from items) (All-drop IsItem from items c.requires.message),
+            (
+              omega (arith, v.steps, length-take count (drop from items), length-drop from items),
+              (omega (arith, v.budget, f.cost, paid), (c.requires.total, c.requires.most)),
+            ),
+          ),
+        ),
+      ),
+    )
+
+pub loop-k-preserved : goal.loop-k-preserved
+loop-k-preserved g c =
+    let v = c.loop-k.invariant in
+    let seen = c.args.seen in
+    let items = c.args.items.now in
+    let marks = c.args.marks.now in
+    let k = c.loop-k.k in
+    let from = c.loop-k.from in
+    let m = get_or marks k (record { place = 0; number = 0 }) in
+    let f = forth seen items marks k from (record { place = 0; number = 0 }) c.loop-k-test.true v.in_order in
+    let behind = c.requires.behind k c.loop-k-test.true in
+    let new = c.write_text.new.words.items in
+    record {
+      within = omega (arith, f.within, c.from.ensures);
+      steps = search rules;
+      in_order = subst (λ (p : ℕ). AreMarks (seen + (p - seen)) (seen + length items) (drop (k + 1) marks))
+          (sym c.from.ensures) f.in_order;
+      said = texts_turn c.args.total c.args.words.now.items c.loop-k.words.items new c.add_mark_words.new.words.items
+          seen items marks k from _ _ _ (c.from.result - seen) f (ap (λ (p : ℕ). p - seen) c.from.ensures) v.said
+          c.write_text.ensures.parts c.add_mark_words.ensures;
+      budget = omega (
+        arith,
+        c.write_text.ensures.fits,
+        behind,
+        f.behind_is,
+        ap length c.add_mark_words.ensures,
+        length-append new (eci_word ∷ designator m.number),
+        ap (λ (p : ℕ). marked_cost (seen + (p - seen)) (drop (p - seen) items) (drop (k + 1) marks)) c.from.ensures,
+      );
+      first = λ e. absurd (omega (arith, e));
+      sign = λ some. sign_turn c.args.words.now.items c.loop-k.words.items new c.add_mark_words.new.words.items
+          (spelled c.write_text.ensures.parts.parts) (eci_word ∷ designator m.number) seen items marks k from
+          (c.from.result - seen) (record { place = 0; number = 0 }) c.loop-k-test.true
+          (ap (λ (p : ℕ). p - seen) c.from.ensures) v.first v.sign c.write_text.ensures.sign
+          c.write_text.ensures.parts.whole c.add_mark_words.ensures;
+    }
+
+pub returns-clause-said : goal.returns-clause-said
+returns-clause-said g c =
+    let v = c.loop-k.invariant in
+    texts_end c.args.total c.args.words.now.items c.loop-k.words.items c.write_text-2.new.words.items c.args.seen
+    c.args.items.now c.args.marks.now c.loop-k.k c.loop-k.from c.loop-k-test.false v.said
+    c.write_text-2.ensures.parts
+
+pub returns-clause-sign : goal.returns-clause-sign
+returns-clause-sign g c =
+    let v = c.loop-k.invariant in
+    sign_end c.args.words.now.items c.loop-k.words.items c.write_text-2.new.words.items
+    (spelled c.write_text-2.ensures.parts.parts) c.args.seen c.args.items.now c.args.marks.now c.loop-k.k c.loop-k.from
+    c.loop-k-test.false v.first v.sign c.write_text-2.ensures.sign c.write_text-2.ensures.parts.whole

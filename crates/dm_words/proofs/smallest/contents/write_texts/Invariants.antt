@@ -1,0 +1,17 @@
+use Rattle.std.proofs.Common.{◌≡◌, ◌+◌, ◌<◌, ◌≤◌, length, drop, take}
+use Rattle.dm_words.specs.Contents.{AreMarks}
+use Rattle.dm_words.specs.inner.ContentCosts.{marked_cost, AreSaid, first_text}
+use Rattle.dm_words.specs.inner.Signs.{KeepsSign}
+use Rattle.dm_words.proofs.smallest.contents.write_texts.Given as goal
+
+-- The items before the index and the marks so far are written, and the others are paid.
+abbrev pub invariant-loop-k : goal.invariant-loop-k
+invariant-loop-k g l = record {
+  within : l.from ≤ length l.items;
+  steps : length l.items < length l.plan;
+  in_order : AreMarks (l.seen + l.from) (l.seen + length l.items) (drop l.k l.marks);
+  said : AreSaid l.total l.fn.words.items l.words.items l.seen (take l.from l.items) (take l.k l.marks);
+  budget : length l.words.items + marked_cost (l.seen + l.from) (drop l.from l.items) (drop l.k l.marks) ≤ l.total;
+  first : l.k ≡ 0 → (l.from ≡ 0) × (l.words.items ≡ l.fn.words.items);
+  sign : 0 < l.k → KeepsSign l.fn.words.items l.words.items (first_text l.seen l.items l.marks);
+}

@@ -1,9 +1,0 @@
-use Rattle.std.proofs.Common.{arith}
-use Rattle.dm_words.proofs.smallest.letters.least_way.Goals as goal
-
-pub returns-in-None-clause-least : goal.returns-in-None-clause-least
-returns-in-None-clause-least c = record {
-  parts = omega (arith, c.marked_cost.ensures.cost, c.head_words_length.ensures.value);
-  framed = λ word digit text k none e no_fnc1 marks.
-      absurd (c.in-None.ensures.none word digit text k none e no_fnc1 marks);
-}
