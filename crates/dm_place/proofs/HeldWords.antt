@@ -1,5 +1,6 @@
 -- A mapping matrix holds one list of codewords.
-use Rattle.std.proofs.Common.{◌≡◌, ℕ, ◌-◌, ◌/◌, ◌%◌, ◌^◌, ◌<◌, ◌≤◌, Bool, false, nat_eq, List, [], ◌∷◌, map, length}
+use Rattle.std.proofs.lemmas.Bool.Decides.{nat_tests}
+use Rattle.std.proofs.Common.{◌≡◌, ℕ, ◌-◌, ◌/◌, ◌%◌, ◌^◌, ◌<◌, ◌≤◌, Bool, false, nat_eq, List, map, length}
 use Rattle.std.proofs.Common.{get_or, refl, sym, ◌∙◌, ap, arith}
 use Rattle.std.specs.List.{All}
 use Rattle.std.proofs.lemmas.Grind.{same_number_lists}
@@ -7,10 +8,10 @@ use Rattle.std.proofs.lemmas.List.{length-map, get_or-map}
 use Rattle.std.proofs.lemmas.List.Elements.{All-map, All-from_get_or, All-get_or}
 use Rattle.dm_place.specs.declared.shape.Cell.{Cell}
 use Rattle.dm_place.specs.declared.shape.Shape.{Shape}
-use Rattle.dm_place.specs.declared.shape.Shape.TheVariants.{Standard, Corner1, Corner2, Corner3, Corner4}
+use Rattle.dm_place.specs.declared.shape.Shape.TheVariants.{Corner1}
 use Rattle.dm_place.specs.Placement.{At, IsPlace, place, cells_of, shapes}
-use Rattle.dm_place.specs.Holding.{bit_of, number_of, word_at, HoldsBits, EachMatrixHolds, HeldWordsAreOne}
-use Rattle.dm_place.proofs.Bits.{bits_of_byte, digit_small, same_byte}
+use Rattle.dm_place.specs.Holding.{bit_of, word_at, HoldsBits, EachMatrixHolds, HeldWordsAreOne}
+use Rattle.dm_place.proofs.Bits.{bits_of_byte, same_byte}
 use Rattle.dm_place.proofs.OnePlace.{eight}
 
 -- The codewords that are read at the cells of all shapes.
@@ -33,11 +34,7 @@ bit_in look rows columns sh bit lo hi =
   where
     by_shape : (sh : Shape) → nat_eq (word_at look (cells_of rows columns sh) / 2 ^ (8 - bit) % 2) 1 ≡
         get_or (map (λ (x : Cell). look x.row x.column) (cells_of rows columns sh)) (bit - 1) false
-    by_shape (Standard r c) = bits_of_byte _ _ _ _ _ _ _ _ bit lo hi
-    by_shape Corner1 = bits_of_byte _ _ _ _ _ _ _ _ bit lo hi
-    by_shape Corner2 = bits_of_byte _ _ _ _ _ _ _ _ bit lo hi
-    by_shape Corner3 = bits_of_byte _ _ _ _ _ _ _ _ bit lo hi
-    by_shape Corner4 = bits_of_byte _ _ _ _ _ _ _ _ bit lo hi
+    by_shape x = grind (arith, nat_tests, bits_of_byte)
 
 -- A matrix holds the codewords that are read at the cells of all shapes.
 pub holds_words_of : (look : ℕ → ℕ → Bool) (rows columns : ℕ) → HoldsBits rows columns look (words_of look rows columns)
@@ -48,29 +45,10 @@ holds_words_of look rows columns word bit cell p =
     ∙ bit_in look rows columns (get_or (shapes rows columns) word Corner1) bit p.from_one p.to_eight
     ∙ ap (λ (x : Cell). look x.row x.column) p.there)
 
--- Eight digits make a byte.
-eight_digits : (a b c d e f g h : Bool) → number_of 0 (a ∷ b ∷ c ∷ d ∷ e ∷ f ∷ g ∷ h ∷ []) < 256
-eight_digits a b c d e f g h =
-    omega (
-      arith,
-      digit_small a,
-      digit_small b,
-      digit_small c,
-      digit_small d,
-      digit_small e,
-      digit_small f,
-      digit_small g,
-      digit_small h,
-    )
-
 -- The codeword of a shape is a byte.
 word_is_byte : (look : ℕ → ℕ → Bool) (rows columns : ℕ) (shape : Shape) →
     word_at look (cells_of rows columns shape) < 256
-word_is_byte look rows columns (Standard r c) = eight_digits _ _ _ _ _ _ _ _
-word_is_byte look rows columns Corner1 = eight_digits _ _ _ _ _ _ _ _
-word_is_byte look rows columns Corner2 = eight_digits _ _ _ _ _ _ _ _
-word_is_byte look rows columns Corner3 = eight_digits _ _ _ _ _ _ _ _
-word_is_byte look rows columns Corner4 = eight_digits _ _ _ _ _ _ _ _
+word_is_byte look rows columns x = grind (arith, nat_tests)
 
 -- The codewords that are read are bytes.
 pub words_are_bytes : (look : ℕ → ℕ → Bool) (rows columns : ℕ) → All (λ w. w < 256) (words_of look rows columns)

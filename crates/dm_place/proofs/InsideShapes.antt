@@ -1,4 +1,6 @@
 -- The cells of all shapes of a mapping matrix lie in it.
+use Rattle.std.proofs.Common.{arith}
+use Rattle.std.proofs.lemmas.Bool.Decides.{nat_tests}
 use Rattle.std.proofs.Common.{◌≡◌, ℕ, true, ◌&&◌, nat_lt}
 use Rattle.std.proofs.Common.{nat_le, List, [], ◌∷◌, length}
 use Rattle.std.specs.Prelude.{Some}
@@ -6,7 +8,6 @@ use Rattle.std.specs.List.{list_all}
 use Rattle.std.proofs.lemmas.Bool.{and_parts, ltb-true, leb-true}
 use Rattle.dm_place.specs.declared.shape.Cell.{Cell}
 use Rattle.dm_place.specs.declared.shape.Shape.{Shape}
-use Rattle.dm_place.specs.declared.shape.Shape.TheVariants.{Standard, Corner1, Corner2, Corner3, Corner4}
 use Rattle.dm_place.specs.Placement.{cells_of, shapes, AnchorInside, CellsInside, ShapesInside}
 use Rattle.dm_place.specs.Sides.{sides_of, row_with_sides, SidesAreSafe}
 use Rattle.dm_place.proofs.SweepTest.{anchor_inside}
@@ -24,13 +25,7 @@ cells_inside rows columns (x ∷ xs) h =
 
 -- An anchor that passes the test lies in the matrix.
 anchor_in : (rows columns : ℕ) (s : Shape) → anchor_inside rows columns s ≡ true → AnchorInside rows columns s
-anchor_in rows columns (Standard r c) h =
-    let here = and_parts (nat_lt r rows) (nat_lt c columns) h in
-    (ltb-true r rows here.0, ltb-true c columns here.1)
-anchor_in rows columns Corner1 h = tt
-anchor_in rows columns Corner2 h = tt
-anchor_in rows columns Corner3 h = tt
-anchor_in rows columns Corner4 h = tt
+anchor_in rows columns x h = grind (arith, nat_tests)
 
 -- Shapes that pass the test lie in the matrix.
 all_inside : (rows columns : ℕ) (ss : List Shape) → list_all (fits_test rows columns) ss ≡ true →

@@ -1,5 +1,6 @@
 -- Each cell holds one bit: this follows from the test of the sweep, by which the cells of all places are new and fill
 -- the matrix.
+use Rattle.std.proofs.lemmas.Bool.Decides.{nat_tests}
 use Rattle.std.proofs.Common.{◌≡◌, ℕ, ◌+◌, ◌-◌, ◌*◌, ◌/◌, ◌%◌, ◌<◌, Bool, true, false, List, [], ◌∷◌, refl, length}
 use Rattle.std.proofs.Common.{get_or, sym, ◌∙◌, ap, subst, arith, take, flat_map, length-append}
 use Rattle.std.proofs.Math.ListN.{length-take}
@@ -9,7 +10,7 @@ use Rattle.std.proofs.lemmas.Nat.{div-mul-add, mod-mul-add}
 use Rattle.std.proofs.lemmas.List.Concat.{get_or-flat_map}
 use Rattle.dm_place.specs.declared.shape.Cell.{Cell}
 use Rattle.dm_place.specs.declared.shape.Shape.{Shape}
-use Rattle.dm_place.specs.declared.shape.Shape.TheVariants.{Standard, Corner1, Corner2, Corner3, Corner4}
+use Rattle.dm_place.specs.declared.shape.Shape.TheVariants.{Corner1}
 use Rattle.dm_place.specs.Border.{is_fixed}
 use Rattle.dm_place.specs.Placement.{At, shapes, cells_of, place, IsPlace, NoPlace, OnePlace, EachCellOnce}
 use Rattle.dm_place.proofs.SweepTest.{cells_of_all, is_free, number_of}
@@ -18,11 +19,7 @@ use Rattle.dm_place.proofs.SweptCells.{filled_at, among, fixed_free}
 
 -- A shape has eight cells.
 pub eight : (rows columns : ℕ) (s : Shape) → length (cells_of rows columns s) ≡ 8
-eight rows columns (Standard r c) = refl
-eight rows columns Corner1 = refl
-eight rows columns Corner2 = refl
-eight rows columns Corner3 = refl
-eight rows columns Corner4 = refl
+eight rows columns x = grind (arith, nat_tests)
 
 -- Shapes have eight cells each.
 flat_length : (rows columns : ℕ) (xs : List Shape) → length (flat_map (cells_of rows columns) xs) ≡ 8 * length xs
@@ -49,8 +46,7 @@ cells-at rows columns w b lw lb =
     let k : b < length (cells_of rows columns (get_or (shapes rows columns) w Corner1)) =
     omega (arith, eight rows columns (get_or (shapes rows columns) w Corner1)) in
     let g = get_or-flat_map (cells_of rows columns) (shapes rows columns) w b Corner1 (At 0 0) lw k in
-    subst (λ (j : ℕ). get_or (flat_map (cells_of rows columns) (shapes rows columns)) (j + b) (At 0 0) ≡
-    get_or (cells_of rows columns (get_or (shapes rows columns) w Corner1)) b (At 0 0)) e g
+    rw e at g
 
 -- A cell is given by its row and its column.
 same_cell : (x : Cell) (r c : ℕ) → x.row ≡ r → x.column ≡ c → x ≡ At r c
@@ -89,8 +85,7 @@ module _ (rows columns : ℕ) (fills : FillsAll rows columns 0 (shapes rows colu
   is_taken : (r c w b : ℕ) → IsPlace rows columns w b (At r c) → is_free whole (r * columns + c) ≡ false
   is_taken r c w b h =
       let k = is_listed w b (At r c) h in
-      ap (λ (x : Cell). is_free whole (number_of rows columns x)) (sym k.1)
-      ∙ filled_at rows columns 0 cells (8 * w + (b - 1)) (At 0 0) k.0
+      cc (k.1, filled_at rows columns 0 cells (8 * w + (b - 1)) (At 0 0) k.0)
 
   -- The cell with this number lies at this row and this column.
   cell_of : (r c i : ℕ) → c < columns → i < length cells →
@@ -99,11 +94,9 @@ module _ (rows columns : ℕ) (fills : FillsAll rows columns 0 (shapes rows colu
       let x = get_or cells i (At 0 0) in
       let a = (new_at rows columns 0 cells i (At 0 0) fills.new li).0 in
       let er : x.row ≡ r =
-      sym (div-mul-add x.row columns x.column a.column) ∙ ap (λ (j : ℕ). j / columns) g
-      ∙ div-mul-add r columns c lc in
+      cc (div-mul-add x.row columns x.column a.column, g, div-mul-add r columns c lc) in
       let ec : x.column ≡ c =
-      sym (mod-mul-add x.row columns x.column a.column) ∙ ap (λ (j : ℕ). j % columns) g
-      ∙ mod-mul-add r columns c lc in
+      cc (mod-mul-add x.row columns x.column a.column, g, mod-mul-add r columns c lc) in
       same_cell x r c er ec
 
   one_place : (r c : ℕ) → r < rows → c < columns → IsAmong rows columns (r * columns + c) cells (At 0 0) →
@@ -124,8 +117,7 @@ module _ (rows columns : ℕ) (fills : FillsAll rows columns 0 (shapes rows colu
           from_one = omega arith;
           to_eight = omega arith;
           there =
-              ap (λ (j : ℕ). get_or (cells_of rows columns (get_or (shapes rows columns) (i / 8) Corner1)) j (At 0 0))
-              sb ∙ here;
+              rw (sb, here);
         },
         λ w b h.
             let k = is_listed w b (At r c) h in

@@ -1,6 +1,7 @@
 -- The list of all places, by codeword and then by bit.
+use Rattle.std.proofs.lemmas.Bool.Decides.{nat_tests}
 use Rattle.std.proofs.Common.{◌≡◌, ℕ, zero, suc, ◌+◌, ◌-◌, ◌*◌, ◌/◌, ◌%◌, ◌<◌, ◌≤◌, List, [], ◌∷◌, ◌++◌, length, get_or}
-use Rattle.std.proofs.Common.{refl, sym, ◌∙◌, ap, arith, subst, length-append, add-zero, Bool, true, false}
+use Rattle.std.proofs.Common.{refl, sym, ◌∙◌, ap, arith, length-append, add-zero, Bool, true, false}
 use Rattle.std.proofs.lemmas.List.{get_or-append-add, get_or_append_left}
 use Rattle.dm_place.specs.declared.shape.Cell.{Cell}
 use Rattle.dm_place.specs.declared.cells.Place.{Place}
@@ -82,11 +83,7 @@ unfolding places_in_order place
 place_at rows columns w bit d l lo hi =
     let e : bit - 1 + 1 ≡ bit = omega arith in
     let z : 0 + w ≡ w = omega arith in
-    places_from-at rows columns 0 (shapes rows columns) w (bit - 1) d l (omega arith)
-    ∙ ap (λ (i : ℕ). lies_in i (bit - 1 + 1) (get_or (cells_of rows columns (get_or (shapes rows columns) w Corner1))
-    (bit - 1) (At 0 0))) z
-    ∙ ap (λ (i : ℕ). lies_in w i (get_or (cells_of rows columns (get_or (shapes rows columns) w Corner1)) (bit - 1)
-    (At 0 0))) e
+    rw (places_from-at rows columns 0 (shapes rows columns) w (bit - 1) d l (omega arith), z, e)
 
 -- ---- each item of the list is a place
 
@@ -115,8 +112,7 @@ all_are_places rows columns = places_by_index rows columns (places_in_order rows
     let f : get_or (places_in_order rows columns) i d ≡
     lies_in (i / 8) (i % 8 + 1) (place rows columns (i / 8) (i % 8 + 1)) =
     ap (λ (j : ℕ). get_or (places_in_order rows columns) j d) (sym k) ∙ e in
-    subst (λ (p : Place). IsPlace rows columns p.word p.bit (At p.row p.column)) (sym f)
-    (record { word_in = lw; from_one = lo; to_eight = hi; there = refl }))
+    rw f (record { word_in = lw; from_one = lo; to_eight = hi; there = refl }))
 
 -- ---- a cell holds one bit
 
@@ -129,11 +125,7 @@ one_bit rows columns r c w b v e law p q =
   where
     by_law : (fixed : Bool) → MatchBool fixed (NoPlace rows columns (At r c)) (OnePlace rows columns (At r c)) →
         (v ≡ w) × (e ≡ b)
-    by_law true none = absurd (none w b p)
-    by_law false one =
-        let x = one.3 w b p in
-        let y = one.3 v e q in
-        (y.0 ∙ sym x.0, y.1 ∙ sym x.1)
+    by_law z none = grind (arith, nat_tests)
 
 -- No bit lies in the fixed square.
 pub none_fixed : (rows columns : ℕ) (r c w b : ℕ) → EachCellOnce rows columns → is_fixed rows columns r c ≡ true →

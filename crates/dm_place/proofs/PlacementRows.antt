@@ -1,6 +1,8 @@
 -- What the computed test of the sweep says of each size of the table.
+use Rattle.std.proofs.lemmas.Bool.Decides.{nat_tests}
+use Rattle.std.proofs.Common.{arith}
 use Rattle.std.proofs.Common.{◌≡◌, ℕ, ◌*◌, ◌&&◌, true, nat_eq, List, length, subst, sym, ap, ◌∙◌}
-use Rattle.std.specs.Prelude.{pos, find, Option, Some, Bool, false, [], ◌∷◌}
+use Rattle.std.specs.Prelude.{pos, find, Option, Some, Bool, [], ◌∷◌}
 use Rattle.std.proofs.Common.{cond}
 use Rattle.std.specs.List.{All, list_all, AllByRecursion}
 use Rattle.std.proofs.lemmas.Bool.{and_parts, eqb-true}
@@ -22,10 +24,7 @@ use Rattle.dm_place.proofs.TestedSweep.{swept_by, size_test, tested, fits_test, 
 -- What holds of the first item, and of what is found among the others, holds of what is found among all.
 found_case : {X : Type 0} (P : X → Type 0) (y x : X) (o : Option X) (b : Bool) → P y → (o ≡ Some x → P x) →
     cond b (Some y) o ≡ Some x → P x
-found_case P y x o true h k e =
-    let g : y ≡ x = cc in
-    subst P g h
-found_case P y x o false h k e = k e
+found_case z y x o w h k e = grind (arith, nat_tests)
 
 -- What holds of each item of a list holds of the one that is found.
 pub at_found : {X : Type 0} (P : X → Type 0) (p : X → Bool) (xs : List X) (x : X) → AllByRecursion P xs →

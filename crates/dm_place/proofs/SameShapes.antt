@@ -1,5 +1,7 @@
 -- A test that two lists of shapes are the same. It is cheaper to compute than the equation.
-use Rattle.std.proofs.Common.{◌≡◌, ℕ, zero, suc, Bool, true, nat_eq, List, [], ◌∷◌, refl, ap, sym, ◌∙◌}
+use Rattle.std.proofs.Common.{arith}
+use Rattle.std.proofs.lemmas.Bool.Decides.{nat_tests}
+use Rattle.std.proofs.Common.{◌≡◌, ℕ, zero, suc, Bool, true, nat_eq, List, [], ◌∷◌, ap, sym, ◌∙◌}
 use Rattle.std.specs.Cmp.Lexicographic.{pointwise, same_text}
 use Rattle.dm_place.specs.declared.shape.Shape.{Shape}
 use Rattle.dm_place.specs.declared.shape.Shape.TheVariants.{Standard, Corner1, Corner2, Corner3, Corner4}
@@ -23,11 +25,7 @@ shape_of (r ∷ c ∷ rest) = Standard r c
 
 -- A shape is found again from its numbers.
 shape_again : (x : Shape) → shape_of (numbers_of x) ≡ x
-shape_again (Standard r c) = refl
-shape_again Corner1 = refl
-shape_again Corner2 = refl
-shape_again Corner3 = refl
-shape_again Corner4 = refl
+shape_again x = grind (arith, nat_tests)
 
 -- Two shapes pass this test if their numbers agree.
 abbrev pub same_shape : Shape → Shape → Bool

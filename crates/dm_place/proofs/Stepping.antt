@@ -1,6 +1,7 @@
 -- The steps over the closed form.
+use Rattle.std.proofs.lemmas.Bool.Decides.{nat_tests}
 use Rattle.std.proofs.Common.{◌≡◌, ◌⊎◌, inl, inr, ℕ, zero, suc, ◌+◌, ◌-◌, ◌%◌, ◌<◌, ◌≤◌, List, [], ◌∷◌, ◌++◌, flat_map}
-use Rattle.std.proofs.Common.{Bool, true, false, ◌&&◌, nat_eq}
+use Rattle.std.proofs.Common.{Bool, true, false, ◌&&◌}
 use Rattle.std.proofs.Common.{refl, ap, sym, ◌∙◌, arith, append_assoc}
 use Rattle.std.specs.List.{range_with_len}
 use Rattle.std.proofs.lemmas.Bool.{cases_lt, eqb-true}
@@ -14,24 +15,12 @@ use Rattle.dm_place.specs.inner.Walking.{from_sum, left_at}
 -- What a range gives begins with what its first number gives.
 pub first_of : (f : ℕ → List Shape) (i n : ℕ) → i < n →
     flat_map f (range_with_len i (n - i)) ≡ f i ++ flat_map f (range_with_len (i + 1) (n - (i + 1)))
-first_of f i n l =
-    let e : n - i ≡ suc (n - (i + 1)) = omega arith in
-    ap (λ (k : ℕ). flat_map f (range_with_len i k)) e
+first_of f i n l = grind (arith, nat_tests, flat_map)
 
 -- What a range gives is what is left of it where its first number gives nothing.
 one_skipped : (f : ℕ → List Shape) (i n : ℕ) → f i ≡ [] →
     flat_map f (range_with_len i (n - i)) ≡ flat_map f (range_with_len (i + 1) (n - (i + 1)))
-one_skipped f i n none = by_end (cases_lt i n)
-  where
-    by_end : (i < n) ⊎ (n ≤ i) → flat_map f (range_with_len i (n - i)) ≡
-        flat_map f (range_with_len (i + 1) (n - (i + 1)))
-    by_end (inl l) =
-        first_of f i n l ∙ ap (λ (xs : List Shape). xs ++ flat_map f (range_with_len (i + 1) (n - (i + 1)))) none
-    by_end (inr l) =
-        let z : n - i ≡ 0 = omega (arith, l) in
-        let y : n - (i + 1) ≡ 0 = omega (arith, l) in
-        ap (λ (j : ℕ). flat_map f (range_with_len i j)) z
-        ∙ sym (ap (λ (j : ℕ). flat_map f (range_with_len (i + 1) j)) y)
+one_skipped f i n none = grind (arith, nat_tests, cases_lt, flat_map, first_of)
 
 -- What a range gives is what is left of it where its next numbers give nothing.
 skipped : (f : ℕ → List Shape) (k i n : ℕ) → ((c : ℕ) → i ≤ c → c < i + k → f c ≡ []) →
@@ -55,15 +44,7 @@ split : (rows columns s : ℕ) (o evens odds : List Shape) → s + 1 < rows + co
     flat_map (in_even_row rows columns s) (range_with_len 0 columns) ≡ evens →
     flat_map (in_odd_row rows columns s) (range_with_len 0 rows) ≡ odds →
     from_sum rows columns s ≡ o ++ (evens ++ odds ++ from_sum rows columns (s + 1))
-split rows columns s o evens odds l e f g =
-    first_of (shapes_of_sum rows columns) s (rows + columns - 1) (omega arith)
-    ∙ joined (corner_before rows columns s) (flat_map (in_even_row rows columns s) (range_with_len 0 columns))
-    (flat_map (in_odd_row rows columns s) (range_with_len 0 rows)) (from_sum rows columns (s + 1))
-    ∙ ap (λ (xs : List Shape). xs ++ (flat_map (in_even_row rows columns s) (range_with_len 0 columns)
-    ++ flat_map (in_odd_row rows columns s) (range_with_len 0 rows) ++ from_sum rows columns (s + 1))) (sym e)
-    ∙ ap (λ (xs : List Shape). o ++ (xs ++ flat_map (in_odd_row rows columns s) (range_with_len 0 rows)
-    ++ from_sum rows columns (s + 1))) f
-    ∙ ap (λ (xs : List Shape). o ++ (evens ++ xs ++ from_sum rows columns (s + 1))) g
+split rows columns s o evens odds l e f g = grind (arith, nat_tests, first_of, joined, flat_map)
 
 -- A list with nothing behind it is the list.
 nothing_after : (xs : List Shape) → xs ++ [] ≡ xs
@@ -111,35 +92,15 @@ corner_odd rows columns s i first p o is l e zero_left before =
 
 -- Three tests fail together where the first and the last can't both pass.
 not_both : (a b c : Bool) → (a ≡ true → c ≡ true → ⊥) → (a && b && c) ≡ false
-not_both true true true f = absurd (f refl refl)
-not_both true false true f = refl
-not_both true true false f = refl
-not_both true false false f = refl
-not_both false b c f = refl
+not_both x b c f = grind (arith, nat_tests)
 
 -- No corner comes before the anchors of a sum that isn't a multiple of 4.
 no_corner : (rows columns s : ℕ) → 6 ≤ rows → (s % 4 ≡ 0 → ⊥) → corner_before rows columns s ≡ []
-no_corner rows columns s low f =
-    let first : (k n d : ℕ) → (rows % 8 ≡ k → s ≡ n → s % 4 ≡ 0) →
-    (nat_eq (rows % 8) k && nat_eq (columns % 8) d && nat_eq s n) ≡ false =
-    λ k n d h. not_both (nat_eq (rows % 8) k) (nat_eq (columns % 8) d) (nat_eq s n)
-    (λ x y. f (h (eqb-true _ _ x) (eqb-true _ _ y))) in
-    let a = first 4 rows 4 (λ x y. omega (arith, x, y)) in
-    let b = first 6 (rows - 2) 6 (λ x y. omega (arith, low, x, y)) in
-    let c = first 6 (rows - 2) 4 (λ x y. omega (arith, low, x, y)) in
-    let d = first 6 (rows + 6) 0 (λ x y. omega (arith, x, y)) in
-    rw (corner_before, a, b, c, d) refl
+no_corner rows columns s low f = grind (arith, nat_tests, not_both, eqb-true)
 
 -- A sum that isn't a multiple of 4 has no shapes.
 no_shapes : (rows columns s : ℕ) → 6 ≤ rows → (s % 4 ≡ 0 → ⊥) → shapes_of_sum rows columns s ≡ []
-no_shapes rows columns s low f =
-    ap (λ (xs : List Shape). xs ++ flat_map (in_even_row rows columns s) (range_with_len 0 columns)
-    ++ flat_map (in_odd_row rows columns s) (range_with_len 0 rows)) (no_corner rows columns s low f)
-    ∙ ap (λ (xs : List Shape). xs ++ flat_map (in_odd_row rows columns s) (range_with_len 0 rows))
-    (none_of (in_even_row rows columns s) (range_with_len 0 columns)
-    (λ c. none_even rows columns s c (λ (h : s % 8 ≡ 4). f (omega (arith, h)))))
-    ∙ none_of (in_odd_row rows columns s) (range_with_len 0 rows)
-    (λ r. none_odd rows columns s r (λ (h : s % 8 ≡ 0). f (omega (arith, h))))
+no_shapes rows columns s low f = grind (arith, nat_tests, none_of, none_even, none_odd, no_corner)
 
 -- After a sum that is a multiple of 4 the next one that has shapes is four further.
 pub next_sum : (rows columns s : ℕ) → 6 ≤ rows → s % 4 ≡ 0 →
@@ -150,83 +111,36 @@ next_sum rows columns s low four =
     (λ t a b. no_shapes rows columns t low (λ h. omega (arith, a, b, h, four)))
     ∙ ap (from_sum rows columns) e
 
+-- What a range gives begins with what its first number gives, and goes on behind the next one if that gives nothing.
+step_of : (f : ℕ → List Shape) (i n : ℕ) (o rest : List Shape) → i < n →
+    ((c : ℕ) → i + 1 ≤ c → c < i + 1 + 1 → f c ≡ []) → o ≡ f i →
+    flat_map f (range_with_len i (n - i)) ++ rest ≡ o ++ (flat_map f (range_with_len (i + 2) (n - (i + 2))) ++ rest)
+step_of f i n o rest l none e = grind (arith, nat_tests, first_of, skipped, append_assoc)
+
+-- It gives nothing if it has ended, or if all its numbers give nothing.
+end_of : (f : ℕ → List Shape) (i n : ℕ) (rest : List Shape) → (n ≤ i) ⊎ ((c : ℕ) → i ≤ c → f c ≡ []) →
+    flat_map f (range_with_len i (n - i)) ++ rest ≡ rest
+end_of f i n rest (inl l) = let z : n - i ≡ 0 = omega (arith, l) in rw z
+end_of f i n rest (inr none) = let z : n - (i + n) ≡ 0 = omega arith in rw (skipped f n i n (λ c a _. none c a), z)
+
 -- Among the anchors in even rows that of an even column comes first, if there is one, and then those of the next even
 -- columns.
 pub even_step : (rows columns s i : ℕ) (p : Part) (o : List Shape) → p ≡ Even → i < columns → i % 2 ≡ 0 →
     s % 8 ≡ 4 → o ≡ in_even_row rows columns s i →
     left_at rows columns s p i ≡ o ++ left_at rows columns s p (i + 2)
-even_step rows columns s i p o is l even four e =
-    let rest : List Shape = from_sum rows columns (s + 1) in
-    let two : i + 1 + 1 ≡ i + 2 = omega arith in
-    let more : flat_map (in_even_row rows columns s) (range_with_len (i + 1) (columns - (i + 1))) ≡
-    flat_map (in_even_row rows columns s) (range_with_len (i + 2) (columns - (i + 2))) =
-    skipped (in_even_row rows columns s) 1 (i + 1) columns (λ c a b.
-    none_in_column rows columns s c (λ k m. absurd (omega (arith, a, b, k, m, four, even))))
-    ∙ ap (λ (j : ℕ). flat_map (in_even_row rows columns s) (range_with_len j (columns - j))) two in
-    ap (λ (q : Part). left_at rows columns s q i) is
-    ∙ ap (λ (xs : List Shape). xs ++ rest) (first_of (in_even_row rows columns s) i columns l)
-    ∙ ap (λ (xs : List Shape). in_even_row rows columns s i ++ xs ++ rest) more
-    ∙ append_assoc (in_even_row rows columns s i)
-    (flat_map (in_even_row rows columns s) (range_with_len (i + 2) (columns - (i + 2)))) rest
-    ∙ ap (λ (xs : List Shape). xs ++ left_at rows columns s Even (i + 2)) (sym e)
-    ∙ ap (λ (q : Part). o ++ left_at rows columns s q (i + 2)) (sym is)
+even_step rows columns s i p o is l even four e = grind (arith, nat_tests, step_of, none_in_column)
 
 -- Past the last column, and past that of the row at the top, only the shapes of larger sums are left.
 pub even_end : (rows columns s i : ℕ) (p : Part) → p ≡ Even → (columns ≤ i) ⊎ (s < i) →
     left_at rows columns s p i ≡ from_sum rows columns (s + 1)
-even_end rows columns s i p is past =
-    let f : ℕ → List Shape = in_even_row rows columns s in
-    let z : columns - (i + columns) ≡ 0 = omega arith in
-    ap (λ (q : Part). left_at rows columns s q i) is
-    ∙ ap (λ (xs : List Shape). xs ++ from_sum rows columns (s + 1))
-    (by_end past ∙ ap (λ (j : ℕ). flat_map f (range_with_len (i + columns) j)) z)
-  where
-    by_end : (columns ≤ i) ⊎ (s < i) → flat_map (in_even_row rows columns s) (range_with_len i (columns - i)) ≡
-        flat_map (in_even_row rows columns s) (range_with_len (i + columns) (columns - (i + columns)))
-    by_end (inl l) =
-        let y : columns - i ≡ 0 = omega (arith, l) in
-        let z : columns - (i + columns) ≡ 0 = omega arith in
-        ap (λ (j : ℕ). flat_map (in_even_row rows columns s) (range_with_len i j)) y
-        ∙ sym (ap (λ (j : ℕ). flat_map (in_even_row rows columns s) (range_with_len (i + columns) j)) z)
-    by_end (inr l) =
-        skipped (in_even_row rows columns s) columns i columns
-        (λ c a _. none_in_column rows columns s c (λ k m. absurd (omega (arith, a, k, l))))
+even_end rows columns s i p is past = grind (arith, nat_tests, end_of, none_in_column)
 
 -- Among the anchors in odd rows that of an odd row comes first, if there is one, and then those of the next odd rows.
 pub odd_step : (rows columns s i : ℕ) (p : Part) (o : List Shape) → p ≡ Odd → i < rows → i % 2 ≡ 1 →
     o ≡ in_odd_row rows columns s i → left_at rows columns s p i ≡ o ++ left_at rows columns s p (i + 2)
-odd_step rows columns s i p o is l odd e =
-    let rest : List Shape = from_sum rows columns (s + 1) in
-    let two : i + 1 + 1 ≡ i + 2 = omega arith in
-    let more : flat_map (in_odd_row rows columns s) (range_with_len (i + 1) (rows - (i + 1))) ≡
-    flat_map (in_odd_row rows columns s) (range_with_len (i + 2) (rows - (i + 2))) =
-    skipped (in_odd_row rows columns s) 1 (i + 1) rows (λ r a b.
-    none_in_row rows columns s r (λ k m. absurd (omega (arith, a, b, m, odd))))
-    ∙ ap (λ (j : ℕ). flat_map (in_odd_row rows columns s) (range_with_len j (rows - j))) two in
-    ap (λ (q : Part). left_at rows columns s q i) is
-    ∙ ap (λ (xs : List Shape). xs ++ rest) (first_of (in_odd_row rows columns s) i rows l)
-    ∙ ap (λ (xs : List Shape). in_odd_row rows columns s i ++ xs ++ rest) more
-    ∙ append_assoc (in_odd_row rows columns s i)
-    (flat_map (in_odd_row rows columns s) (range_with_len (i + 2) (rows - (i + 2)))) rest
-    ∙ ap (λ (xs : List Shape). xs ++ left_at rows columns s Odd (i + 2)) (sym e)
-    ∙ ap (λ (q : Part). o ++ left_at rows columns s q (i + 2)) (sym is)
+odd_step rows columns s i p o is l odd e = grind (arith, nat_tests, step_of, none_in_row)
 
 -- Past the last row, and past that of the column at the left, only the shapes of larger sums are left.
 pub odd_end : (rows columns s i : ℕ) (p : Part) → p ≡ Odd → (rows ≤ i) ⊎ (s < i) →
     left_at rows columns s p i ≡ from_sum rows columns (s + 1)
-odd_end rows columns s i p is past =
-    let z : rows - (i + rows) ≡ 0 = omega arith in
-    ap (λ (q : Part). left_at rows columns s q i) is
-    ∙ ap (λ (xs : List Shape). xs ++ from_sum rows columns (s + 1))
-    (by_end past ∙ ap (λ (j : ℕ). flat_map (in_odd_row rows columns s) (range_with_len (i + rows) j)) z)
-  where
-    by_end : (rows ≤ i) ⊎ (s < i) → flat_map (in_odd_row rows columns s) (range_with_len i (rows - i)) ≡
-        flat_map (in_odd_row rows columns s) (range_with_len (i + rows) (rows - (i + rows)))
-    by_end (inl l) =
-        let y : rows - i ≡ 0 = omega (arith, l) in
-        let z : rows - (i + rows) ≡ 0 = omega arith in
-        ap (λ (j : ℕ). flat_map (in_odd_row rows columns s) (range_with_len i j)) y
-        ∙ sym (ap (λ (j : ℕ). flat_map (in_odd_row rows columns s) (range_with_len (i + rows) j)) z)
-    by_end (inr l) =
-        skipped (in_odd_row rows columns s) rows i rows
-        (λ r a _. none_in_row rows columns s r (λ k m. absurd (omega (arith, a, k, l))))
+odd_end rows columns s i p is past = grind (arith, nat_tests, end_of, none_in_row)

@@ -1,16 +1,16 @@
 -- What the test of the sweep says of the cells: those of the shapes lie in the matrix, no two of them are the same, and
 -- together they are those outside the fixed square.
+use Rattle.std.proofs.lemmas.Bool.Decides.{nat_tests}
 use Rattle.std.proofs.Common.{◌≡◌, ◌≢◌, ◌⊎◌, inl, inr, ℕ, zero, suc, ◌+◌, ◌-◌, ◌*◌, ◌/◌, ◌%◌, ◌^◌, ◌<◌, Bool, true}
-use Rattle.std.proofs.Common.{false, not, ◌&&◌, nat_eq, nat_lt, nat_le, List, [], ◌∷◌, ◌++◌, length, get_or, refl, sym}
+use Rattle.std.proofs.Common.{false, not, ◌&&◌, nat_eq, nat_lt, List, [], ◌∷◌, ◌++◌, length, get_or, refl, sym}
 use Rattle.std.proofs.Common.{◌∙◌, ap, subst, arith}
 use Rattle.std.specs.Prelude.{max}
 use Rattle.std.specs.Bool.{beq}
 use Rattle.std.specs.Int.{bit_at}
 use Rattle.std.specs.List.{list_all, range_with_len}
-use Rattle.std.specs.Int.RustNames.{bit_or}
 use Prim.Native.Nat.{bit_and as native_and, bit_and-bitwise}
 use lib.Bits.{bit_and, or_disjoint}
-use Rattle.std.proofs.lemmas.Bool.{and_parts, eqb-true, eqb-false, ne_eqb, ltb-true, false≢true}
+use Rattle.std.proofs.lemmas.Bool.{and_parts, eqb-true, eqb-false, ltb-true, false≢true}
 use Rattle.std.proofs.Math.Nat.{mul_comm}
 use Rattle.std.proofs.lemmas.Nat.{pow_pos, mul-add-lt, div-mul-add, mod-mul-add}
 use Rattle.std.proofs.lemmas.Nat.Bits.{and_pow, bit_at_or, bit_at-lt, bit_at-pow_same, bit_at-pow_other, bit_at_ones}
@@ -28,9 +28,7 @@ use Rattle.dm_place.proofs.SweepTest.{anchor_inside, left_out, places_next, all_
 
 -- A binary digit times a positive number is 0 exactly if the digit is.
 digit_times : (b m : ℕ) → b < 2 → 0 < m → nat_eq (b * m) 0 ≡ nat_eq b 0
-digit_times zero m l p = ap (λ (k : ℕ). nat_eq k 0) (let e : 0 * m ≡ 0 = omega arith in e)
-digit_times (suc zero) m l p = ne_eqb (1 * m) 0 (λ h. omega (arith, h, p))
-digit_times (suc (suc b)) m l p = absurd (omega arith)
+digit_times x m l p = grind (arith, nat_tests)
 
 -- The native `bit_and` gives what that of the contracts does.
 same_and : (a b : ℕ) → native_and a b ≡ bit_and a b
@@ -44,38 +42,21 @@ free_first k = ap (λ (j : ℕ). nat_eq j 0) (same_and 0 (2 ^ k))
 -- A cell isn't filled exactly if its bit is 0.
 pub free_bit : (t k : ℕ) → is_free t k ≡ nat_eq (bit_at t k) 0
 free_bit t k =
-    ap (λ (j : ℕ). nat_eq j 0) (same_and t (2 ^ k) ∙ and_pow t k)
-    ∙ digit_times (bit_at t k) (2 ^ k) (bit_at-lt t k) (pow_pos k)
+    rw (same_and t (2 ^ k), and_pow t k, digit_times (bit_at t k) (2 ^ k) (bit_at-lt t k) (pow_pos k))
 
 -- The larger of two binary digits is 0 exactly if both are.
 max_free : (x y : ℕ) → x < 2 → y < 2 → nat_eq (max x y) 0 ≡ (nat_eq x 0 && nat_eq y 0)
-max_free zero zero lx ly = refl
-max_free zero (suc zero) lx ly = refl
-max_free (suc zero) zero lx ly = refl
-max_free (suc zero) (suc zero) lx ly = refl
-max_free zero (suc (suc y)) lx ly = absurd (omega arith)
-max_free (suc zero) (suc (suc y)) lx ly = absurd (omega arith)
-max_free (suc (suc x)) y lx ly = absurd (omega arith)
+max_free x y lx ly = grind (arith, nat_tests)
 
 -- A power of 2 has a single bit.
 single_bit : (i k : ℕ) → nat_eq (bit_at (2 ^ i) k) 0 ≡ not (nat_eq k i)
-single_bit i k = by_test (nat_eq k i) refl
-  where
-    by_test : (b : Bool) → nat_eq k i ≡ b → nat_eq (bit_at (2 ^ i) k) 0 ≡ not b
-    by_test true e =
-        ap (λ (j : ℕ). nat_eq (bit_at (2 ^ i) j) 0) (eqb-true k i e) ∙ ap (λ (j : ℕ). nat_eq j 0) (bit_at-pow_same i)
-    by_test false e = ap (λ (j : ℕ). nat_eq j 0) (bit_at-pow_other i k (eqb-false k i e))
+single_bit i k = grind (arith, nat_tests, eqb-true, bit_at-pow_same, bit_at-pow_other, eqb-false)
 
 -- With one more cell filled, a cell is free that was, but for that cell.
 pub free_after : (rows columns t k : ℕ) (x : Cell) →
     is_free (with_cell rows columns t x) k ≡ (is_free t k && not (nat_eq k (number_of rows columns x)))
 free_after rows columns t k x =
-    let p : ℕ = 2 ^ number_of rows columns x in
-    free_bit (bit_or t p) k
-    ∙ ap (λ (j : ℕ). nat_eq j 0) (bit_at_or t p k)
-    ∙ max_free (bit_at t k) (bit_at p k) (bit_at-lt t k) (bit_at-lt p k)
-    ∙ ap (λ (b : Bool). b && nat_eq (bit_at p k) 0) (sym (free_bit t k))
-    ∙ ap (λ (b : Bool). is_free t k && b) (single_bit (number_of rows columns x) k)
+    grind (arith, nat_tests, number_of, free_bit, bit_at_or, max_free, bit_at-lt, is_free, single_bit)
 
 -- A cell that is free with one more cell filled was free before.
 pub free_before : (rows columns t k : ℕ) (x : Cell) → is_free (with_cell rows columns t x) k ≡ true → is_free t k ≡ true
@@ -83,11 +64,7 @@ free_before rows columns t k x h = (and_parts (is_free t k) _ (sym (free_after r
 
 -- A number equals itself, as the test of equality sees it.
 same_number : (k : ℕ) → nat_eq k k ≡ true
-same_number k = by_test (nat_eq k k) refl
-  where
-    by_test : (b : Bool) → nat_eq k k ≡ b → b ≡ true
-    by_test true e = refl
-    by_test false e = absurd (eqb-false k k e refl)
+same_number k = grind (arith, nat_tests, eqb-false)
 
 -- A test and a test that fails fail together.
 and_none : (b : Bool) → (b && false) ≡ false
@@ -210,8 +187,7 @@ among rows columns t k (x ∷ xs) d f h =
     by_test others true e = (0, omega arith, sym (eqb-true k (number_of rows columns x) e))
     by_test others false e =
         let g : is_free (with_cell rows columns t x) k ≡ true =
-        free_after rows columns t k x ∙ ap (λ (b : Bool). is_free t k && not b) e
-        ∙ ap (λ (b : Bool). b && true) f in
+        rw (free_after, e, f) in
         let rest : IsAmong rows columns k xs d = others g in
         (suc rest.0, omega (arith, rest.1), rest.2)
 
@@ -219,8 +195,7 @@ among rows columns t k (x ∷ xs) d f h =
 first_apart : (rows columns t : ℕ) (x : Cell) (xs : List Cell) (i : ℕ) (d : Cell) → AreNew rows columns t (x ∷ xs) →
     i < length xs → number_of rows columns x ≢ number_of rows columns (get_or xs i d)
 first_apart rows columns t x xs i d h l e =
-    false≢true (sym (filled_now rows columns t x) ∙ ap (is_free (with_cell rows columns t x)) e
-    ∙ (new_at rows columns (with_cell rows columns t x) xs i d h.1 l).1)
+    false≢true (cc (filled_now rows columns t x, e, (new_at rows columns (with_cell rows columns t x) xs i d h.1 l).1))
 
 -- No two of the new cells are the same.
 pub new_apart : (rows columns t : ℕ) (xs : List Cell) (i j : ℕ) (d : Cell) → AreNew rows columns t xs → i < length xs →
@@ -360,7 +335,4 @@ fixed_free rows columns t r c lr lc = by_size ((nat_eq (rows % 4) 2 && nat_eq (c
         ∙ ap (λ (j : ℕ). is_fixed rows columns j (k % columns)) (div-mul-add r columns c lc)
         ∙ ap (is_fixed rows columns r) (mod-mul-add r columns c lc)
     by_size false e h =
-        free_bit t k
-        ∙ ap (λ (u : ℕ). nat_eq (bit_at u k) 0) (eqb-true t (2 ^ (rows * columns) - 1) h)
-        ∙ ap (λ (j : ℕ). nat_eq j 0) (bit_at_ones (rows * columns) k within)
-        ∙ ap (λ (b : Bool). b && nat_le rows (r + 2) && nat_le columns (c + 2)) (sym e)
+        rw (free_bit t k, eqb-true t (2 ^ (rows * columns) - 1) h, bit_at_ones (rows * columns) k within, e)

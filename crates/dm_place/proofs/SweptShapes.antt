@@ -1,15 +1,15 @@
 -- What the test of the sweep says of the sweep: it places the shapes that the test gives.
-use Rattle.std.proofs.Common.{◌≡◌, ◌⊎◌, inl, inr, ℕ, ◌+◌, ◌*◌, ◌/◌, ◌<◌, Bool, true, false, not, ◌&&◌, nat_eq, nat_lt}
+use Rattle.std.proofs.lemmas.Bool.Decides.{nat_tests}
+use Rattle.std.proofs.Common.{◌≡◌, ◌⊎◌, ℕ, ◌+◌, ◌*◌, ◌/◌, ◌<◌, Bool, true, false, not, ◌&&◌, nat_eq}
 use Rattle.std.proofs.Common.{List, [], ◌∷◌, length, get_or, set, refl, sym, ◌∙◌, ap, arith}
 use Rattle.std.specs.Prelude.{◌||◌}
 use Rattle.std.specs.List.{list_any}
-use Rattle.std.proofs.lemmas.Bool.{and_parts, eqb-true, eqb-false, ltb-true, false≢true}
+use Rattle.std.proofs.lemmas.Bool.{eqb-true, eqb-false, false≢true}
 use Rattle.std.proofs.lemmas.List.{get_or-set_same, get_or-set_other, get_or-replicate}
 use Rattle.std.proofs.lemmas.Nat.{div-mul-add}
 use Rattle.std.proofs.Math.ListN.{length-set, length-replicate}
 use Rattle.dm_place.specs.declared.shape.Cell.{Cell}
 use Rattle.dm_place.specs.declared.shape.Shape.{Shape}
-use Rattle.dm_place.specs.declared.shape.Shape.TheVariants.{Standard, Corner1, Corner2, Corner3, Corner4}
 use Rattle.dm_place.specs.Placement.{cells_of}
 use Rattle.dm_place.specs.Sweep as sweeping
 use Rattle.dm_place.proofs.Ranges.{same_tests}
@@ -26,11 +26,7 @@ Keeps rows columns filled t = (r c : ℕ) → r < rows → c < columns → fille
 -- In a row, cells are told apart by their columns.
 same_column : (rows columns r c : ℕ) (x : Cell) → r ≡ x.row →
     nat_eq (r * columns + c) (number_of rows columns x) ≡ nat_eq c x.column
-same_column rows columns r c x e =
-    same_tests (r * columns + c) (number_of rows columns x) c x.column
-    (λ h. let g : x.row * columns + c ≡ x.row * columns + x.column = ap (λ (j : ℕ). j * columns + c) (sym e) ∙ h in
-    omega (arith, g))
-    (λ h. ap (λ (j : ℕ). j * columns + c) e ∙ ap (λ (j : ℕ). x.row * columns + j) h)
+same_column rows columns r c x e = grind (arith, nat_tests, same_tests, number_of)
 
 -- Cells of other rows are other cells.
 other_row : (rows columns r c : ℕ) (x : Cell) → c < columns → IsInside rows columns x → nat_eq r x.row ≡ false →
@@ -46,10 +42,7 @@ other_row rows columns r c x l inside h = by_test (nat_eq (r * columns + c) (num
 
 -- A cell is filled if it is the one that is filled now, or was filled before.
 or_before : (f q : Bool) → not (f && not q) ≡ (q || not f)
-or_before true true = refl
-or_before true false = refl
-or_before false true = refl
-or_before false false = refl
+or_before x y = grind (arith, nat_tests)
 
 -- A cell of another row is filled if it was before.
 and_true : (f : Bool) → not (f && true) ≡ not f
@@ -102,8 +95,7 @@ sweep_begins : (rows columns : ℕ) → SweepKeeps rows columns (sweeping.nothin
 sweep_begins rows columns = record {
   height = length-replicate rows [];
   keeps =
-      λ r c lr lc. ap (list_any (nat_eq c)) (get_or-replicate rows r [] [] lr)
-      ∙ ap not (sym (free_first (r * columns + c)));
+      λ r c lr lc. rw (get_or-replicate, free_first);
 }
 
 -- The sweep fills one more cell.
@@ -133,13 +125,7 @@ sweep_fills rows columns t table (x ∷ xs) new kept =
 -- The sweep leaves out what the test leaves out.
 sweep_out : (rows columns t : ℕ) (table : List (List ℕ)) (s : Shape) → SweepKeeps rows columns table t →
     anchor_inside rows columns s ≡ true → sweeping.is_left_out table s ≡ left_out rows columns t s
-sweep_out rows columns t table (Standard r c) kept h =
-    let here = and_parts (nat_lt r rows) (nat_lt c columns) h in
-    kept.keeps r c (ltb-true r rows here.0) (ltb-true c columns here.1)
-sweep_out rows columns t table Corner1 kept h = refl
-sweep_out rows columns t table Corner2 kept h = refl
-sweep_out rows columns t table Corner3 kept h = refl
-sweep_out rows columns t table Corner4 kept h = refl
+sweep_out rows columns t table x kept h = grind (arith, nat_tests)
 
 -- Where the test passes, the sweep places the shapes of the test.
 sweep_placed : (rows columns t : ℕ) (table : List (List ℕ)) (ss ps : List Shape) → SweepKeeps rows columns table t →
@@ -163,14 +149,7 @@ sweep_placed rows columns t table (s ∷ rest) ps kept h =
         sweeping.is_left_out table s ≡ left_out rows columns t s →
         LeavesOut rows columns t s rest ps ⊎ ((qs : List Shape) × Places rows columns t s rest ps qs) →
         elim (sweeping.is_left_out table s) as (λ _. List Shape) [ true ↦ left | false ↦ taken ] ≡ ps
-    by_either go e (inl out) =
-        first_choice (sweeping.is_left_out table s) left taken (e ∙ out.out) ∙ go t table ps kept out.go_on
-    by_either go e (inr (qs, placed)) =
-        second_choice (sweeping.is_left_out table s) left taken (e ∙ placed.here)
-        ∙ ap (λ (xs : List Shape). s ∷ xs)
-        (go (filled_with rows columns t (cells_of rows columns s)) (sweeping.fill table (cells_of rows columns s)) qs
-        (sweep_fills rows columns t table (cells_of rows columns s) placed.new kept) placed.go_on)
-        ∙ sym placed.next
+    by_either go e x = grind (arith, nat_tests, first_choice, left, taken, second_choice, filled_with, sweep_fills)
 
 -- Where the test passes from the beginning, the sweep places its shapes.
 pub sweep_places : (rows columns : ℕ) (ss ps : List Shape) → sweep_test rows columns 0 ss ps ≡ true →
