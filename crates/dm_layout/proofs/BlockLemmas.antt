@@ -1,11 +1,11 @@
 -- The blocks of a square's codewords, which are all of one length.
-use Rattle.std.proofs.Common.{◌≡◌, ℕ, ◌+◌, ◌*◌, ◌<◌, length, get_or, take, refl, sym, ◌∙◌, ap}
+use Rattle.std.proofs.Common.{◌≡◌, ℕ, ◌+◌, ◌*◌, ◌<◌, length, get_or, refl, sym, ◌∙◌, ap}
 use Rattle.std.proofs.Common.{subst}
 use Rattle.dm_layout.proofs.symbols.Exported as symbols
 use Rattle.dm_layout.specs.symbols.Sizes as sizes
 use Rattle.dm_layout.specs.Sizes.{SizeRow, IsRow, symbol_size, block_length}
 use Rattle.dm_layout.specs.Sizes.{codeword_count}
-use Rattle.dm_layout.specs.Words.{WordsView, IsWords, symbol_words, data_of}
+use Rattle.dm_layout.specs.Words.{WordsView, IsWords, symbol_words}
 use Rattle.dm_layout.specs.Blocks.{block_of, BlocksTellWords, BlocksTellData, DataComesFirst, BlocksMakeWords}
 use Rattle.dm_layout.proofs.Squares.{is_size, is_square, are_codewords}
 
@@ -36,9 +36,8 @@ same_by_blocks v w x y e =
 -- A block begins with those of the symbol's data codewords that are dealt to it.
 pub data_of_block : DataComesFirst
 data_of_block w b words lb =
-    subst (λ n. take n (block_of w.size.blocks b w.list) ≡ block_of w.size.blocks b (data_of w))
-    ((is_square w.size words.row).data_part b lb)
-    (symbols.data_of_block (symbol_words w) b (are_codewords w words) lb)
+    rw ((is_square w.size words.row).data_part b lb) at (symbols.data_of_block (symbol_words w) b (are_codewords w
+    words) lb)
 
 -- Codewords of one size whose blocks all begin with the same data codewords have the same data codewords.
 pub same_data_by_blocks : BlocksTellData
@@ -46,8 +45,7 @@ same_data_by_blocks v w x y e blocks =
     symbols.same_data_by_blocks (symbol_words v) (symbol_words w) (are_codewords v x) (are_codewords w y)
     (ap symbol_size e)
     (λ b lb.
-    subst (λ n. take n (block_of v.size.blocks b v.list) ≡ take n (block_of v.size.blocks b w.list))
-    (sym ((is_square v.size x.row).data_part b lb)) (blocks b lb))
+    rw (← (is_square v.size x.row).data_part b lb) at (blocks b lb))
 
 -- Lists that can be the blocks of a size are the blocks of some codewords of that size.
 pub blocks_make_words : BlocksMakeWords

@@ -70,16 +70,13 @@ module _ (m : SymbolView) (w : codewords.WordsView) (k : IsKept m.size) where
   pub kept_holds : holding.Holds m w → Holds (kept_grid m) (kept_words w)
   kept_holds h =
       grid_holds (kept_grid m) (kept_words w) k.row (ap row_of_entry h.same_size)
-      (subst (holding.Holds (symbol_modules (kept_grid m))) (sym (same_codewords w (kept_too h.same_size)))
-      (subst (λ n. holding.Holds n w) (sym (same_symbol m k)) h))
+      (rw (← same_symbol m k, ← same_codewords w (kept_too h.same_size)) at h)
 
   -- Codewords that are laid in the symbol are laid in the grid.
   pub kept_laid : holding.IsLaid w m → IsLaid (kept_words w) (kept_grid m)
   kept_laid l =
       laid_in_grid (kept_grid m) (kept_words w) k.row (ap row_of_entry l.holds.same_size)
-      (subst (λ v. holding.IsLaid v (symbol_modules (kept_grid m))) (sym (same_codewords w (kept_too
-      l.holds.same_size)))
-      (subst (holding.IsLaid w) (sym (same_symbol m k)) l))
+      (rw (← same_symbol m k, ← same_codewords w (kept_too l.holds.same_size)) at l)
 
 -- ---- border faults
 

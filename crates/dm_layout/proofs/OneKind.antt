@@ -2,7 +2,7 @@
 use Rattle.std.proofs.Common.{◌≡◌, ℕ, ◌<◌, Bool, true, false, refl, sym, ◌∙◌, ap, subst}
 use Rattle.std.proofs.lemmas.Bool.{true≢false}
 use Rattle.dm_layout.specs.Sizes.{SizeRow, IsRow}
-use Rattle.dm_layout.specs.Border.{is_border, is_fixed, symbol_line}
+use Rattle.dm_layout.specs.Border.{is_border, is_fixed}
 use Rattle.dm_layout.specs.Modules.{Kind, LiesAt, IsOfKind, EachModuleHasOneKind}
 use Rattle.dm_layout.specs.Modules.Kind.{OfBorder, OfFixedSquare, Bit}
 use Rattle.dm_layout.specs.Placement.{At, IsPlace}
@@ -23,8 +23,7 @@ module _ (size : SizeRow) (row column : ℕ) (is_row : IsRow size) where
   none_in_border : (cell : Cell) → LiesAt size cell row column → is_border size row column ≡ true → ⊥
   none_in_border cell at border =
       let off = no_border size cell.row cell.column (row_facts size is_row).least in
-      true≢false (sym border ∙ ap (λ (r : ℕ). is_border size r column) (sym at.0)
-      ∙ ap (is_border size (symbol_line size.region_side cell.row)) (sym at.1) ∙ off)
+      true≢false (cc (border, at.0, at.1, off))
 
   -- At most one cell of the mapping square lies at the module.
   same_cell : (x y : Cell) → LiesAt size x row column → LiesAt size y row column → x ≡ y

@@ -1,7 +1,8 @@
 -- The sizes of squares among the sizes of symbols, as they are kept and looked up.
-use Rattle.std.proofs.Common.{◌≡◌, ◌≢◌, ℕ, ◌+◌, ◌*◌, ◌<◌, ◌≤◌, Bool, true, false, cond, ◌&&◌, nat_eq, nat_le, Option}
-use Rattle.std.proofs.Common.{Some, None, List, map, length, get_or, set, below_more, refl, sym, ◌∙◌, ap, subst, arith}
-use Rattle.std.proofs.Common.{eq-eqb, get_or-set_other, get_or-set_same}
+use Rattle.std.proofs.lemmas.Bool.Decides.{nat_tests}
+use Rattle.std.proofs.Common.{◌≡◌, ℕ, ◌*◌, ◌<◌, ◌≤◌, Bool, true, false, cond, ◌&&◌, nat_eq, nat_le, Option}
+use Rattle.std.proofs.Common.{Some, None, List, map, length, get_or, refl, sym, ◌∙◌, ap, subst, arith}
+use Rattle.std.proofs.Common.{eq-eqb}
 use Rattle.std.specs.Prelude.{All}
 use Rattle.std.specs.List.{AllByRecursion}
 use Rattle.std.proofs.lemmas.Bool.{and_parts, eqb-true, leb-true, leb-false, le-leb}
@@ -15,8 +16,9 @@ use Rattle.dm_layout.specs.Sizes.{SizeRow, size_table, IsRow, row_with_side, row
 use Rattle.dm_layout.specs.Sizes.{symbol_size, largest_side}
 use Rattle.dm_layout.specs.inner.Keeping.{IsKept}
 use Rattle.dm_layout.specs.declared.grids.size.TheConstants.{PLACES}
-use Rattle.dm_layout.proofs.TableRows.{enough_for_words, found_none, found_row, row_for_words_row, row_facts}
-use Rattle.dm_layout.proofs.TableRows.{rows_found, same_in_each, smallest_for_words}
+use Rattle.dm_layout.proofs.TableRows.{enough_for_words, found_row, row_for_words_row, row_facts}
+use Rattle.dm_layout.proofs.TableRows.{rows_found, smallest_for_words}
+use Rattle.dm_layout.proofs.symbols.Exported.{found_none, same_in_each}
 use Rattle.dm_layout.proofs.Squares.{is_size, same_row}
 
 -- ---- sizes of symbols that are kept for squares
@@ -64,8 +66,7 @@ kept_square e size small = record {
 -- So is a size with as many columns as rows, at most the largest side.
 pub kept_size : (e : SizeEntry) → IsSize e → e.rows ≡ e.columns → e.rows ≤ largest_side → IsKept e
 kept_size e size square fits =
-    kept_square e size (ap (λ b. b && nat_le e.rows largest_side) (eq-eqb e.rows e.columns square)
-    ∙ le-leb e.rows largest_side fits)
+    kept_square e size (rw (eq-eqb, le-leb))
 
 -- Each row of the table is that of its size, as the checker finds.
 rows_again : AllByRecursion (λ r. row_of_entry (symbol_size r) ≡ r) size_table
@@ -83,11 +84,7 @@ kept_row s row =
 
 -- A square that is above the largest side has no row.
 large_square : (e : SizeEntry) → nat_le e.rows largest_side ≡ false → row_of_symbol e ≡ None
-large_square e large = ap (λ b. cond b (Some (row_of_entry e)) None) (and_false (is_square e) _ large)
-  where
-    and_false : (a b : Bool) → b ≡ false → (a && b) ≡ false
-    and_false true b e = e
-    and_false false b e = refl
+large_square e large = grind (arith, nat_tests, is_square)
 
 -- A square that isn't has its row.
 small_square : (e : SizeEntry) → is_small e ≡ true → row_of_symbol e ≡ Some (row_of_entry e)
@@ -176,8 +173,7 @@ one_square_for count e size square enough smallest = by_side (nat_le e.rows larg
         at_found (λ other. is_square other ≡ true → count ≤ other.data_count → area e ≤ area other)
         (λ r. nat_eq r.rows s.side && nat_eq r.columns s.side) sizes.size_table (symbol_size s)
         (recursion_from_All _ sizes.size_table smallest) (is_size s row) (eq-eqb s.side s.side refl) l in
-        side_of_area e.rows s.side (subst (λ n. e.rows * n ≤ s.side * s.side) (sym (eqb-true e.rows e.columns square))
-        below)
+        side_of_area e.rows s.side (rw (← eqb-true e.rows e.columns square) at below)
 
     by_row : (o : Option SizeRow) → row_for_words count ≡ o → IsRow (row_of_entry e) → o ≡ Some (row_of_entry e)
     by_row None f row =
@@ -244,13 +240,3 @@ module _ (symbols : List SizeEntry) (same : symbols ≡ sizes.size_table) (i : �
       ap row_of_entry (square_at e)
       ∙ at_found (λ r. row_of_entry (symbol_size r) ≡ r) (λ r. nat_eq r.side (get_or size_table i e).side) size_table
       (get_or size_table i e) rows_again (row_here e)
-
--- With one more row put, the rows before the next are those of the table.
-pub row_put : (rows : List SizeRow) (i : ℕ) (x : SizeRow) → length rows ≡ 21 → i < 21 →
-    ((k : ℕ) (d : SizeRow) → k < i → get_or rows k d ≡ get_or size_table k d) →
-    ((d : SizeRow) → x ≡ get_or size_table i d) →
-    (k : ℕ) (d : SizeRow) → k < i + 1 → get_or (set rows i x) k d ≡ get_or size_table k d
-row_put rows i x count l before here k d =
-    below_more (λ j. get_or (set rows i x) j d ≡ get_or size_table j d) i
-    (λ j h. let other : j ≢ i = omega arith in get_or-set_other rows i j x d other ∙ before j d h)
-    (get_or-set_same rows i x d (omega (arith, count, l)) ∙ here d) k

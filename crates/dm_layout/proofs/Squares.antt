@@ -1,4 +1,6 @@
 -- Squares are symbols whose rows and columns are alike, and so what holds of symbols holds of squares.
+use Rattle.std.proofs.Common.{arith}
+use Rattle.std.proofs.lemmas.Bool.Decides.{nat_tests}
 use Rattle.std.proofs.Common.{◌≡◌, ℕ, ◌*◌, ◌<◌, Bool, true, List, Some, nat_eq, refl, sym, ◌∙◌, ap, subst}
 use Rattle.std.specs.List.{AllByRecursion, list_all, range_with_len}
 use Rattle.std.proofs.lemmas.Bool.{eqb-true}
@@ -10,14 +12,15 @@ use Rattle.dm_layout.specs.symbols.Symbols.{SymbolView, IsSymbol}
 use Rattle.dm_layout.specs.symbols.Words as codewords
 use Rattle.dm_layout.specs.symbols.Holding as holding
 use Rattle.dm_layout.proofs.symbols.Exported.{at_found, one_held, one_laid as one_laid_of, some_held, some_laid}
-use Rattle.dm_layout.specs.Sizes.{SizeRow, size_table, IsRow, row_with_side, symbol_size, regions_across, block_data}
+use Rattle.dm_layout.specs.Sizes.{SizeRow, size_table, IsRow, symbol_size, regions_across, block_data}
 use Rattle.dm_layout.specs.Sizes.{block_length, TableIsOfSquares}
 use Rattle.dm_layout.specs.Grid.{GridView, IsGrid, symbol_modules}
 use Rattle.dm_layout.specs.Words.{WordsView, IsWords, symbol_words}
 use Rattle.dm_layout.specs.Border.{mapped_cell}
 use Rattle.dm_layout.specs.Holds.{Holds, IsLaid}
 use Rattle.dm_layout.specs.Squares.{IsSquare, GridsAreModules, WordsAreCodewords, HeldAlike, LaidAlike}
-use Rattle.dm_layout.proofs.TableRows.{passed_at_row, row_facts, same_at_row, same_in_each}
+use Rattle.dm_layout.proofs.TableRows.{passed_at_row, row_facts, same_at_row}
+use Rattle.dm_layout.proofs.symbols.Exported.{same_in_each}
 
 -- ---- sizes
 
@@ -57,10 +60,7 @@ is_square s row = record {
 
 -- Sizes of the table with the same side are the same.
 pub same_row : (s t : SizeRow) → IsRow s → IsRow t → s.side ≡ t.side → s ≡ t
-same_row s t h k e =
-    let g : row_with_side s.side ≡ row_with_side t.side = ap row_with_side e in
-    let f = sym h ∙ g ∙ k in
-    cc
+same_row s t h k e = grind (arith, nat_tests)
 
 -- ---- grids and codewords
 
@@ -174,8 +174,7 @@ every_grid_holds grid g =
     let some = some_held (symbol_modules grid) (is_modules grid g) in
     let words : WordsView = record { size = grid.size; list = some.0.list } in (
       words,
-      grid_holds grid words g.row refl (subst (holding.Holds (symbol_modules grid))
-          (same_view some.0 some.1.same_size) some.1),
+      grid_holds grid words g.row refl (rw (same_view some.0 some.1.same_size) at some.1),
     )
   where
     view : sizes.SizeEntry → List ℕ → codewords.WordsView
@@ -203,8 +202,7 @@ laid_somewhere words w =
     let some = some_laid (symbol_words words) (are_codewords words w) in
     let grid : GridView = record { size = words.size; rows = some.0.rows } in (
       grid,
-      laid_in_grid grid words w.row refl (subst (holding.IsLaid (symbol_words words))
-          (same_view some.0 (sym some.1.holds.same_size)) some.1),
+      laid_in_grid grid words w.row refl (rw (same_view some.0 (sym some.1.holds.same_size)) at some.1),
     )
   where
     view : sizes.SizeEntry → List (List Bool) → SymbolView

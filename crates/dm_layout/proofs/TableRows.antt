@@ -1,12 +1,15 @@
 -- What holds for each row of the size table.
-use Rattle.std.proofs.Common.{◌≡◌, ℕ, ◌+◌, ◌*◌, ◌%◌, ◌<◌, ◌≤◌, Bool, true, false, cond, ◌&&◌, nat_eq, nat_le, List, []}
-use Rattle.std.proofs.Common.{◌∷◌, map, Option, Some, None, refl, sym, subst, arith}
-use Rattle.std.specs.Prelude.{All, IfSome, IfNone, find}
+use Rattle.std.proofs.lemmas.Bool.Decides.{nat_tests}
+use Rattle.std.proofs.Common.{◌≡◌, ℕ, ◌+◌, ◌*◌, ◌%◌, ◌<◌, ◌≤◌, Bool, true, false, nat_eq, nat_le}
+use Rattle.std.proofs.Common.{Option, Some, None, refl, sym, arith}
+use Rattle.std.specs.Prelude.{All, IfSome, IfNone}
 use Rattle.std.specs.List.{AllByRecursion, list_all, list_any}
-use Rattle.std.proofs.lemmas.Bool.{and_parts, eqb-true, leb-true, leb-false}
+use Rattle.std.proofs.lemmas.Bool.{eqb-true, leb-true, leb-false, le-leb}
 use Rattle.std.proofs.lemmas.List.Elements.{recursion_from_All, All-from_recursion}
 use Rattle.std.proofs.lemmas.List.Sums.{AllPass-from_list_all}
 use Rattle.dm_layout.proofs.symbols.Exported.{at_found, found_passes, greatest_of}
+use Rattle.dm_layout.proofs.symbols.Exported.{Rises, found_first, rises_test, weaker_all}
+use Rattle.dm_layout.proofs.symbols.Exported.{found_none, same_in_each}
 use Rattle.dm_layout.specs.Sizes.{SizeRow, size_table, IsRow, row_with_side, row_for_words, regions_across, block_data}
 use Rattle.dm_layout.specs.Sizes.{block_check, block_length, codeword_count, largest_side, largest_mapping, most_across}
 use Rattle.dm_layout.specs.Sizes.{row_of, most_grid_codewords, most_grid_data, most_grid_blocks, longest_block}
@@ -14,9 +17,7 @@ use Rattle.dm_layout.specs.Sizes.{IsGreatest}
 
 -- The size that is found for a side has that side and stands in the table.
 pub found_row : (side : ℕ) (s : SizeRow) → row_with_side side ≡ Some s → (s.side ≡ side) × IsRow s
-found_row side s h =
-    let e : s.side ≡ side = eqb-true _ _ (found_passes (λ row. nat_eq row.side side) size_table s h) in
-    (e, subst (λ (n : ℕ). row_with_side n ≡ Some s) (sym e) h)
+found_row side s h = grind (arith, nat_tests, eqb-true, found_passes)
 
 -- ---- what the checker computes for each row of the table
 
@@ -35,15 +36,6 @@ same_at_row x y s row h = eqb-true _ _ (passed_at_row (λ r. nat_eq (x r) (y r))
 most_at_row : (x y : SizeRow → ℕ) (s : SizeRow) → IsRow s → list_all (λ r. nat_le (x r) (y r)) size_table ≡ true →
     x s ≤ y s
 most_at_row x y s row h = leb-true _ _ (passed_at_row (λ r. nat_le (x r) (y r)) s h row)
-
--- Two values that the checker finds to be the same in each row of a table are the same in each of its rows.
-pub same_in_each : {X Y : Type 0} (f g : X → Y) (rows : List X) → map f rows ≡ map g rows →
-    AllByRecursion (λ r. f r ≡ g r) rows
-same_in_each f g [] h = tt
-same_in_each f g (r ∷ rows) h =
-    let first : f r ≡ g r = cc in
-    let rest : map f rows ≡ map g rows = cc in
-    (first, same_in_each f g rows rest)
 
 -- The numbers of a size are related in these ways.
 pub record RowFacts (s : SizeRow) : Type 0 where
@@ -98,59 +90,10 @@ side_fits side s h = let row = found_row side s h in omega (arith, row.0, (row_f
 
 -- ---- the smallest size that is large enough
 
--- The sides of these rows rise.
-abbrev pub Rises : List SizeRow → Type 0
-Rises [] = Unit {0}
-Rises (r ∷ rows) = AllByRecursion (λ (s : SizeRow). r.side ≤ s.side) rows × Rises rows
-
--- A test whether the sides of these rows rise.
-abbrev pub rises : List SizeRow → Bool
-rises [] = true
-rises (r ∷ rows) = list_all (λ (s : SizeRow). nat_le r.side s.side) rows && rises rows
-
--- Rows that pass the test have rising sides.
-rises_test : (rows : List SizeRow) → rises rows ≡ true → Rises rows
-rises_test [] h = tt
-rises_test (r ∷ rows) h =
-    let b = and_parts (list_all (λ (s : SizeRow). nat_le r.side s.side) rows) (rises rows) h in
-    (bounded r rows b.0, rises_test rows b.1)
-  where
-    bounded : (r : SizeRow) (rows : List SizeRow) → list_all (λ (s : SizeRow). nat_le r.side s.side) rows ≡ true →
-        AllByRecursion (λ (s : SizeRow). r.side ≤ s.side) rows
-    bounded r [] h = tt
-    bounded r (s ∷ rest) h =
-        let b = and_parts (nat_le r.side s.side) (list_all (λ (q : SizeRow). nat_le r.side q.side) rest) h in
-        (leb-true _ _ b.0, bounded r rest b.1)
-
--- The first row with enough data codewords is the smallest with enough of them.
-found_first : (count : ℕ) (rows : List SizeRow) (size : SizeRow) → Rises rows →
-    find (λ row. nat_le count row.data_count) rows ≡ Some size →
-    AllByRecursion (λ (row : SizeRow). count ≤ row.data_count → size.side ≤ row.side) rows
-found_first count [] size h e = tt
-found_first count (r ∷ rows) size h e = first_case (nat_le count r.data_count) refl e (found_first count rows size h.1)
-  where
-    weaker : (rest : List SizeRow) → AllByRecursion (λ (s : SizeRow). r.side ≤ s.side) rest → r ≡ size →
-        AllByRecursion (λ (row : SizeRow). count ≤ row.data_count → size.side ≤ row.side) rest
-    weaker [] h e = tt
-    weaker (s ∷ rest) h e = ((λ _. subst (λ (q : SizeRow). q.side ≤ s.side) e h.0), weaker rest h.1 e)
-
-    too_large : r.data_count < count → count ≤ r.data_count → ⊥
-    too_large a b = omega arith
-
-    first_case : (b : Bool) → nat_le count r.data_count ≡ b →
-        cond b (Some r) (find (λ row. nat_le count row.data_count) rows) ≡ Some size →
-        (find (λ row. nat_le count row.data_count) rows ≡ Some size →
-        AllByRecursion (λ (row : SizeRow). count ≤ row.data_count → size.side ≤ row.side) rows) →
-        AllByRecursion (λ (row : SizeRow). count ≤ row.data_count → size.side ≤ row.side) (r ∷ rows)
-    first_case true t e later =
-        let g : r ≡ size = cc in
-        ((λ _. subst (λ (q : SizeRow). q.side ≤ r.side) g (omega arith)), weaker rows h.0 g)
-    first_case false t e later = ((λ l. absurd (too_large (leb-false _ _ t) l)), later e)
-
--- The sides of the table pass the test.
-table_rises : rises size_table ≡ true
+-- The sides of the table rise.
+table_rises : Rises (λ (r : SizeRow) (s : SizeRow). r.side ≤ s.side) size_table
 unfolding size_table
-table_rises = refl
+table_rises = rises_test _ (λ r s. nat_le r.side s.side) (λ r s h. leb-true _ _ h) size_table refl
 
 -- The size that `row_for_words` gives is the smallest with enough data codewords.
 pub smallest_for_words : (count : ℕ) (o : Option SizeRow) → o ≡ row_for_words count →
@@ -158,7 +101,10 @@ pub smallest_for_words : (count : ℕ) (o : Option SizeRow) → o ≡ row_for_wo
 smallest_for_words count None e = tt
 smallest_for_words count (Some size) e =
     All-from_recursion (λ row. count ≤ row.data_count → size.side ≤ row.side) size_table
-    (found_first count size_table size (rises_test size_table table_rises) (sym e))
+    (weaker_all (λ row. nat_le count row.data_count ≡ true → size.side ≤ row.side) _
+    (λ row f l. f (le-leb count row.data_count l)) size_table
+    (found_first (λ r s. r.side ≤ s.side) (λ r. omega arith) (λ row. nat_le count row.data_count) size_table size
+    table_rises (sym e)))
 
 -- The size that `row_for_words` gives has enough data codewords.
 pub enough_for_words : (count : ℕ) (o : Option SizeRow) → o ≡ row_for_words count →
@@ -177,18 +123,6 @@ pub row_for_words_row : (count : ℕ) (o : Option SizeRow) → o ≡ row_for_wor
 row_for_words_row count None e = tt
 row_for_words_row count (Some size) e =
     at_found IsRow (λ row. nat_le count row.data_count) size_table size rows_found (sym e)
-
--- Where nothing is found, nothing passes the test.
-pub found_none : {X : Type 0} (p : X → Bool) (rows : List X) → find p rows ≡ None →
-    AllByRecursion (λ r. p r ≡ false) rows
-found_none p [] e = tt
-found_none p (r ∷ rows) e = none_case (p r) refl e (found_none p rows)
-  where
-    none_case : (b : Bool) → p r ≡ b → cond b (Some r) (find p rows) ≡ None →
-        (find p rows ≡ None → AllByRecursion (λ q. p q ≡ false) rows) →
-        AllByRecursion (λ q. p q ≡ false) (r ∷ rows)
-    none_case true t e later = cc
-    none_case false t e later = (t, later e)
 
 -- Where it gives none, no row has enough data codewords, not even the last.
 pub none_for_words : (count : ℕ) (o : Option SizeRow) → o ≡ row_for_words count → IfNone o (most_grid_data < count)

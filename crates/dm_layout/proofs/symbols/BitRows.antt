@@ -1,11 +1,9 @@
 -- What is left of a row that is taken off sixteen modules at a time.
-use Rattle.std.proofs.Common.{◌≡◌, ◌∙◌, ℕ, ◌+◌, ◌/◌, ◌^◌}
-use Rattle.std.proofs.Common.{sym, ap}
+use Rattle.std.proofs.Common.{◌≡◌, ℕ, ◌+◌, ◌/◌, ◌^◌}
 use Rattle.std.proofs.Math.Nat.{div-div-eq-div-mul}
 use Rattle.std.proofs.lemmas.Nat.{pow-add}
 
 -- What is left of a row when sixteen more modules are taken off.
 pub rest_more : (row column rest : ℕ) → rest ≡ row / 2 ^ column → rest / 65536 ≡ row / 2 ^ (column + 16)
 rest_more row column rest is =
-    ap (λ (n : ℕ). n / 65536) is ∙ div-div-eq-div-mul row (2 ^ column) 65536
-    ∙ ap (λ (w : ℕ). row / w) (sym (pow-add 2 column 16))
+    rw (is, div-div-eq-div-mul, pow-add)

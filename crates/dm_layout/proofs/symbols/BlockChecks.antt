@@ -1,5 +1,6 @@
 -- A block whose check codewords are put: its data codewords, and behind them the checks.
-use Rattle.std.proofs.Common.{◌≡◌, ◌∙◌, ℕ, ◌+◌, ◌-◌, ◌*◌, ◌<◌, List, ◌++◌, length, get_or, set, take, sym, ap}
+use Rattle.std.proofs.lemmas.Bool.Decides.{nat_tests}
+use Rattle.std.proofs.Common.{◌≡◌, ◌∙◌, ℕ, ◌+◌, ◌*◌, ◌<◌, List, ◌++◌, length, get_or, set, take, sym, ap}
 use Rattle.std.proofs.Common.{arith}
 use Rattle.std.proofs.lemmas.List.{get_or_append_left, get_or-append_right, get_or-take, length-append, length-take-le}
 use Rattle.dm_layout.specs.symbols.Sizes.{block_check, block_data, block_length}
@@ -34,18 +35,11 @@ module _ (w : WordsView) (b : ℕ) (checks : List ℕ) (words : IsWords w) (lb :
   pub finished_front : (k : ℕ) → k < block_data w.size b →
       get_or w.list (k * w.size.blocks + b) 0 ≡ get_or (finished w b checks) k 0
   finished_front k l =
-      sym (get_or_append_left (take (block_data w.size b) (block_of w.size.blocks b w.list)) checks 0 k
-      (omega (arith, l, front_length))
-      ∙ get_or-take (block_data w.size b) (block_of w.size.blocks b w.list) k 0 l
-      ∙ word_of_block w b k words lb (omega (arith, l, block_parts w.size words.size b lb)))
+      grind (arith, nat_tests, get_or_append_left, checks, front_length, get_or-take, word_of_block, block_parts)
 
   -- Behind them are the checks.
   pub finished_check : (i : ℕ) → get_or (finished w b checks) (block_data w.size b + i) 0 ≡ get_or checks i 0
-  finished_check i =
-      let e : block_data w.size b + i - block_data w.size b ≡ i = omega arith in
-      get_or-append_right (take (block_data w.size b) (block_of w.size.blocks b w.list)) checks (block_data w.size b)
-      (block_data w.size b + i) 0 front_length (omega arith)
-      ∙ ap (λ (j : ℕ). get_or checks j 0) e
+  finished_check i = grind (arith, nat_tests, get_or-append_right, checks, front_length)
 
   -- The place of the next check codeword lies within the symbol's codewords.
   pub check_inside : (v : WordsView) (B front i : ℕ) → IsWords v → v.size ≡ w.size → B ≡ w.size.blocks →

@@ -1,4 +1,5 @@
 -- The blocks of a symbol's codewords.
+use Rattle.std.proofs.lemmas.Bool.Decides.{nat_tests}
 use Rattle.std.proofs.Common.{◌≡◌, ◌≢◌, ℕ, ◌+◌, ◌*◌, ◌/◌, ◌%◌, ◌<◌, ◌≤◌, List, map, length, get_or, set, take, sym, ◌∙◌}
 use Rattle.std.proofs.Common.{ap, subst, arith, below_more, get_or-set_other, get_or-set_same, length-take}
 use Rattle.std.specs.List.{range_with_len}
@@ -18,18 +19,13 @@ pub walk_of_block : (w : WordsView) (B b : ℕ) (list : List ℕ) → b < w.size
     map (λ k. get_or list (k * B + b) 0) (range_with_len 0 (count_in_block (length list) B b))
     ≡ block_of w.size.blocks b w.list
 walk_of_block w B b list lb eb el =
-    ap (λ m. map (λ k. get_or list (k * m + b) 0) (range_with_len 0 (count_in_block (length list) m b))) eb
-    ∙ ap (λ xs. map (λ k. get_or xs (k * w.size.blocks + b) 0)
-    (range_with_len 0 (count_in_block (length xs) w.size.blocks b)))
-    el
-    ∙ sym (block_by_steps w.size.blocks b w.list lb)
+    rw (eb, el, block_by_steps)
 
 -- A walk through a block takes as many steps as the block has codewords.
 pub steps_of_block : (w : WordsView) (B b : ℕ) (list : List ℕ) → IsWords w → B ≡ w.size.blocks → list ≡ w.list →
     count_in_block (length list) B b ≡ block_length w.size b
 steps_of_block w B b list words eb el =
-    ap (λ m. count_in_block (length list) m b) eb
-    ∙ ap (λ m. count_in_block m w.size.blocks b) (ap length el ∙ words.count)
+    rw (eb, el, words.count)
 
 -- A block is as long as that block of its size is.
 pub length_of_block : (w : WordsView) (b : ℕ) → IsWords w → b < w.size.blocks →
@@ -40,16 +36,13 @@ length_of_block w b words lb =
 -- Codeword k of block b is the one at place k * B + b of the symbol.
 pub word_of_block : (w : WordsView) (b k : ℕ) → IsWords w → b < w.size.blocks → k < block_length w.size b →
     get_or (block_of w.size.blocks b w.list) k 0 ≡ get_or w.list (k * w.size.blocks + b) 0
-word_of_block w b k words lb lk =
-    let e = ap (λ m. count_in_block m w.size.blocks b) words.count in
-    get_or-block_of w.size.blocks b k w.list lb (subst (λ (n : ℕ). k < n) (sym e) lk)
+word_of_block w b k words lb lk = grind (arith, nat_tests, get_or-block_of)
 
 -- Place k of block b lies within the symbol's codewords.
 pub place_inside : (w : WordsView) (b k : ℕ) → IsWords w → b < w.size.blocks → k < block_length w.size b →
     k * w.size.blocks + b < length w.list
 place_inside w b k words lb lk =
-    subst (λ (n : ℕ). k * w.size.blocks + b < n) (sym words.count)
-    (count_in_block_inside w.size.blocks b k (codeword_count w.size) lb lk)
+    rw (← words.count) at (count_in_block_inside w.size.blocks b k (codeword_count w.size) lb lk)
 
 -- ---- a block is put
 
@@ -59,16 +52,7 @@ pub put_gives : (w v : WordsView) (b : ℕ) (list : List ℕ) → IsWords v → 
     ((k : ℕ) → k < length list → get_or v.list (k * w.size.blocks + b) 0 ≡ get_or list k 0) →
     block_of w.size.blocks b v.list ≡ list
 put_gives w v b list words same lb count put =
-    let eb : v.size.blocks ≡ w.size.blocks = ap (λ (s : SizeEntry). s.blocks) same in
-    let el : block_length v.size b ≡ block_length w.size b = ap (λ (s : SizeEntry). block_length s b) same in
-    let lv : b < v.size.blocks = omega (arith, lb, eb) in
-    let long = length_of_block v b words lv in
-    ap (λ n. block_of n b v.list) (sym eb)
-    ∙ same_number_lists (block_of v.size.blocks b v.list) list (long ∙ el ∙ sym count)
-    (λ k l.
-    let lk : k < block_length v.size b = subst (λ (n : ℕ). k < n) long l in
-    word_of_block v b k words lv lk ∙ ap (λ n. get_or v.list (k * n + b) 0) eb
-    ∙ put k (subst (λ (n : ℕ). k < n) (long ∙ el ∙ sym count) l))
+    grind (arith, nat_tests, length_of_block, same_number_lists, word_of_block)
 
 -- A block is as before if nothing changed at its places.
 pub others_stay : (w v : WordsView) (b a : ℕ) → IsWords w → IsWords v → v.size ≡ w.size → a < w.size.blocks → a ≢ b →
@@ -106,9 +90,7 @@ put_one B b i ws list lb inside put =
 -- A codeword that is put into a block leaves the places of other blocks as they were.
 pub stay_one : (B b i x : ℕ) (ws old : List ℕ) → b < B → ((j : ℕ) → j % B ≢ b → get_or ws j 0 ≡ get_or old j 0) →
     (j : ℕ) → j % B ≢ b → get_or (set ws (i * B + b) x) j 0 ≡ get_or old j 0
-stay_one B b i x ws old lb keep j h =
-    let ne : j ≢ i * B + b = λ e. h (ap (λ m. m % B) e ∙ mod-mul-add i B b lb) in
-    get_or-set_other ws (i * B + b) j x 0 ne ∙ keep j h
+stay_one B b i x ws old lb keep j h = grind (arith, nat_tests, mod-mul-add, get_or-set_other)
 
 -- ---- what the blocks tell
 

@@ -1,5 +1,6 @@
 -- The places of a block among codewords that are dealt, whether or not the number of blocks divides that of the
 -- codewords.
+use Rattle.std.proofs.lemmas.Bool.Decides.{nat_tests}
 use Rattle.std.proofs.Common.{◌≡◌, ◌≢◌, ℕ, zero, suc, ◌+◌, ◌-◌, ◌*◌, ◌/◌, ◌%◌, ◌<◌, ◌≤◌, Bool, true, false, List, []}
 use Rattle.std.proofs.Common.{◌∷◌, map, length, get_or, nat_eq, nat_lt, refl, sym, ◌∙◌, ap, arith}
 use Rattle.std.specs.Prelude.{filter}
@@ -76,11 +77,7 @@ places_from B b r e k (suc n) lb tail =
     let g : k * B + B ≡ (k + 1) * B = omega arith in
     let s : suc (n + e) ≡ suc n + e = omega arith in
     let rest : ℕ = n * B + r in
-    ap (λ m. filter (is_of_block B b) (range_with_len (k * B) m)) f
-    ∙ whole B b k rest lb
-    ∙ ap (λ m. (k * B + b) ∷ filter (is_of_block B b) (range_with_len m rest)) g
-    ∙ ap (λ xs. (k * B + b) ∷ xs) (places_from B b r e (k + 1) n lb tail)
-    ∙ ap (λ m. map (λ i. i * B + b) (range_with_len k m)) s
+    cc (f, whole B b k rest lb, g, places_from B b r e (k + 1) n lb tail, s)
   where
     whole : (B b k rest : ℕ) → b < B → filter (is_of_block B b) (range_with_len (k * B) (B + rest)) ≡ (k * B + b) ∷
         filter (is_of_block B b) (range_with_len (k * B + B) rest)
@@ -100,16 +97,11 @@ places_from B b r e k (suc n) lb tail =
 
 -- Block b gets one thing of r that are left if b is below r, and so its share is one more than that of n rounds.
 count_in_block_more : (B b n r : ℕ) → b < r → r ≤ B → count_in_block (n * B + r) B b ≡ n + 1
-count_in_block_more B b n r l fits =
-    let e : n * B + r + B - 1 - b ≡ (n + 1) * B + (r - 1 - b) = omega arith in
-    ap (λ m. m / B) e ∙ div-mul-add (n + 1) B (r - 1 - b) (omega arith)
+count_in_block_more B b n r l fits = grind (arith, nat_tests, div-mul-add)
 
 -- It gets none if b is r or more.
 count_in_block_same : (B b n r : ℕ) → r ≤ b → b < B → count_in_block (n * B + r) B b ≡ n + 0
-count_in_block_same B b n r l fits =
-    let e : n * B + r + B - 1 - b ≡ n * B + (r + B - 1 - b) = omega arith in
-    let z : n ≡ n + 0 = omega arith in
-    ap (λ m. m / B) e ∙ div-mul-add n B (r + B - 1 - b) (omega arith) ∙ z
+count_in_block_same B b n r l fits = grind (arith, nat_tests, div-mul-add)
 
 -- The places of block b among `count` are i * B + b for as many numbers i as its share has.
 places_of : (B b count : ℕ) → b < B → filter (is_of_block B b) (range_with_len 0 count) ≡
@@ -121,10 +113,7 @@ places_of B b count lb =
     let all : count ≡ n * B + r = omega (arith, parts) in
     let small : r < B = omega arith in
     let z : 0 ≡ 0 * B = omega arith in
-    ap (λ m. filter (is_of_block B b) (range_with_len 0 m)) all
-    ∙ ap (λ m. filter (is_of_block B b) (range_with_len m (n * B + r))) z
-    ∙ by_rest n r small (nat_lt b r) refl
-    ∙ ap (λ m. map (λ i. i * B + b) (range_with_len 0 (count_in_block m B b))) (sym all)
+    cc (all, z, by_rest n r small (nat_lt b r) refl)
   where
     by_rest : (n r : ℕ) → r < B → (t : Bool) → nat_lt b r ≡ t →
         filter (is_of_block B b) (range_with_len (0 * B) (n * B + r)) ≡
@@ -136,15 +125,13 @@ places_of B b count lb =
         (sym (count_in_block_more B b n r l (omega (arith, small))))
     by_rest n r small false t =
         let l = ltb-false b r t in
-        places_from B b r 0 0 n lb (λ i. none_of B b i r l lb)
-        ∙ ap (λ m. map (λ i. i * B + b) (range_with_len 0 m)) (sym (count_in_block_same B b n r l lb))
+        rw (places_from B b r 0 0 n lb (λ i. none_of B b i r l lb), count_in_block_same B b n r l lb)
 
 -- In block b, codeword k is the one at place k * B + b.
 pub block_by_steps : (B b : ℕ) (words : List ℕ) → b < B →
     block_of B b words ≡ map (λ k. get_or words (k * B + b) 0) (range_with_len 0 (count_in_block (length words) B b))
 block_by_steps B b words lb =
-    ap (map (λ j. get_or words j 0)) (places_of B b (length words) lb)
-    ∙ map_map (range_with_len 0 (count_in_block (length words) B b))
+    rw (places_of B b (length words) lb, map_map (range_with_len 0 (count_in_block (length words) B b)))
   where
     map_map : (ks : List ℕ) → map (λ j. get_or words j 0) (map (λ i. i * B + b) ks) ≡
         map (λ k. get_or words (k * B + b) 0) ks
@@ -155,16 +142,12 @@ block_by_steps B b words lb =
 pub length-block_of : (B b : ℕ) (words : List ℕ) → b < B →
     length (block_of B b words) ≡ count_in_block (length words) B b
 length-block_of B b words lb =
-    ap length (block_by_steps B b words lb) ∙ length-map-range_with_len (λ k. get_or words (k * B + b) 0) 0
-    (count_in_block (length words) B b)
+    rw (block_by_steps, length-map-range_with_len)
 
 -- Codeword k of block b is the one at place k * B + b.
 pub get_or-block_of : (B b k : ℕ) (words : List ℕ) → b < B → k < count_in_block (length words) B b →
     get_or (block_of B b words) k 0 ≡ get_or words (k * B + b) 0
-get_or-block_of B b k words lb lk =
-    ap (λ xs. get_or xs k 0) (block_by_steps B b words lb)
-    ∙ get_or-map-range_with_len (λ j. get_or words (j * B + b) 0) 0 (count_in_block (length words) B b) k k 0 lk
-    (omega arith)
+get_or-block_of B b k words lb lk = grind (arith, nat_tests, block_by_steps, get_or-map-range_with_len)
 
 -- Place k of a block lies among all places.
 pub count_in_block_inside : (B b k count : ℕ) → b < B → k < count_in_block count B b → k * B + b < count

@@ -42,10 +42,7 @@ left_before p q e = ap (λ (b : Bool). cond b true (true && q)) e
 
 -- In a square whose left column is darkened only that column is dark.
 left_here : (p q : Bool) → p ≡ q → cond p true (false && q) ≡ true && q
-left_here true true e = refl
-left_here false false e = refl
-left_here true false e = cc
-left_here false true e = cc
+left_here x y e = grind (arith, nat_tests)
 
 -- Darkening the left column of a square leaves the columns behind the square light.
 left_behind : (p q : Bool) → p ≡ false → cond p true (false && q) ≡ false && q
@@ -58,16 +55,7 @@ both_before p r q e f =
 
 -- In a square whose left and right columns are darkened only these two are dark.
 both_here : (p r q v : Bool) → p ≡ q → r ≡ v → cond r true (cond p true (false && (q || v))) ≡ true && (q || v)
-both_here true true true true e f = refl
-both_here true false true false e f = refl
-both_here false true false true e f = refl
-both_here false false false false e f = refl
-both_here true r false v e f = cc
-both_here false r true v e f = cc
-both_here true true true false e f = cc
-both_here true false true true e f = cc
-both_here false true false false e f = cc
-both_here false false false true e f = cc
+both_here x r y v e f = grind (arith, nat_tests)
 
 -- Darkening the left and right columns of a square leaves the columns behind the square light.
 both_behind : (p r q : Bool) → p ≡ false → r ≡ false → cond r true (cond p true (false && q)) ≡ false && q
@@ -134,8 +122,7 @@ one_ruled last a left both least fits old =
     let bw = old.both_width in
     record {
       left_columns =
-          λ c. darkened_cell left k c lk ∙ ap (cond (nat_eq c k) true) (old.left_columns c)
-          ∙ left_at last a c (stands c a (last + 1));
+          λ c. rw (darkened_cell left k c lk, old.left_columns c, left_at last a c (stands c a (last + 1)));
       both_columns = λ c.
           darkened_cell (darkened both k) (k + last) c ll
           ∙ ap (cond (nat_eq c (k + last)) true) (darkened_cell both k c lk
@@ -165,12 +152,7 @@ end_patterns_at c l =
 
 -- The cells of one row that all cells of another leave are its own.
 pub left_by_all : (row all c : ℕ) → is_dark_bit all c ≡ true → is_dark_bit (bit_and row all) c ≡ is_dark_bit row c
-left_by_all row all c e =
-    and_dark row all c ∙ ap (λ (b : Bool). is_dark_bit row c && b) e ∙ alone (is_dark_bit row c)
-  where
-    alone : (a : Bool) → (a && true) ≡ a
-    alone true = refl
-    alone false = refl
+left_by_all row all c e = grind (arith, nat_tests, and_dark)
 
 -- Once the columns of all regions are drawn, the four rows are those of the borders of the size.
 pub are_borders : (size : SizeEntry) (low last a left both even all : ℕ) → IsSize size →
@@ -187,13 +169,9 @@ are_borders size low last a left both even all entry ew el ea ruled av aw ev vw 
       entry = entry;
       last_row = ew;
       left_columns = λ c l.
-          ruled.left_columns c ∙ ap (λ (b : Bool). b && nat_eq (c % (last + 1)) 0)
-          (lt-ltb c (a * (last + 1)) (omega (arith, w, l))) ∙ ap (λ (i : ℕ). nat_eq (c % i) 0) s;
+          rw (ruled.left_columns c, lt-ltb c (a * (last + 1)) (omega (arith, w, l)), s);
       both_columns = λ c l.
-          ruled.both_columns c ∙ ap (λ (b : Bool). b && (nat_eq (c % (last + 1)) 0 || nat_eq (c % (last + 1)) last))
-          (lt-ltb c (a * (last + 1)) (omega (arith, w, l)))
-          ∙ ap (λ (i : ℕ). nat_eq (c % i) 0 || nat_eq (c % i) last) s
-          ∙ ap (λ (i : ℕ). nat_eq (c % (size.region_columns + 2)) 0 || nat_eq (c % (size.region_columns + 2)) i) el;
+          rw (ruled.both_columns c, lt-ltb c (a * (last + 1)) (omega (arith, w, l)), s, el);
       even_columns = ev;
       all_columns = av;
       left_width = subst (λ (i : ℕ). left < 2 ^ i) w ruled.left_width;
@@ -209,8 +187,7 @@ all_ones n c l =
     let e : n ≡ c + 1 + k = omega (arith, l) in
     let p : 2 ^ n ≡ 2 ^ (c + 1) * 2 ^ k = ap (λ (i : ℕ). 2 ^ i) e ∙ pow-add 2 (c + 1) k in
     let q : 2 ^ (c + 1) ≡ 2 ^ c * 2 ^ 1 = pow-add 2 c 1 in
-    ap (λ (i : ℕ). nat_eq (i / 2 ^ c % 2) 1) (ap (λ (i : ℕ). i - 1) (p ∙ ap (λ (i : ℕ). i * 2 ^ k) q))
-    ∙ odd (2 ^ c) (2 ^ k) (pow_pos c) (pow_pos k)
+    rw (p, q, odd (2 ^ c) (2 ^ k) (pow_pos c) (pow_pos k))
   where
     odd : (x y : ℕ) → 0 < x → 0 < y → nat_eq ((x * 2 ^ 1 * y - 1) / x % 2) 1 ≡ true
     odd x zero px py = absurd (omega (arith, py))
@@ -229,9 +206,7 @@ any_second false r s = refl
 
 -- If the third of four tests passes, one of the four does.
 any_third : (p q s : Bool) → p || q || true || s ≡ true
-any_third true q s = refl
-any_third false true s = refl
-any_third false false s = refl
+any_third x q s = grind (arith, nat_tests)
 
 -- All cells of the last row of a square are dark border cells.
 dark_bottom : (p r s e o : Bool) → true ≡ (p || true || r || s) && cond (p || true) true (cond r e o)
@@ -284,14 +259,7 @@ module _ (size : SizeEntry) (last left both even all : ℕ) (b : AreBorders size
   pub dark_in_last : inner ≡ last → (c : ℕ) → c < size.columns →
       is_dark_bit all c ≡ (is_on_edge size.region_rows size.region_columns inner (c % (size.region_columns + 2))
       && edge_is_dark size.region_rows inner (c % (size.region_columns + 2)))
-  dark_in_last z c l =
-      let p : Bool = nat_eq (c % (e + 2)) 0 in
-      let s : Bool = nat_eq (c % (e + 2)) (e + 1) in
-      b.all_columns c l
-      ∙ dark_bottom p (nat_eq inner 0) s (nat_eq (c % (e + 2) % 2) 0) (nat_eq (inner % 2) 1)
-      ∙ ap (λ (t : Bool). (p || t || nat_eq inner 0 || s)
-      && cond (p || t) true (cond (nat_eq inner 0) (nat_eq (c % (e + 2) % 2) 0) (nat_eq (inner % 2) 1)))
-      (sym (eq-eqb inner (d + 1) (z ∙ b.last_row)))
+  dark_in_last z c l = grind (arith, nat_tests, dark_bottom, eq-eqb)
 
   -- The row in which the even columns are dark has the border colours of a square's first row.
   pub dark_in_first : inner ≢ last → inner ≡ 0 → (c : ℕ) → c < size.columns →

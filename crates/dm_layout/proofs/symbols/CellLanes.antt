@@ -1,10 +1,10 @@
 -- Cells of a row in lanes: sixteen that are cut out of it, and what each lane then has for its cell.
-use Rattle.std.proofs.Common.{◌≡◌, ◌∙◌, ℕ, zero, suc, ◌+◌, ◌*◌, ◌/◌, ◌%◌, ◌^◌, ◌<◌, min, not, cond, eqb, nat_eq}
-use Rattle.std.proofs.Common.{if◌then◌else◌, false, bit_and, List, [], ◌∷◌, ◌++◌, map, refl, sym, ap, ap₂, arith}
+use Rattle.std.proofs.lemmas.Bool.Decides.{nat_tests}
+use Rattle.std.proofs.Common.{◌≡◌, ◌∙◌, ℕ, ◌+◌, ◌*◌, ◌/◌, ◌%◌, ◌^◌, ◌<◌, min, not, cond, eqb, nat_eq}
+use Rattle.std.proofs.Common.{if◌then◌else◌, bit_and, List, [], ◌∷◌, ◌++◌, map, refl, sym, ap, ap₂, arith}
 use Rattle.std.specs.List.{range_with_len}
 use Rattle.std.specs.Simd.Lanes.{top}
 use Rattle.std.proofs.Math.Nat.{div-div-eq-div-mul}
-use Rattle.std.proofs.lemmas.Bool.{ne_eqb}
 use Rattle.std.proofs.lemmas.Nat.{pow-add, pow_pos}
 use Rattle.std.proofs.lemmas.Nat.Bits.{and_pow, bit_at_and, bit_at-lt, bit_at_ones}
 use Rattle.dm_layout.specs.symbols.Symbols.{is_dark_bit}
@@ -20,16 +20,12 @@ shown dark light cells column = if is_dark_bit cells column then dark else light
 -- A lane is `dark` where the bit times its weight isn't 0.
 lane_bit : (dark light b w : ℕ) → b < 2 → 0 < w →
     cond (top 7 (cond (not (eqb (b * w) 0)) 255 0)) dark light ≡ (if nat_eq b 1 then dark else light)
-lane_bit dark light zero w l some = let none : 0 * w ≡ 0 = omega arith in rw none refl
-lane_bit dark light (suc zero) w l some = let one : eqb (1 * w) 0 ≡ false = ne_eqb (1 * w) 0 (λ e. omega arith) in
-    rw one refl
-lane_bit dark light (suc (suc b)) w l some = absurd (omega arith)
+lane_bit dark light x w l some = grind (arith, nat_tests)
 
 -- What a lane has for a bit is how its cell is shown.
 lane_is : (dark light byte k : ℕ) → lane dark light byte (2 ^ k) ≡ shown dark light byte k
 lane_is dark light byte k =
-    ap (λ (n : ℕ). cond (top 7 (cond (not (eqb n 0)) 255 0)) dark light) (and_pow byte k)
-    ∙ lane_bit dark light (byte / 2 ^ k % 2) (2 ^ k) (bit_at-lt byte k) (pow_pos k)
+    rw (and_pow byte k, lane_bit dark light (byte / 2 ^ k % 2) (2 ^ k) (bit_at-lt byte k) (pow_pos k))
 
 -- A bit of the mask is kept as it is.
 kept_bit : (n mask k : ℕ) → mask / 2 ^ k % 2 ≡ 1 → is_dark_bit (bit_and n mask) k ≡ is_dark_bit n k
@@ -47,9 +43,7 @@ low_is dark light cells k e =
 high_is : (dark light cells k : ℕ) → 256 * 2 ^ k ≡ 2 ^ (8 + k) →
     lane dark light (cells / 256) (2 ^ k) ≡ shown dark light cells (8 + k)
 high_is dark light cells k e =
-    lane_is dark light (cells / 256) k
-    ∙ ap (λ (n : ℕ). if nat_eq (n % 2) 1 then dark else light) (div-div-eq-div-mul cells 256 (2 ^ k)
-    ∙ ap (λ (w : ℕ). cells / w) e)
+    rw (lane_is, div-div-eq-div-mul, e)
 
 -- Two lists are equal whose first numbers and whose rests are.
 both : {x y : ℕ} {xs ys : List ℕ} → x ≡ y → xs ≡ ys → x ∷ xs ≡ y ∷ ys

@@ -1,7 +1,8 @@
 -- How many cells of a row are dark.
+use Rattle.std.proofs.lemmas.Bool.Decides.{nat_tests}
 use Rattle.dm_layout.specs.symbols.Symbols.{is_dark_bit}
 use Rattle.std.proofs.Common.{◌≡◌, ℕ, zero, suc, ◌+◌, ◌*◌, ◌/◌, ◌%◌, ◌^◌, ◌<◌, Bool}
-use Rattle.std.proofs.Common.{cond, nat_eq, [], ◌∷◌, ◌++◌, refl, sym, ◌∙◌, ap, subst}
+use Rattle.std.proofs.Common.{cond, nat_eq, refl, sym, ◌∙◌, ap, subst}
 use Rattle.std.proofs.Common.{arith}
 use Rattle.std.specs.Prelude.{count_by, count_ones}
 use lib.Count.{ones}
@@ -15,10 +16,7 @@ use Rattle.dm_place.proofs.Exported.{range-append}
 -- One more column adds 1 to the count if its test passes.
 count_more : (f : ℕ → Bool) (n : ℕ) → count_by f (range_with_len 0 (n + 1)) ≡
     count_by f (range_with_len 0 n) + cond (f n) 1 0
-count_more f n =
-    let z : 0 + n ≡ n = omega arith in
-    ap (count_by f) (range-append 0 n 1 ∙ ap (λ k. range_with_len 0 n ++ k ∷ []) z)
-    ∙ sum_by_push (λ c. cond (f c) 1 0) (range_with_len 0 n) n
+count_more f n = grind (arith, nat_tests, range-append, sum_by_push)
 
 -- A binary digit has as many ones as its value says.
 ones_of_digit : (b : ℕ) → b < 2 → count_ones b ≡ cond (nat_eq (b % 2) 1) 1 0
@@ -38,8 +36,7 @@ counted_ones (suc n) x f l same =
     let parts : h * 2 ^ n + r ≡ x = div-add-mod' x (2 ^ n) in
     let rl : r < 2 ^ n = mod-lt x (pow_pos n) in
     let prefix : count_ones r ≡ count_by f (range_with_len 0 n) = counted_ones n r f rl (λ c lc.
-    ap (λ (i : ℕ). nat_eq i 1) (sym (bit_at_cat_low h n r c lc)) ∙ ap (λ (i : ℕ). is_dark_bit i c) parts
-    ∙ same c (omega arith)) in
+    cc (bit_at_cat_low h n r c lc, parts, same c (omega arith))) in
     let first : count_ones h ≡ cond (f n) 1 0 =
     ones_of_digit h (half n x l) ∙ ap (λ (b : Bool). cond b 1 0) (same n (omega arith)) in
     let more = count_more f n in

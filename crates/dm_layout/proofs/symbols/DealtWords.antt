@@ -46,9 +46,8 @@ dealt_words size blocks entry are =
           let inside : j < codeword_count size = subst (λ (n : ℕ). j < n) count l in
           let parts = place_parts size.blocks (codeword_count size) j (omega (arith, facts.blocks)) inside in
           let block = are (j % size.blocks) parts.block in
-          subst (λ word. word < 256) (sym (dealt_at size blocks j inside))
-          (All-get_or (λ word. word < 256) (blocks (j % size.blocks)) (j / size.blocks) 0
-          (subst (λ (n : ℕ). j / size.blocks < n) (sym block.0) parts.step) block.1));
+          rw (← dealt_at size blocks j inside) at (All-get_or (λ word. word < 256) (blocks (j % size.blocks)) (j /
+          size.blocks) 0 (subst (λ (n : ℕ). j / size.blocks < n) (sym block.0) parts.step) block.1));
     }
 
 -- Codewords made of blocks have these blocks.

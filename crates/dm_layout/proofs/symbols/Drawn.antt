@@ -1,7 +1,8 @@
 -- The modules of a symbol that are drawn from the cells of a mapping matrix.
+use Rattle.std.proofs.Common.{arith}
+use Rattle.std.proofs.lemmas.Bool.Decides.{nat_tests}
 use Rattle.std.proofs.Common.{◌≡◌, ℕ, Bool, true, false}
 use Rattle.std.proofs.Common.{List, ◌∙◌, ap}
-use Rattle.std.specs.Prelude.{if◌then◌else◌}
 use Rattle.dm_place.specs.Border.{symbol_line}
 use Rattle.dm_layout.specs.symbols.Sizes.{SizeEntry, IsSize}
 use Rattle.dm_layout.specs.symbols.Border.{is_border, border_is_dark}
@@ -14,17 +15,13 @@ use Rattle.dm_layout.proofs.symbols.SymbolLines.{no_border, mapping_line-symbol_
 -- A module of a border has its colour.
 pub on_border : (size : SizeEntry) (mapping : List Bool) (r c : ℕ) → is_border size r c ≡ true →
     drawn_colour size mapping r c ≡ border_is_dark size r c
-on_border size mapping r c h =
-    ap (λ (b : Bool). if b then border_is_dark size r c else inner_colour size mapping (mapping_line size.region_rows r)
-    (mapping_line size.region_columns c)) h
+on_border size mapping r c h = grind (arith, nat_tests)
 
 -- Any other module has the colour of a cell of the mapping matrix.
 pub in_mapping : (size : SizeEntry) (mapping : List Bool) (r c : ℕ) → is_border size r c ≡ false →
     drawn_colour size mapping r c ≡ inner_colour size mapping (mapping_line size.region_rows r)
     (mapping_line size.region_columns c)
-in_mapping size mapping r c h =
-    ap (λ (b : Bool). if b then border_is_dark size r c else inner_colour size mapping (mapping_line size.region_rows r)
-    (mapping_line size.region_columns c)) h
+in_mapping size mapping r c h = grind (arith, nat_tests)
 
 -- The module at which a cell of the mapping matrix lies has the colour of that cell.
 pub at_cell : (size : SizeEntry) (mapping : List Bool) (r c : ℕ) → IsSize size →

@@ -1,11 +1,11 @@
 -- A symbol that is drawn from the rows of its mapping matrix.
+use Rattle.std.proofs.lemmas.Bool.Decides.{nat_tests}
 use Rattle.std.proofs.Common.{◌≡◌, ◌≢◌, ◌⊎◌, inl, inr, ℕ, ◌+◌, ◌*◌, ◌%◌, ◌^◌, ◌<◌, ◌≤◌, Bool, true, false, ◌&&◌}
 use Rattle.std.proofs.Common.{◌||◌, nat_eq, nat_le, List, refl, sym, ◌∙◌, ap, arith, subst, eq-eqb, length, get_or, set}
 use Rattle.std.specs.Int.RustNames.{bit_or}
 use Rattle.std.proofs.lemmas.List.{length-set}
 use Rattle.dm_layout.proofs.symbols.KeptRows.{whole_cells}
 use Rattle.dm_layout.proofs.symbols.Painting.{bit_put}
-use Rattle.std.specs.Prelude.{if◌then◌else◌}
 use Rattle.std.proofs.lemmas.Bool.{true≢false, eqb-true, eqb-false, ne_eqb, and_parts, leb-true, le-leb, cases_lt}
 use Rattle.std.proofs.lemmas.Bool.{cases_eq}
 use Rattle.std.proofs.lemmas.Nat.{mod-mul-add}
@@ -31,40 +31,23 @@ use Rattle.dm_layout.proofs.symbols.Sizes.{column_inside}
 -- A border module has its colour.
 pub on_border : (size : SizeEntry) (look : ℕ → ℕ → Bool) (r c : ℕ) → is_border size r c ≡ true →
     drawn_colour size look r c ≡ border_is_dark size r c
-on_border size look r c h =
-    ap (λ (b : Bool). if b then border_is_dark size r c
-    else look (mapping_line size.region_rows r) (mapping_line size.region_columns c)) h
+on_border size look r c h = grind (arith, nat_tests)
 
 -- Any other module has that of a cell of the mapping matrix.
 pub off_borders : (size : SizeEntry) (look : ℕ → ℕ → Bool) (r c : ℕ) → is_border size r c ≡ false →
     drawn_colour size look r c ≡ look (mapping_line size.region_rows r) (mapping_line size.region_columns c)
-off_borders size look r c h =
-    ap (λ (b : Bool). if b then border_is_dark size r c
-    else look (mapping_line size.region_rows r) (mapping_line size.region_columns c)) h
+off_borders size look r c h = grind (arith, nat_tests)
 
 -- One of four tests passes if the second or the third does.
 any_of : (p q r s : Bool) → (q ≡ true) ⊎ (r ≡ true) → (p || q || r || s) ≡ true
-any_of true q r s e = refl
-any_of false q r s (inl e) = ap (λ (b : Bool). b || r || s) e
-any_of false true r s (inr e) = refl
-any_of false false r s (inr e) = ap (λ (b : Bool). b || s) e
+any_of x q r s e = grind (arith, nat_tests)
 
 -- In a row at the top or at the bottom of its regions all modules are of borders.
 pub edge_row : (size : SizeEntry) (look : ℕ → ℕ → Bool) (row c dark : ℕ) →
     ((row % (size.region_rows + 2) ≡ size.region_rows + 1) ⊎ (row % (size.region_rows + 2) ≡ 0)) →
     is_dark_bit dark c ≡ (is_border size row c && border_is_dark size row c) →
     is_dark_bit dark c ≡ drawn_colour size look row c
-edge_row size look row c dark at is =
-    is ∙ ap (λ (b : Bool). b && border_is_dark size row c) here ∙ sym (on_border size look row c here)
-  where
-    test : ((row % (size.region_rows + 2) ≡ size.region_rows + 1) ⊎ (row % (size.region_rows + 2) ≡ 0)) →
-        (nat_eq (row % (size.region_rows + 2)) (size.region_rows + 1) ≡ true)
-        ⊎ (nat_eq (row % (size.region_rows + 2)) 0 ≡ true)
-    test (inl e) = inl (eq-eqb _ _ e)
-    test (inr e) = inr (eq-eqb _ _ e)
-
-    here : is_border size row c ≡ true
-    here = any_of (nat_eq (c % (size.region_columns + 2)) 0) _ _ _ (test at)
+edge_row size look row c dark at is = grind (arith, nat_tests, on_border, eq-eqb, any_of)
 
 -- In a row between them a module is of a border, or lies in a cell of the mapping matrix.
 pub between_row : (size : SizeEntry) (look : ℕ → ℕ → Bool) (row c dark outer inner : ℕ) → IsSize size →
@@ -84,10 +67,7 @@ between_row size look row c dark outer inner entry lr lc top bottom is mapped bo
     alone false b e = e
 
     on_side : (p q r s : Bool) → (p || q || r || s) ≡ true → q ≡ false → r ≡ false → (p ≡ true) ⊎ (s ≡ true)
-    on_side true q r s h e f = inl refl
-    on_side false true r s h e f = cc
-    on_side false false true s h e f = cc
-    on_side false false false s h e f = inr h
+    on_side x q r s h e f = grind (arith, nat_tests)
 
     side : (nat_eq (c % (size.region_columns + 2)) 0 ≡ true)
         ⊎ (nat_eq (c % (size.region_columns + 2)) (size.region_columns + 1) ≡ true) →
@@ -105,9 +85,7 @@ between_row size look row c dark outer inner entry lr lc top bottom is mapped bo
     by_border false e =
         let from = off_border size row c entry lr lc e in
         let q : ℕ = mapping_line size.region_columns c in
-        ap (λ (b : Bool). b || is_dark_bit outer c) (is ∙ ap (λ (b : Bool). b && border_is_dark size row c) e)
-        ∙ ap (is_dark_bit outer) (sym from.1.there) ∙ mapped q from.1.inside ∙ cells q from.1.inside
-        ∙ sym (off_borders size look row c e)
+        cc (is, e, from.1.there, mapped q from.1.inside, cells q from.1.inside, off_borders size look row c e)
 
 -- When one more row is put, the rows above the next are drawn.
 pub drawn_more : (size : SizeEntry) (look : ℕ → ℕ → Bool) (row cells end : ℕ) (old new : SymbolView) →
@@ -136,15 +114,10 @@ drawn_more size look row cells end old new low so_far inside same m line start b
 
     by_row : (r c : ℕ) → r < row + 1 → c < size.columns → (r ≡ row) ⊎ (r ≡ row → ⊥) →
         module_at new r c ≡ drawn_colour size look r c
-    by_row r c lr lc (inl e) =
-        ap (λ (i : ℕ). module_at new i c) e ∙ sym (here c (omega (arith, lc, columns))) ∙ line c lc
-        ∙ ap (λ (i : ℕ). drawn_colour size look i c) (sym e)
-    by_row r c lr lc (inr ne) =
-        others r c (omega (arith, lr, inside, rows)) (omega (arith, lc, columns)) ne
-        ∙ so_far.colours r c (omega (arith, lr, ne)) lc
+    by_row r c lr lc x = grind (arith, nat_tests, new, here, columns, line, size, others, inside, rows)
 
 -- The same, where the numbers of rows are given by equal ones.
-pub drawn_to : (size : SizeEntry) (look : ℕ → ℕ → Bool) (before after row cells end : ℕ) (old new : SymbolView) →
+pub drawn_to : {size : SizeEntry} {look : ℕ → ℕ → Bool} {before after row cells : ℕ} (end : ℕ) {old new : SymbolView} →
     cells < 2 ^ 128 → IsDrawn size look before old → before ≡ row → row + 1 ≡ after → row < size.rows →
     new.size ≡ old.size → IsSymbol new →
     ((c : ℕ) → c < size.columns → is_dark_bit (whole_row cells end) c ≡ drawn_colour size look row c) →
@@ -152,10 +125,10 @@ pub drawn_to : (size : SizeEntry) (look : ℕ → ℕ → Bool) (before after ro
     ((c : ℕ) → 128 + c < old.size.columns → module_at new row (128 + c) ≡ is_dark_bit end c) →
     ((r c : ℕ) → r < old.size.rows → c < old.size.columns → (r ≡ row → ⊥) → module_at new r c ≡ module_at old r c) →
     IsDrawn size look after new
-drawn_to size look before after row cells end old new low so_far eb ea inside same m line start behind others =
-    subst (λ (i : ℕ). IsDrawn size look i new) ea
-    (drawn_more size look row cells end old new low (subst (λ (i : ℕ). IsDrawn size look i old) eb so_far) inside same m
-    line start behind others)
+drawn_to {size} {look} {before} {after} {row} {cells} end {old} {new} low so_far eb ea inside same m line start behind
+    others =
+    rw ea at (drawn_more size look row cells end old new low (subst (λ (i : ℕ). IsDrawn size look i old) eb so_far)
+    inside same m line start behind others)
 
 -- The border modules of a row, told by its place inside a region with its border, are those of the row.
 pub dark_row : (size : SizeEntry) (region inner dark c : ℕ) → inner < size.region_rows + 2 →
@@ -164,9 +137,7 @@ pub dark_row : (size : SizeEntry) (region inner dark c : ℕ) → inner < size.r
     is_dark_bit dark c ≡ (is_border size (region * (size.region_rows + 2) + inner) c
     && border_is_dark size (region * (size.region_rows + 2) + inner) c)
 dark_row size region inner dark c l is =
-    subst (λ (i : ℕ). is_dark_bit dark c ≡ (is_on_edge size.region_rows size.region_columns i
-    (c % (size.region_columns + 2)) && edge_is_dark size.region_rows i (c % (size.region_columns + 2))))
-    (sym (mod-mul-add region (size.region_rows + 2) inner l)) is
+    rw (← mod-mul-add region (size.region_rows + 2) inner l) at is
 
 -- The border modules of a row at the top or at the bottom of its regions are all that is drawn there.
 pub edge_line : (size : SizeEntry) (look : ℕ → ℕ → Bool) (region inner row dark : ℕ) → inner < size.region_rows + 2 →
@@ -174,16 +145,7 @@ pub edge_line : (size : SizeEntry) (look : ℕ → ℕ → Bool) (region inner r
     ((c : ℕ) → c < size.columns → is_dark_bit dark c ≡ (is_on_edge size.region_rows size.region_columns inner
     (c % (size.region_columns + 2)) && edge_is_dark size.region_rows inner (c % (size.region_columns + 2)))) →
     (c : ℕ) → c < size.columns → is_dark_bit dark c ≡ drawn_colour size look row c
-edge_line size look region inner row dark l at er is c lc =
-    edge_row size look (region * (size.region_rows + 2) + inner) c dark (there at)
-    (dark_row size region inner dark c l (is c lc))
-    ∙ ap (λ (i : ℕ). drawn_colour size look i c) (sym er)
-  where
-    there : (inner ≡ size.region_rows + 1) ⊎ (inner ≡ 0) →
-        ((region * (size.region_rows + 2) + inner) % (size.region_rows + 2) ≡ size.region_rows + 1)
-        ⊎ ((region * (size.region_rows + 2) + inner) % (size.region_rows + 2) ≡ 0)
-    there (inl e) = inl (mod-mul-add region (size.region_rows + 2) inner l ∙ e)
-    there (inr e) = inr (mod-mul-add region (size.region_rows + 2) inner l ∙ e)
+edge_line size look region inner row dark l at er is c lc = grind (arith, nat_tests, edge_row, dark_row, mod-mul-add)
 
 -- ---- the whole symbol
 
@@ -240,15 +202,9 @@ pub laid_as : (words : WordsView) (modules : SymbolView) (s : SizeEntry) (list :
     IsLaid words modules
 laid_as words modules s list look h es el em m drawn bits fixed =
     laid_by words modules look h (em ∙ es) m
-    (subst (λ (t : SizeEntry). (r c : ℕ) → r < t.rows → c < t.columns →
-    module_at modules r c ≡ drawn_colour t look r c) (sym em) drawn)
-    (subst (λ (ws : List ℕ). (w b : ℕ) (cell : Cell) →
-    IsPlace (mapping_rows modules.size) (mapping_columns modules.size) w b cell →
-    look cell.row cell.column ≡ bit_of ws w b) el
-    (subst (λ (t : SizeEntry). (w b : ℕ) (cell : Cell) → IsPlace (mapping_rows t) (mapping_columns t) w b cell →
-    look cell.row cell.column ≡ bit_of list w b) (sym em) bits))
-    (subst (λ (t : SizeEntry). (r c : ℕ) → r < mapping_rows t → c < mapping_columns t →
-    is_fixed (mapping_rows t) (mapping_columns t) r c ≡ true → look r c ≡ fixed_is_dark r c) (sym em) fixed)
+    (rw (← em) at drawn)
+    (rw (← em, el) at bits)
+    (rw (← em) at fixed)
 
 -- Bits stay at their places when the fixed square is put, since it holds none.
 pub bits_kept : (R C : ℕ) (olds news : ℕ → ℕ → Bool) (list : List ℕ) → EachCellOnce R C →
@@ -306,29 +262,7 @@ fixed_cells n r c some lr lc h =
 -- A cell outside the fixed square isn't made dark.
 pub free_cells : (n r c : ℕ) → 6 ≤ n → r < n → c < n → n % 4 ≡ 2 → is_fixed n n r c ≡ false →
     ((nat_eq (r + 2) n && nat_eq (c + 4) (n + 2)) || (nat_eq (r + 2) (n + 1) && nat_eq (c + 4) (n + 3))) ≡ false
-free_cells n r c some lr lc two h = by (cases_lt (r + 2) n) (cases_lt (c + 2) n)
-  where
-    both_false : (a b x y : Bool) → (a ≡ false) ⊎ (b ≡ false) → (x ≡ false) ⊎ (y ≡ false) →
-        ((a && b) || (x && y)) ≡ false
-    both_false a b x y p q = ap (λ (t : Bool). t || (x && y)) (one a b p) ∙ one x y q
-      where
-        one : (a b : Bool) → (a ≡ false) ⊎ (b ≡ false) → (a && b) ≡ false
-        one a b (inl e) = ap (λ (t : Bool). t && b) e
-        one true b (inr e) = e
-        one false b (inr e) = refl
-
-    by : (r + 2 < n) ⊎ (n ≤ r + 2) → (c + 2 < n) ⊎ (n ≤ c + 2) →
-        ((nat_eq (r + 2) n && nat_eq (c + 4) (n + 2)) || (nat_eq (r + 2) (n + 1) && nat_eq (c + 4) (n + 3))) ≡ false
-    by (inl l) k =
-        both_false _ _ _ _ (inl (ne_eqb (r + 2) n (λ e. omega (arith, e, l))))
-        (inl (ne_eqb (r + 2) (n + 1) (λ e. omega (arith, e, l))))
-    by (inr m) (inl l) =
-        both_false _ _ _ _ (inr (ne_eqb (c + 4) (n + 2) (λ e. omega (arith, e, l))))
-        (inr (ne_eqb (c + 4) (n + 3) (λ e. omega (arith, e, l))))
-    by (inr m) (inr l) =
-        absurd (true≢false (sym (ap (λ (b : Bool). (b && b) && nat_le n (r + 2) && nat_le n (c + 2))
-        (eq-eqb (n % 4) 2 two) ∙ ap (λ (b : Bool). (true && true) && b && nat_le n (c + 2)) (le-leb n (r + 2) m)
-        ∙ ap (λ (b : Bool). (true && true) && true && b) (le-leb n (c + 2) l)) ∙ h))
+free_cells n r c some lr lc two h = grind (arith, nat_tests, cases_lt, nat_tests, ne_eqb, true≢false, eq-eqb, le-leb)
 
 -- Where the dark cells of the fixed square are made dark, this is what is dark.
 pub put_twice : (width n : ℕ) (olds mids news : List ℕ) (r c : ℕ) → n + 1 < length olds → n + 3 < width →
@@ -347,11 +281,4 @@ put_twice width n olds mids news r c rows columns first second =
     (nat_eq (c + 4) (n + 3))
   where
     regroup : (a p q x y : Bool) → ((a || (p && q && true)) || (x && y && true)) ≡ (a || ((p && q) || (x && y)))
-    regroup true p q x y = refl
-    regroup false true true x y = refl
-    regroup false true false true true = refl
-    regroup false true false true false = refl
-    regroup false true false false y = refl
-    regroup false false q true true = refl
-    regroup false false q true false = refl
-    regroup false false q false y = refl
+    regroup x p q y z = grind (arith, nat_tests)

@@ -1,4 +1,5 @@
 -- Rows of the mapping matrix as numbers.
+use Rattle.std.proofs.lemmas.Bool.Decides.{nat_tests}
 use Rattle.std.proofs.Common.{◌≡◌, ◌⊎◌, inl, inr, ℕ, ◌+◌, ◌-◌, ◌*◌, ◌/◌, ◌%◌, ◌^◌, ◌<◌, ◌≤◌, Bool, true, false, nat_eq}
 use Rattle.std.proofs.Common.{nat_lt, refl, sym, ◌∙◌, ap, arith, subst}
 use Rattle.std.specs.Int.RustNames.{bit_or}
@@ -21,13 +22,7 @@ part_of row d a = row / 2 ^ (a * (d + 2) + 1) % (1 * 2 ^ d % 2 ^ 128)
 
 -- The part of a row in a data region has no more bits than the region has columns.
 part_small : (row d a : ℕ) → d < 128 → part_of row d a < 2 ^ d
-part_small row d a l =
-    let w = weight d l in
-    let p = pow_pos d in
-    ap_lt (row / 2 ^ (a * (d + 2) + 1)) (1 * 2 ^ d % 2 ^ 128) (2 ^ d) w p
-  where
-    ap_lt : (x m n : ℕ) → m ≡ n → 0 < n → x % m < n
-    ap_lt x m n e p = omega arith
+part_small row d a l = grind (arith, nat_tests, weight, pow_pos)
 
 -- Putting the part of one more region after the row so far adds its number, and the row stays within the regions.
 pub record IsMore (inner row d a : ℕ) : Type 0 where
@@ -78,10 +73,7 @@ one_more inner row d a least small narrow so_far c l = by_part (below (nat_lt c 
         let is : c ≡ a * d + j = omega arith in
         let q : c / d ≡ a = ap (λ (i : ℕ). i / d) is ∙ div-mul-add a d j lj in
         let line : s + j ≡ symbol_line d c = omega (arith, q) in
-        ap (λ (i : ℕ). nat_eq i 1) (bit_at_cat_high (part_of row d a) (a * d) inner c narrow m)
-        ∙ prefix_cell (row / 2 ^ s) d j small lj
-        ∙ ap (λ (i : ℕ). nat_eq i 1) (moved_bit row s j)
-        ∙ ap (is_dark_bit row) line
+        rw (bit_at_cat_high, prefix_cell, moved_bit, line)
 
 -- An inner row of some regions, with the part of the next one put after them, is one of one region more.
 pub cut_more : (inner row d a n : ℕ) → 6 ≤ d → a < n → n * d ≤ wide_matrix → inner < 2 ^ (a * d) →
@@ -112,8 +104,7 @@ cut_first row d n least some fits =
           let l : c < d = omega arith in
           let q : c / d ≡ 0 = ap (λ (i : ℕ). i / d) (omega arith) ∙ div-mul-add 0 d c l in
           let line : 1 + c ≡ symbol_line d c = omega (arith, q) in
-          prefix_cell (row / 2 ^ 1) d c small l ∙ ap (λ (i : ℕ). nat_eq i 1) (moved_bit row 1 c)
-          ∙ ap (is_dark_bit row) line;
+          rw (prefix_cell, moved_bit, line);
     }
   where
     below : (x m n : ℕ) → m ≡ n → 0 < n → x % m < n

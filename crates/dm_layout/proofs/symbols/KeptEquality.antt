@@ -1,4 +1,5 @@
 -- Rows with the same modules.
+use Rattle.std.proofs.lemmas.Bool.Decides.{nat_tests}
 use Rattle.std.proofs.Common.{◌≡◌, ◌↔◌, ◌⊎◌, inl, inr, IsTrue, ℕ, ◌+◌, ◌-◌, ◌*◌, ◌%◌, ◌^◌, ◌<◌, ◌≤◌, Bool, true, false}
 use Rattle.std.proofs.Common.{nat_eq, refl, sym, ◌∙◌, ap, arith, eq-eqb}
 use Rattle.std.proofs.lemmas.Bool.{eqb-true, cases_lt}
@@ -40,10 +41,7 @@ same_below a b n result small is = (
 pub all_tell : (m n : SymbolView) (b : Bool) → IsSymbol m → IsSymbol n → n.size ≡ m.size →
     (IsTrue b ↔ ((r c : ℕ) → r < m.size.rows → c < m.size.columns → module_at m r c ≡ module_at n r c)) →
     IsTrue b ↔ (m ≡ n)
-all_tell m n b x y same told = (
-  λ t. same_modules m n x y (sym same) (told.0 t),
-  λ e. told.1 (λ r c lr lc. ap (λ (k : SymbolView). module_at k r c) e),
-)
+all_tell m n b x y same told = grind (arith, nat_tests, same_modules)
 
 -- What is true exactly where symbols are equal is whether they compare equal.
 pub by_told : (m n : SymbolView) (b : Bool) → IsSymbol m → IsSymbol n → (IsTrue b ↔ (m ≡ n)) → b ≡ equal_modules m n

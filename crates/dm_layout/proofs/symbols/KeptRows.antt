@@ -1,9 +1,8 @@
 -- A symbol whose rows are kept as numbers.
-use Rattle.std.proofs.Common.{◌≡◌, ◌≢◌, ◌⊎◌, inl, inr, set, get_or-set_same, get_or-set_other, ℕ, zero, suc, ◌+◌, ◌-◌}
+use Rattle.std.proofs.lemmas.Bool.Decides.{nat_tests}
+use Rattle.std.proofs.Common.{◌≡◌, ◌≢◌, ◌⊎◌, set, get_or-set_same, get_or-set_other, ℕ, zero, suc, ◌+◌, ◌-◌}
 use Rattle.std.proofs.Common.{◌^◌}
-use Rattle.std.proofs.Common.{◌<◌, ◌≤◌, Bool, false, List, length, get_or, replicate, sym, ◌∙◌, ap, arith, nat_eq}
-use Rattle.std.proofs.Common.{nat_lt}
-use Rattle.std.specs.Prelude.{if◌then◌else◌}
+use Rattle.std.proofs.Common.{◌<◌, ◌≤◌, Bool, false, List, length, get_or, replicate, ◌∙◌, ap, arith, nat_eq}
 use Rattle.std.proofs.lemmas.Bool.{cases_lt, lt-ltb, le-ltb}
 use Rattle.std.proofs.lemmas.Nat.Bits.{bit_at-zero, bit_at_cat_low, bit_at_cat_high}
 use Rattle.dm_layout.specs.symbols.Symbols.{IsSymbol, module_at, is_dark_bit}
@@ -18,16 +17,12 @@ modules_of_kept size rows ends entry = modules_by size (kept_cell rows ends) ent
 
 -- A module before column 128 is a bit of the first number of its row.
 pub first_cell : (rows ends : List ℕ) (r c : ℕ) → c < 128 → kept_cell rows ends r c ≡ is_dark_bit (get_or rows r 0) c
-first_cell rows ends r c l =
-    ap (λ (b : Bool). if b then is_dark_bit (get_or rows r 0) c else is_dark_bit (get_or ends r 0) (c - 128))
-    (lt-ltb c 128 l)
+first_cell rows ends r c l = grind (arith, nat_tests, lt-ltb)
 
 -- One from there on is a bit of the second.
 pub end_cell : (rows ends : List ℕ) (r c : ℕ) → kept_cell rows ends r (128 + c) ≡ is_dark_bit (get_or ends r 0) c
 end_cell rows ends r c =
-    ap (λ (b : Bool). if b then is_dark_bit (get_or rows r 0) (128 + c) else is_dark_bit (get_or ends r 0) (128 + c
-    - 128)) (le-ltb (128 + c) 128 (omega arith))
-    ∙ ap (is_dark_bit (get_or ends r 0)) (let e : 128 + c - 128 ≡ c = omega arith in e)
+    rw (le-ltb (128 + c) 128 (omega arith), let e : 128 + c - 128 ≡ c = omega arith in e)
 
 -- A module has the colour of its bit.
 pub module_of_kept : (size : SizeEntry) (rows ends : List ℕ) (r c : ℕ) → r < size.rows → c < size.columns →
@@ -55,11 +50,7 @@ light_kept size n r c lr lc = module_of_kept size (replicate n 0) (replicate n 0
     light_at (suc n) (suc r) c = light_at n r c
 
     by_column : (c < 128) ⊎ (128 ≤ c) → kept_cell (replicate n 0) (replicate n 0) r c ≡ false
-    by_column (inl l) = first_cell (replicate n 0) (replicate n 0) r c l ∙ light_at n r c
-    by_column (inr m) =
-        let e : c ≡ 128 + (c - 128) = omega (arith, m) in
-        ap (kept_cell (replicate n 0) (replicate n 0) r) e ∙ end_cell (replicate n 0) (replicate n 0) r (c - 128)
-        ∙ light_at n r (c - 128)
+    by_column x = grind (arith, nat_tests, first_cell, light_at, end_cell)
 
 -- ---- a row that is put
 
@@ -68,26 +59,19 @@ module _ (size : SizeEntry) (rows ends : List ℕ) (row x y : ℕ) where
   pub put_first : row < size.rows → row < length rows → (c : ℕ) → c < 128 → c < size.columns →
       module_at (kept_symbol size (set rows row x) (set ends row y)) row c ≡ is_dark_bit x c
   put_first lr l c low lc =
-      module_of_first size (set rows row x) (set ends row y) row c lr low lc
-      ∙ ap (λ (i : ℕ). is_dark_bit i c) (get_or-set_same rows row x 0 l)
+      rw (module_of_first, get_or-set_same)
 
   -- then those of its second.
   pub put_end : row < size.rows → row < length ends → (c : ℕ) → 128 + c < size.columns →
       module_at (kept_symbol size (set rows row x) (set ends row y)) row (128 + c) ≡ is_dark_bit y c
   put_end lr l c lc =
-      module_of_end size (set rows row x) (set ends row y) row c lr lc
-      ∙ ap (λ (i : ℕ). is_dark_bit i c) (get_or-set_same ends row y 0 l)
+      rw (module_of_end, get_or-set_same)
 
   -- The others keep theirs.
   pub put_others : (r c : ℕ) → r < size.rows → c < size.columns → r ≢ row →
       module_at (kept_symbol size (set rows row x) (set ends row y)) r c ≡ module_at (kept_symbol size rows ends) r c
   put_others r c lr lc ne =
-      module_of_kept size (set rows row x) (set ends row y) r c lr lc
-      ∙ ap (λ (i : ℕ). if nat_lt c 128 then is_dark_bit i c else is_dark_bit (get_or (set ends row y) r 0) (c - 128))
-      (get_or-set_other rows row r x 0 ne)
-      ∙ ap (λ (i : ℕ). if nat_lt c 128 then is_dark_bit (get_or rows r 0) c else is_dark_bit i (c - 128))
-      (get_or-set_other ends row r y 0 ne)
-      ∙ sym (module_of_kept size rows ends r c lr lc)
+      rw (module_of_kept, get_or-set_other, get_or-set_other, module_of_kept)
 
 -- ---- rows of two numbers
 
@@ -104,10 +88,4 @@ whole_end row end c low l = ap (λ (i : ℕ). nat_eq i 1) (bit_at_cat_high end 1
 pub whole_cells : (row end n : ℕ) (f : ℕ → Bool) → row < 2 ^ 128 →
     ((c : ℕ) → c < 128 → c < n → is_dark_bit row c ≡ f c) → ((c : ℕ) → 128 + c < n → is_dark_bit end c ≡ f (128 + c)) →
     (c : ℕ) → c < n → is_dark_bit (whole_row row end) c ≡ f c
-whole_cells row end n f low first behind c l = by_column (cases_lt c 128)
-  where
-    by_column : (c < 128) ⊎ (128 ≤ c) → is_dark_bit (whole_row row end) c ≡ f c
-    by_column (inl m) = whole_first row end c m ∙ first c m l
-    by_column (inr m) =
-        let e : 128 + (c - 128) ≡ c = omega (arith, m) in
-        whole_end row end c low m ∙ behind (c - 128) (omega (arith, m, l)) ∙ ap f e
+whole_cells row end n f low first behind c l = grind (arith, nat_tests, cases_lt, whole_first, whole_end)

@@ -1,6 +1,6 @@
 -- Codewords that are kept at the start of a list of bytes.
 use Rattle.std.proofs.Common.{◌≡◌, ℕ, ◌+◌, ◌-◌, ◌<◌, ◌≤◌, List, length, set, take, drop, replicate, ◌∙◌, arith}
-use Rattle.std.proofs.Common.{length-take, ap, sym, ◌++◌}
+use Rattle.std.proofs.Common.{length-take, ap, ◌++◌}
 use Rattle.std.specs.Prelude.{All}
 use Rattle.std.proofs.Math.Seq.{take-append-add}
 use Rattle.std.proofs.Math.ListN.{length-set}
@@ -77,10 +77,7 @@ front_words kept part n d few count =
     let k : ℕ = n - d in
     let e : n ≡ length part + k = omega (arith, few, count) in
     let f : d + k ≡ n = omega (arith, few) in
-    ap (λ i. take i (part ++ drop (length part) kept)) e
-    ∙ take-append-add part (drop (length part) kept) k
-    ∙ ap (λ i. part ++ take k (drop i kept)) count
-    ∙ ap (λ xs. part ++ xs) (sym (drop-take d k kept) ∙ ap (λ i. drop d (take i kept)) f)
+    cc (e, take-append-add part (drop (length part) kept) k, count, drop-take d k kept, f)
 
 -- Codewords of the size that are put among what is kept are kept with it.
 pub part_kept : {room : ℕ} (size : SizeEntry) (start count : ℕ) (kept part : List ℕ) → AreKeptIn room size kept →

@@ -1,6 +1,6 @@
 -- The modules in which codewords are laid: what is drawn from the cells that hold them, and no others.
 use Rattle.std.proofs.Common.{◌≡◌, ℕ, ◌+◌, ◌*◌, ◌/◌, ◌%◌, ◌<◌, Bool, true, false, nat_lt, List, map, refl, sym, ◌∙◌, ap}
-use Rattle.std.proofs.Common.{subst, arith}
+use Rattle.std.proofs.Common.{arith}
 use Rattle.std.specs.Prelude.{if◌then◌else◌}
 use Rattle.std.specs.List.{range_with_len}
 use Rattle.std.proofs.lemmas.Bool.{ltb-true, ltb-false}
@@ -99,8 +99,7 @@ laid words modules mapping h same m drawn holds = record {
   };
   border = no_faults modules (λ r c lr lc b. drawn r c lr lc ∙ on_border modules.size mapping r c b);
   fixed_square =
-      λ r c lr lc f. cell_is r c lr lc ∙ ap (λ (b : Bool). if b then fixed_is_dark r c
-      else look_at mapping (mapping_columns modules.size) r c) f;
+      λ r c lr lc f. rw (cell_is, f);
 }
   where
     cell_is : (r c : ℕ) → r < mapping_rows modules.size → c < mapping_columns modules.size →
@@ -130,14 +129,8 @@ pub laid_by : (words : WordsView) (modules : SymbolView) (s : SizeEntry) (rows c
     ((r c : ℕ) → r < s.rows → c < s.columns → module_at modules r c ≡ drawn_colour s mapping r c) → IsLaid words modules
 laid_by words modules s rows columns list mapping h es em m er ec el holds drawn =
     laid words modules mapping h (sym (em ∙ es)) m
-    (subst (λ (t : SizeEntry). (r c : ℕ) → r < t.rows → c < t.columns →
-    module_at modules r c ≡ drawn_colour t mapping r c) (sym em) drawn)
-    (subst (λ (ws : List ℕ). HoldsBits (mapping_rows modules.size) (mapping_columns modules.size)
-    (look_at mapping (mapping_columns modules.size)) ws) el
-    (subst (λ (t : SizeEntry). HoldsBits (mapping_rows t) (mapping_columns t) (look_at mapping (mapping_columns t))
-    list) (sym em)
-    (subst (λ (j : ℕ). HoldsBits (mapping_rows s) j (look_at mapping j) list) ec
-    (subst (λ (i : ℕ). HoldsBits i columns (look_at mapping columns) list) er holds))))
+    (rw (← em) at drawn)
+    (rw (er, ec, ← em, el) at holds)
 
 -- ---- no other modules
 
@@ -154,24 +147,18 @@ one_laid words m n hm hn = same_modules m n hm.holds.symbol hn.holds.symbol (sym
     n_border : (r c : ℕ) → r < m.size.rows → c < m.size.columns → is_border m.size r c ≡ true →
         module_at n r c ≡ border_is_dark m.size r c
     n_border =
-        subst (λ (s : SizeEntry). (r c : ℕ) → r < s.rows → c < s.columns → is_border s r c ≡ true →
-        module_at n r c ≡ border_is_dark s r c) e (bordered_of_no_faults n hn.border)
+        rw e at (bordered_of_no_faults n hn.border)
 
     n_fixed : (r c : ℕ) → r < mapping_rows m.size → c < mapping_columns m.size →
         is_fixed (mapping_rows m.size) (mapping_columns m.size) r c ≡ true →
         module_at n (symbol_line m.size.region_rows r) (symbol_line m.size.region_columns c) ≡ fixed_is_dark r c
     n_fixed =
-        subst (λ (s : SizeEntry). (r c : ℕ) → r < mapping_rows s → c < mapping_columns s →
-        is_fixed (mapping_rows s) (mapping_columns s) r c ≡ true →
-        module_at n (symbol_line s.region_rows r) (symbol_line s.region_columns c) ≡ fixed_is_dark r c) e
-        hn.fixed_square
+        rw e at hn.fixed_square
 
     n_bits : HoldsBits (mapping_rows m.size) (mapping_columns m.size)
         (λ r c. module_at n (symbol_line m.size.region_rows r) (symbol_line m.size.region_columns c)) words.list
     n_bits =
-        subst (λ (s : SizeEntry). HoldsBits (mapping_rows s) (mapping_columns s)
-        (λ r c. module_at n (symbol_line s.region_rows r) (symbol_line s.region_columns c)) words.list) e
-        hn.holds.bits
+        rw e at hn.holds.bits
 
     in_matrix : (r c : ℕ) → r < mapping_rows m.size → c < mapping_columns m.size → (f : Bool) →
         is_fixed (mapping_rows m.size) (mapping_columns m.size) r c ≡ f →
@@ -192,11 +179,7 @@ one_laid words m n hm hn = same_modules m n hm.holds.symbol hn.holds.symbol (sym
         from.1.inside
         (is_fixed (mapping_rows m.size) (mapping_columns m.size) (mapping_line m.size.region_rows r)
         (mapping_line m.size.region_columns c)) refl in
-        ap (λ i. module_at m i c) (sym from.0.there)
-        ∙ ap (module_at m (symbol_line m.size.region_rows (mapping_line m.size.region_rows r))) (sym from.1.there)
-        ∙ here
-        ∙ ap (λ j. module_at n (symbol_line m.size.region_rows (mapping_line m.size.region_rows r)) j) from.1.there
-        ∙ ap (λ i. module_at n i c) from.0.there
+        cc (from.0.there, from.1.there, here)
 
     by_border : (r c : ℕ) → r < m.size.rows → c < m.size.columns → module_at m r c ≡ module_at n r c
     by_border r c lr lc = by_test r c lr lc (is_border m.size r c) refl

@@ -1,4 +1,5 @@
 -- Rows of slots that are scattered into widened rows.
+use Rattle.std.proofs.lemmas.Bool.Decides.{nat_tests}
 use Rattle.std.proofs.Common.{◌≡◌, ◌⊎◌, inl, inr, ℕ, ◌+◌, ◌-◌, ◌*◌, ◌/◌, ◌%◌, ◌^◌, ◌<◌, ◌≤◌, Bool, true, false, ◌&&◌}
 use Rattle.std.proofs.Common.{◌||◌, nat_eq, nat_le, nat_lt, List, length, get_or, set, refl, sym, ◌∙◌, ap, arith}
 use Rattle.std.specs.Int.RustNames.{bit_or}
@@ -48,26 +49,21 @@ pub row_scattered : (width two three : ℕ) → ((c : ℕ) → c < width →
     row + 2 < length rows → c < width → look_in (with_row width two three rows row x s) r c ≡
     with_scattered (look_in rows r c) slots row s r c
 row_scattered width two three masked bytes rows slots x row s r c same fits l =
-    put_over b (row + 2) z r c (omega (
-      arith,
-      fits,
-      length-set rows row (bit_or (get_or rows row 0) x0),
-      length-set a (row + 1) (bit_or (get_or a (row + 1) 0) y),
-    ))
-    ∙ ap (λ (t : Bool). t || (nat_eq r (row + 2) && is_dark_bit z c))
-    (put_over a (row + 1) y r c (omega (arith, fits, length-set rows row (bit_or (get_or rows row 0) x0))))
-    ∙ ap (λ (t : Bool). (t || (nat_eq r (row + 1) && is_dark_bit y c)) || (nat_eq r (row + 2) && is_dark_bit z c))
-    (put_over rows row x0 r c (omega (arith, fits)))
-    ∙ ap (λ (t : Bool). ((look_in rows r c || (nat_eq r row && t)) || (nat_eq r (row + 1) && is_dark_bit y c))
-    || (nat_eq r (row + 2) && is_dark_bit z c))
-    (ap (λ (i : ℕ). is_dark_bit (bit_and i two * 2 ^ s % 2 ^ width) c) whole
-    ∙ part_up x slots row width two 0 2 s c (λ i h. (masked i h).0) same bytes (omega arith) l)
-    ∙ ap (λ (t : Bool). ((look_in rows r c || (nat_eq r row && part_of slots row s 0 2 c)) || (nat_eq r (row + 1) && t))
-    || (nat_eq r (row + 2) && is_dark_bit z c))
-    (part_up x slots row width three 2 3 s c (λ i h. (masked i h).1) same bytes (omega arith) l)
-    ∙ ap (λ (t : Bool). ((look_in rows r c || (nat_eq r row && part_of slots row s 0 2 c))
-    || (nat_eq r (row + 1) && part_of slots row s 2 3 c)) || (nat_eq r (row + 2) && t))
-    (part_up x slots row width three 5 3 s c (λ i h. (masked i h).1) same bytes (omega arith) l)
+    cc (
+      put_over b (row + 2) z r c (omega (
+        arith,
+        fits,
+        length-set rows row (bit_or (get_or rows row 0) x0),
+        length-set a
+            (row + 1) (bit_or (get_or a (row + 1) 0) y),
+      )),
+      put_over a (row + 1) y r c (omega (arith, fits, length-set rows row (bit_or (get_or rows row 0) x0))),
+      put_over rows row x0 r c (omega (arith, fits)),
+      whole,
+      part_up x slots row width two 0 2 s c (λ i h. (masked i h).0) same bytes (omega arith) l,
+      part_up x slots row width three 2 3 s c (λ i h. (masked i h).1) same bytes (omega arith) l,
+      part_up x slots row width three 5 3 s c (λ i h. (masked i h).1) same bytes (omega arith) l,
+    )
   where
     x0 : ℕ
     x0 = bit_and x two * 2 ^ s % 2 ^ width
@@ -97,9 +93,7 @@ one_further up n r part = by_place (cases_lt r up)
         (nat_le up r && (nat_lt (r - up) (n + 1) && part (r - up))) ≡
         ((nat_le up r && (nat_lt (r - up) n && part (r - up))) || (nat_eq r (n + up) && part n))
     same t e f g =
-        ap (λ (b : Bool). nat_le up r && (b && part (r - up))) (e ∙ sym f)
-        ∙ sym (or-false (nat_le up r && (nat_lt (r - up) n && part (r - up))))
-        ∙ ap (λ (b : Bool). (nat_le up r && (nat_lt (r - up) n && part (r - up))) || (b && part n)) (sym g)
+        cc (e, f, or-false (nat_le up r && (nat_lt (r - up) n && part (r - up))), g)
 
     by_row : up ≤ r → (r - up < n) ⊎ (n ≤ r - up) →
         (nat_le up r && (nat_lt (r - up) (n + 1) && part (r - up))) ≡
@@ -131,44 +125,29 @@ one_further up n r part = by_place (cases_lt r up)
 
     by_place : (r < up) ⊎ (up ≤ r) → (nat_le up r && (nat_lt (r - up) (n + 1) && part (r - up))) ≡
         ((nat_le up r && (nat_lt (r - up) n && part (r - up))) || (nat_eq r (n + up) && part n))
-    by_place (inl h) =
-        ap (λ (b : Bool). b && (nat_lt (r - up) (n + 1) && part (r - up))) (lt-leb up r h)
-        ∙ sym (ap (λ (b : Bool). (b && (nat_lt (r - up) n && part (r - up))) || (nat_eq r (n + up) && part n))
-        (lt-leb up r h) ∙ ap (λ (b : Bool). b && part n) (ne_eqb r (n + up) (λ e. omega (arith, e, h))))
-    by_place (inr h) = by_row h (cases_lt (r - up) n)
+    by_place x = grind (arith, nat_tests, part, lt-leb, ne_eqb, by_row, cases_lt)
 
 -- Three parts laid over three rows may be grouped row by row.
 all_six : (a b d x y z : Bool) → (((a || (b || d)) || x) || y) || z ≡ ((a || x) || ((b || y) || (d || z)))
-all_six true b d x y z = refl
-all_six false true d true y z = refl
-all_six false true d false y z = refl
-all_six false false true true y z = refl
-all_six false false true false true z = refl
-all_six false false true false false z = refl
-all_six false false false true y z = refl
-all_six false false false false y z = refl
+all_six x b d y z w = grind (arith, nat_tests)
 
 -- Before the first row of slots nothing is scattered.
 pub scattered_none : (rows slots : List ℕ) → ((r c : ℕ) → look_in rows r c ≡ false) → (r c : ℕ) →
     look_in rows r c ≡ scattered 0 slots r c
 scattered_none rows slots light r c =
-    light r c
-    ∙ sym (ap (λ (t : Bool). (t && part r 0 2) || ((nat_le 1 r && by_anchors 0 slots (r - 1) 2 3 c)
-    || (nat_le 2 r && by_anchors 0 slots (r - 2) 5 3 c))) (le-ltb r 0 (omega arith))
-    ∙ ap (λ (t : Bool). (nat_le 1 r && (t && part (r - 1) 2 3)) || (nat_le 2 r && by_anchors 0 slots (r - 2) 5 3 c))
-    (le-ltb (r - 1) 0 (omega arith))
-    ∙ ap (λ (t : Bool). (nat_le 1 r && false) || (nat_le 2 r && (t && part (r - 2) 5 3)))
-    (le-ltb (r - 2) 0 (omega arith))
-    ∙ none (nat_le 1 r) (nat_le 2 r))
+    rw (
+      light r c,
+      le-ltb r 0 (omega arith),
+      le-ltb (r - 1) 0 (omega arith),
+      le-ltb (r - 2) 0 (omega arith),
+      none (nat_le 1 r) (nat_le 2 r),
+    )
   where
     part : ℕ → ℕ → ℕ → Bool
     part q low count = part_of slots q (first_column q) low count c
 
     none : (a b : Bool) → ((a && false) || (b && false)) ≡ false
-    none true true = refl
-    none true false = refl
-    none false true = refl
-    none false false = refl
+    none x y = grind (arith, nat_tests)
 
 -- Laying the three parts of one more row of slots over the rows scatters that row too.
 pub scatter_more : (slots : List ℕ) (row r c : ℕ) →
@@ -192,14 +171,4 @@ scatter_more slots row r c =
     here low count = there low count row
 
     first_part : by_anchors (row + 1) slots r 0 2 c ≡ (by_anchors row slots r 0 2 c || (nat_eq r row && here 0 2))
-    first_part =
-        let zr : row + 0 ≡ row = omega arith in
-        let e0 : r - 0 ≡ r = omega arith in
-        let zero_up = le-leb 0 r (omega arith) in
-        sym (ap (λ (i : ℕ). nat_lt i (row + 1) && there 0 2 i) e0)
-        ∙ ap (λ (t : Bool). t && (nat_lt (r - 0) (row + 1) && there 0 2 (r - 0))) (sym zero_up)
-        ∙ one_further 0 row r (there 0 2)
-        ∙ ap (λ (t : Bool). (t && (nat_lt (r - 0) row && there 0 2 (r - 0))) || (nat_eq r (row + 0) && here 0 2))
-        zero_up
-        ∙ ap (λ (i : ℕ). (nat_lt i row && there 0 2 i) || (nat_eq r (row + 0) && here 0 2)) e0
-        ∙ ap (λ (i : ℕ). by_anchors row slots r 0 2 c || (nat_eq r i && here 0 2)) zr
+    first_part = grind (arith, nat_tests, row, le-leb, one_further, there)

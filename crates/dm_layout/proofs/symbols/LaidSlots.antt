@@ -1,7 +1,8 @@
 -- One more codeword in its slot, and the cells that it darkens.
+use Rattle.std.proofs.lemmas.Bool.Decides.{nat_tests}
 use Rattle.std.proofs.Common.{◌≡◌, ◌⊎◌, inl, inr, ℕ, zero, suc, ◌+◌, ◌-◌, ◌*◌, ◌/◌, ◌%◌, ◌^◌, ◌<◌, ◌≤◌, Bool, true}
-use Rattle.std.proofs.Common.{false, ◌&&◌, ◌||◌, nat_eq, nat_le, nat_lt, List, [], ◌∷◌, ◌++◌, length, get_or, set, refl}
-use Rattle.std.proofs.Common.{sym, ◌∙◌, ap, arith, subst}
+use Rattle.std.proofs.Common.{false, ◌&&◌, ◌||◌, nat_eq, nat_le, nat_lt, List, [], ◌∷◌, ◌++◌, length, get_or, set}
+use Rattle.std.proofs.Common.{sym, ◌∙◌, ap, arith}
 use Rattle.std.specs.Prelude.{Decides}
 use Rattle.std.specs.Int.RustNames.{bit_or}
 use Rattle.std.proofs.Math.Bool.{and-or_distrib_left, or-false, and-true, and-false}
@@ -11,7 +12,7 @@ use Rattle.std.proofs.lemmas.Nat.{pow-add, mul-add-lt}
 use Rattle.std.proofs.lemmas.Nat.Bits.{bit_at_above}
 use Rattle.std.proofs.lemmas.Bool.{true≢false, cases_eq, cases_lt, lt-leb, le-leb}
 use Rattle.std.proofs.lemmas.Bool.{ltb-true, ne_eqb}
-use Rattle.std.proofs.lemmas.Bool.Decides.{Decides-and, Decides-or, Decides-like, Decides-eqb, Decides-ltb, Decides-at}
+use Rattle.std.proofs.lemmas.Bool.Decides.{Decides-and, Decides-or, Decides-like}
 use Rattle.std.proofs.lemmas.Bool.Decides.{same_from_decides}
 use Rattle.dm_place.specs.declared.shape.Cell.{Cell}
 use Rattle.dm_place.specs.Placement.{At}
@@ -49,36 +50,18 @@ decides_run y k i b (suc m) r c =
     (decides_run y (suc k) i (b + 1) m r c))
   where
     to : (IsCell i b r c × (is_dark_bit y k ≡ true)) ⊎ InRun y (suc k) i (b + 1) m r c → InRun y k i b (suc m) r c
-    to (inl ((er, ec), d)) =
-        let e : k ≡ c - b + k = omega arith in
-        (er, omega arith, omega arith, subst (λ (t : ℕ). is_dark_bit y t ≡ true) e d)
-    to (inr (er, lo, hi, d)) = let e : c - (b + 1) + suc k ≡ c - b + k = omega arith in
-        (er, omega arith, omega arith, subst (λ (t : ℕ). is_dark_bit y t ≡ true) e d)
+    to x = grind (arith, nat_tests)
 
     from : InRun y k i b (suc m) r c → (IsCell i b r c × (is_dark_bit y k ≡ true)) ⊎ InRun y (suc k) i (b + 1) m r c
     from (er, lo, hi, d) = by (cases_eq c b)
       where
         by : (c ≡ b) ⊎ (c ≡ b → ⊥) → (IsCell i b r c × (is_dark_bit y k ≡ true)) ⊎ InRun y (suc k) i (b + 1) m r c
-        by (inl ec) =
-            let e : c - b + k ≡ k = omega arith in
-            inl ((er, ec), subst (λ (t : ℕ). is_dark_bit y t ≡ true) e d)
-        by (inr ne) = let e : c - b + k ≡ c - (b + 1) + suc k = omega arith in
-            inr (er, omega arith, omega arith, subst (λ (t : ℕ). is_dark_bit y t ≡ true) e d)
+        by x = grind (arith, nat_tests)
 
 -- Cells that follow one another are marked alike d rows further down.
 run_below : (y k i b m d r c : ℕ) → (nat_le d r && marks_low y k (cells_run i b m) (r - d) c) ≡
     marks_low y k (cells_run (i + d) b m) r c
-run_below y k i b m d r c =
-    same_from_decides (nat_le d r && marks_low y k (cells_run i b m) (r - d) c) _
-    (Decides-like (nat_le d r && marks_low y k (cells_run i b m) (r - d) c) to from
-    (Decides-and (nat_le d r) _ (decides_le d r) (decides_run y k i b m (r - d) c)))
-    (decides_run y k (i + d) b m r c)
-  where
-    to : (d ≤ r) × InRun y k i b m (r - d) c → InRun y k (i + d) b m r c
-    to (l, (er, lo, hi, x)) = (omega arith, lo, hi, x)
-
-    from : InRun y k (i + d) b m r c → (d ≤ r) × InRun y k i b m (r - d) c
-    from (er, lo, hi, x) = (omega arith, (omega arith, lo, hi, x))
+run_below y k i b m d r c = grind (arith, nat_tests, same_from_decides, decides_le, decides_run)
 
 -- ---- one more codeword
 
@@ -100,8 +83,7 @@ byte_up y s width c small fits =
     by_column (inl h) = none_up y s c h ∙ ap (λ (t : Bool). t && is_dark_bit y (c - s)) (sym (lt-leb s c h))
     by_column (inr h) =
         let e : c ≡ s + (c - s) = omega (arith, h) in
-        ap (is_dark_bit (y * 2 ^ s)) e ∙ bit_up y s (c - s)
-        ∙ ap (λ (t : Bool). t && is_dark_bit y (c - s)) (sym (le-leb s c h))
+        cc (e, bit_up y s (c - s), le-leb s c h)
 
 -- A bit of a byte that is 1 is one of the first eight.
 byte_bits : (y t : ℕ) → y < 256 → is_dark_bit y t ≡ true → t < 8
@@ -127,10 +109,7 @@ anchors_or n s x q low count c slots l =
     let t3 : Bool = nat_lt ((c - first_column q) % 8) count in
     let old : Bool = look_in slots q j in
     let new : Bool = nat_eq q s && is_dark_bit x j in
-    ap (λ (b : Bool). t1 && (t2 && (t3 && b))) (put_over slots s x q j l)
-    ∙ ap (λ (b : Bool). t1 && (t2 && b)) (and-or_distrib_left t3 old new)
-    ∙ ap (λ (b : Bool). t1 && b) (and-or_distrib_left t2 (t3 && old) (t3 && new))
-    ∙ and-or_distrib_left t1 (t2 && (t3 && old)) (t2 && (t3 && new))
+    rw (put_over, and-or_distrib_left, and-or_distrib_left, and-or_distrib_left)
 
 -- A byte in a slot darkens this column: the same test, as equations of numbers.
 abbrev IsAdded : ℕ → ℕ → ℕ → ℕ → ℕ → ℕ → ℕ → ℕ → Type 0
@@ -140,54 +119,18 @@ IsAdded n i y s q low count c =
 
 decides_added : (n i y s width q low count c : ℕ) → y < 256 → s + 8 ≤ width →
     Decides (added n i (y * 2 ^ s % 2 ^ width) q low count c) (IsAdded n i y s q low count c)
-decides_added n i y s width q low count c small fits =
-    Decides-and _ _ (Decides-ltb q n)
-    (Decides-and _ _ (decides_le (first_column q) c)
-    (Decides-and _ _ (Decides-ltb ((c - first_column q) % 8) count)
-    (Decides-and _ _ (Decides-eqb q i)
-    (Decides-at _ _ (byte_up y s width (c - first_column q + low) small fits)
-    (Decides-and _ _ (decides_le s (c - first_column q + low))
-    (itself (is_dark_bit y (c - first_column q + low - s))))))))
+decides_added n i y s width q low count c small fits = grind (arith, nat_tests, decides_le, byte_up, itself)
 
 -- A byte in the slot of an anchor darkens the cells of its shape beside the anchor.
 added_run : (n i j y width q low count c : ℕ) → i < n → (5 * i + j) % 8 ≡ 4 → y < 256 → 8 * (j / 8) + 8 ≤ width →
     low + count ≤ 8 →
     added n i (y * 2 ^ (8 * (j / 8)) % 2 ^ width) q low count c ≡ marks_low y low (cells_run i (j + 2) count) q c
 added_run n i j y width q low count c li anchor small fits low_count =
-    same_from_decides (added n i (y * 2 ^ (8 * (j / 8)) % 2 ^ width) q low count c) _
-    (Decides-like (added n i (y * 2 ^ (8 * (j / 8)) % 2 ^ width) q low count c) to from
-    (decides_added n i y (8 * (j / 8)) width q low count c small fits))
-    (decides_run y low i (j + 2) count q c)
-  where
-    to : IsAdded n i y (8 * (j / 8)) q low count c → InRun y low i (j + 2) count q c
-    to (lq, (lf, (lt, (eq, (ls, d))))) =
-        let h = byte_bits y (c - first_column q + low - 8 * (j / 8)) small d in
-        let e : c - first_column q + low - 8 * (j / 8) ≡ c - (j + 2) + low = omega arith in
-        (eq, omega arith, omega arith, subst (λ (t : ℕ). is_dark_bit y t ≡ true) e d)
-
-    from : InRun y low i (j + 2) count q c → IsAdded n i y (8 * (j / 8)) q low count c
-    from (eq, lo, hi, d) =
-        let e : c - (j + 2) + low ≡ c - first_column q + low - 8 * (j / 8) = omega arith in
-        (omega arith, (omega arith, (omega arith, (eq, (omega arith, subst (λ (t : ℕ). is_dark_bit y t ≡ true) e d)))))
+    grind (arith, nat_tests, same_from_decides, decides_added, decides_run, byte_bits)
 
 -- A byte in a slot behind all rows darkens nothing.
 added_none : (n s x q low count c : ℕ) → n ≤ s → added n s x q low count c ≡ false
-added_none n s x q low count c far = by_row (nat_lt q n) refl
-  where
-    none : (a b : Bool) → (a && (b && false)) ≡ false
-    none true b = and-false b
-    none false b = refl
-
-    by_row : (t : Bool) → nat_lt q n ≡ t → (t && (nat_le (first_column q) c
-        && (nat_lt ((c - first_column q) % 8) count && (nat_eq q s && is_dark_bit x (c - first_column q + low))))) ≡
-        false
-    by_row false e = refl
-    by_row true e =
-        let l = ltb-true q n e in
-        ap (λ (t : Bool). nat_le (first_column q) c
-        && (nat_lt ((c - first_column q) % 8) count && (t && is_dark_bit x (c - first_column q + low))))
-        (ne_eqb q s (λ f. omega (arith, f, l, far)))
-        ∙ none (nat_le (first_column q) c) (nat_lt ((c - first_column q) % 8) count)
+added_none n s x q low count c far = grind (arith, nat_tests, and-false, ltb-true, ne_eqb)
 
 -- The cells of a standard shape in widened rows.
 abbrev pub wide_cells : ℕ → ℕ → List Cell
@@ -195,13 +138,7 @@ wide_cells i j = cells_run i (j + 2) 2 ++ cells_run (i + 1) (j + 2) 3 ++ cells_r
 
 -- Where something is added to each of three rows, the rows together get all of it.
 three_added : (a b d x y z : Bool) → ((a || x) || ((b || y) || (d || z))) ≡ ((a || (b || d)) || (x || (y || z)))
-three_added true b d x y z = refl
-three_added false true d true y z = refl
-three_added false true d false y z = refl
-three_added false false true true y z = refl
-three_added false false true false true z = refl
-three_added false false true false false z = refl
-three_added false false false x y z = refl
+three_added x b d y z w = grind (arith, nat_tests)
 
 module _ (n : ℕ) (slots : List ℕ) where
   -- A byte in the slot of an anchor scatters to the cells of the anchor's shape.
@@ -243,40 +180,27 @@ module _ (n : ℕ) (slots : List ℕ) where
           by_anchors n news q low count c ≡ (by_anchors n slots q low count c
           || marks_low y low (cells_run i (j + 2) count) q c)
       in_row q low count low_count =
-          anchors_or n i x q low count c slots l
-          ∙ ap (λ (b : Bool). by_anchors n slots q low count c || b)
-          (added_run n i j y width q low count c li anchor small fits low_count)
+          rw (anchors_or, added_run)
 
       in_lower : (d low count : ℕ) → low + count ≤ 8 →
           (nat_le d r && by_anchors n news (r - d) low count c) ≡
           ((nat_le d r && by_anchors n slots (r - d) low count c)
           || marks_low y low (cells_run (i + d) (j + 2) count) r c)
       in_lower d low count low_count =
-          ap (λ (b : Bool). nat_le d r && b) (in_row (r - d) low count low_count)
-          ∙ and-or_distrib_left (nat_le d r) (by_anchors n slots (r - d) low count c)
-          (marks_low y low (cells_run i (j + 2) count) (r - d) c)
-          ∙ ap (λ (b : Bool). (nat_le d r && by_anchors n slots (r - d) low count c) || b)
-          (run_below y low i (j + 2) count d r c)
+          rw (in_row, and-or_distrib_left, run_below)
 
   -- A byte in a slot behind all rows scatters to no cell.
   pub scattered_corner : (s x r c : ℕ) → n ≤ s → s < length slots →
       scattered n (set slots s (bit_or (get_or slots s 0) x)) r c ≡ scattered n slots r c
   scattered_corner s x r c far l =
-      ap (λ (b : Bool). b || ((nat_le 1 r && by_anchors n news (r - 1) 2 3 c)
-      || (nat_le 2 r && by_anchors n news (r - 2) 5 3 c))) (same r 0 2)
-      ∙ ap (λ (b : Bool). by_anchors n slots r 0 2 c
-      || ((nat_le 1 r && b) || (nat_le 2 r && by_anchors n news (r - 2) 5 3 c))) (same (r - 1) 2 3)
-      ∙ ap (λ (b : Bool). by_anchors n slots r 0 2 c
-      || ((nat_le 1 r && by_anchors n slots (r - 1) 2 3 c) || (nat_le 2 r && b))) (same (r - 2) 5 3)
+      rw (same, same, same)
     where
       news : List ℕ
       news = set slots s (bit_or (get_or slots s 0) x)
 
       same : (q low count : ℕ) → by_anchors n news q low count c ≡ by_anchors n slots q low count c
       same q low count =
-          anchors_or n s x q low count c slots l
-          ∙ ap (λ (b : Bool). by_anchors n slots q low count c || b) (added_none n s x q low count c far)
-          ∙ or-false (by_anchors n slots q low count c)
+          rw (anchors_or, added_none, or-false)
 
 -- ---- folded cells
 

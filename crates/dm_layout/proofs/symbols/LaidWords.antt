@@ -1,6 +1,7 @@
 -- That the codewords in slots, scattered and folded, lie at their places.
-use Rattle.std.proofs.Common.{◌≡◌, ◌≢◌, ℕ, zero, suc, ◌+◌, ◌-◌, ◌*◌, ◌/◌, ◌%◌, ◌^◌, ◌<◌, ◌≤◌, Bool, true, false, ◌&&◌}
-use Rattle.std.proofs.Common.{◌||◌, nat_eq, nat_le, nat_lt, List, [], ◌∷◌, map, length, get_or, set, drop, replicate}
+use Rattle.std.proofs.lemmas.Bool.Decides.{nat_tests}
+use Rattle.std.proofs.Common.{◌≡◌, ◌≢◌, ℕ, zero, suc, ◌+◌, ◌*◌, ◌/◌, ◌%◌, ◌^◌, ◌<◌, ◌≤◌, Bool, true, false, ◌&&◌}
+use Rattle.std.proofs.Common.{◌||◌, nat_eq, nat_lt, List, [], ◌∷◌, map, length, get_or, set, drop, replicate}
 use Rattle.std.proofs.Common.{refl, sym, ◌∙◌, ap, arith, get_or-set_same, get_or-set_other, drop-cons}
 use Rattle.std.proofs.Common.{drop_of_length-le}
 use Rattle.std.specs.Int.RustNames.{bit_or}
@@ -17,7 +18,7 @@ use Rattle.dm_place.specs.Placement.{cells_of, shapes, places_from, places_in_or
 use Rattle.dm_layout.specs.symbols.Symbols.{is_dark_bit}
 use Rattle.dm_layout.specs.symbols.inner.Laying.{by_anchors, scattered, folded, corner_marks, with_byte}
 use Rattle.dm_layout.specs.symbols.inner.Reading.{marks_in}
-use Rattle.dm_layout.specs.symbols.inner.Slots.{first_column, reversed_bits, slot_of}
+use Rattle.dm_layout.specs.symbols.inner.Slots.{reversed_bits, slot_of}
 use Rattle.dm_layout.proofs.symbols.FoldedRows.{folded_or, folded_same, folded_none}
 use Rattle.dm_place.proofs.Exported.{eight, inside_test, cells_inside}
 use Rattle.dm_layout.proofs.symbols.MarkedCells.{marks_low, marks_reversed, marks_turned, marks_or}
@@ -54,11 +55,7 @@ laid_slots most R C slots r c =
 
 -- It doesn't matter on which side something is added.
 add_left : (a b x : Bool) → ((a || x) || b) ≡ ((a || b) || x)
-add_left true b x = refl
-add_left false true true = refl
-add_left false true false = refl
-add_left false false true = refl
-add_left false false false = refl
+add_left x b y = grind (arith, nat_tests)
 
 -- What two tests say of what rows and columns leave when divided by 8.
 tests_of : (R C x y : ℕ) → (nat_eq (R % 8) x && nat_eq (C % 8) y) ≡ true → (R % 8 ≡ x) × (C % 8 ≡ y)
@@ -90,13 +87,7 @@ module _ (bytes most R C y : ℕ) (slots : List ℕ) (some : 6 ≤ R) (least : 6
   -- A byte that is added to the slot of an anchor is laid over the row of the anchor, at its place.
   anchor_byte : (i j : ℕ) → i < R → j < C → with_byte bytes slots (bytes * i + j / 8) y ≡
       set slots i (bit_or (get_or slots i 0) (y * 2 ^ (8 * (j / 8)) % 2 ^ (8 * bytes)))
-  anchor_byte i j li lj =
-      let k : j / 8 < bytes = omega (arith, lj, wide) in
-      ap (λ (k : ℕ). set slots k (bit_or (get_or slots k 0) (y * 2 ^ (8 * ((bytes * i + j / 8) % bytes)))))
-      (slot_row bytes i (j / 8) k)
-      ∙ ap (λ (k : ℕ). set slots i (bit_or (get_or slots i 0) (y * 2 ^ (8 * k)))) (slot_place bytes i (j / 8) k)
-      ∙ ap (λ (k : ℕ). set slots i (bit_or (get_or slots i 0) k))
-      (sym (byte_fits y (8 * (j / 8)) (8 * bytes) small (omega (arith, k))))
+  anchor_byte i j li lj = grind (arith, nat_tests, wide, slots, slot_row, slot_place, byte_fits, small)
 
   -- A byte that is added to the slot of a corner is laid over the last row.
   corner_byte : with_byte bytes slots (bytes * most) y ≡ set slots most (bit_or (get_or slots most 0) y)
@@ -245,34 +236,23 @@ laid_more bytes most R C i x y words slots some least high wide even_rows even_c
 -- Slots of zeros scatter to no cell.
 scattered_none : (n m r c : ℕ) → scattered n (replicate m 0) r c ≡ false
 scattered_none n m r c =
-    ap (λ (b : Bool). b || ((nat_le 1 r && by_anchors n zeros (r - 1) 2 3 c)
-    || (nat_le 2 r && by_anchors n zeros (r - 2) 5 3 c))) (none r 0 2)
-    ∙ ap (λ (b : Bool). (nat_le 1 r && b) || (nat_le 2 r && by_anchors n zeros (r - 2) 5 3 c)) (none (r - 1) 2 3)
-    ∙ ap (λ (b : Bool). b || (nat_le 2 r && by_anchors n zeros (r - 2) 5 3 c)) (and-false (nat_le 1 r))
-    ∙ ap (λ (b : Bool). nat_le 2 r && b) (none (r - 2) 5 3)
-    ∙ and-false (nat_le 2 r)
+    rw (none, none, and-false, none, and-false)
   where
     zeros : List ℕ
     zeros = replicate m 0
 
     guarded : (a b d : Bool) → (a && (b && (d && false))) ≡ false
-    guarded true true d = and-false d
-    guarded true false d = refl
-    guarded false b d = refl
+    guarded x b d = grind (arith, nat_tests)
 
     none : (q low count : ℕ) → by_anchors n zeros q low count c ≡ false
     none q low count =
-        ap (λ (b : Bool). nat_lt q n && (nat_le (first_column q) c && (nat_lt ((c - first_column q) % 8) count && b)))
-        (light_at m q (c - first_column q + low))
-        ∙ guarded (nat_lt q n) (nat_le (first_column q) c) (nat_lt ((c - first_column q) % 8) count)
+        rw (light_at, guarded)
 
 -- A byte without bits marks no cell.
 marks_none : (y k : ℕ) (xs : List Cell) (r c : ℕ) → ((t : ℕ) → is_dark_bit y t ≡ false) → marks_low y k xs r c ≡ false
 marks_none y k [] r c dark = refl
 marks_none y k (x ∷ xs) r c dark =
-    ap (λ (b : Bool). (nat_eq r x.row && nat_eq c x.column && b) || marks_low y (suc k) xs r c) (dark k)
-    ∙ ap (λ (b : Bool). b || marks_low y (suc k) xs r c) (and-false (nat_eq r x.row && nat_eq c x.column))
-    ∙ marks_none y (suc k) xs r c dark
+    rw (dark k, and-false (nat_eq r x.row && nat_eq c x.column), marks_none y (suc k) xs r c dark)
 
 -- With slots of zeros and all codewords still to come, the matrix is that of all codewords.
 pub laid_first : (most R C m : ℕ) (words slots : List ℕ) → slots ≡ replicate m 0 → AreLaid most R C words slots 0
@@ -288,37 +268,7 @@ laid_first most R C m words slots e r c lr lc =
 
 -- The byte in the slot of the corner marks what the codeword of the corner does.
 corner_same : (R C y r c : ℕ) → marks_low y 0 (corner_cells R C) r c ≡ corner_marks R C (reversed_bits (y % 256)) r c
-corner_same R C y r c =
-    by (nat_eq (R % 8) 4 && nat_eq (C % 8) 4) (nat_eq (R % 8) 6 && nat_eq (C % 8) 6)
-    (nat_eq (R % 8) 6 && nat_eq (C % 8) 4) (nat_eq (R % 8) 6 && nat_eq (C % 8) 0) refl refl refl refl
-  where
-    w : ℕ
-    w = reversed_bits (y % 256)
-
-    m : Shape → Bool
-    m s = marks_in w 0 (cells_of R C s) r c
-
-    by : (t u v x : Bool) → (nat_eq (R % 8) 4 && nat_eq (C % 8) 4) ≡ t → (nat_eq (R % 8) 6 && nat_eq (C % 8) 6) ≡ u →
-        (nat_eq (R % 8) 6 && nat_eq (C % 8) 4) ≡ v → (nat_eq (R % 8) 6 && nat_eq (C % 8) 0) ≡ x →
-        marks_low y 0 (corner_by R C t u v x) r c ≡
-        ((t && m Corner1) || ((u && m Corner2) || ((v && m Corner3) || (x && m Corner4))))
-    by true true v x e f g h =
-        let a = tests_of R C 4 4 e in let b = tests_of R C 6 6 f in absurd (omega (arith, a.0, b.0))
-    by true false true x e f g h =
-        let a = tests_of R C 4 4 e in let b = tests_of R C 6 4 g in absurd (omega (arith, a.0, b.0))
-    by true false false true e f g h =
-        let a = tests_of R C 4 4 e in let b = tests_of R C 6 0 h in absurd (omega (arith, a.0, b.0))
-    by true false false false e f g h = marks_turned y (cells_of R C Corner1) r c (omega arith) ∙ sym (or-false _)
-    by false true true x e f g h =
-        let a = tests_of R C 6 6 f in let b = tests_of R C 6 4 g in absurd (omega (arith, a.1, b.1))
-    by false true false true e f g h =
-        let a = tests_of R C 6 6 f in let b = tests_of R C 6 0 h in absurd (omega (arith, a.1, b.1))
-    by false true false false e f g h = marks_turned y (cells_of R C Corner2) r c (omega arith) ∙ sym (or-false _)
-    by false false true true e f g h =
-        let a = tests_of R C 6 4 g in let b = tests_of R C 6 0 h in absurd (omega (arith, a.1, b.1))
-    by false false true false e f g h = marks_turned y (cells_of R C Corner3) r c (omega arith) ∙ sym (or-false _)
-    by false false false true e f g h = marks_turned y (cells_of R C Corner4) r c (omega arith)
-    by false false false false e f g h = refl
+corner_same R C y r c = grind (arith, nat_tests, tests_of, marks_turned, or-false)
 
 -- Once the last codeword is in its slot, the scattered and folded slots are the matrix of all codewords.
 pub laid_all : (most R C i : ℕ) (words slots : List ℕ) → length (shapes R C) ≤ i → AreLaid most R C words slots i →

@@ -1,13 +1,14 @@
 -- That the codewords of widened rows, read slot by slot, are those of the symbol.
+use Rattle.std.proofs.lemmas.Bool.Decides.{nat_tests}
 use Rattle.std.proofs.Common.{◌≡◌, ℕ, ◌+◌, ◌-◌, ◌*◌, ◌/◌, ◌%◌, ◌^◌, ◌<◌, ◌≤◌, Bool, true, false, ◌&&◌, nat_eq}
-use Rattle.std.proofs.Common.{nat_lt, nat_le, List, [], ◌∷◌, map, get_or, refl, sym, ◌∙◌, ap, arith, subst}
+use Rattle.std.proofs.Common.{nat_lt, List, [], ◌∷◌, map, get_or, refl, sym, ◌∙◌, ap, arith}
 use Rattle.std.specs.List.{list_all}
 use Rattle.std.proofs.Math.Nat.{add-mul-div_left, add-mul-mod_self_left, div-eq_of_lt, mod-eq_of_lt}
 use Rattle.std.proofs.lemmas.Bool.{and_parts, ltb-true, ltb-false, eqb-true, lt-leb}
 use Rattle.dm_place.specs.declared.shape.Cell.{Cell}
 use Rattle.dm_place.specs.declared.shape.Shape.{Shape}
 use Rattle.dm_place.specs.declared.shape.Shape.TheVariants.{Standard, Corner1, Corner2, Corner3, Corner4}
-use Rattle.dm_place.specs.Placement.{At, cells_of, lowered_cell, wrapped_at_top_and_left, wrapped_cell, standard}
+use Rattle.dm_place.specs.Placement.{At, cells_of, lowered_cell, wrapped_cell, standard}
 use Rattle.dm_place.specs.Placement.{CellsInside}
 use Rattle.dm_place.specs.Holding.{digit, number_of, word_at}
 use Rattle.dm_place.proofs.Exported.{digit-has, sum_of_digits, inside_test, cells_inside}
@@ -22,15 +23,10 @@ use Rattle.dm_layout.proofs.symbols.SlotRows.{corner_slot_is}
 
 -- A slot lies in its row, at its place.
 pub slot_row : (bytes r k : ℕ) → k < bytes → (bytes * r + k) / bytes ≡ r
-slot_row bytes r k l =
-    let e : bytes * r + k ≡ k + bytes * r = omega arith in
-    ap (λ (x : ℕ). x / bytes) e ∙ add-mul-div_left k r (omega (arith, l))
-    ∙ ap (λ (x : ℕ). x + r) (div-eq_of_lt l) ∙ (let z : 0 + r ≡ r = omega arith in z)
+slot_row bytes r k l = grind (arith, nat_tests, add-mul-div_left, div-eq_of_lt)
 
 pub slot_place : (bytes r k : ℕ) → k < bytes → (bytes * r + k) % bytes ≡ k
-slot_place bytes r k l =
-    let e : bytes * r + k ≡ k + bytes * r = omega arith in
-    ap (λ (x : ℕ). x % bytes) e ∙ add-mul-mod_self_left k bytes r ∙ mod-eq_of_lt l
+slot_place bytes r k l = grind (arith, nat_tests, add-mul-mod_self_left, mod-eq_of_lt)
 
 -- ---- which shapes there are
 
@@ -62,20 +58,11 @@ cell_by R C r c up left t u v =
 
 -- It lies in the row that begins anew.
 pub lowered_row : (R : ℕ) (x : Cell) → (lowered_cell R x).row ≡ round R x.row
-lowered_row R x = by_test (nat_le R x.row)
-  where
-    by_test : (t : Bool) → (elim t as (λ _. Cell) [ true ↦ At (x.row - R) x.column | false ↦ x ]).row ≡
-        elim t as (λ _. ℕ) [ true ↦ x.row - R | false ↦ x.row ]
-    by_test true = refl
-    by_test false = refl
+lowered_row R x = grind (arith, nat_tests)
 
 -- It keeps its column.
 pub lowered_column : (R : ℕ) (x : Cell) → (lowered_cell R x).column ≡ x.column
-lowered_column R x = by_test (nat_le R x.row)
-  where
-    by_test : (t : Bool) → (elim t as (λ _. Cell) [ true ↦ At (x.row - R) x.column | false ↦ x ]).column ≡ x.column
-    by_test true = refl
-    by_test false = refl
+lowered_column R x = grind (arith, nat_tests)
 
 -- What is seen there is seen in that row and column.
 lowered_at : (look : ℕ → ℕ → Bool) (R : ℕ) (x : Cell) →
@@ -98,46 +85,15 @@ module _ (R C : ℕ) (look : ℕ → ℕ → Bool) (rows : List ℕ) (some : 6 �
       (cell_by R C r c up left t u v).column < C →
       look_in rows (r + 2 - up) (c + 4 - left) ≡
       look (round R (cell_by R C r c up left t u v).row) (cell_by R C r c up left t u v).column
-  by_tests r c up left false u false lr lc anchor lu ll e f g ic =
-      let a = ltb-false r up e in
-      let b = ltb-false c left g in
-      let ir : r - up < R = omega (arith, lr) in
-      same_look (look_in rows) _ _ (r - up + 2) (c - left + 4) (omega arith) (omega arith)
-      ∙ wide.inside (r - up) (c - left) ir ic
-      ∙ ap (λ (i : ℕ). look i (c - left)) (sym (round_same R (r - up) ir))
-  by_tests r c up left false u true lr lc anchor lu ll e f g ic =
-      let a = ltb-false r up e in
-      let b = ltb-true c left g in
-      let low : 4 ≤ r = omega (arith, anchor, b, ll) in
-      let s : (C + 4) % 8 ≤ 6 = omega (arith, even_columns) in
-      wide.left (r + 2 - up) (c + 4 - left) (omega (arith, a)) (omega (arith, lr)) (omega (arith, b))
-      (omega (arith, low, lu, s))
-      ∙ same_look (λ x. look (round R x)) _ _ _ _ (omega (arith, a)) (omega (arith, b))
-  by_tests r c up left true false v lr lc anchor lu ll e f g ic =
-      let a = ltb-true r up e in
-      let b = ltb-false (c + 4) (left + (R + 4) % 8) f in
-      let ir : r + R - up < R = omega (arith, a) in
-      wide.above (r + 2 - up) (c + 4 - left) (omega (arith, a, lu)) (omega (arith, lc)) (omega (arith, b))
-      (omega (arith, ic, b))
-      ∙ same_look look _ _ (r + R - up) _ (omega (arith, a, lu)) (omega (arith, b))
-      ∙ ap (λ (i : ℕ). look i (c + 4 - (left + (R + 4) % 8))) (sym (round_same R (r + R - up) ir))
-  by_tests r c up left true true v lr lc anchor lu ll e f g ic =
-      let a = ltb-true r up e in
-      let b = ltb-true (c + 4) (left + (R + 4) % 8) f in
-      let s : (R + 4) % 8 ≤ 6 = omega (arith, even_rows) in
-      let d : (C + 4) % 8 ≤ 6 = omega (arith, even_columns) in
-      wide.above_left (r + 2 - up) (c + 4 - left) (omega (arith, a, lu)) (omega (arith, b, ll)) (omega (arith, s, ll))
-      ∙ same_look (λ x. look (round R x)) _ _ _ _ (omega (arith, a, lu, d, some)) (omega (arith, b, ll, s, least))
+  by_tests r c up left y u v lr lc anchor lu ll e f g ic =
+      grind (arith, nat_tests, ltb-false, same_look, rows, round_same, ltb-true, even_columns, even_rows, least)
 
   -- A cell of a standard shape in widened rows has the colour of the cell where it wraps.
   wide_at : (r c up left : ℕ) → r < R → c < C → (5 * r + c) % 8 ≡ 4 → up ≤ 2 → left ≤ 2 →
       (wrapped_cell R C r c up left).column < C →
       look_in rows (r + 2 - up) (c + 4 - left) ≡
       look (wrapped_cell R C r c up left).row (wrapped_cell R C r c up left).column
-  wide_at r c up left lr lc anchor lu ll ic =
-      by_tests r c up left (nat_lt r up) (nat_lt (c + 4) (left + (R + 4) % 8)) (nat_lt c left) lr lc anchor lu ll refl
-      refl refl (subst (λ (i : ℕ). i < C) (lowered_column R (wrapped_at_top_and_left R C r c up left)) ic)
-      ∙ sym (lowered_at look R (wrapped_at_top_and_left R C r c up left))
+  wide_at r c up left lr lc anchor lu ll ic = grind (arith, nat_tests, by_tests, lowered_column, lowered_at)
 
   -- ---- a codeword
 
@@ -203,8 +159,7 @@ module _ (R C : ℕ) (look : ℕ → ℕ → Bool) (rows : List ℕ) (some : 6 �
     -- The byte of an anchor stands in the row of that anchor.
     in_row : (r k : ℕ) → k < bytes → slot_byte bytes news (bytes * r + k) ≡ get_or news r 0 / 2 ^ (8 * k) % 256
     in_row r k lk =
-        ap (λ (i : ℕ). get_or news i 0 / 2 ^ (8 * ((bytes * r + k) % bytes)) % 256) (slot_row bytes r k lk)
-        ∙ ap (λ (i : ℕ). get_or news r 0 / 2 ^ (8 * i) % 256) (slot_place bytes r k lk)
+        rw (slot_row, slot_place)
 
     -- The lowest byte of the row behind all others is that of the slot of a corner.
     corner_row : slot_byte bytes news (bytes * most) ≡ get_or news most 0 % 256
@@ -250,6 +205,4 @@ module _ (R C : ℕ) (look : ℕ → ℕ → Bool) (rows : List ℕ) (some : 6 �
     slot_words [] fits = refl
     slot_words (s ∷ ss) fits =
         let both = and_parts (fits_test R C s) (list_all (fits_test R C) ss) fits in
-        ap (λ (w : ℕ). w ∷ map (λ x. reversed_bits (slot_byte bytes news x)) (map (slot_of bytes most) ss))
-        (shape_word s both.0)
-        ∙ ap (λ (ws : List ℕ). word_at look (cells_of R C s) ∷ ws) (slot_words ss both.1)
+        rw (shape_word s both.0, slot_words ss both.1)

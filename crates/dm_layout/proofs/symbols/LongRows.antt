@@ -1,4 +1,5 @@
 -- Rows of more than 128 columns, of which the last region lies across column 128.
+use Rattle.std.proofs.lemmas.Bool.Decides.{nat_tests}
 use Rattle.std.proofs.Common.{◌≡◌, ◌⊎◌, inl, inr, ℕ, ◌+◌, ◌-◌, ◌*◌, ◌/◌, ◌%◌, ◌^◌, ◌<◌, ◌≤◌, Bool, ◌||◌, sym, ◌∙◌, ap}
 use Rattle.std.proofs.Common.{subst, arith}
 use Rattle.std.specs.Int.RustNames.{bit_or}
@@ -43,22 +44,14 @@ across row end s w lr le some before few =
     let joined : bit_or (row / 2 ^ s) (end * 2 ^ k % 2 ^ 128) ≡ end * 2 ^ k + row / 2 ^ s =
     ap (bit_or (row / 2 ^ s)) fits ∙ or_shifted_r end k (row / 2 ^ s) first in
     let whole : whole_row row end / 2 ^ s ≡ end * 2 ^ k + row / 2 ^ s =
-    ap (λ (i : ℕ). (end * i + row) / 2 ^ s) parts
-    ∙ ap (λ (i : ℕ). (i + row) / 2 ^ s) (regroup end (2 ^ k) (2 ^ s))
-    ∙ div_more (end * 2 ^ k) (2 ^ s) row (pow_pos s) in
-    ap (λ (i : ℕ). bit_or (row / 2 ^ s) (end * 2 ^ k % 2 ^ 128) % i) (weight w (omega (arith, few)))
-    ∙ ap (λ (i : ℕ). i % 2 ^ w) (joined ∙ sym whole)
+    rw (parts, regroup end (2 ^ k) (2 ^ s), div_more (end * 2 ^ k) (2 ^ s) row (pow_pos s)) in
+    rw (weight w (omega (arith, few)), joined, whole)
   where
     regroup : (a b c : ℕ) → a * (b * c) ≡ a * b * c
     regroup a b c = omega arith
 
     product_below : (x i k : ℕ) → x < 2 ^ i → x * 2 ^ k < 2 ^ (i + k)
-    product_below x i k l =
-        let p = pow_pos k in
-        let m : (x + 1) * 2 ^ k ≤ 2 ^ i * 2 ^ k = mul-le-mul_right (2 ^ k) (omega (arith, l)) in
-        let e : (x + 1) * 2 ^ k ≡ x * 2 ^ k + 2 ^ k = omega arith in
-        let s : 2 ^ (i + k) ≡ 2 ^ i * 2 ^ k = pow-add 2 i k in
-        omega (arith, p, m, e, s)
+    product_below x i k l = grind (arith, nat_tests, pow_pos, mul-le-mul_right, pow-add)
 
 -- A part that is put behind a row is divided between its two numbers.
 pub divided : (row part s : ℕ) → s < 128 → row < 2 ^ s →
@@ -88,10 +81,7 @@ divided row part s before lr =
     together a b c = omega arith
 
     less : (l a b : ℕ) → l < a → 0 < b → l * b < a * b
-    less l a b h p =
-        let m : (l + 1) * b ≤ a * b = mul-le-mul_right b (omega (arith, h)) in
-        let e : (l + 1) * b ≡ l * b + b = omega arith in
-        omega (arith, m, e, p)
+    less l a b h p = grind (arith, nat_tests, mul-le-mul_right)
 
 -- What is left of the part for the second number is small.
 pub left_over : (part s n : ℕ) → part < 2 ^ 22 → 100 ≤ s → s ≤ 122 → part / 2 ^ (128 - s) < 2 ^ 16
@@ -105,8 +95,7 @@ left_over part s n l some most =
 pub end_below : (row end n : ℕ) → n ≤ 132 → whole_row row end < 2 ^ n → end < 16
 end_below row end n few l =
     let m : 2 ^ n ≤ 2 ^ 132 = pow_mono {j = 132} few in
-    lt_of_mul-lt-mul_right (2 ^ 128) (below row end (2 ^ 128) (2 ^ n) l (subst (λ (i : ℕ). 2 ^ n ≤ i) (pow-add 2 4 128)
-    m))
+    lt_of_mul-lt-mul_right (2 ^ 128) (below row end (2 ^ 128) (2 ^ n) l (rw (pow-add 2 4 128) at m))
   where
     below : (row end p q : ℕ) → end * p + row < q → q ≤ 16 * p → end * p < 16 * p
     below row end p q l m = omega (arith, l, m)

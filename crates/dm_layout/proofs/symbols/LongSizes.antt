@@ -4,7 +4,8 @@ use Rattle.std.proofs.Common.{nat_le, refl, ap, ◌∙◌, arith}
 use Rattle.std.specs.List.{list_all}
 use Rattle.std.proofs.lemmas.Bool.{and_parts, cases_lt, eqb-true, leb-true, lt-leb}
 use Rattle.dm_layout.specs.symbols.Sizes.{SizeEntry, size_table, IsSize, mapping_rows, mapping_columns}
-use Rattle.dm_layout.proofs.symbols.Sizes.{even_product, passed_at_size, second_of}
+use Rattle.dm_layout.proofs.symbols.Sizes.{even_product, second_of}
+use Rattle.dm_layout.proofs.symbols.TableEntries.{passed_at_size}
 use Rattle.dm_layout.proofs.symbols.TableEntries.{size_facts}
 
 -- Six regions lie side by side in such a symbol, each of 20 or 22 columns, so that the last lies across column 128.

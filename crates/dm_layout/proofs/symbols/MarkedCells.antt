@@ -1,4 +1,5 @@
 -- The cells that a codeword marks, also with its bits in the opposite order.
+use Rattle.std.proofs.lemmas.Bool.Decides.{nat_tests}
 use Rattle.std.proofs.Common.{◌≡◌, ℕ, suc, ◌+◌, ◌-◌, ◌/◌, ◌%◌, ◌^◌, ◌<◌, ◌≤◌, Bool, true}
 use Rattle.std.proofs.Common.{false, ◌&&◌, ◌||◌, nat_eq, List, [], ◌∷◌, ◌++◌, length, refl}
 use Rattle.std.proofs.Common.{sym, ◌∙◌, ap, arith}
@@ -39,9 +40,7 @@ marks_alike : (y w k : ℕ) (xs : List Cell) (r c : ℕ) →
     marks_low y k xs r c ≡ marks_in w k xs r c
 marks_alike y w k [] r c same h = refl
 marks_alike y w k (x ∷ rest) r c same h =
-    ap (λ (b : Bool). (nat_eq r x.row && nat_eq c x.column && b) || marks_low y (suc k) rest r c) (same k (omega arith))
-    ∙ ap (λ (b : Bool). (nat_eq r x.row && nat_eq c x.column && nat_eq (w / 2 ^ (8 - (k + 1)) % 2) 1) || b)
-    (marks_alike y w (suc k) rest r c same (omega arith))
+    rw (same k (omega arith), marks_alike y w (suc k) rest r c same (omega arith))
 
 -- A codeword with its bits in the opposite order marks the cells that the codeword marks.
 pub marks_reversed : (w : ℕ) (xs : List Cell) (r c : ℕ) → w < 256 → length xs ≤ 8 →
@@ -61,11 +60,7 @@ marks_turned y xs r c h = marks_alike y (reversed_bits (y % 256)) 0 xs r c turne
 
 -- A cell is marked by one of two bits exactly if it is marked by one or by the other.
 either_bit : (p a b x y : Bool) → (p && (a || b) || (x || y)) ≡ ((p && a || x) || (p && b || y))
-either_bit true true b x y = refl
-either_bit true false true true y = refl
-either_bit true false true false y = refl
-either_bit true false false x y = refl
-either_bit false a b x y = refl
+either_bit x a b y z = grind (arith, nat_tests)
 
 -- Two bytes together mark the cells that one of them marks.
 pub marks_or : (y z k : ℕ) (xs : List Cell) (r c : ℕ) →

@@ -1,12 +1,12 @@
 -- The mapping matrices of the sizes are those of `dm_place`.
-use Rattle.std.proofs.Common.{◌≡◌, Bool, true, false, ◌&&◌, nat_eq, Option, Some, None, refl, ◌∙◌, ap}
+use Rattle.std.proofs.Common.{◌≡◌, Bool, true, false, ◌&&◌, nat_eq, Option, Some, None, refl, ap}
 use Rattle.std.specs.Prelude.{Any}
 use Rattle.std.specs.List.{list_all, list_any}
 use Rattle.std.proofs.lemmas.Bool.{and_parts, eqb-true}
 use Rattle.std.proofs.lemmas.List.Elements.{All-weaker}
 use Rattle.std.proofs.lemmas.List.Folds.{Any-from_list_any}
 use Rattle.std.proofs.lemmas.List.Sums.{AllPass-from_list_all}
-use Rattle.dm_place.specs.Sides.{SidesRow, row_with_sides, sides_of, sides_table}
+use Rattle.dm_place.specs.Sides.{SidesRow, row_with_sides, sides_table}
 use Rattle.dm_layout.specs.symbols.Sizes.{SizeEntry, size_table, IsSize, mapping_rows, mapping_columns}
 use Rattle.dm_layout.specs.symbols.Sizes.{matrix_of, MatricesAgree}
 use Rattle.dm_layout.proofs.symbols.TableEntries.{passed_at_size}
@@ -20,9 +20,7 @@ told_matrix : (m n : SidesRow) → same_matrix m n ≡ true → m ≡ n
 told_matrix m n h =
     let both = and_parts (nat_eq m.rows n.rows && nat_eq m.columns n.columns) (nat_eq m.count n.count) h in
     let two = and_parts (nat_eq m.rows n.rows) (nat_eq m.columns n.columns) both.0 in
-    ap (λ k. sides_of k m.columns m.count) (eqb-true _ _ two.0)
-    ∙ ap (λ k. sides_of n.rows k m.count) (eqb-true _ _ two.1)
-    ∙ ap (λ k. sides_of n.rows n.columns k) (eqb-true _ _ both.1)
+    rw (eqb-true _ _ two.0, eqb-true _ _ two.1, eqb-true _ _ both.1)
 
 -- Whether this is the matrix that was found.
 is_found : Option SidesRow → SidesRow → Bool

@@ -1,4 +1,5 @@
 -- The modules of a symbol, by row and column.
+use Rattle.std.proofs.lemmas.Bool.Decides.{nat_tests}
 use Rattle.std.proofs.Common.{◌≡◌, ℕ, zero, suc, ◌+◌, ◌*◌, ◌/◌, ◌%◌, ◌<◌, Bool, false}
 use Rattle.std.proofs.Common.{List, [], ◌∷◌, map, length, get_or, refl, sym, ◌∙◌, ap}
 use Rattle.std.proofs.Common.{subst, arith}
@@ -8,7 +9,7 @@ use Rattle.std.proofs.lemmas.Nat.{div-mul-add, mod-mul-add, mul-add-lt}
 use Rattle.std.proofs.Math.Nat.{mul_comm}
 use Rattle.std.proofs.lemmas.List.{same_lists}
 use Rattle.std.proofs.lemmas.List.FromFn.{length-map-range_with_len, get_or-map-range_with_len, fill_by_all}
-use Rattle.std.proofs.lemmas.List.Elements.{All-get_or, All-map}
+use Rattle.std.proofs.lemmas.List.Elements.{All-map}
 use Rattle.dm_layout.specs.symbols.Sizes.{SizeEntry, IsSize}
 use Rattle.dm_layout.specs.symbols.Symbols.{SymbolView, IsSymbol, module_at, rows_by}
 
@@ -82,18 +83,7 @@ same_rows rows columns xs ys hx hy wx wy cells =
     outer (z ∷ zs) (suc r) d l = outer zs r d (omega arith)
 
     line : (r : ℕ) (d : List Bool) → r < length xs → get_or xs r d ≡ get_or ys r d
-    line r d lr =
-        let ly : r < length ys = omega (arith, hx, hy) in
-        let lx = All-get_or (λ (l : List Bool). length l ≡ columns) xs r [] lr wx in
-        let my = All-get_or (λ (l : List Bool). length l ≡ columns) ys r [] ly wy in
-        outer xs r d lr
-        ∙ same_lists (get_or xs r []) (get_or ys r []) (lx ∙ sym my)
-        (λ c e lc.
-        let rn : r < rows = omega (arith, hx) in
-        let cn : c < columns = omega (arith, lx) in
-        let ly2 : c < length (get_or ys r []) = omega (arith, my) in
-        default (get_or xs r []) c e lc ∙ cells r c rn cn ∙ sym (default (get_or ys r []) c e ly2))
-        ∙ sym (outer ys r d ly)
+    line r d lr = grind (arith, nat_tests, columns, outer, same_lists, rows, default, cells)
 
 -- The modules that have this size and these rows.
 abbrev pub modules_from : SizeEntry → List (List Bool) → SymbolView

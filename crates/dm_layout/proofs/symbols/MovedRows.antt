@@ -1,4 +1,5 @@
 -- Rows laid over one another, which folds widened rows step by step.
+use Rattle.std.proofs.lemmas.Bool.Decides.{nat_tests}
 use Rattle.std.proofs.Common.{◌≡◌, ◌≢◌, ◌⊎◌, inl, inr, ℕ, ◌+◌, ◌-◌, ◌*◌, ◌/◌, ◌%◌, ◌^◌, ◌<◌, ◌≤◌, Bool, true, false}
 use Rattle.std.proofs.Common.{◌&&◌, ◌||◌, nat_eq, nat_le, nat_lt, List, length, get_or, set, refl, sym, ◌∙◌, ap, arith}
 use Rattle.std.proofs.Common.{get_or-set_other, eq-eqb, subst}
@@ -20,11 +21,7 @@ use Rattle.dm_layout.proofs.symbols.WidenedRows.{put_over, bit_up, none_up, low_
 
 -- Two strict bounds that follow from one another have the same test.
 lt_same : (a b x y : ℕ) → (a < b → x < y) → (b ≤ a → y ≤ x) → nat_lt a b ≡ nat_lt x y
-lt_same a b x y f g = by_place (cases_lt a b)
-  where
-    by_place : (a < b) ⊎ (b ≤ a) → nat_lt a b ≡ nat_lt x y
-    by_place (inl h) = lt-ltb a b h ∙ sym (lt-ltb x y (f h))
-    by_place (inr h) = le-ltb a b h ∙ sym (le-ltb x y (g h))
+lt_same a b x y f g = grind (arith, nat_tests, cases_lt, lt-ltb, le-ltb)
 
 -- ---- the rows above the matrix
 
@@ -40,15 +37,11 @@ moved_right width x s c small l = low_bit (x * 2 ^ (4 - s)) width c l ∙ by_col
         (sym (lt-leb 4 (c + s) h))
     by_column (inr h) =
         let e : c ≡ 4 - s + (c + s - 4) = omega (arith, h, small) in
-        ap (is_dark_bit (x * 2 ^ (4 - s))) e ∙ bit_up x (4 - s) (c + s - 4)
-        ∙ ap (λ (t : Bool). t && is_dark_bit x (c + s - 4)) (sym (le-leb 4 (c + s) h))
+        cc (e, bit_up x (4 - s) (c + s - 4), le-leb 4 (c + s) h)
 
 -- So has one that is moved to the left by s - 4 columns.
 pub moved_left : (x s c : ℕ) → 4 < s → is_dark_bit (x / 2 ^ (s - 4)) c ≡ (nat_le 4 (c + s) && is_dark_bit x (c + s - 4))
-moved_left x s c large =
-    let e : s - 4 + c ≡ c + s - 4 = omega (arith, large) in
-    ap (λ (i : ℕ). nat_eq i 1) (moved_bit x (s - 4) c) ∙ ap (is_dark_bit x) e
-    ∙ ap (λ (t : Bool). t && is_dark_bit x (c + s - 4)) (sym (le-leb 4 (c + s) (omega (arith, large))))
+moved_left x s c large = grind (arith, nat_tests, moved_bit, le-leb)
 
 -- What holds of one row over which another is laid.
 pub record IsOver (olds news : List ℕ) (width row from shift : ℕ) : Type 0 where
@@ -72,9 +65,7 @@ pub over_row : (olds : List ℕ) (width row from shift x : ℕ) → row < length
 over_row olds width row from shift x inside bits = record {
   others = λ r c ne. ap (λ (i : ℕ). is_dark_bit i c) (get_or-set_other olds row r _ 0 ne);
   cells = λ c l.
-      put_over olds row x row c inside
-      ∙ ap (λ (t : Bool). look_in olds row c || (t && is_dark_bit x c)) (eq-eqb row row refl)
-      ∙ ap (λ (t : Bool). look_in olds row c || t) (bits c l);
+      rw (put_over olds row x row c inside, eq-eqb row row refl, bits c l);
 }
 
 -- The two rows above the matrix, moved, are laid over its last two rows.
@@ -92,13 +83,11 @@ lowered_rows width olds mids news n r c least l first second = by_row (cases_lt 
     outside : (r ≡ n → ⊥) → (r ≡ n + 1 → ⊥) → (nat_le n r && nat_lt r (n + 2)) ≡ false →
         look_in news r c ≡ lowered n (look_in olds) r c
     outside ne nf g =
-        second.others r c nf ∙ first.others r c ne
-        ∙ sym (ap (λ (t : Bool). look_in olds r c || (t && back (r - n))) g ∙ or-false (look_in olds r c))
+        rw (second.others, first.others, g, or-false)
 
     tests : n ≤ r → r < n + 2 → (look_in olds r c || back (r - n)) ≡ lowered n (look_in olds) r c
     tests h k =
-        ap (λ (t : Bool). look_in olds r c || ((t && true) && back (r - n))) (sym (le-leb n r h))
-        ∙ ap (λ (t : Bool). look_in olds r c || ((nat_le n r && t) && back (r - n))) (sym (lt-ltb r (n + 2) k))
+        rw (le-leb n r h, lt-ltb r (n + 2) k)
 
     by_row : (r < n) ⊎ (n ≤ r) → (r < n + 2) ⊎ (n + 2 ≤ r) → look_in news r c ≡ lowered n (look_in olds) r c
     by_row (inl h) k =
@@ -141,11 +130,7 @@ lowest_up width x n c most =
     small = omega arith
 
     fits : x % 16 * 2 ^ n < 2 ^ width
-    fits =
-        let a = mul-add-lt (x % 16) (2 ^ n) 0 (2 ^ 4) small (pow_pos n) in
-        let b : 2 ^ (n + 4) ≡ 2 ^ n * 2 ^ 4 = pow-add 2 n 4 in
-        let d : 2 ^ (n + 4) < 2 ^ width = pow_below (n + 4) width (omega (arith, most)) in
-        omega (arith, a, b, d)
+    fits = grind (arith, nat_tests, mul-add-lt, small, pow_pos, pow-add, width, pow_below, most)
 
     by_column : (c < n) ⊎ (n ≤ c) → (c < n + 4) ⊎ (n + 4 ≤ c) →
         is_dark_bit (x % 16 * 2 ^ n) c ≡ ((nat_le n c && nat_lt c (n + 4)) && is_dark_bit x (c - n))
@@ -172,24 +157,7 @@ moved_down rows n shift until r c =
 
 -- Before row 4 no columns are moved.
 pub moved_none : (rows : List ℕ) (n shift r c : ℕ) → look_in rows r c ≡ moved_down rows n shift 4 r c
-moved_none rows n shift r c =
-    sym (ap (λ (t : Bool). look_in rows r c || ((nat_le n c && nat_lt c (n + 4))
-    && (t && look_in rows (r + shift - 4) (c - n)))) (never (cases_lt (r + shift) 8))
-    ∙ nothing (look_in rows r c) (nat_le n c && nat_lt c (n + 4)))
-  where
-    both : (a b : Bool) → b ≡ false → (a && b) ≡ false
-    both true b e = e
-    both false b e = refl
-
-    never : (r + shift < 8) ⊎ (8 ≤ r + shift) → (nat_le 8 (r + shift) && nat_lt (r + shift) (4 + 4)) ≡ false
-    never (inl h) = ap (λ (t : Bool). t && nat_lt (r + shift) (4 + 4)) (lt-leb 8 (r + shift) h)
-    never (inr h) =
-        both (nat_le 8 (r + shift)) (nat_lt (r + shift) (4 + 4)) (le-ltb (r + shift) (4 + 4) (omega (arith, h)))
-
-    nothing : (a t : Bool) → (a || (t && false)) ≡ a
-    nothing true t = refl
-    nothing false true = refl
-    nothing false false = refl
+moved_none rows n shift r c = grind (arith, nat_tests, cases_lt, lt-leb, le-ltb, nat_tests)
 
 -- When the columns of one more row are moved, those of the rows above the next are moved.
 pub move_more : (width : ℕ) (olds rows : List ℕ) (n shift row : ℕ) → 6 ≤ n → n + 4 < width → shift ≤ 7 → 4 ≤ row →
@@ -198,11 +166,7 @@ pub move_more : (width : ℕ) (olds rows : List ℕ) (n shift row : ℕ) → 6 �
     (bit_or (get_or rows (row + 4 - shift) 0) (get_or rows row 0 % 16 * 2 ^ n % 2 ^ width))) r c ≡
     moved_down olds n shift (row + 1) r c
 move_more width olds rows n shift row least most small from inside so_far r c =
-    put_over rows q (get_or rows row 0 % 16 * 2 ^ n % 2 ^ width) r c inside
-    ∙ ap (λ (t : Bool). look_in rows r c || (nat_eq r q && t)) (lowest_up width (get_or rows row 0) n c most
-    ∙ near (nat_le n c && nat_lt c (n + 4)) refl)
-    ∙ ap (λ (t : Bool). t || (nat_eq r q && (here && look_in olds row (c - n)))) (so_far r c)
-    ∙ by_row (nat_eq r q) refl
+    rw (put_over, lowest_up, near, so_far, by_row)
   where
     q : ℕ
     q = row + 4 - shift
@@ -217,19 +181,13 @@ move_more width olds rows n shift row least most small from inside so_far r c =
     near true e =
         let both = and_parts (nat_le n c) (nat_lt c (n + 4)) e in
         let k = ltb-true c (n + 4) both.1 in
-        so_far row (c - n)
-        ∙ ap (λ (t : Bool). look_in olds row (c - n)
-        || ((t && nat_lt (c - n) (n + 4)) && ((nat_le 8 (row + shift) && nat_lt (row + shift) (row + 4))
-        && look_in olds (row + shift - 4) (c - n - n)))) (lt-leb n (c - n) (omega (arith, k, least)))
-        ∙ or-false (look_in olds row (c - n))
+        rw (so_far row (c - n), lt-leb n (c - n) (omega (arith, k, least)), or-false (look_in olds row (c - n)))
 
     source : ℕ → Bool
     source until = nat_le 8 (r + shift) && nat_lt (r + shift) (until + 4)
 
     put : (a t p : Bool) → ((a || (t && (false && p))) || (true && (t && p))) ≡ (a || (t && (true && p)))
-    put true t p = refl
-    put false true p = refl
-    put false false p = refl
+    put x t p = grind (arith, nat_tests)
 
     by_row : (t : Bool) → nat_eq r q ≡ t → (moved_down olds n shift row r c
         || (t && (here && look_in olds row (c - n)))) ≡ moved_down olds n shift (row + 1) r c
@@ -237,11 +195,9 @@ move_more width olds rows n shift row least most small from inside so_far r c =
         let er = eqb-true r q e in
         let sum : r + shift ≡ row + 4 = omega (arith, er, small, from) in
         let no : source row ≡ false =
-        ap (λ (t : Bool). t && nat_lt (r + shift) (row + 4)) (le-leb 8 (r + shift) (omega (arith, sum, from)))
-        ∙ le-ltb (r + shift) (row + 4) (omega (arith, sum)) in
+        rw (le-leb 8 (r + shift) (omega (arith, sum, from)), le-ltb (r + shift) (row + 4) (omega (arith, sum))) in
         let yes : source (row + 1) ≡ true =
-        ap (λ (t : Bool). t && nat_lt (r + shift) (row + 1 + 4)) (le-leb 8 (r + shift) (omega (arith, sum, from)))
-        ∙ lt-ltb (r + shift) (row + 1 + 4) (omega (arith, sum)) in
+        rw (le-leb 8 (r + shift) (omega (arith, sum, from)), lt-ltb (r + shift) (row + 1 + 4) (omega (arith, sum))) in
         let there : row ≡ r + shift - 4 = omega (arith, sum) in
         ap (λ (t : Bool). (look_in olds r c || (here && (t && look_in olds (r + shift - 4) (c - n))))
         || (true && (here && look_in olds row (c - n)))) no
@@ -268,17 +224,10 @@ raise_more olds rows R row some few inside so_far =
     over_more olds rows (λ r. look_in olds (r + R)) row (get_or rows (row + 2 + R) 0) inside there so_far
   where
     nothing : (a b t : Bool) → (a || ((b && false) && t)) ≡ a
-    nothing true b t = refl
-    nothing false true t = refl
-    nothing false false t = refl
+    nothing x b t = grind (arith, nat_tests)
 
     there : (c : ℕ) → look_in rows (row + 2 + R) c ≡ look_in olds (row + 2 + R) c
-    there c =
-        so_far (row + 2 + R) c
-        ∙ ap (λ (b : Bool). look_in olds (row + 2 + R) c
-        || ((nat_le 2 (row + 2 + R) && b) && look_in olds (row + 2 + R + R) c))
-        (le-ltb (row + 2 + R) (row + 2) (omega arith))
-        ∙ nothing (look_in olds (row + 2 + R) c) (nat_le 2 (row + 2 + R)) (look_in olds (row + 2 + R + R) c)
+    there c = grind (arith, nat_tests, so_far, row, le-ltb, nothing)
 
 -- ---- all together
 
@@ -297,9 +246,4 @@ is_folded width R C olds lows mids news fits low moved raised r c lc =
   where
     in_place : (i j : ℕ) → j < width → look_in mids i j ≡ moved_in R C (look_in olds) i j
     in_place i j l =
-        moved i j
-        ∙ ap (λ (b : Bool). b || ((nat_le C j && nat_lt j (C + 4)) && ((nat_le 8 (i + (C + 4) % 8)
-        && nat_lt (i + (C + 4) % 8) (R + 2 + 4)) && look_in lows (i + (C + 4) % 8 - 4) (j - C)))) (low i j l)
-        ∙ ap (λ (b : Bool). lowered R (look_in olds) i j || ((nat_le C j && nat_lt j (C + 4))
-        && ((nat_le 8 (i + (C + 4) % 8) && nat_lt (i + (C + 4) % 8) (R + 2 + 4)) && b)))
-        (low (i + (C + 4) % 8 - 4) (j - C) (omega (arith, l)))
+        rw (moved i j, low i j l, low (i + (C + 4) % 8 - 4) (j - C) (omega (arith, l)))

@@ -1,5 +1,6 @@
 -- A symbol has no border fault exactly where its border modules have their colours.
-use Rattle.std.proofs.Common.{◌≡◌, ℕ, zero, suc, ◌+◌, ◌<◌, Bool, true, false, cond, not, ◌&&◌, nat_eq, refl, sym, ◌∙◌}
+use Rattle.std.proofs.lemmas.Bool.Decides.{nat_tests}
+use Rattle.std.proofs.Common.{◌≡◌, ℕ, zero, suc, ◌+◌, ◌<◌, Bool, true, cond, not, ◌&&◌, nat_eq, refl, sym, ◌∙◌}
 use Rattle.std.proofs.Common.{arith, subst, eq-eqb, add-zero, zero-add}
 use Rattle.std.specs.Prelude.{sum_by, count_by}
 use Rattle.std.specs.Bool.{beq}
@@ -34,15 +35,13 @@ pub summands_zero : (f : ℕ → ℕ) (len x : ℕ) → sum_by f (range_with_len
 summands_zero f len x h l =
     let t : list_all (λ (i : ℕ). nat_eq (f i) 0) (range_with_len 0 len) ≡ true =
     sym (sum_by-zero f (range_with_len 0 len)) ∙ eq-eqb (sum_by f (range_with_len 0 len)) 0 h in
-    eqb-true _ _ (subst (λ (j : ℕ). nat_eq (f j) 0 ≡ true) (zero-add x)
-    (all_at (λ (i : ℕ). nat_eq (f i) 0) 0 len x t l))
+    eqb-true _ _ (rw (zero-add x) at (all_at (λ (i : ℕ). nat_eq (f i) 0) 0 len x t l))
 
 -- Where each summand over a range is 0, so is the sum.
 sum_from : (f : ℕ → ℕ) (len : ℕ) → ((x : ℕ) → x < len → f x ≡ 0) → sum_by f (range_with_len 0 len) ≡ 0
 sum_from f len h =
     let t : list_all (λ (i : ℕ). nat_eq (f i) 0) (range_with_len 0 len) ≡ true =
-    all_from (λ (i : ℕ). nat_eq (f i) 0) 0 len (λ x l. subst (λ (j : ℕ). nat_eq (f j) 0 ≡ true) (sym (zero-add x))
-    (eq-eqb (f x) 0 (h x l))) in
+    all_from (λ (i : ℕ). nat_eq (f i) 0) 0 len (λ x l. rw (← zero-add x) at (eq-eqb (f x) 0 (h x l))) in
     eqb-true _ _ (sum_by-zero f (range_with_len 0 len) ∙ t)
 
 -- ---- one module
@@ -53,19 +52,11 @@ fault_of b x y = cond (b && not (beq x y)) 1 0
 
 -- A border module that counts 0 has the right colour.
 fault_none : (b x y : Bool) → fault_of b x y ≡ 0 → b ≡ true → x ≡ y
-fault_none true true true h e = refl
-fault_none true true false h e = absurd (omega arith)
-fault_none true false true h e = absurd (omega arith)
-fault_none true false false h e = refl
-fault_none false x y h e = cc
+fault_none x y z h e = grind (arith, nat_tests)
 
 -- A module counts 0 if it has the right colour or is no border module.
 none_fault : (b x y : Bool) → (b ≡ true → x ≡ y) → fault_of b x y ≡ 0
-none_fault true true true h = refl
-none_fault true true false h = let e : true ≡ false = h refl in cc
-none_fault true false true h = let e : false ≡ true = h refl in cc
-none_fault true false false h = refl
-none_fault false x y h = refl
+none_fault x y z h = grind (arith, nat_tests)
 
 -- ---- the whole symbol
 

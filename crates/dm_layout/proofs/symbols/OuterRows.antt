@@ -1,4 +1,5 @@
 -- Rows of the mapping matrix in the rows of the symbol.
+use Rattle.std.proofs.lemmas.Bool.Decides.{nat_tests}
 use Rattle.std.proofs.Common.{◌≡◌, ◌⊎◌, inl, inr, ℕ, ◌+◌, ◌-◌, ◌*◌, ◌/◌, ◌%◌, ◌^◌, ◌<◌, ◌≤◌, false, nat_eq}
 use Rattle.std.proofs.Common.{sym, ◌∙◌, ap, arith, subst}
 use lib.Bits.{bit_and}
@@ -23,10 +24,7 @@ piece_of inner d a = inner / 2 ^ (a * d) % (1 * 2 ^ d % 2 ^ 128)
 
 -- The part of a row in a data region has no more bits than the region has columns.
 piece_small : (inner d a : ℕ) → d < 128 → piece_of inner d a < 2 ^ d
-piece_small inner d a l = by_mod (inner / 2 ^ (a * d)) (1 * 2 ^ d % 2 ^ 128) (2 ^ d) (weight d l) (pow_pos d)
-  where
-    by_mod : (x m n : ℕ) → m ≡ n → 0 < n → x % m < n
-    by_mod x m n e p = omega arith
+piece_small inner d a l = grind (arith, nat_tests, weight, pow_pos)
 
 -- The outer row ends with the first regions, has their cells between the
 -- borders, and none of its border cells is dark.
@@ -177,10 +175,7 @@ module _ (inner d a n outer prefix : ℕ) (least : 6 ≤ d) (few : n * (d + 2) �
   small_d = let w = wide in let t : (a + 1) * d ≡ a * d + d = omega arith in omega (arith, w, t)
 
   region_ends : a * (d + 2) + 1 + d < 127
-  region_ends =
-      let v : (a + 2) * (d + 2) ≤ n * (d + 2) = mul-le-mul_right (d + 2) (omega (arith, l)) in
-      let u : (a + 2) * (d + 2) ≡ a * (d + 2) + d + 2 + (d + 2) = omega arith in
-      omega (arith, v, u, few, least)
+  region_ends = grind (arith, nat_tests, mul-le-mul_right, least)
 
   low_small : low < 2 ^ (q + d)
   low_small =
@@ -191,27 +186,23 @@ module _ (inner d a n outer prefix : ℕ) (least : 6 ≤ d) (few : n * (d + 2) �
 
   form : outer ≡ y * 2 ^ (q + d) + low
   form =
-      in_parts x y (x % 2 ^ d) (2 ^ d) (2 ^ q) outer old.out (sym (div-add-mod' x (2 ^ d))) old.sum
-      ∙ ap (λ (i : ℕ). y * i + low) (sym (pow-add 2 q d))
+      rw (in_parts x y (x % 2 ^ d) (2 ^ d) (2 ^ q) outer old.out (sym (div-add-mod' x (2 ^ d))) old.sum, pow-add 2 q d)
 
   left_is : bit_and outer prefix ≡ low
   left_is =
-      ap (bit_and outer) is ∙ and_mask outer (q + d) ∙ ap (λ (i : ℕ). i % 2 ^ (q + d)) form
-      ∙ mod-mul-add y (2 ^ (q + d)) low low_small
+      rw (is, and_mask outer (q + d), form, mod-mul-add y (2 ^ (q + d)) low low_small)
 
   y_is : y ≡ inner / 2 ^ ((a + 1) * d)
   y_is =
       let t : a * d + d ≡ (a + 1) * d = omega arith in
-      div-div-eq-div-mul inner (2 ^ (a * d)) (2 ^ d) ∙ ap (λ (i : ℕ). inner / i) (sym (pow-add 2 (a * d) d))
-      ∙ ap (λ (i : ℕ). inner / 2 ^ i) t
+      cc (div-div-eq-div-mul inner (2 ^ (a * d)) (2 ^ d), pow-add 2 (a * d) d, t)
 
   -- The rest of the row is moved by two columns more.
   moved : (outer - bit_and outer prefix) * 4 ≡ y * 2 ^ ((a + 1) * (d + 2) + 1)
   moved =
       let t : q + d + 2 ≡ (a + 1) * (d + 2) + 1 = omega arith in
       let r : outer - low ≡ y * 2 ^ (q + d) = rest outer low (y * 2 ^ (q + d)) form in
-      ap (λ (i : ℕ). (outer - i) * 4) left_is ∙ ap (λ (i : ℕ). i * 4) r ∙ four y (2 ^ (q + d))
-      ∙ ap (λ (i : ℕ). y * i) (sym (pow-add 2 (q + d) 2)) ∙ ap (λ (i : ℕ). y * 2 ^ i) t
+      cc (left_is, r, four y (2 ^ (q + d)), pow-add 2 (q + d) 2, t)
     where
       rest : (o k t : ℕ) → o ≡ t + k → o - k ≡ t
       rest o k t e = omega (arith, e)
@@ -230,8 +221,7 @@ module _ (inner d a n outer prefix : ℕ) (least : 6 ≤ d) (few : n * (d + 2) �
       let b : 2 ^ (2 * a + 3 + n * d) ≤ 2 ^ 127 = pow_mono {j = 127} (omega (arith, t, l, few)) in
       let g : 2 ^ (2 * a + 3) * 2 ^ (n * d) ≡ 2 ^ (2 * a + 3 + n * d) = sym (pow-add 2 (2 * a + 3) (n * d)) in
       let h : y * 2 ^ ((a + 1) * (d + 2) + 1) ≡ y * 2 ^ ((a + 1) * d) * 2 ^ (2 * a + 3) =
-      ap (λ (i : ℕ). y * 2 ^ i) (sym e) ∙ ap (λ (i : ℕ). y * i) (pow-add 2 ((a + 1) * d) (2 * a + 3))
-      ∙ three y (2 ^ ((a + 1) * d)) (2 ^ (2 * a + 3)) in
+      cc (e, pow-add 2 ((a + 1) * d) (2 * a + 3), three y (2 ^ ((a + 1) * d)) (2 ^ (2 * a + 3))) in
       below (y * 2 ^ ((a + 1) * (d + 2) + 1)) (y * 2 ^ ((a + 1) * d) * 2 ^ (2 * a + 3)) (2 ^ (2 * a + 3) * 2 ^ (n * d))
       (2 ^ (2 * a + 3 + n * d)) (2 ^ 127) h m g b
     where
@@ -291,8 +281,7 @@ opened_all inner d a n outer least en most narrow old =
     let e : outer ≡ piece_of inner d a * 2 ^ (a * (d + 2) + 1) + old.out =
     old.sum ∙ ap (λ (i : ℕ). i * 2 ^ (a * (d + 2) + 1) + old.out) px in
     let l : a < n = omega (arith, en) in
-    subst (λ (i : ℕ). IsOut inner d i outer) (sym en)
-    (subst (λ (i : ℕ). IsOut inner d (a + 1) i) (sym e) (out_more inner old.out d a least small old.is))
+    rw (← e, ← en) at (out_more inner old.out d a least small old.is)
   where
     more : (a + 1) * d ≡ a * d + d
     more = omega arith

@@ -1,7 +1,8 @@
 -- Rows of the mapping matrix in which the bits of codewords are put at their places.
+use Rattle.std.proofs.lemmas.Bool.Decides.{nat_tests}
 use Rattle.std.proofs.Common.{◌≡◌, ◌⊎◌, inl, inr, ℕ, zero, suc, ◌+◌, ◌-◌, ◌*◌, ◌/◌, ◌%◌, ◌^◌, ◌<◌, ◌≤◌, Bool, true}
 use Rattle.std.proofs.Common.{false, ◌&&◌, ◌||◌, nat_eq, List, [], ◌∷◌, ◌++◌, length, get_or, set, drop}
-use Rattle.std.proofs.Common.{refl, sym, ◌∙◌, ap, arith, subst, eq-eqb}
+use Rattle.std.proofs.Common.{refl, sym, ◌∙◌, ap, arith, eq-eqb}
 use Rattle.std.specs.Int.RustNames.{bit_or}
 use Rattle.std.proofs.Math.Bool.{or_assoc, false-or, and_assoc, and-true, and-false}
 use Rattle.std.proofs.Math.Nat.{mod-eq_of_lt}
@@ -51,19 +52,13 @@ pub bit_put : (width : ℕ) (rows : List ℕ) (q col d r c : ℕ) → q < length
     look_in (set rows q (bit_or (get_or rows q 0) (d * 2 ^ col % 2 ^ width))) r c ≡
     (look_in rows r c || (nat_eq r q && nat_eq c col && nat_eq d 1))
 bit_put width rows q col d r c l lc ld =
-    put_over rows q (d * 2 ^ col % 2 ^ width) r c l
-    ∙ ap (λ (b : Bool). look_in rows r c || (nat_eq r q && b)) (bit_moved width col d c lc ld)
-    ∙ ap (λ (b : Bool). look_in rows r c || b) (sym (and_assoc (nat_eq r q) (nat_eq c col) (nat_eq d 1)))
+    rw (put_over, bit_moved, and_assoc)
 
 -- ---- one codeword, cell by cell
 
 -- Two numbers are equal exactly if they are with the same number added to both.
 same_sum : (a b k : ℕ) → nat_eq (a + k) (b + k) ≡ nat_eq a b
-same_sum a b k = by_test (nat_eq a b) refl
-  where
-    by_test : (t : Bool) → nat_eq a b ≡ t → nat_eq (a + k) (b + k) ≡ t
-    by_test true e = let f = eqb-true a b e in eq-eqb (a + k) (b + k) (omega (arith, f))
-    by_test false e = let f = eqb-false a b e in ne_eqb (a + k) (b + k) (λ g. omega (arith, f, g))
+same_sum a b k = grind (arith, nat_tests, eqb-true, eq-eqb, eqb-false, ne_eqb)
 
 -- When the next bit of a codeword is put at its cell in widened rows,
 -- these and the bits still to come mark what they did.
@@ -83,19 +78,17 @@ cell_put width rows olds word i d cells x rest e f lr lc li ed so_far r c =
     let ld : d < 2 = omega (arith, ed) in
     let h : Bool = nat_eq r x.row && nat_eq c x.column && nat_eq d 1 in
     let old : Bool = look_in rows (r + 2) (c + 4) in
-    ap (λ (b : Bool). b || marks_in word (i + 1) (drop (i + 1) cells) r c)
-    (bit_put width rows (x.row + 2) (x.column + 4) d (r + 2) (c + 4) lr lc ld
-    ∙ ap (λ (b : Bool). old || (b && nat_eq (c + 4) (x.column + 4) && nat_eq d 1)) (same_sum r x.row 2)
-    ∙ ap (λ (b : Bool). old || (nat_eq r x.row && b && nat_eq d 1)) (same_sum c x.column 4))
-    ∙ or_assoc old h (marks_in word (i + 1) (drop (i + 1) cells) r c)
-    ∙ ap (λ (m : ℕ). old || ((nat_eq r x.row && nat_eq c x.column && nat_eq m 1)
-    || marks_in word (i + 1) (drop (i + 1) cells) r c)) dd
-    ∙ ap (λ (m : ℕ). old || ((nat_eq r x.row && nat_eq c x.column && nat_eq (word / 2 ^ (8 - (i + 1)) % 2) 1)
-    || marks_in word m (drop (i + 1) cells) r c)) (sym j)
-    ∙ ap (λ (xs : List Cell). old || ((nat_eq r x.row && nat_eq c x.column && nat_eq (word / 2 ^ (8 - (i + 1)) % 2) 1)
-    || marks_in word (suc i) xs r c)) (sym f)
-    ∙ ap (λ (xs : List Cell). old || marks_in word i xs r c) (sym e)
-    ∙ so_far r c
+    cc (
+      bit_put width rows (x.row + 2) (x.column + 4) d (r + 2) (c + 4) lr lc ld,
+      same_sum r x.row 2,
+      same_sum c x.column 4,
+      or_assoc old h (marks_in word (i + 1) (drop (i + 1) cells) r c),
+      dd,
+      j,
+      f,
+      e,
+      so_far r c,
+    )
 
 -- ---- all codewords
 
@@ -117,9 +110,7 @@ marks_word words w k (x ∷ xs) rest r c =
 
 -- Three tests don't all pass if the third fails whenever the other two pass.
 head_false : (a b d : Bool) → (a ≡ true → b ≡ true → d ≡ false) → (a && b && d) ≡ false
-head_false false b d h = refl
-head_false true false d h = refl
-head_false true true d h = h refl refl
+head_false x b d h = grind (arith, nat_tests)
 
 -- Where each of two tests fails, neither passes.
 both_false : (a b : Bool) → a ≡ false → b ≡ false → (a || b) ≡ false
@@ -129,8 +120,7 @@ both_false a b e f = ap (λ (x : Bool). x || b) e ∙ false-or b ∙ f
 same_place : (R C r c : ℕ) (p : Place) → nat_eq r p.row ≡ true → nat_eq c p.column ≡ true →
     IsPlace R C p.word p.bit (At p.row p.column) → IsPlace R C p.word p.bit (At r c)
 same_place R C r c p e f h =
-    subst (λ (j : ℕ). IsPlace R C p.word p.bit (At r j)) (sym (eqb-true c p.column f))
-    (subst (λ (i : ℕ). IsPlace R C p.word p.bit (At i p.column)) (sym (eqb-true r p.row e)) h)
+    rw (← eqb-true r p.row e, ← eqb-true c p.column f) at h
 
 -- A cell whose bit is 0 isn't marked.
 marks_none : (R C : ℕ) (words : List ℕ) (r c w b : ℕ) (ps : List Place) → EachCellOnce R C → IsPlace R C w b (At r c) →
@@ -160,10 +150,7 @@ or_true false = refl
 
 -- Where three tests pass, they pass together, or something else does.
 three_true : (a b d x : Bool) → a ≡ true → b ≡ true → d ≡ true → ((a && b && d) || x) ≡ true
-three_true true true true x e f g = refl
-three_true true true false x e f g = cc
-three_true true false d x e f g = cc
-three_true false b d x e f g = cc
+three_true x b d y e f g = grind (arith, nat_tests)
 
 -- A cell is marked by its place if its bit there is 1.
 marks_some : (words : List ℕ) (r c w b : ℕ) (ps : List Place) (i : ℕ) (d : Place) → i < length ps →

@@ -1,6 +1,7 @@
 -- Numbers of 256 bits as two of 128.
+use Rattle.std.proofs.lemmas.Bool.Decides.{nat_tests}
 use Rattle.std.proofs.Common.{◌≡◌, ◌⊎◌, inl, inr, ℕ, suc, ◌+◌, ◌-◌, ◌*◌, ◌/◌, ◌%◌, ◌^◌, ◌<◌, ◌≤◌, Bool, false, ◌&&◌}
-use Rattle.std.proofs.Common.{◌||◌, nat_eq, nat_lt, List, get_or, length, set, sym, ◌∙◌, ap, arith, subst}
+use Rattle.std.proofs.Common.{◌||◌, nat_eq, nat_lt, List, get_or, length, set, sym, ◌∙◌, ap, arith}
 use lib.Bits.{bit_and}
 use Rattle.std.specs.Int.Bits.{and_lt}
 use Rattle.std.specs.Int.RustNames.{bit_or}
@@ -16,7 +17,7 @@ use Rattle.dm_layout.specs.declared.symbols.wide_rows.TheConstants.{LOW_TWO_BITS
 use Rattle.dm_layout.specs.declared.symbols.pair.Pair.{Pair}
 use Rattle.dm_layout.specs.symbols.inner.Pairs.{number_of, numbers_of, pair}
 use Rattle.dm_layout.proofs.symbols.Rows.{moved_bit, or_dark, same_row_numbers}
-use Rattle.dm_layout.proofs.symbols.SlotRows.{and_dark, masks_at}
+use Rattle.dm_layout.proofs.symbols.SlotRows.{AreMasks, and_dark, masks_at}
 use Rattle.dm_layout.proofs.symbols.WidenedRows.{bit_up, low_bit, none_up}
 
 -- The lowest 128 bits are those of the first number.
@@ -49,10 +50,7 @@ by_halves l h x ll lh lx first second =
     same_row_numbers 256 _ _ (pair_small l h ll lh) lx (λ c lc. bits c lc (cases_lt c 128))
   where
     bits : (c : ℕ) → c < 256 → (c < 128) ⊎ (128 ≤ c) → is_dark_bit (pair l h) c ≡ is_dark_bit x c
-    bits c lc (inl k) = low_at l h c k ∙ first c k
-    bits c lc (inr k) =
-        let e : c - 128 + 128 ≡ c = omega (arith, k) in
-        high_at l h c ll k ∙ second (c - 128) (omega (arith, lc, k)) ∙ ap (is_dark_bit x) e
+    bits c lc y = grind (arith, nat_tests, low_at, first, high_at, second)
 
 -- ---- moved to the right
 
@@ -63,8 +61,7 @@ two_left h s l =
     let p = pow-suc 2 (127 - s) in
     let a : h * 2 ^ 1 * 2 ^ (127 - s) ≡ h * (2 ^ (127 - s) * 2) = omega arith in
     let q : h * 2 ^ 1 * 2 ^ (127 - s) ≡ h * (2 ^ suc (127 - s)) = a ∙ ap (λ (x : ℕ). h * x) (sym p) in
-    mul-mod_first (h * 2 ^ 1) (2 ^ (127 - s)) (2 ^ 128)
-    ∙ ap (λ (x : ℕ). x % 2 ^ 128) q ∙ ap (λ (i : ℕ). h * 2 ^ i % 2 ^ 128) (sym e)
+    rw (mul-mod_first, q, e)
 
 -- Two shifts to the right are one.
 two_right : (l s : ℕ) → s < 128 → l / 2 ^ 1 / 2 ^ (127 - s) ≡ l / 2 ^ (128 - s)
@@ -117,8 +114,7 @@ module _ (l h s : ℕ) (ll : l < 2 ^ 128) (lh : h < 2 ^ 128) where
           ∙ or-false (is_dark_bit l (s + c)) ∙ sym (low_at l h (s + c) m)
       first c lc (inr m) =
           let e : c - (128 - s) ≡ s + c - 128 = omega (arith, m, k) in
-          ap (λ (b : Bool). b || is_dark_bit (h * 2 ^ (128 - s) % 2 ^ 128) c) (above l 128 (s + c) ll m)
-          ∙ up_at h (128 - s) c lc (omega (arith, m)) ∙ ap (is_dark_bit h) e ∙ sym (high_at l h (s + c) ll m)
+          rw (above l 128 (s + c) ll m, up_at h (128 - s) c lc (omega (arith, m)), e, high_at l h (s + c) ll m)
 
   -- Further than that only the second number is left.
   pub moved_far_right : 128 ≤ s → pair (h / 2 ^ (s - 128)) 0 ≡ pair l h / 2 ^ s
@@ -126,8 +122,7 @@ module _ (l h s : ℕ) (ll : l < 2 ^ 128) (lh : h < 2 ^ 128) where
       by_halves (h / 2 ^ (s - 128)) 0 (pair l h / 2 ^ s) below (omega arith) whole_small
       (λ c lc.
       let e : s - 128 + c ≡ s + c - 128 = omega (arith, k) in
-      ap (λ (i : ℕ). nat_eq i 1) (moved_bit h (s - 128) c) ∙ ap (is_dark_bit h) e
-      ∙ sym (ap (λ (i : ℕ). nat_eq i 1) (moved_bit (pair l h) s c) ∙ high_at l h (s + c) ll (omega (arith, k))))
+      rw (moved_bit h (s - 128) c, e, moved_bit (pair l h) s c, high_at l h (s + c) ll (omega (arith, k))))
       (λ c lc.
       nothing c
       ∙ sym (ap (λ (i : ℕ). nat_eq i 1) (moved_bit (pair l h) s (c + 128))
@@ -200,13 +195,7 @@ module _ (l h s : ℕ) (ll : l < 2 ^ 128) (lh : h < 2 ^ 128) where
     where
       second : (c : ℕ) → c < 128 → (c < s - 128) ⊎ (s - 128 ≤ c) →
           is_dark_bit (l * 2 ^ (s - 128) % 2 ^ 128) c ≡ is_dark_bit (pair l h * 2 ^ s % 2 ^ 256) (c + 128)
-      second c lc (inl m) =
-          up_none l (s - 128) c lc m ∙ sym (none_whole (c + 128) (omega (arith, lc)) (omega (arith, m, k)))
-      second c lc (inr m) =
-          let e : c - (s - 128) ≡ c + 128 - s = omega (arith, k) in
-          up_at l (s - 128) c lc m ∙ ap (is_dark_bit l) e
-          ∙ sym (up_whole (c + 128) (omega (arith, lc)) (omega (arith, m, k))
-          ∙ low_at l h (c + 128 - s) (omega (arith, lc, k)))
+      second c lc x = grind (arith, nat_tests, up_none, none_whole, up_at, up_whole, low_at)
 
 -- ---- laid over one another, and masked
 
@@ -216,8 +205,7 @@ pub pair_or : (l h x y : ℕ) → l < 2 ^ 128 → h < 2 ^ 128 → x < 2 ^ 128 �
 pair_or l h x y ll lh lx ly =
     by_halves (bit_or l x) (bit_or h y) (bit_or (pair l h) (pair x y)) (or_lt 128 l x ll lx) (or_lt 128 h y lh ly)
     (or_lt 256 (pair l h) (pair x y) (pair_small l h ll lh) (pair_small x y lx ly))
-    (λ c lc. or_dark l x c ∙ ap (λ (b : Bool). b || is_dark_bit x c) (sym (low_at l h c lc))
-    ∙ ap (λ (b : Bool). is_dark_bit (pair l h) c || b) (sym (low_at x y c lc)) ∙ sym (or_dark (pair l h) (pair x y) c))
+    (λ c lc. cc (or_dark l x c, low_at l h c lc, low_at x y c lc, or_dark (pair l h) (pair x y) c))
     (λ c lc.
     let e : c + 128 - 128 ≡ c = omega arith in
     or_dark h y c
@@ -232,8 +220,7 @@ pub pair_and : (l h m : ℕ) → l < 2 ^ 128 → h < 2 ^ 128 → m < 2 ^ 128 →
 pair_and l h m ll lh lm =
     by_halves (bit_and l m) (bit_and h m) (bit_and (pair l h) (pair m m)) (and_lt 128 l m ll lm) (and_lt 128 h m lh lm)
     (and_lt 256 (pair l h) (pair m m) (pair_small l h ll lh) (pair_small m m lm lm))
-    (λ c lc. and_dark l m c ∙ ap (λ (b : Bool). b && is_dark_bit m c) (sym (low_at l h c lc))
-    ∙ ap (λ (b : Bool). is_dark_bit (pair l h) c && b) (sym (low_at m m c lc)) ∙ sym (and_dark (pair l h) (pair m m) c))
+    (λ c lc. cc (and_dark l m c, low_at l h c lc, low_at m m c lc, and_dark (pair l h) (pair m m) c))
     (λ c lc.
     let e : c + 128 - 128 ≡ c = omega arith in
     and_dark h m c
@@ -245,17 +232,10 @@ pair_and l h m ll lh lm =
 -- A mask of the lowest bits of each byte is one in both numbers.
 pub pair_mask : (m count : ℕ) → m < 2 ^ 128 → ((c : ℕ) → c < 128 → is_dark_bit m c ≡ nat_lt (c % 8) count) →
     (c : ℕ) → c < 256 → is_dark_bit (pair m m) c ≡ nat_lt (c % 8) count
-pair_mask m count lm masked c lc = by_place (cases_lt c 128)
-  where
-    by_place : (c < 128) ⊎ (128 ≤ c) → is_dark_bit (pair m m) c ≡ nat_lt (c % 8) count
-    by_place (inl k) = low_at m m c k ∙ masked c k
-    by_place (inr k) =
-        let e : (c - 128) % 8 ≡ c % 8 = omega (arith, k) in
-        high_at m m c lm k ∙ masked (c - 128) (omega (arith, lc, k)) ∙ ap (λ (i : ℕ). nat_lt i count) e
+pair_mask m count lm masked c lc = grind (arith, nat_tests, cases_lt, pair, low_at, high_at)
 
 -- The masks of sixteen bytes, twice, are those of 32.
-pub pair_masks_at : (c : ℕ) → c < 256 → (is_dark_bit (pair LOW_TWO_BITS LOW_TWO_BITS) c ≡ nat_lt (c % 8) 2)
-    × (is_dark_bit (pair LOW_THREE_BITS LOW_THREE_BITS) c ≡ nat_lt (c % 8) 3)
+pub pair_masks_at : AreMasks (pair LOW_TWO_BITS LOW_TWO_BITS) (pair LOW_THREE_BITS LOW_THREE_BITS) 256
 pair_masks_at c l = (
   pair_mask LOW_TWO_BITS 2 (omega arith) (λ i h. (masks_at i h).0) c l,
   pair_mask LOW_THREE_BITS 3 (omega arith) (λ i h. (masks_at i h).1) c l,
@@ -277,7 +257,4 @@ put_is ps row p n e = map-set number_of ps row p ∙ ap (set (numbers_of ps) row
 pub over_is : (ps : List Pair) (ns : List ℕ) (row : ℕ) (p d : Pair) (y : ℕ) → numbers_of ps ≡ ns →
     row < length ns → number_of p ≡ bit_or (number_of (get_or ps row d)) y →
     numbers_of (set ps row p) ≡ set ns row (bit_or (get_or ns row 0) y)
-over_is ps ns row p d y same l e =
-    put_is ps row p _
-    (e ∙ ap (λ (x : ℕ). bit_or x y) (at_is ps row d (subst (λ (xs : List ℕ). row < length xs) (sym same) l)))
-    ∙ ap (λ (xs : List ℕ). set xs row (bit_or (get_or xs row 0) y)) same
+over_is ps ns row p d y same l e = grind (arith, nat_tests, put_is, at_is)

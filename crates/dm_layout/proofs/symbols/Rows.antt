@@ -1,4 +1,5 @@
 -- Rows that are numbers.
+use Rattle.std.proofs.lemmas.Bool.Decides.{nat_tests}
 use Rattle.dm_layout.specs.symbols.Symbols.{is_dark_bit}
 use Rattle.std.proofs.Common.{◌≡◌, ℕ, zero, suc, ◌+◌, ◌*◌, ◌/◌, ◌%◌, ◌^◌, ◌<◌, Bool, true, false, cond, ◌||◌, nat_eq}
 use Rattle.std.proofs.Common.{sym, ◌∙◌, ap}
@@ -18,13 +19,7 @@ use Rattle.dm_place.proofs.Exported.{digit-has}
 
 -- The greater of two binary digits is 1 exactly if one of them is.
 max_one : (x y : ℕ) → x < 2 → y < 2 → nat_eq (max x y) 1 ≡ (nat_eq x 1 || nat_eq y 1)
-max_one zero zero lx ly = refl
-max_one zero (suc zero) lx ly = refl
-max_one (suc zero) zero lx ly = refl
-max_one (suc zero) (suc zero) lx ly = refl
-max_one (suc (suc x)) y lx ly = absurd (omega arith)
-max_one zero (suc (suc y)) lx ly = absurd (omega arith)
-max_one (suc zero) (suc (suc y)) lx ly = absurd (omega arith)
+max_one x y lx ly = grind (arith, nat_tests)
 
 -- A cell of one row laid over another is dark exactly if it is dark in one of them.
 pub or_dark : (a b c : ℕ) → is_dark_bit (bit_or a b) c ≡ (is_dark_bit a c || is_dark_bit b c)
@@ -33,18 +28,13 @@ or_dark a b c =
 
 -- A power of 2 that fits in 128 bits is kept whole.
 pub weight : (c : ℕ) → c < 128 → 1 * 2 ^ c % 2 ^ 128 ≡ 2 ^ c
-weight c l =
-    let k = pow_below c 128 l in
-    let e : 1 * 2 ^ c ≡ 2 ^ c = omega arith in
-    ap (λ (i : ℕ). i % 2 ^ 128) e ∙ mod-eq_of_lt k
+weight c l = grind (arith, nat_tests, pow_below, mod-eq_of_lt)
 
 -- The prefix of a row has the cells of the row.
 pub prefix_cell : (row side c : ℕ) → side < 128 → c < side →
     is_dark_bit (row % (1 * 2 ^ side % 2 ^ 128)) c ≡ is_dark_bit row c
 prefix_cell row side c small l =
-    ap (λ (w : ℕ). is_dark_bit (row % w) c) (weight side small)
-    ∙ ap (λ (i : ℕ). nat_eq i 1) (sym (bit_at_cat_low (row / 2 ^ side) side (row % 2 ^ side) c l))
-    ∙ ap (λ (i : ℕ). is_dark_bit i c) (div-add-mod' row (2 ^ side))
+    cc (weight side small, bit_at_cat_low (row / 2 ^ side) side (row % 2 ^ side) c l, div-add-mod' row (2 ^ side))
 
 -- Bit c of a row that is moved to the right by s columns is bit s + c of the row.
 pub moved_bit : (x s c : ℕ) → bit_at (x / 2 ^ s) c ≡ bit_at x (s + c)
@@ -79,6 +69,4 @@ darkened_cell row c e l = by_column (nat_eq e c) refl
 
 -- A row with one cell before the side made dark has no bit from the side on if it had none.
 pub darkened_narrow : (row c side : ℕ) → c < 128 → c < side → row < 2 ^ side → darkened row c < 2 ^ side
-darkened_narrow row c side lc l narrow =
-    or_lt side row (1 * 2 ^ c % 2 ^ 128) narrow (let k = pow_below c side l in let e = weight c lc in
-    omega (arith, k, e))
+darkened_narrow row c side lc l narrow = grind (arith, nat_tests, or_lt, pow_below, weight)

@@ -1,4 +1,5 @@
 -- The borders of a size as bits.
+use Rattle.std.proofs.lemmas.Bool.Decides.{nat_tests}
 use Rattle.std.proofs.Common.{◌≡◌, ◌≢◌, ◌⊎◌, inl, inr, ℕ, ◌+◌, ◌-◌, ◌*◌, ◌/◌, ◌%◌, ◌^◌, ◌<◌, ◌≤◌, Bool, true, cond}
 use Rattle.std.proofs.Common.{nat_eq, sym, ◌∙◌, ap, subst, arith, eq-eqb}
 use lib.Bits.{bit_and}
@@ -36,15 +37,9 @@ short_borders size low last a left both n entry narrow ew el ea ruled en =
     let p = pow_pos size.columns in
     let aw : all < 2 ^ size.columns = omega (arith, e, p) in
     let h = and_le_r EVEN_COLUMNS all in
-    subst (λ (i : ℕ). AreBorders size low i (whole_row both 0) (whole_row (bit_and EVEN_COLUMNS all) 0)
-    (whole_row all 0)) (sym (whole_alone left))
-    (subst (λ (i : ℕ). AreBorders size low left i (whole_row (bit_and EVEN_COLUMNS all) 0) (whole_row all 0))
-    (sym (whole_alone both))
-    (subst (λ (i : ℕ). AreBorders size low left both i (whole_row all 0)) (sym (whole_alone (bit_and EVEN_COLUMNS all)))
-    (subst (AreBorders size low left both (bit_and EVEN_COLUMNS all)) (sym (whole_alone all))
-    (are_borders size low last a left both (bit_and EVEN_COLUMNS all) all entry ew el ea ruled av aw
-    (λ c l. left_by_all EVEN_COLUMNS all c (av c l) ∙ patterns_at c (omega (arith, l, narrow)))
-    (omega (arith, h, aw))))))
+    rw (whole_alone left, whole_alone both, whole_alone (bit_and EVEN_COLUMNS all), whole_alone all) (are_borders size
+    low last a left both (bit_and EVEN_COLUMNS all) all entry ew el ea ruled av aw (λ c l. left_by_all EVEN_COLUMNS all
+    c (av c l) ∙ patterns_at c (omega (arith, l, narrow))) (omega (arith, h, aw)))
 
 -- A row of two numbers is no wider than both together.
 pub whole_narrow : (row end n : ℕ) → row < 2 ^ 128 → end < 2 ^ n → whole_row row end < 2 ^ (128 + n)
@@ -53,10 +48,7 @@ whole_narrow row end n lr le =
 
 -- A power of 2 that fits in 16 bits is kept whole.
 end_weight : (c : ℕ) → c < 16 → 1 * 2 ^ c % 2 ^ 16 ≡ 2 ^ c
-end_weight c l =
-    let k = pow_below c 16 l in
-    let e : 1 * 2 ^ c ≡ 2 ^ c = omega arith in
-    ap (λ (i : ℕ). i % 2 ^ 16) e ∙ mod-eq_of_lt k
+end_weight c l = grind (arith, nat_tests, pow_below, mod-eq_of_lt)
 
 -- A cell behind the first 128 that is made dark is a power of 2 in the second number.
 ended_cell : (row q c : ℕ) → row < 2 ^ 128 → 128 ≤ q → q < 144 →
@@ -103,8 +95,7 @@ last_ruled last a left both least lk far near lw bw old =
     let q = pow_pos (k + last - 128) in
     record {
       left_columns =
-          λ c. darkened_cell left k c lk ∙ ap (cond (nat_eq c k) true) (old.left_columns c)
-          ∙ left_at last a c (stands c a (last + 1));
+          λ c. rw (darkened_cell left k c lk, old.left_columns c, left_at last a c (stands c a (last + 1)));
       both_columns = λ c.
           ended_cell (darkened both k) (k + last) c low far near
           ∙ ap (cond (nat_eq c (k + last)) true) (darkened_cell both k c lk
@@ -112,9 +103,8 @@ last_ruled last a left both least lk far near lw bw old =
           ∙ both_at last a c (stands c a (last + 1));
       left_width = darkened_narrow left k n lk (omega (arith, e, least)) wide;
       both_width =
-          subst (λ (i : ℕ). whole_row (darkened both k) (1 * 2 ^ (k + last - 128) % 2 ^ 16) < 2 ^ i) w
-          (whole_narrow (darkened both k) (1 * 2 ^ (k + last - 128) % 2 ^ 16) (k + last - 128 + 1) low
-          (omega (arith, is, p, q)));
+          rw w at (whole_narrow (darkened both k) (1 * 2 ^ (k + last - 128) % 2 ^ 16) (k + last - 128 + 1) low (omega
+          (arith, is, p, q)));
     }
 
 -- The borders of a symbol of more than 128 columns.

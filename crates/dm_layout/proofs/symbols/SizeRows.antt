@@ -1,33 +1,23 @@
 -- The rows of numbers by which sizes are looked for.
-use Rattle.std.proofs.Common.{◌≡◌, ◌≢◌, ℕ, ◌+◌, ◌<◌, Bool, true, false, cond, ◌&&◌, nat_eq, nat_le, List, [], ◌∷◌}
-use Rattle.std.proofs.Common.{map, length, get_or, set, Option, Some, option_map, refl, sym, ◌∙◌, ap, arith}
-use Rattle.std.proofs.Common.{below_more, get_or-set_other, get_or-set_same}
+use Rattle.std.proofs.lemmas.Bool.Decides.{nat_tests}
+use Rattle.std.proofs.Common.{arith}
+use Rattle.std.proofs.Common.{◌≡◌, ℕ, ◌<◌, Bool, true, false, cond, ◌&&◌, nat_eq, nat_le, List, [], ◌∷◌}
+use Rattle.std.proofs.Common.{map, length, get_or, Option, Some, option_map, refl, sym, ◌∙◌, ap}
 use Rattle.std.specs.Prelude.{find}
 use Rattle.std.specs.List.{AllByRecursion}
 use Rattle.std.proofs.lemmas.List.{get_or-map}
 use Rattle.std.proofs.lemmas.List.Elements.{All-from_recursion, All-get_or}
 use Rattle.dm_layout.specs.declared.symbols.size.SizeChoice.{SizeChoice}
-use Rattle.dm_layout.specs.declared.symbols.size.SizeChoice.TheVariants.{Square, Rectangle, AnyRectangle}
-use Rattle.dm_layout.specs.declared.symbols.size.SizeChoice.TheVariants.{Any as AnySize}
-use Rattle.dm_layout.specs.declared.symbols.size.SizeChoice.TheVariants.{Exact}
 use Rattle.dm_layout.specs.symbols.Sizes.{SizeEntry, size_table, IsSize, entry_with, entry_for, takes}
 use Rattle.dm_layout.specs.declared.symbols.size_rows.TheConstants.{SIZE_ROWS}
 use Rattle.dm_layout.specs.symbols.inner.SizeRows.{row_entry, has_sides, takes_sides}
-use Rattle.dm_layout.proofs.symbols.TableEntries.{at_found}
+use Rattle.dm_layout.proofs.symbols.TableEntries.{same_in_each}
+use Rattle.dm_place.proofs.Exported.{at_found}
 
 -- The rows are the table, as the checker finds.
 rows_are : map row_entry SIZE_ROWS ≡ size_table
 unfolding size_table
 rows_are = refl
-
--- Two values that are the same of each item, as the checker finds, are the same of each.
-same_in_each : {X Y : Type 0} (f g : X → Y) (rows : List X) → map f rows ≡ map g rows →
-    AllByRecursion (λ r. f r ≡ g r) rows
-same_in_each f g [] h = tt
-same_in_each f g (r ∷ rows) h =
-    let first : f r ≡ g r = cc in
-    let rest : map f rows ≡ map g rows = cc in
-    (first, same_in_each f g rows rest)
 
 -- Each row is a size.
 sizes_here : AllByRecursion (λ row. IsSize (row_entry row)) SIZE_ROWS
@@ -42,8 +32,7 @@ found_entry : (q : List ℕ → Bool) (p : SizeEntry → Bool) → ((row : List 
     (rows : List (List ℕ)) → option_map row_entry (find q rows) ≡ find p (map row_entry rows)
 found_entry q p same [] = refl
 found_entry q p same (row ∷ rows) =
-    by_test (q row) (find q rows) (find p (map row_entry rows)) (found_entry q p same rows)
-    ∙ ap (λ b. cond b (Some (row_entry row)) (find p (map row_entry rows))) (same row)
+    rw (by_test (q row) (find q rows) (find p (map row_entry rows)) (found_entry q p same rows), same row)
   where
     by_test : (b : Bool) (o : Option (List ℕ)) (e : Option SizeEntry) → option_map row_entry o ≡ e →
         option_map row_entry (cond b (Some row) o) ≡ cond b (Some (row_entry row)) e
@@ -77,18 +66,11 @@ is_enough choice count row =
 -- A choice takes a size by its rows, its columns and its being of the extension.
 taken_by_sides : (choice : SizeChoice) (row : List ℕ) →
     takes_sides choice (get_or row 0 0) (get_or row 1 0) (nat_eq (get_or row 9 0) 1) ≡ takes choice (row_entry row)
-taken_by_sides Square row = refl
-taken_by_sides Rectangle row = refl
-taken_by_sides AnyRectangle row = refl
-taken_by_sides AnySize row = refl
-taken_by_sides (Exact r c) row = refl
+taken_by_sides x row = grind (arith, nat_tests)
 
 -- Two tests may be made in either order.
 turned : (a b : Bool) → (a && b) ≡ (b && a)
-turned true true = refl
-turned true false = refl
-turned false true = refl
-turned false false = refl
+turned x y = grind (arith, nat_tests)
 
 module _ (choice : SizeChoice) (count : ℕ) where
   -- The first row that is large enough is that of the smallest size.
@@ -121,13 +103,3 @@ module _ (i : ℕ) (d : List ℕ) (l : i < 48) where
   -- It is that of entry i of the table.
   pub entry_here : (e : SizeEntry) → row_entry (get_or SIZE_ROWS i d) ≡ get_or size_table i e
   entry_here e = sym (get_or-map row_entry SIZE_ROWS i d e l) ∙ ap (λ xs. get_or xs i e) rows_are
-
--- With one more size put, the sizes before the next are those of the table.
-pub size_put : (sizes : List SizeEntry) (i : ℕ) (x : SizeEntry) → length sizes ≡ 48 → i < 48 →
-    ((k : ℕ) (d : SizeEntry) → k < i → get_or sizes k d ≡ get_or size_table k d) →
-    ((d : SizeEntry) → x ≡ get_or size_table i d) →
-    (k : ℕ) (d : SizeEntry) → k < i + 1 → get_or (set sizes i x) k d ≡ get_or size_table k d
-size_put sizes i x count l before here k d =
-    below_more (λ j. get_or (set sizes i x) j d ≡ get_or size_table j d) i
-    (λ j h. let other : j ≢ i = omega arith in get_or-set_other sizes i j x d other ∙ before j d h)
-    (get_or-set_same sizes i x d (omega (arith, count, l)) ∙ here d) k

@@ -1,22 +1,14 @@
 -- What holds for each size.
 use Rattle.std.proofs.Common.{◌≡◌, ℕ, ◌+◌, ◌*◌, ◌/◌, ◌%◌, ◌<◌, ◌≤◌, Bool, true, false, ◌&&◌, ◌||◌, nat_eq}
-use Rattle.std.proofs.Common.{refl, sym}
-use Rattle.std.proofs.Common.{◌∙◌, ap, subst, arith, not, eq-eqb}
+use Rattle.std.proofs.Common.{refl}
+use Rattle.std.proofs.Common.{◌∙◌, ap, arith, not, eq-eqb}
 use Rattle.std.specs.List.{list_all}
 use Rattle.std.proofs.lemmas.Bool.{eqb-true}
-use Rattle.std.proofs.lemmas.List.Elements.{recursion_from_All}
-use Rattle.std.proofs.lemmas.List.Sums.{AllPass-from_list_all}
 use Rattle.std.proofs.Math.Nat.{mul-le-mul_right}
 use Rattle.dm_place.specs.Border.{symbol_line}
 use Rattle.dm_layout.specs.symbols.Sizes.{SizeEntry, size_table, IsSize, mapping_rows, mapping_columns}
-use Rattle.dm_layout.proofs.symbols.Exported.{at_found, size_facts, symbol_line-form, region_below}
-
--- A test that each size of the table passes is passed by a size that stands in it.
-pub passed_at_size : (test : SizeEntry → Bool) (s : SizeEntry) → list_all test size_table ≡ true → IsSize s →
-    test s ≡ true
-passed_at_size test s h size =
-    at_found (λ r. test r ≡ true) (λ r. nat_eq r.rows s.rows && nat_eq r.columns s.columns) size_table s
-    (recursion_from_All (λ r. test r ≡ true) size_table (AllPass-from_list_all test size_table h)) size
+use Rattle.dm_layout.proofs.symbols.Exported.{size_facts, symbol_line-form, region_below}
+use Rattle.dm_layout.proofs.symbols.TableEntries.{passed_at_size}
 
 -- A line of a mapping matrix of k regions of d lines each lies in the symbol.
 line_inside : (d k r : ℕ) → 6 ≤ d → r < k * d → symbol_line d r < k * (d + 2)
@@ -34,8 +26,7 @@ pub column_inside : (size : SizeEntry) (c : ℕ) → IsSize size → c < mapping
     symbol_line size.region_columns c < size.columns
 column_inside size c entry l =
     let facts = size_facts size entry in
-    subst (λ (n : ℕ). symbol_line size.region_columns c < n) (sym facts.columns)
-    (line_inside size.region_columns size.regions_across c facts.least_columns l)
+    rw (← facts.columns) at (line_inside size.region_columns size.regions_across c facts.least_columns l)
 
 -- A test with one of two outcomes, of which the first fails, has the second.
 pub second_of : (a b : Bool) → a ≡ false → (a || b) ≡ true → b ≡ true
@@ -63,8 +54,7 @@ pub region_within : (s : SizeEntry) (region : ℕ) → IsSize s → region < s.r
     (region + 1) * (s.region_rows + 2) ≤ s.rows
 region_within s region entry l =
     let facts = size_facts s entry in
-    subst (λ (n : ℕ). (region + 1) * (s.region_rows + 2) ≤ n) (sym facts.rows)
-    (mul-le-mul_right (s.region_rows + 2) (omega (arith, l)))
+    rw facts.rows (mul-le-mul_right (s.region_rows + 2) (omega (arith, l)))
 
 -- ---- sizes with a fixed square
 
@@ -84,5 +74,4 @@ pub fixed_is_square : (s : SizeEntry) → IsSize s → mapping_rows s % 4 ≡ 2 
 unfolding square_test
 fixed_is_square s entry rows columns =
     eqb-true _ _ (second_of (not (nat_eq (mapping_rows s % 4) 2 && nat_eq (mapping_columns s % 4) 2)) _
-    (ap (λ (b : Bool). not (b && nat_eq (mapping_columns s % 4) 2)) (eq-eqb _ _ rows)
-    ∙ ap (λ (b : Bool). not (true && b)) (eq-eqb _ _ columns)) (passed_at_size square_test s square_tested entry))
+    (rw (eq-eqb, eq-eqb)) (passed_at_size square_test s square_tested entry))

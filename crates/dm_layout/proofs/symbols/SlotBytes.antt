@@ -1,7 +1,7 @@
 -- Rows of bytes as numbers.
 use Rattle.std.proofs.Common.{◌≡◌, ◌⊎◌, inl, inr, ℕ, zero, suc, ◌+◌, ◌-◌, ◌*◌, ◌/◌, ◌%◌, ◌^◌, ◌<◌, ◌≤◌, Bool, false}
-use Rattle.std.proofs.Common.{◌&&◌, ◌||◌, nat_eq, nat_le, List, [], ◌∷◌, ◌++◌, drop, length}
-use Rattle.std.proofs.Common.{append-nil, get_or, set, take}
+use Rattle.std.proofs.Common.{◌&&◌, ◌||◌, nat_eq, nat_le, List, [], ◌∷◌, ◌++◌, length}
+use Rattle.std.proofs.Common.{append-nil, get_or, set}
 use Rattle.std.proofs.Common.{refl, sym, ◌∙◌, ap, arith, subst, get_or-set_other, get_or-set_same}
 use Rattle.std.specs.Int.{from_le_bytes, to_le_bytes, bytes_low_first, byte_at, w64, w128}
 use Rattle.std.specs.Int.RustNames.{bit_or}
@@ -23,39 +23,14 @@ use Rattle.dm_layout.proofs.symbols.LaidSlots.{byte_up, byte_fits}
 -- Eight bytes have the number that `from_le_bytes` gives.
 pub in_eight : (bs : List ℕ) → length bs ≡ 8 → from_le_bytes w64 bs ≡ in_bytes bs
 unfolding in_bytes
-in_eight [] h = absurd (omega arith)
-in_eight (b0 ∷ []) h = absurd (omega arith)
-in_eight (b0 ∷ b1 ∷ []) h = absurd (omega arith)
-in_eight (b0 ∷ b1 ∷ b2 ∷ []) h = absurd (omega arith)
-in_eight (b0 ∷ b1 ∷ b2 ∷ b3 ∷ []) h = absurd (omega arith)
-in_eight (b0 ∷ b1 ∷ b2 ∷ b3 ∷ b4 ∷ []) h = absurd (omega arith)
-in_eight (b0 ∷ b1 ∷ b2 ∷ b3 ∷ b4 ∷ b5 ∷ []) h = absurd (omega arith)
-in_eight (b0 ∷ b1 ∷ b2 ∷ b3 ∷ b4 ∷ b5 ∷ b6 ∷ []) h = absurd (omega arith)
 in_eight (b0 ∷ b1 ∷ b2 ∷ b3 ∷ b4 ∷ b5 ∷ b6 ∷ b7 ∷ []) h = omega arith
-in_eight (b0 ∷ b1 ∷ b2 ∷ b3 ∷ b4 ∷ b5 ∷ b6 ∷ b7 ∷ b8 ∷ rest) h = absurd (omega arith)
+in_eight bs h = absurd (omega arith)
 
 -- Sixteen bytes have the number that `from_le_bytes` gives.
 pub in_sixteen : (bs : List ℕ) → length bs ≡ 16 → from_le_bytes w128 bs ≡ in_bytes bs
 unfolding in_bytes
-in_sixteen [] h = absurd (omega arith)
-in_sixteen (b0 ∷ []) h = absurd (omega arith)
-in_sixteen (b0 ∷ b1 ∷ []) h = absurd (omega arith)
-in_sixteen (b0 ∷ b1 ∷ b2 ∷ []) h = absurd (omega arith)
-in_sixteen (b0 ∷ b1 ∷ b2 ∷ b3 ∷ []) h = absurd (omega arith)
-in_sixteen (b0 ∷ b1 ∷ b2 ∷ b3 ∷ b4 ∷ []) h = absurd (omega arith)
-in_sixteen (b0 ∷ b1 ∷ b2 ∷ b3 ∷ b4 ∷ b5 ∷ []) h = absurd (omega arith)
-in_sixteen (b0 ∷ b1 ∷ b2 ∷ b3 ∷ b4 ∷ b5 ∷ b6 ∷ []) h = absurd (omega arith)
-in_sixteen (b0 ∷ b1 ∷ b2 ∷ b3 ∷ b4 ∷ b5 ∷ b6 ∷ b7 ∷ []) h = absurd (omega arith)
-in_sixteen (b0 ∷ b1 ∷ b2 ∷ b3 ∷ b4 ∷ b5 ∷ b6 ∷ b7 ∷ b8 ∷ []) h = absurd (omega arith)
-in_sixteen (b0 ∷ b1 ∷ b2 ∷ b3 ∷ b4 ∷ b5 ∷ b6 ∷ b7 ∷ b8 ∷ b9 ∷ []) h = absurd (omega arith)
-in_sixteen (b0 ∷ b1 ∷ b2 ∷ b3 ∷ b4 ∷ b5 ∷ b6 ∷ b7 ∷ b8 ∷ b9 ∷ b10 ∷ []) h = absurd (omega arith)
-in_sixteen (b0 ∷ b1 ∷ b2 ∷ b3 ∷ b4 ∷ b5 ∷ b6 ∷ b7 ∷ b8 ∷ b9 ∷ b10 ∷ b11 ∷ []) h = absurd (omega arith)
-in_sixteen (b0 ∷ b1 ∷ b2 ∷ b3 ∷ b4 ∷ b5 ∷ b6 ∷ b7 ∷ b8 ∷ b9 ∷ b10 ∷ b11 ∷ b12 ∷ []) h = absurd (omega arith)
-in_sixteen (b0 ∷ b1 ∷ b2 ∷ b3 ∷ b4 ∷ b5 ∷ b6 ∷ b7 ∷ b8 ∷ b9 ∷ b10 ∷ b11 ∷ b12 ∷ b13 ∷ []) h = absurd (omega arith)
-in_sixteen (b0 ∷ b1 ∷ b2 ∷ b3 ∷ b4 ∷ b5 ∷ b6 ∷ b7 ∷ b8 ∷ b9 ∷ b10 ∷ b11 ∷ b12 ∷ b13 ∷ b14 ∷ []) h = absurd (omega arith)
 in_sixteen (b0 ∷ b1 ∷ b2 ∷ b3 ∷ b4 ∷ b5 ∷ b6 ∷ b7 ∷ b8 ∷ b9 ∷ b10 ∷ b11 ∷ b12 ∷ b13 ∷ b14 ∷ b15 ∷ []) h = omega arith
-in_sixteen (b0 ∷ b1 ∷ b2 ∷ b3 ∷ b4 ∷ b5 ∷ b6 ∷ b7 ∷ b8 ∷ b9 ∷ b10 ∷ b11 ∷ b12 ∷ b13 ∷ b14 ∷ b15 ∷ b16 ∷ rest) h =
-    absurd (omega arith)
+in_sixteen bs h = absurd (omega arith)
 
 -- The number of bytes has no more bits than they have.
 pub in_bytes_small : (bs : List ℕ) → ((i : ℕ) → get_or bs i 0 < 256) → in_bytes bs < 2 ^ (8 * length bs)
@@ -93,10 +68,7 @@ in_bytes_bit (b ∷ bs) c small =
     by_place rest (inr l) =
         let q : c / 8 ≡ suc ((c - 8) / 8) = omega arith in
         let r : c % 8 ≡ (c - 8) % 8 = omega arith in
-        ap (λ (i : ℕ). nat_eq i 1) (bit_at_cat_high (in_bytes bs) 8 b c (small 0) l)
-        ∙ rest
-        ∙ sym (ap (λ (i : ℕ). is_dark_bit (get_or (b ∷ bs) i 0) (c % 8)) q
-        ∙ ap (is_dark_bit (get_or bs ((c - 8) / 8) 0)) r)
+        rw (bit_at_cat_high (in_bytes bs) 8 b c (small 0) l, rest, q, r)
 
 -- A byte of the number of bytes is the byte.
 pub in_bytes_byte : (bs : List ℕ) (k : ℕ) → ((i : ℕ) → get_or bs i 0 < 256) →
@@ -146,12 +118,7 @@ bytes_append (b ∷ bs) cs first second (suc i) = bytes_append bs cs (λ j. firs
 pub two_put : (bs cs zeros : List ℕ) → length bs ≡ 16 → length cs ≡ 16 → length zeros ≡ 16 →
     put_mid 16 16 (bs ++ zeros) cs ≡ bs ++ cs
 two_put bs cs zeros eb ec ez =
-    ap (λ (xs : List ℕ). xs ++ (cs ++ drop 16 (drop 16 (bs ++ zeros))))
-    (ap (λ (i : ℕ). take i (bs ++ zeros)) (sym eb) ∙ take-append_seam bs zeros)
-    ∙ ap (λ (xs : List ℕ). bs ++ (cs ++ drop 16 xs))
-    (ap (λ (i : ℕ). drop i (bs ++ zeros)) (sym eb) ∙ drop-append_seam bs zeros)
-    ∙ ap (λ (xs : List ℕ). bs ++ (cs ++ xs)) (drop_all 16 zeros (omega (arith, ez)))
-    ∙ ap (λ (xs : List ℕ). bs ++ xs) (append-nil cs)
+    cc (eb, take-append_seam bs zeros, drop-append_seam bs zeros, drop_all 16 zeros (omega (arith, ez)), append-nil cs)
 
 -- ---- one byte more
 
@@ -221,17 +188,13 @@ byte_over n bs k y count small lk ly = same_row_numbers (8 * n) _ _ left right b
             (sym (le-leb (8 * k) c (omega (arith, e))))
             ∙ ap (λ (b : Bool). is_dark_bit (get_or bs (c / 8) 0) (c % 8) || b) (sym moved)
         by_place (inr ne) =
-            ap (λ (z : ℕ). is_dark_bit z (c % 8)) (get_or-set_other bs k (c / 8) x 0 ne)
-            ∙ sym (or-false _)
-            ∙ ap (λ (b : Bool). is_dark_bit (get_or bs (c / 8) 0) (c % 8) || b) (sym (moved ∙ none (cases_lt c (8 *
-            k))))
+            cc (get_or-set_other bs k (c / 8) x 0 ne, or-false _, moved, none (cases_lt c (8 * k)))
           where
             none : (c < 8 * k) ⊎ (8 * k ≤ c) → (nat_le (8 * k) c && is_dark_bit y (c - 8 * k)) ≡ false
             none (inl l) = ap (λ (b : Bool). b && is_dark_bit y (c - 8 * k)) (lt-leb (8 * k) c l)
             none (inr l) =
                 let far : 8 ≤ c - 8 * k = omega (arith, l, ne) in
-                ap (λ (b : Bool). b && is_dark_bit y (c - 8 * k)) (le-leb (8 * k) c l)
-                ∙ ap (λ (i : ℕ). nat_eq i 1) (bit_at_above y 8 (c - 8 * k) ly far)
+                rw (le-leb (8 * k) c l, bit_at_above y 8 (c - 8 * k) ly far)
 
 -- ---- a number in bytes
 
@@ -247,11 +210,7 @@ low_first i zero n = one (n / 256 ^ i)
     one : (x : ℕ) → 0 ≡ x % 1
     one x = omega arith
 low_first i (suc k) n =
-    ap (λ (z : ℕ). byte_at i n + 256 * z) (low_first (suc i) k n)
-    ∙ ap (λ (z : ℕ). z + 256 * (n / 256 ^ suc i % 256 ^ k)) (byte_is i)
-    ∙ ap (λ (z : ℕ). n / 256 ^ i % 256 + 256 * (z % 256 ^ k)) next
-    ∙ parts (n / 256 ^ i) (256 ^ k) (power_some k)
-    ∙ ap (λ (z : ℕ). n / 256 ^ i % z) power
+    rw (low_first (suc i) k n, byte_is i, next, parts (n / 256 ^ i) (256 ^ k) (power_some k), power)
   where
     byte_is : (i : ℕ) → byte_at i n ≡ n / 256 ^ i % 256
     byte_is zero = let z : n % 256 ≡ n / 1 % 256 = omega arith in z

@@ -16,7 +16,8 @@ use Rattle.dm_place.proofs.Exported.{few_shapes, inside_test, shapes-few, count_
 use Rattle.dm_layout.specs.symbols.inner.Slots.{bytes_of, most_of, order_of, slot_of, HasSlot}
 use Rattle.dm_layout.specs.symbols.inner.Slots.{first_order_of, rest_order_of, less_of}
 use Rattle.dm_layout.proofs.symbols.LiftedWords.{fits_test, kind_test, slot_row, slot_place}
-use Rattle.dm_layout.proofs.symbols.Sizes.{passed_at_size, even_product}
+use Rattle.dm_layout.proofs.symbols.Sizes.{even_product}
+use Rattle.dm_layout.proofs.symbols.TableEntries.{passed_at_size}
 use Rattle.dm_layout.proofs.symbols.TestedSlots as slotted
 use Rattle.dm_layout.proofs.symbols.TestedSlots.{slots_test, room_test, less_test}
 
@@ -120,15 +121,12 @@ pub known : (s : SizeEntry) (m k bytes most : ℕ) (xs : List ℕ) → IsSize s 
     AreKnown s m k bytes most xs
 known s m k bytes most xs entry eb em er ec e =
     let order : IsOrder bytes most m k =
-    subst (λ (i : ℕ). IsOrder bytes most i k) (sym er)
-    (subst (λ (i : ℕ). IsOrder bytes most (mapping_rows s) i) (sym ec) (order_at_size s bytes most entry eb em)) in
+    rw (← ec, ← er) at (order_at_size s bytes most entry eb em) in
     let room : HasRoom m k bytes most =
-    subst (λ (i : ℕ). HasRoom i k bytes most) (sym er)
-    (subst (λ (i : ℕ). HasRoom (mapping_rows s) i bytes most) (sym ec) (room_at_size s bytes most entry eb em)) in
+    rw (← ec, ← er) at (room_at_size s bytes most entry eb em) in
     let slots : xs ≡ map (slot_of bytes most) (shapes m k) = e ∙ order.slots in
     let shape_count : length (shapes m k) ≡ codeword_count s =
-    ap (λ (i : ℕ). length (shapes i k)) er ∙ ap (λ (i : ℕ). length (shapes (mapping_rows s) i)) ec
-    ∙ count_at_sides (mapping_rows s) (mapping_columns s) (codeword_count s) (placed_size s entry) in
+    rw (er, ec, count_at_sides (mapping_rows s) (mapping_columns s) (codeword_count s) (placed_size s entry)) in
     let n = ap length slots in
     record {
       high = er;
@@ -138,8 +136,7 @@ known s m k bytes most xs entry eb em er ec e =
       count = n ∙ length-map (shapes m k) (slot_of bytes most) ∙ shape_count;
       shape_count = shape_count;
       each = λ i l.
-          subst (λ (ys : List ℕ). HasSlot bytes most (get_or ys i 0)) (sym slots)
-          (slots_fit bytes most m k i (shapes m k) room order.fits (omega (arith, n, l)));
+          rw (← slots) at (slots_fit bytes most m k i (shapes m k) room order.fits (omega (arith, n, l)));
       room = room;
     }
 
@@ -149,10 +146,7 @@ pub read_more : (f : ℕ → ℕ) (list slots : List ℕ) (i x : ℕ) → i < le
     take (i + 1) (set list i x) ≡ take (i + 1) (map f slots)
 read_more f list slots i x l k e h =
     let m = length-map slots f in
-    take_more_set list i x l
-    ∙ ap (λ (ws : List ℕ). ws ++ x ∷ []) h
-    ∙ ap (λ (w : ℕ). take i (map f slots) ++ w ∷ []) (e ∙ sym (get_or-map f slots i 0 0 k))
-    ∙ sym (take_more (map f slots) i 0 (omega (arith, m, k)))
+    cc (take_more_set list i x l, h, e, get_or-map f slots i 0 0 k, take_more (map f slots) i 0 (omega (arith, m, k)))
 
 -- A list of slots has two parts, in the second of which each is `less` too large.
 pub record AreParts (xs first rest : List ℕ) (less : ℕ) : Type 0 where
@@ -191,6 +185,4 @@ parts_at_size s m k less first rest entry er ec ef et el =
     ap (λ (i : ℕ). less_test i k) er ∙ ap (λ (i : ℕ). less_test (mapping_rows s) i) ec ∙ tested in
     let all : AreParts (order_of m k) (first_order_of m k) (rest_order_of m k) (less_of m k) =
     parted (first_order_of m k) (rest_order_of m k) (less_of m k) most in
-    subst (λ (i : List ℕ). AreParts (order_of m k) i rest less) (sym ef)
-    (subst (λ (i : List ℕ). AreParts (order_of m k) (first_order_of m k) i less) (sym et)
-    (subst (λ (i : ℕ). AreParts (order_of m k) (first_order_of m k) (rest_order_of m k) i) (sym el) all))
+    rw (ef, et, el) all

@@ -1,5 +1,6 @@
 -- Rows of slots, and the bytes in them.
-use Rattle.std.proofs.Common.{◌≡◌, ℕ, zero, suc, ◌+◌, ◌-◌, ◌*◌, ◌/◌, ◌%◌, ◌^◌, ◌<◌, ◌≤◌}
+use Rattle.std.proofs.lemmas.Bool.Decides.{nat_tests}
+use Rattle.std.proofs.Common.{◌≡◌, ℕ, zero, suc, ◌+◌, ◌*◌, ◌/◌, ◌%◌, ◌^◌, ◌<◌, ◌≤◌}
 use Rattle.std.proofs.Common.{List, [], ◌∷◌, ◌++◌, length, append_assoc, length-append, length-take}
 use Rattle.std.proofs.Common.{get_or, set, take, drop}
 use Rattle.std.proofs.Common.{replicate, refl, sym, ◌∙◌, ap, arith, subst}
@@ -30,8 +31,7 @@ row_at n (suc k) zero bytes l =
     ap (λ (i : ℕ). take n (drop i bytes)) e
 row_at n (suc k) (suc r) bytes l =
     let e : n + r * n ≡ suc r * n = omega arith in
-    row_at n k r (drop n bytes) (omega (arith, l)) ∙ ap (take n) (drop-drop (r * n) n bytes)
-    ∙ ap (λ (i : ℕ). take n (drop i bytes)) e
+    rw (row_at n k r (drop n bytes) (omega (arith, l)), drop-drop (r * n) n bytes, e)
 
 -- It has as many bytes as all rows.
 row_length : (n k r : ℕ) (bytes : List ℕ) → r < k → k * n ≤ length bytes →
@@ -46,14 +46,7 @@ row_length n k r bytes l room =
 -- Its bytes stand at their own places among all.
 row_byte : (n k x : ℕ) (bytes : List ℕ) → 0 < n → x / n < k →
     get_or (get_or (first_chunks n k bytes) (x / n) []) (x % n) 0 ≡ get_or bytes x 0
-row_byte n k x bytes some l =
-    let d = div-add-mod x n in
-    let t : n * (x / n) ≡ x / n * n = omega arith in
-    let e : x / n * n + x % n ≡ x = omega (arith, d, t) in
-    ap (λ (bs : List ℕ). get_or bs (x % n) 0) (row_at n k (x / n) bytes l)
-    ∙ get_or-take n (drop (x / n * n) bytes) (x % n) 0 (mod-lt x some)
-    ∙ get_or-drop (x / n * n) bytes (x % n) 0
-    ∙ ap (λ (i : ℕ). get_or bytes i 0) e
+row_byte n k x bytes some l = grind (arith, nat_tests, div-add-mod, row_at, get_or-take, mod-lt, get_or-drop)
 
 taken_small : (n : ℕ) (bytes : List ℕ) → ((i : ℕ) → get_or bytes i 0 < 256) → (i : ℕ) → get_or (take n bytes) i 0 < 256
 taken_small zero bytes small i = omega arith
@@ -65,9 +58,8 @@ taken_small (suc n) (b ∷ bytes) small (suc i) = taken_small n bytes (λ j. sma
 row_small : (n k r : ℕ) (bytes : List ℕ) → r < k → ((i : ℕ) → get_or bytes i 0 < 256) → (i : ℕ) →
     get_or (get_or (first_chunks n k bytes) r []) i 0 < 256
 row_small n k r bytes l small i =
-    subst (λ (bs : List ℕ). get_or bs i 0 < 256) (sym (row_at n k r bytes l))
-    (taken_small n (drop (r * n) bytes)
-    (λ j. subst (λ (b : ℕ). b < 256) (sym (get_or-drop (r * n) bytes j 0)) (small (r * n + j))) i)
+    rw (← row_at n k r bytes l) at (taken_small n (drop (r * n) bytes) (λ j. subst (λ (b : ℕ). b < 256) (sym
+    (get_or-drop (r * n) bytes j 0)) (small (r * n + j))) i)
 
 -- Where a byte is put, it is put into its row.
 byte_put : (n k r i b : ℕ) (bytes : List ℕ) → r < k → i < n →
@@ -90,14 +82,7 @@ byte_put n (suc k) (suc r) i b bytes l li =
 -- As many bytes stand where some were put.
 put_length : (a k : ℕ) (bytes news : List ℕ) → a + k ≤ length bytes → length news ≡ k →
     length (put_mid a k bytes news) ≡ length bytes
-put_length a k bytes news room count =
-    let p : length (take a bytes) ≡ a = simp length-take (omega arith) in
-    let q : length (drop k (drop a bytes)) ≡ length bytes - a - k = simp length-drop (omega arith) in
-    omega (
-      arith,
-      length-append (take a bytes) (news ++ drop k (drop a bytes)),
-      length-append news (drop k (drop a bytes)),
-    )
+put_length a k bytes news room count = grind (arith, nat_tests, length-take, length-drop, length-append)
 
 -- Where a row is put, it is put among the rows.
 row_put : (n k r : ℕ) (bytes news : List ℕ) → r < k → k * n ≤ length bytes → length news ≡ n →
@@ -128,11 +113,7 @@ row_put n (suc k) (suc r) bytes news l room count =
     rest = put_mid (r * n) n (drop n bytes) news
 
     parts : put_mid (n + r * n) n bytes news ≡ take n bytes ++ rest
-    parts =
-        ap (λ (bs : List ℕ). bs ++ (news ++ drop n (drop (n + r * n) bytes))) (take-add n (r * n) bytes)
-        ∙ append_assoc (take n bytes) (take (r * n) (drop n bytes)) (news ++ drop n (drop (n + r * n) bytes))
-        ∙ ap (λ (bs : List ℕ). take n bytes ++ (take (r * n) (drop n bytes) ++ (news ++ drop n bs)))
-        (sym (drop-drop (r * n) n bytes))
+    parts = grind (arith, nat_tests, news, take-add, append_assoc, drop-drop)
 
 zeros_taken : (n : ℕ) (bytes : List ℕ) → ((i : ℕ) → get_or bytes i 0 ≡ 0) → in_bytes (take n bytes) ≡ 0
 unfolding in_bytes
@@ -148,9 +129,7 @@ rows_light : (n k : ℕ) (bytes : List ℕ) → ((i : ℕ) → get_or bytes i 0 
     slot_numbers (first_chunks n k bytes) ≡ replicate k 0
 rows_light n zero bytes light = refl
 rows_light n (suc k) bytes light =
-    ap (λ (x : ℕ). x ∷ slot_numbers (first_chunks n k (drop n bytes))) (zeros_taken n bytes light)
-    ∙ ap (λ (xs : List ℕ). 0 ∷ xs)
-    (rows_light n k (drop n bytes) (λ i. get_or-drop n bytes i 0 ∙ light (n + i)))
+    rw (zeros_taken n bytes light, rows_light n k (drop n bytes) (λ i. get_or-drop n bytes i 0 ∙ light (n + i)))
 
 -- Slots without a codeword hold zeros.
 all_zeros : (n i : ℕ) → get_or (replicate {A = ℕ} n 0) i 0 ≡ 0
@@ -171,10 +150,7 @@ module _ (n : ℕ) (bytes : List ℕ) (some : 0 < n) where
   numbers = slot_numbers (slot_rows n bytes)
 
   whole : k * n ≤ length bytes
-  whole =
-      let d = div-add-mod (length bytes) n in
-      let t : n * k ≡ k * n = omega arith in
-      omega (arith, d, t)
+  whole = grind (arith, nat_tests, div-add-mod)
 
   inside : (r : ℕ) → r < k → r < length rows
   inside r l = let e = rows_count n k bytes in omega (arith, l, e)
@@ -197,9 +173,7 @@ module _ (n : ℕ) (bytes : List ℕ) (some : 0 < n) where
   pub row_written : (r : ℕ) (news : List ℕ) → r < k → length news ≡ n →
       slot_numbers (slot_rows n (put_mid (r * n) n bytes news)) ≡ set numbers r (in_bytes news)
   row_written r news l count =
-      ap (λ (i : ℕ). slot_numbers (first_chunks n (i / n) (put_mid (r * n) n bytes news))) same
-      ∙ ap slot_numbers (row_put n k r bytes news l whole count)
-      ∙ map-set in_bytes rows r news
+      rw (same, row_put n k r bytes news l whole count, map-set in_bytes rows r news)
     where
       same : length (put_mid (r * n) n bytes news) ≡ length bytes
       same =
@@ -218,9 +192,7 @@ module _ (n : ℕ) (bytes : List ℕ) (some : 0 < n) where
     -- A byte is that of its slot.
     pub slot_read : get_or bytes x 0 ≡ slot_byte n numbers x
     slot_read =
-        sym (row_byte n k x bytes some l)
-        ∙ sym (in_bytes_byte bs (x % n) (row_small n k r bytes l small))
-        ∙ ap (λ (i : ℕ). i / 2 ^ (8 * (x % n)) % 256) (row_read r l)
+        cc (row_byte n k x bytes some l, in_bytes_byte bs (x % n) (row_small n k r bytes l small), row_read r l)
 
     -- Where a byte is laid over one of the bytes, it is laid over its slot.
     pub slot_added : (y : ℕ) → y < 256 →
@@ -239,13 +211,8 @@ module _ (n : ℕ) (bytes : List ℕ) (some : 0 < n) where
         new = bit_or (get_or bytes x 0) y
 
         place : r * n + x % n ≡ x
-        place =
-            let d = div-add-mod x n in
-            let t : n * r ≡ r * n = omega arith in
-            omega (arith, d, t)
+        place = grind (arith, nat_tests, div-add-mod)
 
 -- Slots without a codeword are rows with the number 0.
 pub no_slots : (n count : ℕ) → slot_numbers (slot_rows n (replicate {A = ℕ} count 0)) ≡ replicate (count / n) 0
-no_slots n count =
-    ap (λ (i : ℕ). slot_numbers (first_chunks n (i / n) (replicate count 0))) (length-replicate count 0)
-    ∙ rows_light n (count / n) (replicate count 0) (all_zeros count)
+no_slots n count = grind (arith, nat_tests, length-replicate, rows_light, all_zeros)

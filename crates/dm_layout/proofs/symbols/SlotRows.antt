@@ -1,4 +1,5 @@
 -- The codewords of a row as the bytes of one number.
+use Rattle.std.proofs.lemmas.Bool.Decides.{nat_tests}
 use Rattle.std.proofs.Common.{◌≡◌, ◌≢◌, ◌⊎◌, inl, inr, ℕ, zero, suc, ◌+◌, ◌-◌, ◌*◌, ◌/◌, ◌%◌, ◌^◌, ◌<◌, ◌≤◌, Bool, true}
 use Rattle.std.proofs.Common.{false, ◌&&◌, ◌||◌, nat_eq, nat_le, nat_lt, List, [], ◌∷◌, length, get_or, set, refl, sym}
 use Rattle.std.proofs.Common.{◌∙◌, ap, arith, subst, below_more, get_or-set_same, get_or-set_other}
@@ -66,59 +67,36 @@ twice_test : list_all (λ x. nat_eq (reversed_bits (reversed_bits x)) x) (range_
 twice_test = refl
 
 pub reversed_twice : (x : ℕ) → x < 256 → reversed_bits (reversed_bits x) ≡ x
-reversed_twice x l =
-    eqb-true (reversed_bits (reversed_bits x)) x
-    (all_below (λ x. nat_eq (reversed_bits (reversed_bits x)) x) 256 x twice_test l)
+reversed_twice x l = grind (arith, nat_tests, eqb-true, all_below, twice_test)
 
 -- ---- three rows in one
 
 -- The smaller of two binary digits is 1 exactly if both are.
 min_one : (x y : ℕ) → x < 2 → y < 2 → nat_eq (min x y) 1 ≡ (nat_eq x 1 && nat_eq y 1)
-min_one zero zero lx ly = refl
-min_one zero (suc zero) lx ly = refl
-min_one (suc zero) zero lx ly = refl
-min_one (suc zero) (suc zero) lx ly = refl
-min_one (suc (suc x)) y lx ly = absurd (omega arith)
-min_one zero (suc (suc y)) lx ly = absurd (omega arith)
-min_one (suc zero) (suc (suc y)) lx ly = absurd (omega arith)
+min_one x y lx ly = grind (arith, nat_tests)
 
 -- A cell of a masked row is dark exactly if it is dark in the row and in the mask.
 pub and_dark : (a b c : ℕ) → is_dark_bit (bit_and a b) c ≡ (is_dark_bit a c && is_dark_bit b c)
 and_dark a b c =
     ap (λ (i : ℕ). nat_eq i 1) (bit_at_and a b c) ∙ min_one (bit_at a c) (bit_at b c) (bit_at-lt a c) (bit_at-lt b c)
 
--- A test of 128 columns, computed by the checker: the masks have the
--- lowest two and the lowest three bits of each byte.
-masks : list_all (λ c. beq (is_dark_bit LOW_TWO_BITS c) (nat_lt (c % 8) 2)
-    && beq (is_dark_bit LOW_THREE_BITS c) (nat_lt (c % 8) 3)) (range_with_len 0 128) ≡ true
-masks = refl
+-- Of so many columns, two masks have the lowest two and the lowest three bits of each byte.
+abbrev pub AreMasks : ℕ → ℕ → ℕ → Type 0
+AreMasks two three width =
+    (c : ℕ) → c < width → (is_dark_bit two c ≡ nat_lt (c % 8) 2) × (is_dark_bit three c ≡ nat_lt (c % 8) 3)
 
--- The masks of sixteen bytes have the lowest two and the lowest three bits of each byte.
-pub masks_at : (c : ℕ) → c < 128 → (is_dark_bit LOW_TWO_BITS c ≡ nat_lt (c % 8) 2)
-    × (is_dark_bit LOW_THREE_BITS c ≡ nat_lt (c % 8) 3)
-masks_at c l =
-    let both =
-    and_parts (beq (is_dark_bit LOW_TWO_BITS c) (nat_lt (c % 8) 2))
-    (beq (is_dark_bit LOW_THREE_BITS c) (nat_lt (c % 8) 3))
-    (all_below (λ c. beq (is_dark_bit LOW_TWO_BITS c) (nat_lt (c % 8) 2)
-    && beq (is_dark_bit LOW_THREE_BITS c) (nat_lt (c % 8) 3)) 128 c masks l) in
+-- Masks that pass a test of each column are so, as the checker computes of those of 128 and of 64 columns.
+masks_by : (two three width : ℕ) → list_all (λ c. beq (is_dark_bit two c) (nat_lt (c % 8) 2)
+    && beq (is_dark_bit three c) (nat_lt (c % 8) 3)) (range_with_len 0 width) ≡ true → AreMasks two three width
+masks_by two three width tested c l =
+    let both = and_parts _ _ (all_below _ width c tested l) in
     ((booleans_Decides _ _).0 both.0, (booleans_Decides _ _).0 both.1)
 
--- A test of 64 columns, computed by the checker: the masks have the
--- lowest two and the lowest three bits of each byte.
-narrow_masks : list_all (λ c. beq (is_dark_bit NARROW_LOW_TWO_BITS c) (nat_lt (c % 8) 2)
-    && beq (is_dark_bit NARROW_LOW_THREE_BITS c) (nat_lt (c % 8) 3)) (range_with_len 0 64) ≡ true
-narrow_masks = refl
+pub masks_at : AreMasks LOW_TWO_BITS LOW_THREE_BITS 128
+masks_at = masks_by LOW_TWO_BITS LOW_THREE_BITS 128 refl
 
-pub narrow_masks_at : (c : ℕ) → c < 64 → (is_dark_bit NARROW_LOW_TWO_BITS c ≡ nat_lt (c % 8) 2)
-    × (is_dark_bit NARROW_LOW_THREE_BITS c ≡ nat_lt (c % 8) 3)
-narrow_masks_at c l =
-    let both =
-    and_parts (beq (is_dark_bit NARROW_LOW_TWO_BITS c) (nat_lt (c % 8) 2))
-    (beq (is_dark_bit NARROW_LOW_THREE_BITS c) (nat_lt (c % 8) 3))
-    (all_below (λ c. beq (is_dark_bit NARROW_LOW_TWO_BITS c) (nat_lt (c % 8) 2)
-    && beq (is_dark_bit NARROW_LOW_THREE_BITS c) (nat_lt (c % 8) 3)) 64 c narrow_masks l) in
-    ((booleans_Decides _ _).0 both.0, (booleans_Decides _ _).0 both.1)
+pub narrow_masks_at : AreMasks NARROW_LOW_TWO_BITS NARROW_LOW_THREE_BITS 64
+narrow_masks_at = masks_by NARROW_LOW_TWO_BITS NARROW_LOW_THREE_BITS 64 refl
 
 -- A masked row, moved to the left, is dark where the row is at the lowest three bits of a byte.
 pub masked_up : (width mask count b s c : ℕ) → ((i : ℕ) → i < width → is_dark_bit mask i ≡ nat_lt (i % 8) count) →
@@ -137,67 +115,25 @@ masked_up width mask count b s c masked l = low_bit (x * 2 ^ s) width c l ∙ by
         (sym (lt-leb s c h))
     by_column (inr h) =
         let e : c ≡ s + (c - s) = omega arith in
-        ap (is_dark_bit (x * 2 ^ s)) e ∙ bit_up x s (c - s) ∙ and_dark b mask (c - s)
-        ∙ ap (λ (t : Bool). is_dark_bit b (c - s) && t) (masked (c - s) (omega arith))
-        ∙ ap (λ (t : Bool). t && (is_dark_bit b (c - s) && nat_lt ((c - s) % 8) count)) (sym (le-leb s c h))
+        cc (e, bit_up x s (c - s), and_dark b mask (c - s), masked (c - s) (omega arith), le-leb s c h)
 
 -- What follows is about numbers of some width, with masks of the lowest two and of the lowest three bits of each byte.
-module _ (width two three : ℕ) (masked : (c : ℕ) → c < width →
-    (is_dark_bit two c ≡ nat_lt (c % 8) 2) × (is_dark_bit three c ≡ nat_lt (c % 8) 3)) where
+module _ (width two three : ℕ) (masked : AreMasks two three width) where
   -- Three masked rows, each moved to its place in the bytes, are joined in one.
   pub joined_in : (a b d c : ℕ) → c < width → is_dark_bit
       (bit_or (bit_or (bit_and a two) (bit_and b three * 4 % 2 ^ width)) (bit_and d three * 32 % 2 ^ width)) c ≡
       is_joined a b d c
-  joined_in a b d c l =
-      or_dark (bit_or (bit_and a two) (bit_and b three * 4 % 2 ^ width)) (bit_and d three * 32 % 2 ^ width) c
-      ∙ ap (λ (t : Bool). t || is_dark_bit (bit_and d three * 32 % 2 ^ width) c)
-      (or_dark (bit_and a two) (bit_and b three * 4 % 2 ^ width) c)
-      ∙ ap (λ (t : Bool). (t || is_dark_bit (bit_and b three * 4 % 2 ^ width) c)
-      || is_dark_bit (bit_and d three * 32 % 2 ^ width) c)
-      (and_dark a two c ∙ ap (λ (t : Bool). is_dark_bit a c && t) (masked c l).0)
-      ∙ ap (λ (t : Bool). ((is_dark_bit a c && nat_lt (c % 8) 2) || t)
-      || is_dark_bit (bit_and d three * 32 % 2 ^ width) c) (masked_up width three 3 b 2 c (λ i h. (masked i h).1) l)
-      ∙ ap (λ (t : Bool). ((is_dark_bit a c && nat_lt (c % 8) 2)
-      || (nat_le 2 c && (is_dark_bit b (c - 2) && nat_lt ((c - 2) % 8) 3))) || t)
-      (masked_up width three 3 d 5 c (λ i h. (masked i h).1) l)
-
--- Three masked rows of 128 bits, each moved to its place in the bytes, are joined in one.
-pub joined_bit : (a b d c : ℕ) → c < 128 →
-    is_dark_bit (bit_or (bit_or (bit_and a LOW_TWO_BITS) (bit_and b LOW_THREE_BITS * 4 % 2 ^ 128))
-    (bit_and d LOW_THREE_BITS * 32 % 2 ^ 128)) c ≡ is_joined a b d c
-joined_bit = joined_in 128 LOW_TWO_BITS LOW_THREE_BITS masks_at
-
--- Three masked rows of 64 bits, each moved to its place in the bytes, are joined in one.
-pub narrow_joined_bit : (a b d c : ℕ) → c < 64 →
-    is_dark_bit (bit_or (bit_or (bit_and a NARROW_LOW_TWO_BITS) (bit_and b NARROW_LOW_THREE_BITS * 4 % 2 ^ 64))
-    (bit_and d NARROW_LOW_THREE_BITS * 32 % 2 ^ 64)) c ≡ is_joined a b d c
-narrow_joined_bit = joined_in 64 NARROW_LOW_TWO_BITS NARROW_LOW_THREE_BITS narrow_masks_at
+  joined_in a b d c l = grind (arith, nat_tests, or_dark, bit_and, three, width, and_dark, masked, masked_up)
 
 -- ---- the bytes of a row
 
 -- A part that doesn't reach a bit adds nothing to it.
 other_row : (x : Bool) (c s : ℕ) → (s ≤ c → 3 ≤ (c - s) % 8) → (nat_le s c && (x && nat_lt ((c - s) % 8) 3)) ≡ false
-other_row x c s far = by_column (cases_lt c s)
-  where
-    nothing : (a b : Bool) → (a && (b && false)) ≡ false
-    nothing true true = refl
-    nothing true false = refl
-    nothing false b = refl
-
-    by_column : (c < s) ⊎ (s ≤ c) → (nat_le s c && (x && nat_lt ((c - s) % 8) 3)) ≡ false
-    by_column (inl h) = ap (λ (t : Bool). t && (x && nat_lt ((c - s) % 8) 3)) (lt-leb s c h)
-    by_column (inr h) =
-        ap (λ (t : Bool). nat_le s c && (x && t)) (le-ltb ((c - s) % 8) 3 (far h)) ∙ nothing (nat_le s c) x
+other_row x c s far = grind (arith, nat_tests, cases_lt, nat_tests, lt-leb, le-ltb)
 
 -- The part that reaches a bit gives it its own.
 this_row : (x : Bool) (c s : ℕ) → s ≤ c → (c - s) % 8 < 3 → (nat_le s c && (x && nat_lt ((c - s) % 8) 3)) ≡ x
-this_row x c s h l =
-    ap (λ (t : Bool). t && (x && nat_lt ((c - s) % 8) 3)) (le-leb s c h)
-    ∙ ap (λ (t : Bool). x && t) (lt-ltb ((c - s) % 8) 3 l) ∙ alone x
-  where
-    alone : (a : Bool) → (a && true) ≡ a
-    alone true = refl
-    alone false = refl
+this_row x c s h l = grind (arith, nat_tests, le-leb, lt-ltb)
 
 -- Of three parts, the two that are false add nothing to the first.
 only_first : (x a b : Bool) → a ≡ false → b ≡ false → (((x && true) || a) || b) ≡ x
@@ -212,11 +148,7 @@ only_third x y a b e f g = ap (λ (t : Bool). (t || b) || y) e ∙ ap (λ (t : B
 
 -- Where the test of a bit's place fails there is no bit.
 masked_off : (x : Bool) (c : ℕ) → 2 ≤ c % 8 → (x && nat_lt (c % 8) 2) ≡ false
-masked_off x c l = ap (λ (t : Bool). x && t) (le-ltb (c % 8) 2 l) ∙ nothing x
-  where
-    nothing : (a : Bool) → (a && false) ≡ false
-    nothing true = refl
-    nothing false = refl
+masked_off x c l = grind (arith, nat_tests, le-ltb)
 
 -- The bytes of three rows that are joined in one are the codewords of the anchors of a row.
 pub are_joined : (n width : ℕ) (rows : List ℕ) (r x : ℕ) → n + 8 ≤ width →
@@ -284,9 +216,7 @@ pub corner_slot_is : (bytes most : ℕ) (rows : List ℕ) → 0 < bytes →
     slot_byte bytes rows (bytes * most) ≡ get_or rows most 0 % 256
 corner_slot_is bytes most rows some =
     let one : get_or rows most 0 / 1 ≡ get_or rows most 0 = omega arith in
-    ap (λ (i : ℕ). get_or rows i 0 / 2 ^ (8 * (bytes * most % bytes)) % 256) (mul-div_cancel_left most some)
-    ∙ ap (λ (i : ℕ). get_or rows most 0 / 2 ^ (8 * i) % 256) (mul-mod_right bytes most)
-    ∙ ap (λ (x : ℕ). x % 256) one
+    rw (mul-div_cancel_left, mul-mod_right, one)
 
 -- What is joined for so many columns is so for fewer.
 fewer_joined : (C D : ℕ) (rows : List ℕ) (r x : ℕ) → C ≤ D → IsJoined D rows r x → IsJoined C rows r x
@@ -313,8 +243,7 @@ corner_beside bytes most R C rows joined news b w some within fewer room light i
       anchors = λ r l.
           let ne : r ≢ most = omega (arith, l, within) in
           fewer_joined C most rows r (get_or news r 0) fewer
-          (subst (λ (x : ℕ). IsJoined most rows r x) (sym (ap (λ (xs : List ℕ). get_or xs r 0) put
-          ∙ get_or-set_other joined most r b 0 ne)) (anchors r l));
+          (subst (λ (x : ℕ). IsJoined most rows r x) (sym (rw (put, get_or-set_other))) (anchors r l));
       corner1 = λ h k. corner ∙ first h k;
       corner2 = λ h k. corner ∙ second h k;
       corner3 = λ h k. corner ∙ third h k;
@@ -330,17 +259,9 @@ corner_beside bytes most R C rows joined news b w some within fewer room light i
     put : news ≡ set joined most b
     put =
         let one : b * 2 ^ 0 ≡ b = omega arith in
-        is
-        ∙ ap (λ (k : ℕ). set joined k (bit_or (get_or joined k 0) (b * 2 ^ (8 * (bytes * most % bytes))))) row
-        ∙ ap (λ (k : ℕ). set joined most (bit_or (get_or joined most 0) (b * 2 ^ (8 * k)))) place
-        ∙ ap (λ (x : ℕ). set joined most (bit_or x (b * 2 ^ 0))) light
-        ∙ ap (λ (x : ℕ). set joined most (bit_or 0 x)) one
-        ∙ ap (λ (x : ℕ). set joined most x) (or_zero_l b)
+        rw (is, row, place, light, one, or_zero_l)
 
     corner : reversed_bits (get_or news most 0 % 256) ≡ w
     corner =
         let z : b % 256 ≡ b = omega (arith, fits) in
-        ap (λ (xs : List ℕ). reversed_bits (get_or xs most 0 % 256)) put
-        ∙ ap (λ (x : ℕ). reversed_bits (x % 256)) (get_or-set_same joined most b 0 room)
-        ∙ ap reversed_bits (z ∙ e)
-        ∙ reversed_twice w small
+        rw (put, get_or-set_same, z, e, reversed_twice)

@@ -1,13 +1,15 @@
 -- The smallest size that is large enough.
+use Rattle.std.proofs.lemmas.Bool.Decides.{nat_tests}
 use Rattle.std.proofs.Common.{◌≡◌, ℕ, ◌<◌, ◌≤◌, Bool, true, false, cond, not, ◌&&◌, ◌||◌, nat_eq, nat_le, List, [], ◌∷◌}
-use Rattle.std.proofs.Common.{Option, Some, None, refl, sym, ◌∙◌, ap, subst, arith, eq-eqb}
+use Rattle.std.proofs.Common.{Option, Some, None, refl, sym, ◌∙◌, ap, arith, eq-eqb}
 use Rattle.std.specs.Prelude.{All, IfSome, IfNone, find}
 use Rattle.std.specs.List.{AllByRecursion, list_all}
 use Rattle.std.proofs.lemmas.Bool.{and_parts, leb-true, leb-false, le-leb}
-use Rattle.std.proofs.lemmas.List.Elements.{All-from_recursion}
+use Rattle.std.proofs.lemmas.List.Elements.{All-from_recursion, recursion_from_All}
+use Rattle.std.proofs.lemmas.List.Sums.{AllPass-from_list_all}
 use Rattle.dm_layout.specs.declared.symbols.size.SizeChoice.{SizeChoice}
 use Rattle.dm_layout.specs.symbols.Sizes.{SizeEntry, size_table, takes, entry_for, area}
-use Rattle.dm_layout.proofs.symbols.TableEntries.{found_passes}
+use Rattle.dm_layout.proofs.symbols.TableEntries.{found_none, found_passes}
 
 -- A size is at most as large as another: it has fewer modules, or as many and at most as many columns.
 pub record NoLarger (size other : SizeEntry) : Type 0 where
@@ -28,83 +30,58 @@ no_larger size other h =
     record {
       fewer = leb-true _ _ both.0;
       narrower =
-          λ e. leb-true _ _ (sym (ap (λ t. not t || nat_le size.columns other.columns)
-          (eq-eqb (area size) (area other) e)) ∙ both.1);
+          λ e. leb-true _ _ (cc (eq-eqb (area size) (area other) e, both.1));
     }
 
--- Each of these sizes is no larger than those behind it.
-abbrev Rises : List SizeEntry → Type 0
-Rises [] = Unit {0}
-Rises (r ∷ sizes) = AllByRecursion (λ (s : SizeEntry). NoLarger r s) sizes × Rises sizes
+-- Each of these items is related to those behind it.
+abbrev pub Rises : {X : Type 0} → (X → X → Type 0) → List X → Type 0
+Rises R [] = Unit {0}
+Rises R (r ∷ items) = AllByRecursion (R r) items × Rises R items
 
--- The test of it.
-abbrev rises : List SizeEntry → Bool
-rises [] = true
-rises (r ∷ sizes) = list_all (is_no_larger r) sizes && rises sizes
-
--- Sizes that pass the test rise.
-rises_test : (sizes : List SizeEntry) → rises sizes ≡ true → Rises sizes
-rises_test [] h = tt
-rises_test (r ∷ sizes) h =
-    let b = and_parts (list_all (is_no_larger r) sizes) (rises sizes) h in
-    (bounded r sizes b.0, rises_test sizes b.1)
-  where
-    bounded : (r : SizeEntry) (sizes : List SizeEntry) → list_all (is_no_larger r) sizes ≡ true →
-        AllByRecursion (λ (s : SizeEntry). NoLarger r s) sizes
-    bounded r [] h = tt
-    bounded r (s ∷ rest) h =
-        let b = and_parts (is_no_larger r s) (list_all (is_no_larger r) rest) h in
-        (no_larger r s b.0, bounded r rest b.1)
-
--- The sizes of the table rise.
-table_rises : Rises size_table
-unfolding size_table
-table_rises = rises_test size_table refl
-
--- The first size that passes a test is no larger than any other that does.
-found_first : (p : SizeEntry → Bool) (sizes : List SizeEntry) (size : SizeEntry) → Rises sizes →
-    find p sizes ≡ Some size →
-    AllByRecursion (λ (other : SizeEntry). p other ≡ true → NoLarger size other) sizes
-found_first p [] size h e = tt
-found_first p (r ∷ sizes) size h e = first_case (p r) refl e (found_first p sizes size h.1)
-  where
-    weaker : (rest : List SizeEntry) → AllByRecursion (λ (s : SizeEntry). NoLarger r s) rest → r ≡ size →
-        AllByRecursion (λ (other : SizeEntry). p other ≡ true → NoLarger size other) rest
-    weaker [] h e = tt
-    weaker (s ∷ rest) h e = ((λ _. subst (λ (q : SizeEntry). NoLarger q s) e h.0), weaker rest h.1 e)
-
-    differ : (b : Bool) → b ≡ false → b ≡ true → NoLarger size r
-    differ b x y = cc
-
-    first_case : (b : Bool) → p r ≡ b → cond b (Some r) (find p sizes) ≡ Some size →
-        (find p sizes ≡ Some size → AllByRecursion (λ (other : SizeEntry). p other ≡ true →
-        NoLarger size other) sizes) →
-        AllByRecursion (λ (other : SizeEntry). p other ≡ true → NoLarger size other) (r ∷ sizes)
-    first_case true t e later =
-        let g : r ≡ size = cc in (
-          (λ _.
-              subst (λ (q : SizeEntry). NoLarger q r) g (record { fewer = omega arith; narrower = λ _. omega arith })),
-          weaker sizes h.0 g,
-        )
-    first_case false t e later = (differ (p r) t, later e)
-
--- Where no size passes a test, each fails it.
-found_none : (p : SizeEntry → Bool) (sizes : List SizeEntry) → find p sizes ≡ None →
-    AllByRecursion (λ (other : SizeEntry). p other ≡ true → ⊥) sizes
-found_none p [] e = tt
-found_none p (r ∷ sizes) e = none_case (p r) refl e (found_none p sizes)
-  where
-    none_case : (b : Bool) → p r ≡ b → cond b (Some r) (find p sizes) ≡ None →
-        (find p sizes ≡ None → AllByRecursion (λ (other : SizeEntry). p other ≡ true → ⊥) sizes) →
-        AllByRecursion (λ (other : SizeEntry). p other ≡ true → ⊥) (r ∷ sizes)
-    none_case true t e later = cc
-    none_case false t e later = ((λ h. let g : false ≡ true = sym t ∙ h in cc), later e)
+-- The test of it, by a test of the relation.
+abbrev pub rises : {X : Type 0} → (X → X → Bool) → List X → Bool
+rises test [] = true
+rises test (r ∷ items) = list_all (test r) items && rises test items
 
 -- What is so for each item of a list is so for each in a weaker form.
-weaker_all : (P Q : SizeEntry → Type 0) → ((s : SizeEntry) → P s → Q s) → (sizes : List SizeEntry) →
-    AllByRecursion P sizes → AllByRecursion Q sizes
+pub weaker_all : {X : Type 0} (P Q : X → Type 0) → ((s : X) → P s → Q s) → (items : List X) → AllByRecursion P items →
+    AllByRecursion Q items
 weaker_all P Q f [] h = tt
-weaker_all P Q f (s ∷ sizes) h = (f s h.0, weaker_all P Q f sizes h.1)
+weaker_all P Q f (s ∷ items) h = (f s h.0, weaker_all P Q f items h.1)
+
+-- Items that pass the test rise.
+pub rises_test : {X : Type 0} (R : X → X → Type 0) (test : X → X → Bool) →
+    ((r s : X) → test r s ≡ true → R r s) → (items : List X) → rises test items ≡ true → Rises R items
+rises_test R test told [] h = tt
+rises_test R test told (r ∷ items) h =
+    let b = and_parts (list_all (test r) items) (rises test items) h in (
+      weaker_all (λ s. test r s ≡ true) (R r) (told r) items
+          (recursion_from_All _ items (AllPass-from_list_all (test r) items b.0)),
+      rises_test R test told items b.1,
+    )
+
+-- The sizes of the table rise.
+table_rises : Rises NoLarger size_table
+unfolding size_table
+table_rises = rises_test NoLarger is_no_larger no_larger size_table refl
+
+-- The first item that passes a test is related to any other that does.
+pub found_first : {X : Type 0} (R : X → X → Type 0) → ((r : X) → R r r) → (p : X → Bool) (items : List X) (x : X) →
+    Rises R items → find p items ≡ Some x → AllByRecursion (λ other. p other ≡ true → R x other) items
+found_first R itself p [] x h e = tt
+found_first R itself p (r ∷ items) x h e = first_case (p r) refl e (found_first R itself p items x h.1)
+  where
+    differ : (b : Bool) → b ≡ false → b ≡ true → R x r
+    differ b u v = cc
+
+    first_case : (b : Bool) → p r ≡ b → cond b (Some r) (find p items) ≡ Some x →
+        (find p items ≡ Some x → AllByRecursion (λ other. p other ≡ true → R x other) items) →
+        AllByRecursion (λ other. p other ≡ true → R x other) (r ∷ items)
+    first_case y t e later = grind (arith, nat_tests, itself, weaker_all, differ)
+
+-- A size is no larger than itself.
+no_larger_itself : (size : SizeEntry) → NoLarger size size
+no_larger_itself size = record { fewer = omega arith; narrower = λ _. omega arith }
 
 -- A size that the choice takes and that has enough data codewords passes the test of both.
 passes_both : (choice : SizeChoice) (count : ℕ) (other : SizeEntry) → takes choice other ≡ true →
@@ -136,7 +113,8 @@ smallest choice count (Some size) e =
     area size ≤ area other) size_table
     (weaker_all (λ other. (takes choice other && nat_le count other.data_count) ≡ true →
     NoLarger size other) _ (λ other f t l. (f (passes_both choice count other t l)).fewer) size_table
-    (found_first (λ size. takes choice size && nat_le count size.data_count) size_table size table_rises (sym e)))
+    (found_first NoLarger no_larger_itself (λ size. takes choice size && nat_le count size.data_count) size_table size
+    table_rises (sym e)))
 
 -- No other such size with as many modules has fewer columns.
 pub narrowest : (choice : SizeChoice) (count : ℕ) (o : Option SizeEntry) → o ≡ entry_for choice count →
@@ -148,7 +126,8 @@ narrowest choice count (Some size) e =
     size.columns ≤ other.columns) size_table
     (weaker_all (λ other. (takes choice other && nat_le count other.data_count) ≡ true →
     NoLarger size other) _ (λ other f t l. (f (passes_both choice count other t l)).narrower) size_table
-    (found_first (λ size. takes choice size && nat_le count size.data_count) size_table size table_rises (sym e)))
+    (found_first NoLarger no_larger_itself (λ size. takes choice size && nat_le count size.data_count) size_table size
+    table_rises (sym e)))
 
 -- Where there is none, all sizes that the choice takes have too few data codewords.
 pub none_enough : (choice : SizeChoice) (count : ℕ) (o : Option SizeEntry) → o ≡ entry_for choice count →
@@ -156,12 +135,6 @@ pub none_enough : (choice : SizeChoice) (count : ℕ) (o : Option SizeEntry) →
 none_enough choice count (Some size) e = tt
 none_enough choice count None e =
     All-from_recursion (λ other. takes choice other ≡ true → other.data_count < count) size_table
-    (weaker_all (λ other. (takes choice other && nat_le count other.data_count) ≡ true →
-    ⊥) _ (λ other f t. too_few other (nat_le count other.data_count) refl
-    (λ l. f (passes_both choice count other t l))) size_table
+    (weaker_all (λ other. (takes choice other && nat_le count other.data_count) ≡ false) _
+    (λ other f t. leb-false _ _ (sym (ap (λ b. b && nat_le count other.data_count) t) ∙ f)) size_table
     (found_none (λ size. takes choice size && nat_le count size.data_count) size_table (sym e)))
-  where
-    too_few : (other : SizeEntry) (b : Bool) → nat_le count other.data_count ≡ b → (count ≤ other.data_count → ⊥) →
-        other.data_count < count
-    too_few other true t f = absurd (f (leb-true _ _ t))
-    too_few other false t f = leb-false _ _ t

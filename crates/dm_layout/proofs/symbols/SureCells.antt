@@ -1,8 +1,9 @@
 -- Border modules of the wrong colour that aren't doubtful, counted as bits.
+use Rattle.std.proofs.lemmas.Bool.Decides.{nat_tests}
 use Rattle.std.proofs.Common.{◌≡◌, ◌⊎◌, inl, inr, ℕ, zero, suc, ◌+◌, ◌-◌, ◌*◌, ◌%◌, ◌^◌, ◌<◌, ◌≤◌, Bool, true, false}
 use Rattle.std.proofs.Common.{not, ◌&&◌, nat_eq, refl, sym, ◌∙◌, ap, subst, Option, arith}
-use Rattle.std.proofs.Common.{◌/◌, ◌++◌, Some, None}
-use Rattle.std.specs.Prelude.{count_by, count_ones, min, sum_by, IfSome}
+use Rattle.std.proofs.Common.{◌/◌, Some, None}
+use Rattle.std.specs.Prelude.{count_by, count_ones, min, IfSome}
 use Rattle.std.specs.Bool.{beq}
 use Rattle.std.specs.Int.{bit_at, bit_not, w128}
 use Rattle.std.specs.Int.RustNames.{bit_xor}
@@ -29,25 +30,12 @@ use Rattle.dm_layout.proofs.symbols.KeptRows.{whole_end, whole_first}
 -- is 1 exactly where the third is 1 and the two differ.
 differ : (x y m : ℕ) → x < 2 → y < 2 → m < 2 → nat_eq (min ((x + y) % 2) m) 1 ≡ nat_eq m 1
     && not (beq (nat_eq x 1) (nat_eq y 1))
-differ zero zero zero a b c = refl
-differ zero zero (suc zero) a b c = refl
-differ zero (suc zero) zero a b c = refl
-differ zero (suc zero) (suc zero) a b c = refl
-differ (suc zero) zero zero a b c = refl
-differ (suc zero) zero (suc zero) a b c = refl
-differ (suc zero) (suc zero) zero a b c = refl
-differ (suc zero) (suc zero) (suc zero) a b c = refl
-differ (suc (suc x)) y m a b c = absurd (omega arith)
-differ x (suc (suc y)) m a b c = absurd (omega arith)
-differ x y (suc (suc m)) a b c = absurd (omega arith)
+differ x y m a b c = grind (arith, nat_tests)
 
 -- The masked difference of two rows is 1 exactly at the columns of the mask where the rows differ.
 wrong_cell : (row dark mask c : ℕ) → is_dark_bit (bit_and (bit_xor row dark) mask) c ≡ is_dark_bit mask c
     && not (beq (is_dark_bit row c) (is_dark_bit dark c))
-wrong_cell row dark mask c =
-    ap (λ (i : ℕ). nat_eq i 1) (bit_at_and (bit_xor row dark) mask c
-    ∙ ap (λ (i : ℕ). min i (bit_at mask c)) (bit_at_xor row dark c))
-    ∙ differ (bit_at row c) (bit_at dark c) (bit_at mask c) (bit_at-lt row c) (bit_at-lt dark c) (bit_at-lt mask c)
+wrong_cell row dark mask c = grind (arith, nat_tests, bit_at_and, min, bit_at_xor, differ, bit_at-lt)
 
 -- Whether a border cell is wrong depends on the row of colours at border cells alone.
 masked : (border there dark : Bool) → border && not (beq there (border && dark)) ≡ border && not (beq there dark)
@@ -57,12 +45,7 @@ masked false there dark = refl
 -- Of two binary digits, the first masked by the opposite of the second is 1 exactly where the first is 1 and the second
 -- isn't.
 masked_out : (x y : ℕ) → x < 2 → y < 2 → nat_eq (min x (1 - y)) 1 ≡ nat_eq x 1 && not (nat_eq y 1)
-masked_out zero zero a b = refl
-masked_out zero (suc zero) a b = refl
-masked_out (suc zero) zero a b = refl
-masked_out (suc zero) (suc zero) a b = refl
-masked_out (suc (suc x)) y a b = absurd (omega arith)
-masked_out x (suc (suc y)) a b = absurd (omega arith)
+masked_out x y a b = grind (arith, nat_tests)
 
 -- Where the dark cells of a second row are left out of a row, a cell is dark if it was and isn't dark in the second.
 but_cell : (row doubtful c : ℕ) → doubtful < 2 ^ 128 → c < 128 →
@@ -74,10 +57,7 @@ but_cell row doubtful c low l =
 
 -- The sure wrong modules of a part of a row are some of the mask.
 pub sure_few : (row dark mask doubtful : ℕ) → sure_part row dark mask doubtful ≤ mask
-sure_few row dark mask doubtful =
-    let a = and_le_l (bit_and (bit_xor row dark) mask) (bit_not w128 doubtful) in
-    let b = and_le_r (bit_xor row dark) mask in
-    omega (arith, a, b)
+sure_few row dark mask doubtful = grind (arith, nat_tests, and_le_l, bit_and, and_le_r)
 
 -- A cell of them is a border fault of which there is no doubt.
 sure_cell : (m : SymbolView) (D : Option SymbolView) (r q row dark mask doubtful c : ℕ) → doubtful < 2 ^ 128 →
@@ -86,15 +66,7 @@ sure_cell : (m : SymbolView) (D : Option SymbolView) (r q row dark mask doubtful
     →
     is_dark_bit (sure_part row dark mask doubtful) c ≡ is_sure_fault m D r q
 sure_cell m D r q row dark mask doubtful c low l here doubt border colour =
-    but_cell (bit_and (bit_xor row dark) mask) doubtful c low l
-    ∙ ap (λ (b : Bool). b && not (is_dark_bit doubtful c))
-    (wrong_cell row dark mask c
-    ∙ ap (λ (b : Bool). b && not (beq (is_dark_bit row c) (is_dark_bit dark c))) border
-    ∙ ap (λ (b : Bool). is_border m.size r q && not (beq (is_dark_bit row c) b)) colour
-    ∙ masked (is_border m.size r q) (is_dark_bit row c) (border_is_dark m.size r q)
-    ∙ ap (λ (b : Bool). is_border m.size r q && not (beq b (border_is_dark m.size r q))) here)
-    ∙ ap (λ (b : Bool). (is_border m.size r q && not (beq (module_at m r q) (border_is_dark m.size r q))) && not b)
-    doubt
+    rw (but_cell, wrong_cell, border, colour, masked, here, doubt)
 
 -- A row of a symbol, its first 128 modules and those behind them, with their border colours, the mask of its borders,
 -- and the doubtful modules.
@@ -195,10 +167,7 @@ module _ (m : SymbolView) (r inner x : ℕ) (s : SizeEntry) (es : s ≡ m.size)
       is_dark_bit x c ≡ is_on_edge s.region_rows s.region_columns inner (c % (s.region_columns + 2))) →
       (c : ℕ) → c < m.size.columns → is_dark_bit x c ≡ is_border m.size r c
   border_by cells =
-      subst (λ (i : ℕ). (c : ℕ) → c < m.size.columns →
-      is_dark_bit x c ≡ is_on_edge m.size.region_rows m.size.region_columns i (c % (m.size.region_columns + 2))) ei
-      (subst (λ (t : SizeEntry). (c : ℕ) → c < t.columns →
-      is_dark_bit x c ≡ is_on_edge t.region_rows t.region_columns inner (c % (t.region_columns + 2))) es cells)
+      rw (es, ei) at cells
 
   -- So are those that are to be dark.
   pub colours_by : ((c : ℕ) → c < s.columns →
@@ -206,12 +175,7 @@ module _ (m : SymbolView) (r inner x : ℕ) (s : SizeEntry) (es : s ≡ m.size)
       && edge_is_dark s.region_rows inner (c % (s.region_columns + 2)))) →
       (c : ℕ) → c < m.size.columns → is_dark_bit x c ≡ (is_border m.size r c && border_is_dark m.size r c)
   colours_by cells =
-      subst (λ (i : ℕ). (c : ℕ) → c < m.size.columns →
-      is_dark_bit x c ≡ (is_on_edge m.size.region_rows m.size.region_columns i (c % (m.size.region_columns + 2))
-      && edge_is_dark m.size.region_rows i (c % (m.size.region_columns + 2)))) ei
-      (subst (λ (t : SizeEntry). (c : ℕ) → c < t.columns →
-      is_dark_bit x c ≡ (is_on_edge t.region_rows t.region_columns inner (c % (t.region_columns + 2))
-      && edge_is_dark t.region_rows inner (c % (t.region_columns + 2)))) es cells)
+      rw (es, ei) at cells
 
 -- A column of a symbol is one of the doubtful modules, if these are of its size.
 pub some_wide : (o : Option SymbolView) (size : SizeEntry) (c : ℕ) → IfSome o (λ d. d.size ≡ size) →
@@ -225,18 +189,12 @@ some_wide (Some d) size c h l = subst (λ (s : SizeEntry). c < s.columns) (sym h
 pub faults_more : (m : SymbolView) (D : Option SymbolView) (first rows : ℕ) →
     sure_faults_in m D first (rows + 1) ≡
     sure_faults_in m D first rows + count_by (is_sure_fault m D (first + rows)) (range_with_len 0 m.size.columns)
-faults_more m D first rows =
-    let f : ℕ → ℕ = λ r. count_by (is_sure_fault m D r) (range_with_len 0 m.size.columns) in
-    ap (sum_by f) (range-append first rows 1) ∙ sum_by_push f (range_with_len first rows) (first + rows)
+faults_more m D first rows = grind (arith, nat_tests, range-append, sum_by_push)
 
 -- Those above some rows, and those in these rows, are those above the row behind them.
 pub faults_joined : (m : SymbolView) (D : Option SymbolView) (first rows : ℕ) →
     sure_faults_in m D 0 (first + rows) ≡ sure_faults_in m D 0 first + sure_faults_in m D first rows
-faults_joined m D first rows =
-    let f : ℕ → ℕ = λ r. count_by (is_sure_fault m D r) (range_with_len 0 m.size.columns) in
-    let z : 0 + first ≡ first = omega arith in
-    ap (sum_by f) (range-append 0 first rows ∙ ap (λ k. range_with_len 0 first ++ range_with_len k rows) z)
-    ∙ sum_by-append f (range_with_len 0 first) (range_with_len first rows)
+faults_joined m D first rows = grind (arith, nat_tests, range-append, sum_by-append)
 
 -- A row of a row of regions has its place in it, if that begins with a whole region.
 pub row_inside : (s first inner : ℕ) → first % s ≡ 0 → inner < s → inner ≡ (first + inner) % s

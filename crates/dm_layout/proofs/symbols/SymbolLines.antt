@@ -1,4 +1,5 @@
 -- Rows and columns of the mapping matrix in the symbol: lines of k regions of d lines each.
+use Rattle.std.proofs.lemmas.Bool.Decides.{nat_tests}
 use Rattle.std.proofs.Common.{◌≡◌, ◌≢◌, ℕ, ◌+◌, ◌-◌, ◌*◌, ◌/◌, ◌%◌, ◌<◌, ◌≤◌, Bool, true, false, nat_eq, nat_lt, refl}
 use Rattle.std.proofs.Common.{sym, ◌∙◌, ap, subst, arith}
 use Rattle.std.proofs.lemmas.Bool.{or_parts, eqb-false, ne_eqb, ltb-true, ltb-false}
@@ -17,17 +18,11 @@ symbol_line-form d r h = let p : 0 < d = omega arith in omega arith
 
 -- A line of the mapping matrix has, in its region with its border, a place one further than in its region.
 pub symbol_line-mod : (d r : ℕ) → 6 ≤ d → symbol_line d r % (d + 2) ≡ r % d + 1
-symbol_line-mod d r h =
-    let p : 0 < d = omega arith in
-    let l : r % d + 1 < d + 2 = omega arith in
-    ap (λ (x : ℕ). x % (d + 2)) (symbol_line-form d r h) ∙ mod-mul-add (r / d) (d + 2) (r % d + 1) l
+symbol_line-mod d r h = grind (arith, nat_tests, symbol_line-form, mod-mul-add)
 
 -- A line of the mapping matrix lies in its own region.
 pub symbol_line-div : (d r : ℕ) → 6 ≤ d → symbol_line d r / (d + 2) ≡ r / d
-symbol_line-div d r h =
-    let p : 0 < d = omega arith in
-    let l : r % d + 1 < d + 2 = omega arith in
-    ap (λ (x : ℕ). x / (d + 2)) (symbol_line-form d r h) ∙ div-mul-add (r / d) (d + 2) (r % d + 1) l
+symbol_line-div d r h = grind (arith, nat_tests, symbol_line-form, div-mul-add)
 
 -- A line of the mapping matrix is found again from the line of the symbol in which it lies.
 pub mapping_line-symbol_line : (d r : ℕ) → 6 ≤ d → mapping_line d (symbol_line d r) ≡ r
@@ -50,19 +45,11 @@ below_by a k d m l =
 
 -- A line within k regions of d lines lies in one of these regions.
 pub region_below : (d r k : ℕ) → 6 ≤ d → r < k * d → r / d < k
-region_below d r k h l =
-    let p : 0 < d = omega arith in
-    let w : r / d * d + r % d < k * d = omega arith in
-    below_by (r / d) k d (r % d) w
+region_below d r k h l = grind (arith, nat_tests, below_by)
 
 -- Each line of k regions of d lines lies within these regions with their borders.
 pub line_inside : (d k r : ℕ) → 6 ≤ d → r < k * d → symbol_line d r < k * (d + 2)
-line_inside d k r h l =
-    let p : 0 < d = omega arith in
-    let q : r / d < k = region_below d r k h l in
-    let f = symbol_line-form d r h in
-    let m : (r / d + 1) * (d + 2) ≤ k * (d + 2) = mul-le-mul_right (d + 2) (omega arith) in
-    omega (arith, f, m)
+line_inside d k r h l = grind (arith, nat_tests, region_below, symbol_line-form, mul-le-mul_right)
 
 -- A line of the symbol holds a line of the mapping matrix, in k regions of d lines.
 pub record ComesFrom (d k line : ℕ) : Type 0 where
@@ -99,38 +86,23 @@ pub row_inside : (size : SizeEntry) (r : ℕ) → IsSize size → r < mapping_ro
     symbol_line size.region_rows r < size.rows
 row_inside size r entry l =
     let facts = size_facts size entry in
-    subst (λ (n : ℕ). symbol_line size.region_rows r < n) (sym facts.rows)
-    (line_inside size.region_rows size.regions_down r facts.least_rows l)
+    rw (← facts.rows) at (line_inside size.region_rows size.regions_down r facts.least_rows l)
 
 -- Each column of it lies in a column of the symbol.
 pub column_inside : (size : SizeEntry) (c : ℕ) → IsSize size → c < mapping_columns size →
     symbol_line size.region_columns c < size.columns
 column_inside size c entry l =
     let facts = size_facts size entry in
-    subst (λ (n : ℕ). symbol_line size.region_columns c < n) (sym facts.columns)
-    (line_inside size.region_columns size.regions_across c facts.least_columns l)
+    rw (← facts.columns) at (line_inside size.region_columns size.regions_across c facts.least_columns l)
 
 -- A module between the first and the last lines of a region with its border doesn't lie on its edge.
 on_no_edge : (d e i j a b : ℕ) → i < d → j < e → a ≡ i + 1 → b ≡ j + 1 → is_on_edge d e a b ≡ false
-on_no_edge d e i j a b li lj f g =
-    let p : nat_eq b 0 ≡ false = ne_eqb b 0 (λ h. omega arith) in
-    let q : nat_eq a (d + 1) ≡ false = ne_eqb a (d + 1) (λ h. omega arith) in
-    let r : nat_eq a 0 ≡ false = ne_eqb a 0 (λ h. omega arith) in
-    let s : nat_eq b (e + 1) ≡ false = ne_eqb b (e + 1) (λ h. omega arith) in
-    rw (p, q, r, s) refl
+on_no_edge d e i j a b li lj f g = grind (arith, nat_tests, ne_eqb)
 
 -- A cell of the mapping matrix lies on no border, if regions have so many rows and columns.
 pub off_edge : (size : SizeEntry) (r c : ℕ) → 6 ≤ size.region_rows → 6 ≤ size.region_columns →
     is_border size (symbol_line size.region_rows r) (symbol_line size.region_columns c) ≡ false
-off_edge size r c rows columns =
-    let d : ℕ = size.region_rows in
-    let e : ℕ = size.region_columns in
-    let p : 0 < d = omega (arith, rows) in
-    let q : 0 < e = omega (arith, columns) in
-    let lr : r % d < d = omega arith in
-    let lc : c % e < e = omega arith in
-    on_no_edge d e (r % d) (c % e) (symbol_line d r % (d + 2)) (symbol_line e c % (e + 2)) lr lc
-    (symbol_line-mod d r rows) (symbol_line-mod e c columns)
+off_edge size r c rows columns = grind (arith, nat_tests, on_no_edge, symbol_line-mod)
 
 -- So it lies on no border of a symbol.
 pub no_border : (size : SizeEntry) (r c : ℕ) → IsSize size →

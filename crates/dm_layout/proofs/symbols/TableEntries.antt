@@ -1,53 +1,60 @@
 -- What holds for each size of the table.
+use Rattle.std.proofs.lemmas.Bool.Decides.{nat_tests}
 use Rattle.std.proofs.Common.{◌≡◌, ℕ, ◌+◌, ◌*◌, ◌/◌, ◌%◌, ◌<◌, ◌≤◌, Bool, true, false, cond, ◌&&◌, nat_eq, nat_le, List}
-use Rattle.std.proofs.Common.{[], ◌∷◌, Option, Some, refl, sym, ◌∙◌, ap, subst, arith}
+use Rattle.std.proofs.Common.{[], ◌∷◌, Option, Some, None, refl, arith, map, length, set}
+use Rattle.std.proofs.Common.{get_or, below_more, get_or-set_other, get_or-set_same}
 use Rattle.std.specs.Prelude.{All, find}
 use Rattle.std.specs.List.{AllByRecursion, list_all, list_any, range_with_len}
 use Rattle.std.proofs.lemmas.Bool.{and_parts, eqb-true, leb-true}
 use Rattle.std.proofs.lemmas.List.Elements.{recursion_from_All, All-weaker}
 use Rattle.std.proofs.lemmas.List.Folds.{Any-from_list_any}
 use Rattle.std.proofs.lemmas.List.Sums.{AllPass-from_list_all}
-use Rattle.dm_layout.specs.symbols.Sizes.{SizeEntry, size_table, IsSize, entry_with, area, mapping_rows}
+use Rattle.dm_layout.specs.symbols.Sizes.{SizeEntry, size_table, IsSize, area, mapping_rows}
 use Rattle.dm_layout.specs.symbols.Sizes.{mapping_columns}
 use Rattle.dm_layout.specs.symbols.Sizes.{codeword_count, block_data, block_check, block_length, most_rows}
 use Rattle.dm_layout.specs.symbols.Sizes.{most_columns}
 use Rattle.dm_layout.specs.symbols.Sizes.{most_modules, most_cells, most_data, most_codewords, most_blocks}
 use Rattle.dm_layout.specs.symbols.Sizes.{most_block_check}
 use Rattle.dm_layout.specs.symbols.Sizes.{longest_block, IsGreatest, IsGreatestOf, Agrees}
-use Rattle.dm_place.proofs.Exported.{all_below}
-
--- What holds of the first item, and of what is found among the others, holds of what is found among all.
-found_case : {X : Type 0} (P : X → Type 0) (y x : X) (o : Option X) (b : Bool) → P y → (o ≡ Some x → P x) →
-    cond b (Some y) o ≡ Some x → P x
-found_case P y x o true h k e =
-    let g : y ≡ x = cc in
-    subst P g h
-found_case P y x o false h k e = k e
-
--- What holds of each item of a list holds of the one that is found.
-pub at_found : {X : Type 0} (P : X → Type 0) (p : X → Bool) (xs : List X) (x : X) → AllByRecursion P xs →
-    find p xs ≡ Some x → P x
-at_found P p [] x h e = cc
-at_found P p (y ∷ ys) x h e = found_case P y x (find p ys) (p y) h.0 (at_found P p ys x h.1) e
+use Rattle.dm_place.proofs.Exported.{all_below, at_found}
 
 -- What is found passes the test, if it does so among the other items.
 passes_case : {X : Type 0} (p : X → Bool) (y x : X) (o : Option X) (b : Bool) → p y ≡ b → (o ≡ Some x → p x ≡ true) →
     cond b (Some y) o ≡ Some x → p x ≡ true
-passes_case p y x o true t k e =
-    let g : y ≡ x = cc in
-    subst (λ z. p z ≡ true) g t
-passes_case p y x o false t k e = k e
+passes_case p y x o w t k e = grind (arith, nat_tests)
 
 -- What is found passes the test.
 pub found_passes : {X : Type 0} (p : X → Bool) (xs : List X) (x : X) → find p xs ≡ Some x → p x ≡ true
 found_passes p [] x e = cc
 found_passes p (y ∷ ys) x e = passes_case p y x (find p ys) (p y) refl (found_passes p ys x) e
 
+-- Where nothing is found, nothing passes the test.
+pub found_none : {X : Type 0} (p : X → Bool) (xs : List X) → find p xs ≡ None → AllByRecursion (λ x. p x ≡ false) xs
+found_none p [] e = tt
+found_none p (x ∷ xs) e = none_case (p x) refl e (found_none p xs)
+  where
+    none_case : (b : Bool) → p x ≡ b → cond b (Some x) (find p xs) ≡ None →
+        (find p xs ≡ None → AllByRecursion (λ y. p y ≡ false) xs) → AllByRecursion (λ y. p y ≡ false) (x ∷ xs)
+    none_case true t e later = cc
+    none_case false t e later = (t, later e)
+
+-- Two values that the checker finds to be the same of each item of a list are the same of each.
+pub same_in_each : {X Y : Type 0} (f g : X → Y) (xs : List X) → map f xs ≡ map g xs → AllByRecursion (λ x. f x ≡ g x) xs
+same_in_each f g [] h = tt
+same_in_each f g (x ∷ xs) h =
+    let first : f x ≡ g x = cc in
+    let rest : map f xs ≡ map g xs = cc in
+    (first, same_in_each f g xs rest)
+
+-- With one more item of a table put into a list, the items before the next are those of the table.
+pub put_more : {X : Type 0} (table xs : List X) (i : ℕ) (x : X) → i < length xs →
+    ((k : ℕ) (d : X) → k < i → get_or xs k d ≡ get_or table k d) → ((d : X) → x ≡ get_or table i d) →
+    (k : ℕ) (d : X) → k < i + 1 → get_or (set xs i x) k d ≡ get_or table k d
+put_more table xs i x l before here k d = grind (arith, nat_tests, below_more, get_or-set_other, get_or-set_same)
+
 -- Sizes of the table with the same rows and columns are the same.
 pub same_size : (s t : SizeEntry) → IsSize s → IsSize t → s.rows ≡ t.rows → s.columns ≡ t.columns → s ≡ t
-same_size s t h k e f =
-    let g : Some s ≡ Some t = sym h ∙ ap (λ (r : ℕ). entry_with r s.columns) e ∙ ap (entry_with t.rows) f ∙ k in
-    cc
+same_size s t h k e f = grind (arith, nat_tests)
 
 -- ---- what the checker computes for each size of the table
 

@@ -1,5 +1,6 @@
 -- Rows of the mapping matrix that are widened.
-use Rattle.std.proofs.Common.{◌≡◌, ◌≢◌, ◌⊎◌, inl, inr, ℕ, ◌+◌, ◌-◌, ◌*◌, ◌/◌, ◌%◌, ◌^◌, ◌<◌, ◌≤◌, Bool, true, false}
+use Rattle.std.proofs.lemmas.Bool.Decides.{nat_tests}
+use Rattle.std.proofs.Common.{◌≡◌, ◌≢◌, ◌⊎◌, ℕ, ◌+◌, ◌-◌, ◌*◌, ◌/◌, ◌%◌, ◌^◌, ◌<◌, ◌≤◌, Bool, true, false}
 use Rattle.std.proofs.Common.{◌&&◌, ◌||◌, nat_eq, nat_le, nat_lt, List, length, get_or, set, refl, sym, ◌∙◌, ap, arith}
 use Rattle.std.proofs.Common.{subst, get_or-set_other, get_or-set_same}
 use Rattle.std.specs.Int.RustNames.{bit_or}
@@ -20,20 +21,8 @@ use Rattle.dm_layout.proofs.symbols.Rows.{moved_bit, or_dark}
 -- those of that row that are dark in the one laid over it.
 pub put_over : (rows : List ℕ) (q x r c : ℕ) → q < length rows →
     look_in (set rows q (bit_or (get_or rows q 0) x)) r c ≡ (look_in rows r c || (nat_eq r q && is_dark_bit x c))
-put_over rows q x r c l = by_row (nat_eq r q) refl
-  where
-    y : ℕ
-    y = bit_or (get_or rows q 0) x
-
-    by_row : (t : Bool) → nat_eq r q ≡ t → look_in (set rows q y) r c ≡ (look_in rows r c || (t && is_dark_bit x c))
-    by_row true e =
-        let er = eqb-true r q e in
-        ap (λ (i : ℕ). look_in (set rows q y) i c) er ∙ ap (λ (i : ℕ). is_dark_bit i c) (get_or-set_same rows q y 0 l)
-        ∙ or_dark (get_or rows q 0) x c
-        ∙ ap (λ (i : ℕ). look_in rows i c || is_dark_bit x c) (sym er)
-    by_row false e =
-        ap (λ (i : ℕ). is_dark_bit i c) (get_or-set_other rows q r y 0 (eqb-false r q e))
-        ∙ sym (or-false (look_in rows r c))
+put_over rows q x r c l =
+    grind (arith, nat_tests, eqb-true, get_or-set_same, or_dark, get_or-set_other, eqb-false, or-false)
 
 -- Rows from row 2 on, above `until`, over which others are laid.
 abbrev pub laid_over : List ℕ → (ℕ → ℕ → Bool) → ℕ → ℕ → ℕ → Bool
@@ -46,10 +35,7 @@ pub over_more : (olds rows : List ℕ) (other : ℕ → ℕ → Bool) (row x : �
     (r c : ℕ) → look_in (set rows (row + 2) (bit_or (get_or rows (row + 2) 0) x)) r c ≡
     laid_over olds other (row + 1 + 2) r c
 over_more olds rows other row x inside there so_far r c =
-    put_over rows (row + 2) x r c inside
-    ∙ ap (λ (b : Bool). b || (nat_eq r (row + 2) && is_dark_bit x c)) (so_far r c)
-    ∙ ap (λ (b : Bool). laid_over olds other (row + 2) r c || (nat_eq r (row + 2) && b)) (there c)
-    ∙ by_row (nat_eq r (row + 2)) refl
+    rw (put_over, so_far, there, by_row)
   where
     here : (a b : Bool) → ((a || (true && false) && b) || (true && b)) ≡ (a || ((true && true) && b))
     here true b = refl
@@ -70,14 +56,10 @@ over_more olds rows other row x inside there so_far r c =
         ∙ ap (λ (t : Bool). look_in olds r c || ((true && t) && b)) (sym yes)
         ∙ ap (λ (t : Bool). look_in olds r c || ((t && nat_lt r (row + 1 + 2)) && b)) (sym two)
     by_row false e =
-        or-false (laid_over olds other (row + 2) r c)
-        ∙ ap (λ (t : Bool). look_in olds r c || ((nat_le 2 r && t) && other r c)) (same (cases_lt r (row + 2)))
+        rw (or-false (laid_over olds other (row + 2) r c), same (cases_lt r (row + 2)))
       where
         same : (r < row + 2) ⊎ (row + 2 ≤ r) → nat_lt r (row + 2) ≡ nat_lt r (row + 1 + 2)
-        same (inl l) = lt-ltb r (row + 2) l ∙ sym (lt-ltb r (row + 1 + 2) (omega arith))
-        same (inr l) =
-            le-ltb r (row + 2) l ∙ sym (le-ltb r (row + 1 + 2) (let ne : r ≢ row + 2 = eqb-false r (row + 2) e in
-            omega arith))
+        same x = grind (arith, nat_tests, lt-ltb, row, le-ltb, eqb-false)
 
 -- ---- bits of rows that are moved
 
@@ -86,8 +68,7 @@ pub bit_up : (x s c : ℕ) → is_dark_bit (x * 2 ^ s) (s + c) ≡ is_dark_bit x
 bit_up x s c =
     let z : x * 2 ^ s ≡ x * 2 ^ s + 0 = omega arith in
     let b : s + c - s ≡ c = omega arith in
-    ap (λ (i : ℕ). is_dark_bit i (s + c)) z ∙ ap (λ (i : ℕ). nat_eq i 1)
-    (bit_at_cat_high x s 0 (s + c) (pow_pos s) (omega arith)) ∙ ap (is_dark_bit x) b
+    rw (z, bit_at_cat_high x s 0 (s + c) (pow_pos s) (omega arith), b)
 
 -- To the right of a row that is moved to the left there is nothing.
 pub none_up : (x s c : ℕ) → c < s → is_dark_bit (x * 2 ^ s) c ≡ false
@@ -102,8 +83,7 @@ none_up x s c l =
 -- The lowest n bits of a number are its own.
 pub low_bit : (x n c : ℕ) → c < n → is_dark_bit (x % 2 ^ n) c ≡ is_dark_bit x c
 low_bit x n c l =
-    ap (λ (i : ℕ). nat_eq i 1) (sym (bit_at_cat_low (x / 2 ^ n) n (x % 2 ^ n) c l))
-    ∙ ap (λ (i : ℕ). is_dark_bit i c) (div-add-mod' x (2 ^ n))
+    cc (bit_at_cat_low (x / 2 ^ n) n (x % 2 ^ n) c l, div-add-mod' x (2 ^ n))
 
 -- A row of some width that is moved to the left by s columns and then to
 -- the right by 4 has its bit c + 4 - s at column c.
@@ -124,13 +104,7 @@ pub look_set : (P : Bool → Type 0) (rows : List ℕ) (q y r c : ℕ) → q < l
 look_set P rows q y r c l here other = by_row (nat_eq r q) refl
   where
     by_row : (t : Bool) → nat_eq r q ≡ t → P (look_in (set rows q y) r c)
-    by_row true e =
-        let er = eqb-true r q e in
-        subst P (sym (ap (λ (i : ℕ). look_in (set rows q y) i c) er
-        ∙ ap (λ (i : ℕ). is_dark_bit i c) (get_or-set_same rows q y 0 l))) (here er)
-    by_row false e =
-        let ne = eqb-false r q e in
-        subst P (sym (ap (λ (i : ℕ). is_dark_bit i c) (get_or-set_other rows q r y 0 ne))) (other ne)
+    by_row x e = grind (arith, nat_tests, eqb-true, get_or-set_same, here, eqb-false, get_or-set_other, rows)
 
 -- A row of a region lies in the symbol behind two borders for each region before it, and one more.
 pub line_here : (row region d until : ℕ) → until ≡ (region + 1) * d → region * d ≤ row → row < until →
@@ -177,50 +151,13 @@ moved_more C row x look rows news l narrow cells is moved = subst (IsMoved C (ro
 
 -- ---- the columns left of the matrix
 
--- A row that lies below the first of those below the matrix begins anew at its top.
-pub source_at : (R shift r : ℕ) → (source R shift r ≡ r + 4 - shift) ⊎ (source R shift r ≡ r + 4 - shift - R)
-source_at R shift r = by_test (nat_le (R + 2) (r + 4 - shift))
-  where
-    by_test : (t : Bool) → (elim t [ true ↦ r + 4 - shift - R | false ↦ r + 4 - shift ] ≡ r + 4 - shift)
-        ⊎ (elim t [ true ↦ r + 4 - shift - R | false ↦ r + 4 - shift ] ≡ r + 4 - shift - R)
-    by_test true = inr refl
-    by_test false = inl refl
-
--- It lies among the widened rows.
-pub source_small : (R shift r : ℕ) → source R shift r ≤ r + 4
-source_small R shift r = by_place (source_at R shift r)
-  where
-    by_place : (source R shift r ≡ r + 4 - shift) ⊎ (source R shift r ≡ r + 4 - shift - R) → source R shift r ≤ r + 4
-    by_place (inl e) = omega (arith, e)
-    by_place (inr e) = omega (arith, e)
-
 -- The row that stands left of a row of the matrix is that of the matrix to which cells wrap, two rows further down.
 pub source_round : (R shift r : ℕ) → shift ≤ r + 2 → source R shift r ≡ round R (r + 2 - shift) + 2
-source_round R shift r h = by_place (cases_lt (r + 2 - shift) R)
-  where
-    by_place : (r + 2 - shift < R) ⊎ (R ≤ r + 2 - shift) → source R shift r ≡ round R (r + 2 - shift) + 2
-    by_place (inl l) =
-        ap (λ (t : Bool). elim t [ true ↦ r + 4 - shift - R | false ↦ r + 4 - shift ])
-        (lt-leb (R + 2) (r + 4 - shift) (omega (arith, l, h)))
-        ∙ (let e : r + 4 - shift ≡ r + 2 - shift + 2 = omega (arith, h) in e)
-        ∙ sym (ap (λ (t : Bool). elim t [ true ↦ r + 2 - shift - R | false ↦ r + 2 - shift ] + 2)
-        (lt-leb R (r + 2 - shift) l))
-    by_place (inr l) =
-        ap (λ (t : Bool). elim t [ true ↦ r + 4 - shift - R | false ↦ r + 4 - shift ])
-        (le-leb (R + 2) (r + 4 - shift) (omega (arith, l, h)))
-        ∙ (let e : r + 4 - shift - R ≡ r + 2 - shift - R + 2 = omega (arith, l, h) in e)
-        ∙ sym (ap (λ (t : Bool). elim t [ true ↦ r + 2 - shift - R | false ↦ r + 2 - shift ] + 2)
-        (le-leb R (r + 2 - shift) l))
+source_round R shift r h = grind (arith, nat_tests, cases_lt, source, lt-leb, le-leb)
 
 -- A row that begins anew at the top lies in the matrix, if it was at most so many rows below it.
 pub round_inside : (R x : ℕ) → x < R + R → round R x < R
-round_inside R x h = by_place (cases_lt x R)
-  where
-    by_place : (x < R) ⊎ (R ≤ x) → round R x < R
-    by_place (inl l) =
-        subst (λ (t : Bool). elim t [ true ↦ x - R | false ↦ x ] < R) (sym (lt-leb R x l)) l
-    by_place (inr l) =
-        subst (λ (t : Bool). elim t [ true ↦ x - R | false ↦ x ] < R) (sym (le-leb R x l)) (omega (arith, l, h))
+round_inside R x h = grind (arith, nat_tests, cases_lt, lt-leb, le-leb)
 
 -- What is wrapped to the left of the rows above `until`, with what was there before.
 abbrev pub wrapped_left : List ℕ → ℕ → ℕ → ℕ → ℕ → ℕ → ℕ → Bool
@@ -230,14 +167,7 @@ wrapped_left rows R C shift until r c =
 -- From column 4 on nothing is added by wrapping.
 nothing_far : (rows : List ℕ) (R C shift until r c : ℕ) → ((r c : ℕ) → C + 4 ≤ c → look_in rows r c ≡ false) → 4 ≤ c →
     wrapped_left rows R C shift until r c ≡ look_in rows r c
-nothing_far rows R C shift until r c width l =
-    ap (λ (b : Bool). look_in rows r c || ((nat_le 2 r && nat_lt r until) && b))
-    (width (source R shift r) (C + c) (omega arith)) ∙ nothing (look_in rows r c) (nat_le 2 r && nat_lt r until)
-  where
-    nothing : (a b : Bool) → (a || (b && false)) ≡ a
-    nothing true b = refl
-    nothing false true = refl
-    nothing false false = refl
+nothing_far rows R C shift until r c width l = grind (arith, nat_tests, source, nat_tests)
 
 -- When one more row is wrapped, the rows above the next are wrapped.
 pub wrap_more : (olds rows : List ℕ) (R C shift row from : ℕ) → 4 ≤ C → row + 2 < length rows →
@@ -252,10 +182,7 @@ wrap_more olds rows R C shift row from least inside source_is width so_far =
     so_far
   where
     there : (c : ℕ) → is_dark_bit (get_or rows from 0 / 2 ^ C) c ≡ look_in olds (source R shift (row + 2)) (C + c)
-    there c =
-        ap (λ (i : ℕ). nat_eq i 1) (moved_bit (get_or rows from 0) C c) ∙ so_far from (C + c)
-        ∙ nothing_far olds R C shift (row + 2) from (C + c) width (omega (arith, least))
-        ∙ ap (λ (i : ℕ). look_in olds i (C + c)) source_is
+    there c = grind (arith, nat_tests, moved_bit, rows, from, so_far, nothing_far, row, width, least)
 
 -- ---- the rows above the matrix
 
@@ -311,9 +238,7 @@ is_widened R C look olds mids news some least moved wrapped above others = recor
   above = λ r c lr lc ls li.
       let e : c + 4 - (R + 4) % 8 ≡ c - (R + 4) % 8 + 4 = omega arith in
       let f : r + R ≡ r + R - 2 + 2 = omega arith in
-      above r c lr lc (omega arith) ∙ ap (look_in mids (r + R)) e
-      ∙ ap (λ (i : ℕ). look_in mids i (c - (R + 4) % 8 + 4)) f
-      ∙ mid_inside (r + R - 2) (c - (R + 4) % 8) (omega arith) li;
+      cc (above r c lr lc (omega arith), e, f, mid_inside (r + R - 2) (c - (R + 4) % 8) (omega arith) li);
   above_left = λ r c lr lc ls.
       let e : C + (c + 4 - (R + 4) % 8) - 4 ≡ C + c - (R + 4) % 8 = omega arith in
       let m : (C + 4) % 8 < 8 = omega arith in
@@ -329,14 +254,4 @@ is_widened R C look olds mids news some least moved wrapped above others = recor
 
     mid_left : (r c : ℕ) → 2 ≤ r → r < R + 2 → c < 4 → (C + 4) % 8 ≤ r + 2 →
         look_in mids r c ≡ look (round R (r + 2 - (C + 4) % 8)) (C + c - 4)
-    mid_left r c lo hi lc ls =
-        let f : C + c ≡ C + c - 4 + 4 = omega arith in
-        wrapped r c
-        ∙ ap (λ (b : Bool). b || ((nat_le 2 r && nat_lt r (R + 2)) && look_in olds (source R ((C + 4) % 8) r) (C + c)))
-        (moved.left r c lc)
-        ∙ ap (λ (b : Bool). (b && nat_lt r (R + 2)) && look_in olds (source R ((C + 4) % 8) r) (C + c)) (le-leb 2 r lo)
-        ∙ ap (λ (b : Bool). b && look_in olds (source R ((C + 4) % 8) r) (C + c)) (lt-ltb r (R + 2) hi)
-        ∙ ap (λ (i : ℕ). look_in olds i (C + c)) (source_round R ((C + 4) % 8) r ls)
-        ∙ ap (look_in olds (round R (r + 2 - (C + 4) % 8) + 2)) f
-        ∙ moved.inside (round R (r + 2 - (C + 4) % 8)) (C + c - 4)
-        (round_inside R (r + 2 - (C + 4) % 8) (omega arith)) (omega arith)
+    mid_left r c lo hi lc ls = grind (arith, nat_tests, source, le-leb, lt-ltb, source_round, round_inside)

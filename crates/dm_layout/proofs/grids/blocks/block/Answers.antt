@@ -1,4 +1,4 @@
-use Rattle.std.proofs.Common.{◌∙◌, ◌<◌, ap, sym, subst, take}
+use Rattle.std.proofs.Common.{◌∙◌, ◌<◌, ap, sym, subst}
 use Rattle.dm_layout.specs.Sizes.{block_length}
 use Rattle.dm_layout.specs.Words.{WordsView}
 use Rattle.dm_layout.proofs.KeptSymbols.{kept_data, kept_whole}
@@ -15,6 +15,4 @@ pub returns-clause-data : goal.returns-clause-data
 returns-clause-data c =
     let size = c.words.inside.symbol.size in
     let below = subst (λ (w : WordsView). c.args.b < w.size.blocks) (sym c.words.view_is) c.requires in
-    rw (← c.words.view_is) (ap (λ n. take n c.block.result.items) (sym (kept_data size c.args.b c.words.invariant
-    below))
-    ∙ c.block.ensures.data)
+    rw (← c.words.view_is) (cc (kept_data size c.args.b c.words.invariant below, c.block.ensures.data))

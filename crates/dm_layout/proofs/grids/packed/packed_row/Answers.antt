@@ -11,6 +11,5 @@ loop-column-preserved c =
     elim c.if-dark.branch [
       | then-dark w ↦ subst (IsPacked cells (n + 1)) (sym w.row-is)
           (packed_dark cells n c.loop-column.row (omega (arith, c.requires, c.loop-column-test.true)) k w.if-dark.true)
-      | else-dark w ↦ subst (IsPacked cells (n + 1)) (sym w.row-is)
-          (packed_light cells n c.loop-column.row k w.if-dark.false)
+      | else-dark w ↦ rw (← w.row-is) at (packed_light cells n c.loop-column.row k w.if-dark.false)
     ]

@@ -1,16 +1,13 @@
-use Rattle.std.proofs.Common.{◌≡◌, lit<, subst}
+use Rattle.std.proofs.Common.{◌≡◌, subst}
 use Rattle.dm_layout.specs.symbols.Symbols.{SymbolView}
 use Rattle.dm_layout.specs.symbols.Words as symbols
 use Rattle.dm_layout.specs.symbols.Holding as holding
 use Rattle.dm_layout.specs.Words.{WordsView}
 use Rattle.dm_layout.specs.Holds.{IsLaid}
 use Rattle.dm_layout.specs.inner.Keeping.{IsKept, kept_grid, kept_words}
-use Rattle.dm_layout.proofs.KeptSymbols.{kept_fits, kept_laid}
+use Rattle.dm_layout.proofs.KeptSymbols.{kept_laid}
 use Rattle.dm_layout.proofs.Squares.{one_laid, one_list}
 use Rattle.dm_layout.proofs.grids.placing.lay.Goals as goal
-
-pub lay_to-requires : goal.lay_to-requires
-lay_to-requires c = (lit< tt, (lit< tt, kept_fits c.words.inside.symbol.size c.words.invariant))
 
 -- The codewords are laid in the grid that is kept as the symbol they are laid in.
 laid : (m : SymbolView) (w : symbols.WordsView) (words : WordsView) → IsKept w.size → kept_words w ≡ words →

@@ -1,6 +1,5 @@
 use Rattle.std.proofs.Common.{sym, subst}
 use Rattle.dm_layout.specs.symbols.Holding.{IsLaid}
-use Rattle.dm_layout.specs.inner.Keeping.{IsKept}
 use Rattle.dm_layout.proofs.KeptSymbols.{kept_is_grid, same_symbol}
 use Rattle.dm_layout.proofs.SquareSizes.{kept_size}
 use Rattle.dm_layout.proofs.grids.placing.lay_symbol_to.Goals as goal
@@ -8,8 +7,7 @@ use Rattle.dm_layout.proofs.grids.placing.lay_symbol_to.Goals as goal
 pub invariant_of-grid : goal.invariant_of-grid
 invariant_of-grid c =
     let held = c.lay_to.ensures.holds in
-    subst IsKept held.same_size
-    (kept_size c.args.words.now.size held.codewords.size c.requires.square c.requires.fits)
+    rw held.same_size at (kept_size c.args.words.now.size held.codewords.size c.requires.square c.requires.fits)
 
 pub returns-clause-laid : goal.returns-clause-laid
 returns-clause-laid c =

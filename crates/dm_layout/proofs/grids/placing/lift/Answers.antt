@@ -1,5 +1,4 @@
-use Rattle.std.proofs.Common.{lit<, subst}
-use Rattle.dm_layout.specs.Holds.{Holds}
+use Rattle.std.proofs.Common.{lit<}
 use Rattle.dm_layout.specs.inner.Keeping.{kept_words}
 use Rattle.dm_layout.proofs.KeptSymbols.{kept_holds, kept_room}
 use Rattle.dm_layout.proofs.Squares.{one_list}
@@ -11,8 +10,7 @@ lift_to-requires c = (lit< tt, (lit< tt, kept_room c.grid.inside.symbol.size c.g
 pub returns-clause-holds : goal.returns-clause-holds
 returns-clause-holds c =
     let w = c.lift_to.new.words in
-    subst (λ g. Holds g (kept_words w)) c.grid.view_is
-    (kept_holds c.grid.inside.symbol w c.grid.invariant c.lift_to.ensures.holds)
+    rw c.grid.view_is at (kept_holds c.grid.inside.symbol w c.grid.invariant c.lift_to.ensures.holds)
 
 pub returns-clause-no_other_words : goal.returns-clause-no_other_words
 returns-clause-no_other_words c =

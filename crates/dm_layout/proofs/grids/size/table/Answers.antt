@@ -1,7 +1,8 @@
 use Rattle.std.proofs.Common.{◌∙◌, sym, arith, lit<}
 use Rattle.std.proofs.lemmas.List.{length-set, same_lists}
 use Rattle.dm_layout.specs.Sizes.{size_table}
-use Rattle.dm_layout.proofs.SquareSizes.{kept_at, row_at, row_put, square_count}
+use Rattle.dm_layout.proofs.SquareSizes.{kept_at, row_at, square_count}
+use Rattle.dm_layout.proofs.symbols.Exported.{put_more}
 use Rattle.dm_layout.proofs.grids.size.table.Goals as goal
 
 pub invariant_of-sizes : goal.invariant_of-sizes
@@ -16,7 +17,8 @@ pub loop-i-preserved : goal.loop-i-preserved
 loop-i-preserved c = record {
   count = length-set c.loop-i.sizes c.loop-i.i _ ∙ c.loop-i.invariant.count;
   put =
-      row_put c.loop-i.sizes c.loop-i.i _ c.loop-i.invariant.count c.loop-i-test.true c.loop-i.invariant.put
+      put_more size_table c.loop-i.sizes c.loop-i.i _ (omega (arith, c.loop-i.invariant.count, c.loop-i-test.true))
+      c.loop-i.invariant.put
       (row_at c.table-symbols.result c.table-symbols.ensures c.loop-i.i c.index-symbols-i.result c.loop-i-test.true);
 }
 

@@ -1,7 +1,7 @@
-use Rattle.std.proofs.Common.{◌≡◌, ◌+◌, ◌*◌, ◌∙◌, sym, ap, [], ◌∷◌, ◌++◌, map, get_or, take, length, arith, lit<}
+use Rattle.std.proofs.Common.{◌≡◌, ◌+◌, ◌*◌, ◌∙◌, sym, ap, [], ◌∷◌, ◌++◌, map, get_or, length, arith, lit<}
 use Rattle.std.specs.List.{range_with_len}
 use Rattle.std.proofs.lemmas.List.FromFn.{map-range_with_len_more, length-map-range_with_len}
-use Rattle.dm_layout.specs.symbols.Sizes.{SizeEntry, block_data, count_in_block}
+use Rattle.dm_layout.specs.symbols.Sizes.{count_in_block}
 use Rattle.dm_layout.proofs.symbols.TableEntries.{short_block}
 use Rattle.dm_layout.proofs.symbols.BlockLemmas.{steps_of_block, walk_of_block, data_of_block}
 use Rattle.dm_layout.proofs.symbols.blocks.block.Goals as goal
@@ -9,15 +9,13 @@ use Rattle.dm_layout.proofs.symbols.blocks.block.Goals as goal
 pub push-requires : goal.push-requires
 push-requires g c =
     let words = c.size.ensures.words in
-    let same : c.blocks-blocks.result ≡ c.args.words.now.size.blocks =
-    c.blocks-blocks.ensures.value ∙ ap (λ (s : SizeEntry). s.blocks) c.size.ensures.value in
+    let same : c.blocks-blocks.result ≡ c.args.words.now.size.blocks = cc (c.blocks-blocks.ensures.value) in
     let steps =
     steps_of_block c.args.words.now c.blocks-blocks.result c.args.b c.list-list.result.now words same
     c.list-list.ensures.value in
     let far = short_block c.args.words.now.size words.size c.args.b c.requires in
     let so_far : length c.loop-i.block.items ≡ c.loop-i.i =
-    ap length c.loop-i.invariant ∙ length-map-range_with_len
-    (λ k. get_or c.list-list.result.now (k * c.blocks-blocks.result + c.args.b) 0) 0 c.loop-i.i in
+    rw (c.loop-i.invariant, length-map-range_with_len) in
     (lit< tt, omega (arith, steps, far, so_far))
 
 pub loop-i-preserved : goal.loop-i-preserved
@@ -30,8 +28,7 @@ loop-i-preserved g c =
 
 pub returns-clause-value : goal.returns-clause-value
 returns-clause-value g c =
-    let same : c.blocks-blocks.result ≡ c.args.words.now.size.blocks =
-    c.blocks-blocks.ensures.value ∙ ap (λ (s : SizeEntry). s.blocks) c.size.ensures.value in
+    let same : c.blocks-blocks.result ≡ c.args.words.now.size.blocks = cc (c.blocks-blocks.ensures.value) in
     let all : c.loop-i.i ≡ count_in_block (length c.list-list.result.now) c.blocks-blocks.result c.args.b =
     omega arith in
     c.loop-i.invariant
@@ -42,8 +39,7 @@ returns-clause-value g c =
 
 pub returns-clause-length : goal.returns-clause-length
 returns-clause-length g c =
-    let same : c.blocks-blocks.result ≡ c.args.words.now.size.blocks =
-    c.blocks-blocks.ensures.value ∙ ap (λ (s : SizeEntry). s.blocks) c.size.ensures.value in
+    let same : c.blocks-blocks.result ≡ c.args.words.now.size.blocks = cc (c.blocks-blocks.ensures.value) in
     let all : c.loop-i.i ≡ count_in_block (length c.list-list.result.now) c.blocks-blocks.result c.args.b =
     omega arith in
     ap length c.loop-i.invariant
@@ -54,5 +50,4 @@ returns-clause-length g c =
 
 pub returns-clause-data : goal.returns-clause-data
 returns-clause-data g c =
-    ap (take (block_data c.args.words.now.size c.args.b)) (returns-clause-value g c)
-    ∙ data_of_block c.args.words.now c.args.b c.size.ensures.words c.requires
+    rw (returns-clause-value g c, data_of_block c.args.words.now c.args.b c.size.ensures.words c.requires)

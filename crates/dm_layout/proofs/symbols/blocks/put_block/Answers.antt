@@ -1,18 +1,8 @@
-use Rattle.std.proofs.Common.{rules, ◌≡◌, ◌+◌, ◌*◌, ◌%◌, ◌<◌, ◌∙◌, sym, ap, get_or, arith}
+use Rattle.std.proofs.Common.{◌≡◌, ◌+◌, ◌*◌, ◌%◌, ◌<◌, ◌∙◌, sym, ap, get_or, arith}
 use Rattle.dm_layout.specs.symbols.Sizes.{SizeEntry}
 use Rattle.dm_layout.specs.symbols.Words.{WordsView}
 use Rattle.dm_layout.proofs.symbols.BlockLemmas.{next_inside, put_gives, others_stay, put_one, stay_one}
 use Rattle.dm_layout.proofs.symbols.blocks.put_block.Goals as goal
-
-pub put-requires : goal.put-requires
-put-requires g c =
-    let same : c.blocks-blocks.result ≡ c.args.words.now.size.blocks =
-    c.blocks-blocks.ensures.value ∙ ap (λ (s : SizeEntry). s.blocks) c.size.ensures.value in (
-      search rules,
-      next_inside c.args.words.now c.loop-i.words c.blocks-blocks.result c.args.b c.loop-i.i c.args.list.now
-          c.loop-i.invariant.words c.loop-i.invariant.size
-          same c.requires.block c.requires.length c.loop-i-test.true,
-    )
 
 pub loop-i-preserved : goal.loop-i-preserved
 loop-i-preserved g c =
@@ -42,8 +32,7 @@ returns-clause-put g c =
     c.blocks-blocks.ensures.value ∙ ap (λ (s : SizeEntry). s.blocks) c.size.ensures.value in
     put_gives c.args.words.now c.loop-i.words c.args.b c.args.list.now c.loop-i.invariant.words c.loop-i.invariant.size
     c.requires.block c.requires.length
-    (λ k l. ap (λ n. get_or c.loop-i.words.list (k * n + c.args.b) 0) (sym same)
-    ∙ c.loop-i.invariant.put k (omega arith))
+    (λ k l. cc (same, c.loop-i.invariant.put k (omega arith)))
 
 pub returns-clause-others : goal.returns-clause-others
 returns-clause-others g c =

@@ -1,16 +1,21 @@
-use Rattle.std.proofs.Common.{rules, ◌≡◌, ◌+◌, ◌*◌, ◌%◌, ◌<◌, ◌∙◌, ℕ, refl, sym, ap, get_or, arith}
-use Rattle.dm_layout.specs.symbols.Sizes.{SizeEntry, block_data}
+use Rattle.std.proofs.Common.{◌≡◌, ◌+◌, ◌*◌, ◌%◌, ◌<◌, ◌∙◌, ℕ, refl, sym, ap, get_or, arith}
+use Rattle.dm_layout.specs.symbols.Sizes.{block_data}
 use Rattle.dm_layout.specs.symbols.Words.{WordsView}
 use Rattle.dm_layout.proofs.symbols.BlockChecks.{check_inside, check_put, finished, finished_front, finished_length}
 use Rattle.dm_layout.proofs.symbols.BlockChecks.{finished_parts}
 use Rattle.dm_layout.proofs.symbols.BlockLemmas.{put_gives, others_stay, stay_one}
 use Rattle.dm_layout.proofs.symbols.blocks.put_block_checks.Goals as goal
+use Rattle.dm_layout.proofs.symbols.blocks.put_block_checks.Goals.{After-from-front}
+
+-- The numbers of blocks, and of data codewords in the block, are those of the size.
+facts : (g : _) (c : After-from-front g) → (c.from-blocks.result ≡ c.args.words.now.size.blocks)
+    × (c.from-front.result ≡ block_data c.args.words.now.size c.args.b)
+facts g c = (cc (c.blocks-2.ensures.value), cc (c.block_data.ensures.value))
 
 pub loop-i-init : goal.loop-i-init
 loop-i-init g c =
     let w = c.args.words.now in
-    let same : c.from-blocks.result ≡ w.size.blocks = c.from-blocks.ensures ∙ c.blocks-2.ensures.value
-    ∙ ap (λ (s : SizeEntry). s.blocks) c.size-size.ensures.value in
+    let same = (facts g (goal.at.loop-i-init g c).After-from-front).0 in
     record {
       words = c.size-size.ensures.words;
       size = refl;
@@ -21,28 +26,11 @@ loop-i-init g c =
       others = λ j h. refl;
     }
 
-pub put-requires : goal.put-requires
-put-requires g c =
-    let w = c.args.words.now in
-    let same : c.from-blocks.result ≡ w.size.blocks = c.from-blocks.ensures ∙ c.blocks-2.ensures.value
-    ∙ ap (λ (s : SizeEntry). s.blocks) c.size-size.ensures.value in
-    let front : c.from-front.result ≡ block_data w.size c.args.b = c.from-front.ensures ∙ c.block_data.ensures.value
-    ∙ ap (λ (s : SizeEntry). block_data s c.args.b) c.size-size.ensures.value in (
-      search rules,
-      check_inside w c.args.b c.args.checks.now c.size-size.ensures.words c.requires.block c.requires.length
-          c.loop-i.words c.from-blocks.result c.from-front.result c.loop-i.i c.loop-i.invariant.words
-          c.loop-i.invariant.size
-          same front c.loop-i-test.true,
-    )
-
 pub loop-i-preserved : goal.loop-i-preserved
 loop-i-preserved g c =
     let w = c.args.words.now in
     let i = c.loop-i.invariant in
-    let same : c.from-blocks.result ≡ w.size.blocks = c.from-blocks.ensures ∙ c.blocks-2.ensures.value
-    ∙ ap (λ (s : SizeEntry). s.blocks) c.size-size.ensures.value in
-    let front : c.from-front.result ≡ block_data w.size c.args.b = c.from-front.ensures ∙ c.block_data.ensures.value
-    ∙ ap (λ (s : SizeEntry). block_data s c.args.b) c.size-size.ensures.value in
+    let (same, front) = facts g (goal.at.loop-i-preserved g c).After-from-front in
     let below : c.args.b < c.from-blocks.result = omega (arith, same, c.requires.block) in
     let inside =
     check_inside w c.args.b c.args.checks.now c.size-size.ensures.words c.requires.block c.requires.length
@@ -63,21 +51,18 @@ loop-i-preserved g c =
 pub returns-clause-put : goal.returns-clause-put
 returns-clause-put g c =
     let w = c.args.words.now in
-    let same : c.from-blocks.result ≡ w.size.blocks = c.from-blocks.ensures ∙ c.blocks-2.ensures.value
-    ∙ ap (λ (s : SizeEntry). s.blocks) c.size-size.ensures.value in
+    let same = (facts g (goal.at.returns-clause-put g c).After-from-front).0 in
     let long =
     finished_length w c.args.b c.args.checks.now c.size-size.ensures.words c.requires.block c.requires.length in
     let parts =
     finished_parts w c.args.b c.args.checks.now c.size-size.ensures.words c.requires.block c.requires.length in
     put_gives w c.loop-i.words c.args.b (finished w c.args.b c.args.checks.now) c.loop-i.invariant.words
     c.loop-i.invariant.size c.requires.block long
-    (λ k l. ap (λ n. get_or c.loop-i.words.list (k * n + c.args.b) 0) (sym same)
-    ∙ c.loop-i.invariant.put k (omega (arith, l, parts, c.loop-i-test.false)))
+    (λ k l. cc (same, c.loop-i.invariant.put k (omega (arith, l, parts, c.loop-i-test.false))))
 
 pub returns-clause-others : goal.returns-clause-others
 returns-clause-others g c =
-    let same : c.from-blocks.result ≡ c.args.words.now.size.blocks = c.from-blocks.ensures ∙ c.blocks-2.ensures.value
-    ∙ ap (λ (s : SizeEntry). s.blocks) c.size-size.ensures.value in
+    let same = (facts g (goal.at.returns-clause-others g c).After-from-front).0 in
     λ a below other.
     others_stay c.args.words.now c.loop-i.words c.args.b a c.size-size.ensures.words c.loop-i.invariant.words
     c.loop-i.invariant.size below other

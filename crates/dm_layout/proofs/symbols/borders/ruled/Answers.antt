@@ -1,4 +1,4 @@
-use Rattle.std.proofs.Common.{◌≡◌, ℕ, ◌+◌, ◌*◌, ◌<◌, ◌≤◌, arith}
+use Rattle.std.proofs.Common.{ℕ, ◌+◌, ◌*◌, ◌<◌, ◌≤◌, arith}
 use Rattle.std.proofs.Math.Nat.{mul-le-mul_right}
 use Rattle.dm_layout.proofs.symbols.BorderMasks.{one_ruled}
 use Rattle.dm_layout.proofs.symbols.borders.ruled.Goals as goal
@@ -8,13 +8,6 @@ inside : (last a n : ℕ) → a < n → n * (last + 1) ≤ 128 → (a + 1) * (la
 inside last a n l fits =
     let m : (a + 1) * (last + 1) ≤ n * (last + 1) = mul-le-mul_right (last + 1) (omega (arith, l)) in
     omega (arith, m, fits)
-
-pub overflow_shl-both-in-loop-region : goal.overflow_shl-both-in-loop-region
-overflow_shl-both-in-loop-region c =
-    let h = inside c.args.last c.loop-region.region c.args.regions c.loop-region-test.true c.requires.fits in
-    let e : (c.loop-region.region + 1) * (c.args.last + 1) ≡ c.loop-region.region * (c.args.last + 1) +
-    (c.args.last + 1) = omega arith in
-    omega (arith, h, e)
 
 pub loop-region-preserved : goal.loop-region-preserved
 loop-region-preserved c =

@@ -1,8 +1,7 @@
-use Rattle.std.proofs.Common.{◌≡◌, ℕ, ◌+◌, ◌-◌, ◌*◌, ◌/◌, ◌%◌, ◌^◌, ◌<◌, ◌≤◌, ◌&&◌, nat_eq, List, get_or, ap}
-use Rattle.std.proofs.Common.{subst, ◌∙◌, arith}
+use Rattle.std.proofs.Common.{◌≡◌, ℕ, ◌+◌, ◌-◌, ◌*◌, ◌/◌, ◌%◌, ◌^◌, ◌<◌, ◌≤◌, nat_eq, List, get_or, ap}
+use Rattle.std.proofs.Common.{◌∙◌, arith}
 use Rattle.std.proofs.Math.Nat.{mul-le-mul_right}
 use Rattle.std.proofs.lemmas.Nat.{mod-mul-add, div-mul-add}
-use Rattle.dm_place.specs.Border.{is_on_edge, edge_is_dark}
 use Rattle.dm_layout.specs.symbols.Sizes.{SizeEntry, mapping_rows}
 use Rattle.dm_layout.specs.symbols.inner.Drawing.{mapping_line}
 use Rattle.dm_layout.specs.symbols.inner.Reading.{look_in, whole_row}
@@ -12,7 +11,6 @@ use Rattle.dm_layout.proofs.symbols.LongRows.{whole_or}
 use Rattle.dm_layout.proofs.symbols.Rows.{moved_bit}
 use Rattle.dm_layout.proofs.symbols.LongSizes.{matrix_fits}
 use Rattle.dm_layout.proofs.symbols.Sizes.{region_within}
-use Rattle.dm_layout.proofs.symbols.TableEntries.{size_facts}
 use Rattle.dm_layout.proofs.symbols.WidenedRows.{low_bit}
 use Rattle.dm_layout.proofs.symbols.drawing.drawn_row.Goals as goal
 
@@ -25,35 +23,6 @@ line_inside s region d inner e l some most =
     let t : (region + 1) * s.region_rows ≡ region * s.region_rows + s.region_rows = omega arith in
     let u : region * d ≡ region * s.region_rows = ap (λ (i : ℕ). region * i) e in
     omega (arith, m, t, u, some, most)
-
-pub overflow_mul-line : goal.overflow_mul-line
-overflow_mul-line g c =
-    let s : SizeEntry = c.args.size in
-    let facts = size_facts s c.requires.entry in
-    let w = region_within s c.args.region c.requires.entry c.requires.region in
-    let u : c.args.region * c.region_rows.result ≡ c.args.region * s.region_rows =
-    ap (λ (i : ℕ). c.args.region * i) c.region_rows.ensures.value in
-    let t : (c.args.region + 1) * (s.region_rows + 2) ≡ c.args.region * s.region_rows + 2 * c.args.region
-    + s.region_rows + 2 = omega arith in
-    omega (arith, w, t, u, facts.rows_fit)
-
-pub overflow_add-line : goal.overflow_add-line
-overflow_add-line g c =
-    let s : SizeEntry = c.args.size in
-    let facts = size_facts s c.requires.entry in
-    let w = region_within s c.args.region c.requires.entry c.requires.region in
-    let u : c.args.region * c.region_rows.result ≡ c.args.region * s.region_rows =
-    ap (λ (i : ℕ). c.args.region * i) c.region_rows.ensures.value in
-    let t : (c.args.region + 1) * (s.region_rows + 2) ≡ c.args.region * s.region_rows + 2 * c.args.region
-    + s.region_rows + 2 = omega arith in
-    omega (arith, w, t, u, facts.rows_fit, c.requires.above)
-
-pub inner-cells-requires : goal.inner-cells-requires
-inner-cells-requires g c =
-    let l =
-    line_inside c.args.size c.args.region c.region_rows.result c.args.inner c.region_rows.ensures.value
-    c.requires.region c.requires.below c.requires.above in
-    omega (arith, l, c.requires.high, c.requires.room)
 
 pub returns : goal.returns
 returns g c = λ q l.
@@ -76,9 +45,7 @@ returns g c = λ q l.
     let below : row < size.rows = omega (arith, within, next, small) in
     let is =
     dark_row size region inner dark q small
-    ((subst (λ (s : SizeEntry). (k : ℕ) → k < s.columns → is_dark_bit dark k ≡ (is_on_edge s.region_rows
-    s.region_columns inner (k % (s.region_columns + 2)) && edge_is_dark s.region_rows inner
-    (k % (s.region_columns + 2)))) c.requires.borders c.dark-dark.ensures.cells) q l) in
+    ((rw c.requires.borders at c.dark-dark.ensures.cells) q l) in
     let twice : region * (size.region_rows + 2) ≡ region * size.region_rows + 2 * region = omega arith in
     let ed : region * d ≡ region * size.region_rows = ap (λ (i : ℕ). region * i) c.region_rows.ensures.value in
     let there : line ≡ mapping_line size.region_rows row = omega (arith, quot, twice, ed, c.requires.below) in

@@ -23,15 +23,6 @@ is_out c =
       border = c.outer_row-first.ensures.border;
     }))
 
-pub outer_row-first-requires-clause-prefixes : goal.outer_row-first-requires-clause-prefixes
-outer_row-first-requires-clause-prefixes c = λ region l. c.requires.prefixes region (omega (arith, l))
-
-pub with_part-requires-clause-row : goal.with_part-requires-clause-row
-with_part-requires-clause-row c =
-    let w : ℕ = c.args.region_columns in
-    let m : 2 ^ (5 * (w + 2)) ≤ 2 ^ (5 * (w + 2) + 1) = pow_mono (omega arith) in
-    omega (arith, m, c.outer_row-first.ensures.width)
-
 pub with_part-requires-clause-part : goal.with_part-requires-clause-part
 with_part-requires-clause-part c =
     let l =

@@ -1,7 +1,6 @@
 use Rattle.std.proofs.Common.{◌≡◌, ℕ, ◌+◌, ◌-◌, ◌*◌, ◌^◌, ◌<◌, ◌≤◌, ◌%◌, List, get_or, set, ap, ◌∙◌, arith, below_more}
 use Rattle.std.proofs.Common.{get_or-set_same, get_or-set_other}
 use Rattle.std.proofs.Math.Nat.{mul-le-mul_right}
-use Rattle.std.proofs.Math.Pow.{pow_pos}
 use Rattle.std.proofs.lemmas.List.{length-set}
 use Rattle.dm_layout.specs.symbols.inner.Widths.{most_wide}
 use Rattle.dm_layout.proofs.symbols.Rows.{weight}
@@ -19,14 +18,6 @@ inside region across d l fits =
 ends : (region across d : ℕ) → region < across - 1 → (across - 1) * (d + 2) ≤ most_wide →
     1 * 2 ^ (region * (d + 2) + 1 + d) % 2 ^ 128 ≡ 2 ^ (region * (d + 2) + 1 + d)
 ends region across d l fits = weight (region * (d + 2) + 1 + d) (inside region across d (omega (arith, l)) fits)
-
-pub overflow_sub-prefixes : goal.overflow_sub-prefixes
-overflow_sub-prefixes c =
-    let k : ℕ = c.loop-region.region * (c.args.region_columns + 2) + 1 + c.args.region_columns in
-    let w =
-    ends c.loop-region.region c.args.across c.args.region_columns c.loop-region-test.true c.requires.fits in
-    let p = pow_pos k in
-    omega (arith, w, p)
 
 pub loop-region-preserved : goal.loop-region-preserved
 loop-region-preserved c =

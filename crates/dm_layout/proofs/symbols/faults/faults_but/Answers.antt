@@ -1,40 +1,38 @@
-use Rattle.std.proofs.Common.{◌^◌, ◌≡◌, ℕ, ◌+◌, ◌*◌, ◌%◌, ◌<◌, ◌≤◌, Option, ap, ◌∙◌, sym, arith}
+use Rattle.std.proofs.Common.{◌^◌, ◌≡◌, ℕ, ◌+◌, ◌*◌, ◌<◌, ◌≤◌, ap, ◌∙◌, arith}
 use Rattle.std.proofs.Math.Nat.{mul-le-mul_right}
 use Rattle.std.proofs.lemmas.Nat.{mod-mul-add}
-use Rattle.dm_layout.specs.symbols.Symbols.{SymbolView}
 use Rattle.dm_layout.specs.symbols.Sizes.{SizeEntry}
 use Rattle.dm_layout.specs.symbols.inner.BorderMasks.{sure_faults_in}
 use Rattle.dm_layout.proofs.symbols.Sizes.{region_within}
 use Rattle.dm_layout.proofs.symbols.SureCells.{faults_joined}
-use Rattle.dm_layout.proofs.symbols.TableEntries.{size_facts}
+use Rattle.dm_layout.proofs.symbols.TableEntries.{SizeFacts, size_facts}
 use Rattle.dm_layout.proofs.symbols.faults.faults_but.Goals as goal
+use Rattle.dm_layout.proofs.symbols.faults.faults_but.Goals.{After-regions_down-region-end}
+
+-- What is known of the size, and that the period and the number of rows of regions are those of the size.
+facts : (g : _) (c : After-regions_down-region-end g) → SizeFacts c.args.symbol.now.size
+    × (c.region_rows-period.result + 2 ≡ c.args.symbol.now.size.region_rows + 2)
+    × (c.regions_down-region-end.result ≡ c.args.symbol.now.size.regions_down)
+facts g c = (
+  size_facts c.args.symbol.now.size c.size-size.ensures.modules.size,
+  cc (c.region_rows-period.ensures.value),
+  cc (c.regions_down-region-end.ensures.value),
+)
 
 pub region_faults-faults-requires : goal.region_faults-faults-requires
 region_faults-faults-requires g c =
     let s : SizeEntry = c.args.symbol.now.size in
-    let p : ℕ = c.region_rows-period.result + 2 in
+    let (_, period, down) = facts g (goal.at.region_faults-faults-requires g c).After-regions_down-region-end in
     let region : ℕ = c.loop-region.region in
-    let es = c.size-size.ensures.value in
-    let e = ap (λ (s : SizeEntry). s.region_rows) es in
-    let down = ap (λ (s : SizeEntry). s.regions_down) es in
-    let same : p ≡ s.region_rows + 2 = omega (arith, e, c.region_rows-period.ensures.value) in
-    let z : region * p ≡ region * p + 0 = omega arith in
-    let within =
-    region_within s region c.size-size.ensures.modules.size (omega (
-      arith,
-      down,
-      c.loop-region-test.true,
-      c.regions_down-region-end.ensures.value,
-    )) in
-    let first : region * p ≡ region * (s.region_rows + 2) = ap (λ (i : ℕ). region * i) same in
-    let r : ℕ = s.region_rows in
-    let next : (region + 1) * (r + 2) ≡ region * (r + 2) + (r + 2) = omega arith in
+    let within = region_within s region c.size-size.ensures.modules.size (omega (arith, c.loop-region-test.true)) in
+    let times = ap (λ (i : ℕ). region * i) period in
+    let first : region * (c.region_rows-period.result + 2) ≡ region * (s.region_rows + 2) + 0 = omega (arith, times) in
+    let next : (region + 1) * (s.region_rows + 2) ≡ region * (s.region_rows + 2) + (s.region_rows + 2) = omega arith in
     record {
-      size = c.new-borders.ensures ∙ es;
+      size = c.new-borders.ensures ∙ c.size-size.ensures.value;
       doubt = c.requires;
-      first = ap (λ (i : ℕ). region * p % i) (sym same) ∙ ap (λ (i : ℕ). i % p) z
-          ∙ mod-mul-add region p 0 (omega arith);
-      fits = omega (arith, within, first, next);
+      first = rw first (mod-mul-add region (s.region_rows + 2) 0 (omega arith));
+      fits = omega (arith, within, times, next);
     }
 
 -- As many faults as rows of regions have modules fit in sixteen bits.
@@ -47,49 +45,34 @@ faults_fit p n region faults more l all f m =
 
 pub overflow_add-faults : goal.overflow_add-faults
 overflow_add-faults g c =
-    let m : SymbolView = c.args.symbol.now in
-    let facts = size_facts m.size c.size-size.ensures.modules.size in
-    let down = ap (λ (s : SizeEntry). s.regions_down) c.size-size.ensures.value in
+    let s : SizeEntry = c.args.symbol.now.size in
+    let (known, _, down) = facts g (goal.at.overflow_add-faults g c).After-regions_down-region-end in
     record {
-      fits = faults_fit (m.size.region_rows + 2) m.size.regions_down c.loop-region.region c.loop-region.faults
-          c.region_faults-faults.result
-          (omega (arith, down, c.loop-region-test.true, c.regions_down-region-end.ensures.value))
-          (omega (arith, facts.rows, facts.rows_fit)) c.loop-region.invariant.most c.region_faults-faults.ensures.most;
+      fits = faults_fit (s.region_rows + 2) s.regions_down c.loop-region.region _ _
+          (omega (arith, c.loop-region-test.true)) (omega (arith, known.rows, known.rows_fit))
+          c.loop-region.invariant.most c.region_faults-faults.ensures.most;
     }
 
 pub loop-region-preserved : goal.loop-region-preserved
 loop-region-preserved g c =
-    let m : SymbolView = c.args.symbol.now in
-    let D : Option SymbolView = g.D.Doubt.doubtful c.args.doubt.now in
+    let faults = sure_faults_in c.args.symbol.now (g.D.Doubt.doubtful c.args.doubt.now) in
     let region : ℕ = c.loop-region.region in
-    let p : ℕ = m.size.region_rows + 2 in
-    let e = ap (λ (s : SizeEntry). s.region_rows) c.size-size.ensures.value in
-    let same : c.region_rows-period.result + 2 ≡ p = omega (arith, e, c.region_rows-period.ensures.value) in
-    let first : region * (c.region_rows-period.result + 2) ≡ region * p = ap (λ (i : ℕ). region * i) same in
-    let count : c.region_faults-faults.result ≡ sure_faults_in m D (region * p) p =
-    c.region_faults-faults.ensures.count ∙ ap (λ (i : ℕ). sure_faults_in m D i p) first in
+    let p : ℕ = c.args.symbol.now.size.region_rows + 2 in
+    let (_, period, _) = facts g (goal.at.loop-region-preserved g c).After-regions_down-region-end in
+    let joined = faults_joined c.args.symbol.now (g.D.Doubt.doubtful c.args.doubt.now) (region * p) p in
+    let count : c.region_faults-faults.result ≡ faults (region * p) p =
+    c.region_faults-faults.ensures.count ∙ ap (λ (i : ℕ). faults (region * i) p) period in
     let next : region * p + p ≡ (region + 1) * p = omega arith in
-    let sum : c.loop-region.faults + c.region_faults-faults.result ≡ sure_faults_in m D 0 (region * p + p) =
-    omega (arith, count, c.loop-region.invariant.so_far, faults_joined m D (region * p) p) in
+    let sum : c.loop-region.faults + c.region_faults-faults.result ≡ faults 0 (region * p + p) =
+    omega (arith, count, c.loop-region.invariant.so_far, joined) in
     record {
-      so_far = sum ∙ ap (λ (i : ℕ). sure_faults_in m D 0 i) next;
+      so_far = sum ∙ ap (faults 0) next;
       most = omega (arith, c.region_faults-faults.ensures.most, c.loop-region.invariant.most);
     }
 
 pub returns : goal.returns
 returns g c =
-    let m : SymbolView = c.args.symbol.now in
-    let D : Option SymbolView = g.D.Doubt.doubtful c.args.doubt.now in
-    let p : ℕ = m.size.region_rows + 2 in
-    let facts = size_facts m.size c.size-size.ensures.modules.size in
-    let e = ap (λ (s : SizeEntry). s.regions_down) c.size-size.ensures.value in
-    let all : c.loop-region.region ≡ m.size.regions_down =
-    omega (
-      arith,
-      c.loop-region-test.false,
-      c.loop-region.auto.region-end,
-      c.regions_down-region-end.ensures.value,
-      e,
-    ) in
-    c.loop-region.invariant.so_far
-    ∙ ap (λ (i : ℕ). sure_faults_in m D 0 i) (ap (λ (i : ℕ). i * p) all ∙ sym facts.rows)
+    let (known, _, down) = facts g (goal.at.returns g c).After-regions_down-region-end in
+    let all : c.loop-region.region ≡ c.args.symbol.now.size.regions_down =
+    omega (arith, c.loop-region-test.false, c.loop-region.auto.region-end) in
+    rw (known.rows, ← all) c.loop-region.invariant.so_far

@@ -1,13 +1,10 @@
-use Rattle.std.proofs.Common.{ℕ, ◌||◌, Bool, ap, inl, ◌∙◌, arith}
+use Rattle.std.proofs.Common.{ℕ, ◌||◌, Bool, ap, ◌∙◌, arith}
 use Rattle.dm_layout.specs.symbols.inner.Laying.{scattered, folded, corner_marks}
 use Rattle.dm_layout.specs.symbols.inner.Reading.{look_in}
 use Rattle.dm_layout.proofs.symbols.FoldedRows.{folded_same}
 use Rattle.dm_layout.proofs.symbols.SlotRows.{corner_slot_is}
 use Rattle.dm_layout.specs.symbols.inner.Slots.{reversed_bits, slot_byte}
 use Rattle.dm_layout.proofs.symbols.laying.lay_slots.Goals as goal
-
-pub codeword-requires : goal.codeword-requires
-codeword-requires g c = inl c.corner.ensures
 
 pub returns-clause-cells : goal.returns-clause-cells
 returns-clause-cells g c = λ r q lr lq.

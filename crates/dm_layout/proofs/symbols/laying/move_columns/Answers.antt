@@ -1,17 +1,8 @@
 use Rattle.std.proofs.Common.{◌≡◌, ℕ, ◌+◌, ◌-◌, ◌∙◌, List, length, ap, arith}
 use Rattle.std.proofs.lemmas.List.{length-set}
 use Rattle.dm_layout.specs.symbols.inner.Reading.{look_in}
-use Rattle.dm_layout.proofs.symbols.MovedRows.{moved_down, moved_none, move_more}
+use Rattle.dm_layout.proofs.symbols.MovedRows.{move_more}
 use Rattle.dm_layout.proofs.symbols.laying.move_columns.Goals as goal
-
-pub loop-row-init : goal.loop-row-init
-loop-row-init g c =
-    record {
-      count = c.requires.room;
-      low = omega arith;
-      so_far =
-          λ r q. moved_none (g.R.BitRows.numbers c.args.rows.now) c.args.columns c.args.shift r q;
-    }
 
 pub loop-row-preserved : goal.loop-row-preserved
 loop-row-preserved g c =
@@ -33,5 +24,4 @@ loop-row-preserved g c =
 pub returns-clause-cells : goal.returns-clause-cells
 returns-clause-cells g c = λ r q.
     let e : c.loop-row.row ≡ c.args.height + 2 = omega (arith, c.loop-row-test.false, c.loop-row.auto.row-end) in
-    c.loop-row.invariant.so_far r q ∙ ap (λ (i : ℕ). moved_down (g.R.BitRows.numbers c.args.rows.now) c.args.columns
-    c.args.shift i r q) e
+    rw (c.loop-row.invariant.so_far, e)

@@ -1,8 +1,7 @@
-use Rattle.std.proofs.Common.{◌≡◌, ℕ, suc, ◌+◌, ◌<◌, Bool, ◌||◌, List, drop, get_or, length, ap, sym, ◌∙◌, subst, refl}
+use Rattle.std.proofs.Common.{◌≡◌, ℕ, suc, ◌+◌, ◌<◌, ◌||◌, List, drop, get_or, length, ap, ◌∙◌, subst, refl}
 use Rattle.std.proofs.Common.{arith}
-use Rattle.std.proofs.Math.Bool.{or-false}
 use Rattle.std.proofs.Math.Seq.{drop-cons}
-use Rattle.std.proofs.lemmas.List.{drop_all, length-set}
+use Rattle.std.proofs.lemmas.List.{length-set}
 use Rattle.dm_place.specs.declared.shape.Cell.{Cell}
 use Rattle.dm_place.specs.Placement.{At}
 use Rattle.dm_layout.specs.symbols.inner.Reading.{look_in, marks_in}
@@ -17,20 +16,6 @@ cell_inside most i cells l h =
     let inside = subst (CellsInside most most) (drop-cons cells i (At 0 0) l) h in
     (inside.0, inside.1)
 
-pub put_bit-requires-clause-row : goal.put_bit-requires-clause-row
-put_bit-requires-clause-row g c =
-    let inside =
-    cell_inside g.R.BitRows.most c.loop-i.i c.args.cells.now (omega (arith, c.loop-i-test.true, c.told-cells))
-    c.loop-i.invariant.inside in
-    omega (arith, inside.0, c.loop-i.invariant.count)
-
-pub put_bit-requires-clause-column : goal.put_bit-requires-clause-column
-put_bit-requires-clause-column g c =
-    let inside =
-    cell_inside g.R.BitRows.most c.loop-i.i c.args.cells.now (omega (arith, c.loop-i-test.true, c.told-cells))
-    c.loop-i.invariant.inside in
-    omega (arith, inside.1)
-
 pub loop-i-preserved : goal.loop-i-preserved
 loop-i-preserved g c =
     let cells : List Cell = c.args.cells.now in
@@ -39,8 +24,7 @@ loop-i-preserved g c =
     let e = drop-cons cells i (At 0 0) (omega (arith, c.loop-i-test.true, c.told-cells)) in
     let s : suc i ≡ i + 1 = omega arith in
     let f = ap (λ (j : ℕ). drop j cells) s in
-    let inside = subst (λ
-    (cs : List Cell). CellsInside g.R.BitRows.most g.R.BitRows.most cs) e c.loop-i.invariant.inside in
+    let inside = rw e at c.loop-i.invariant.inside in
     let rows = g.R.BitRows.numbers c.loop-i.rows in
     let olds = g.R.BitRows.numbers c.args.rows.now in
     record {
@@ -53,11 +37,3 @@ loop-i-preserved g c =
           (omega (arith, inside.0, c.loop-i.invariant.count)) (omega (arith, inside.1, g.met.R.BitRows.fits))
           (omega (arith, c.loop-i-test.true)) refl c.loop-i.invariant.so_far r q;
     }
-
-pub returns-clause-cells : goal.returns-clause-cells
-returns-clause-cells g c = λ r q.
-    let now : Bool = look_in (g.R.BitRows.numbers c.loop-i.rows) (r + 2) (q + 4) in
-    sym (or-false now)
-    ∙ ap (λ (cells : List Cell). now || marks_in c.args.word c.loop-i.i cells r q)
-    (sym (drop_all c.loop-i.i c.args.cells.now (omega (arith, c.loop-i-test.false, c.told-cells))))
-    ∙ c.loop-i.invariant.so_far r q

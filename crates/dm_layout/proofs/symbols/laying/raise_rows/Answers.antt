@@ -1,8 +1,7 @@
-use Rattle.std.proofs.Common.{◌≡◌, ℕ, ◌+◌, ◌∙◌, List, length, ap, arith}
+use Rattle.std.proofs.Common.{ℕ, ◌+◌, ◌∙◌, List, length, ap, arith}
 use Rattle.std.proofs.lemmas.List.{length-set}
 use Rattle.dm_layout.specs.symbols.inner.Reading.{look_in}
 use Rattle.dm_layout.proofs.symbols.MovedRows.{raise_more}
-use Rattle.dm_layout.proofs.symbols.WidenedRows.{laid_over}
 use Rattle.dm_layout.proofs.symbols.laying.raise_rows.Goals as goal
 
 pub loop-row-preserved : goal.loop-row-preserved
@@ -18,9 +17,3 @@ loop-row-preserved g c =
           ∙ raise_more olds rows c.args.height row c.requires.some (omega (arith, c.loop-row-test.true))
           (omega (arith, i.count, c.loop-row-test.true, c.requires.some, c.requires.high)) i.so_far r q;
     }
-
-pub returns-clause-cells : goal.returns-clause-cells
-returns-clause-cells g c = λ r q.
-    let olds = g.R.BitRows.numbers c.args.rows.now in
-    let e : c.loop-row.row + 2 ≡ 6 = omega (arith, c.loop-row-test.false, c.loop-row.auto.row-end) in
-    c.loop-row.invariant.so_far r q ∙ ap (λ (i : ℕ). laid_over olds (λ r. look_in olds (r + c.args.height)) i r q) e

@@ -1,7 +1,8 @@
 use Rattle.std.proofs.Common.{[], ◌∙◌, sym, arith, lit<}
 use Rattle.std.proofs.lemmas.List.{length-set, same_lists}
 use Rattle.dm_layout.specs.symbols.Sizes.{size_table}
-use Rattle.dm_layout.proofs.symbols.SizeRows.{entry_here, size_count, size_here, size_put}
+use Rattle.dm_layout.proofs.symbols.SizeRows.{entry_here, size_count, size_here}
+use Rattle.dm_layout.proofs.symbols.TableEntries.{put_more}
 use Rattle.dm_layout.proofs.symbols.size.table.Goals as goal
 
 pub size_of-sizes-requires : goal.size_of-sizes-requires
@@ -14,7 +15,8 @@ pub loop-i-preserved : goal.loop-i-preserved
 loop-i-preserved c = record {
   count = length-set c.loop-i.sizes c.loop-i.i _ ∙ c.loop-i.invariant.count;
   put =
-      size_put c.loop-i.sizes c.loop-i.i _ c.loop-i.invariant.count c.loop-i-test.true c.loop-i.invariant.put
+      put_more size_table c.loop-i.sizes c.loop-i.i _ (omega (arith, c.loop-i.invariant.count, c.loop-i-test.true))
+      c.loop-i.invariant.put
       (λ e. c.size_of.ensures ∙ entry_here c.loop-i.i _ c.loop-i-test.true e);
 }
 

@@ -1,10 +1,6 @@
-use Rattle.std.proofs.Common.{ℕ, inl, ◌∙◌, ap, arith}
-use Rattle.dm_layout.specs.symbols.inner.Laying.{with_byte}
+use Rattle.std.proofs.Common.{arith}
 use Rattle.dm_layout.proofs.symbols.SlotRows.{corner_beside}
 use Rattle.dm_layout.proofs.symbols.slots.join_rows.Goals as goal
-
-pub add-requires : goal.add-requires
-add-requires g c = inl c.corner.ensures
 
 pub returns : goal.returns
 returns g c =
@@ -14,7 +10,6 @@ returns g c =
     (g.R.BitRows.joined c.join_anchors.new.slots) (g.R.BitRows.joined c.add.new.slots) c.reverse.result
     c.corner_word-corner.result (omega (arith, fits.1, g.met.R.BitRows.whole)) c.requires.high c.requires.wide
     (omega (arith, c.join_anchors.ensures.room)) c.join_anchors.ensures.corner
-    (c.add.ensures ∙ ap (λ (x : ℕ). with_byte g.R.BitRows.bytes (g.R.BitRows.joined c.join_anchors.new.slots) x
-    c.reverse.result) c.corner.ensures)
+    (rw (c.add.ensures, c.corner.ensures))
     c.reverse.type_inv c.reverse.ensures c.corner_word-corner.type_inv c.join_anchors.ensures.joined
     corner.first corner.second corner.third corner.fourth

@@ -1,4 +1,4 @@
-use Rattle.std.proofs.Common.{◌≡◌, ℕ, ◌+◌, ◌*◌, ◌/◌, ◌%◌, ◌^◌, ◌<◌, ◌≤◌, ap, ◌∙◌, sym, subst, arith}
+use Rattle.std.proofs.Common.{◌≡◌, ℕ, ◌+◌, ◌*◌, ◌/◌, ◌%◌, ◌^◌, ◌<◌, ◌≤◌, ap, ◌∙◌, arith}
 use Rattle.std.proofs.Math.Nat.{mod-lt}
 use Rattle.std.proofs.Math.Pow.{pow_mono, pow_pos}
 use Rattle.dm_layout.specs.symbols.Symbols.{is_dark_bit}
@@ -13,16 +13,14 @@ is_six : (c : After-with_part-inner) →
     whole_row c.args.row c.args.end / 2 ^ (5 * (c.args.region_columns + 2) + 1) % 2 ^ c.args.region_columns * 2 ^ (5 *
     c.args.region_columns) + c.inner_row-first.result
 is_six c =
-    c.with_part-inner.ensures
-    ∙ ap (λ (i : ℕ). i * 2 ^ (5 * c.args.region_columns) + c.inner_row-first.result) c.part_across-last.ensures
+    rw (c.with_part-inner.ensures, c.part_across-last.ensures)
 
 -- It is no wider than the matrix.
 narrow : (c : After-with_part-inner) →
     whole_row c.with_part-inner.result.0 c.with_part-inner.result.1 < 2 ^ (6 * c.args.region_columns)
 narrow c =
-    subst (λ (i : ℕ). i < 2 ^ (6 * c.args.region_columns)) (sym (is_six c))
-    (six_narrow (whole_row c.args.row c.args.end / 2 ^ (5 * (c.args.region_columns + 2) + 1)) c.inner_row-first.result
-    c.args.region_columns c.inner_row-first.ensures.width)
+    rw (← is_six c) at (six_narrow (whole_row c.args.row c.args.end / 2 ^ (5 * (c.args.region_columns + 2) + 1))
+    c.inner_row-first.result c.args.region_columns c.inner_row-first.ensures.width)
 
 pub with_part-inner-requires-clause-part : goal.with_part-inner-requires-clause-part
 with_part-inner-requires-clause-part c =

@@ -1,4 +1,4 @@
-use Rattle.std.proofs.Common.{◌≡◌, ℕ, ◌*◌, ◌^◌, ◌<◌, ap, ◌∙◌, sym, subst, arith}
+use Rattle.std.proofs.Common.{◌≡◌, ℕ, ◌*◌, ap, ◌∙◌, sym, arith, rules}
 use Rattle.dm_layout.specs.symbols.Symbols.{module_at, is_dark_bit}
 use Rattle.dm_layout.specs.symbols.Sizes.{SizeEntry, mapping_columns}
 use Rattle.dm_layout.specs.symbols.inner.Reading.{whole_row}
@@ -8,42 +8,25 @@ use Rattle.dm_layout.proofs.symbols.LongSizes.{long_size, short_size}
 use Rattle.dm_layout.proofs.symbols.TableEntries.{size_facts}
 use Rattle.dm_layout.proofs.symbols.widened.matrix_row.Goals as goal
 
-pub inner_row-inner-requires-clause-least : goal.inner_row-inner-requires-clause-least
-inner_row-inner-requires-clause-least c =
-    let facts = size_facts c.size-size.result c.columns.ensures.size in
-    omega (arith, facts.least_columns, c.region_columns.ensures.value)
-
-pub inner_row-inner-requires-clause-fits : goal.inner_row-inner-requires-clause-fits
-inner_row-inner-requires-clause-fits c =
+pub inner_row-inner-requires : goal.inner_row-inner-requires
+inner_row-inner-requires c =
     let s : SizeEntry = c.size-size.result in
     let facts = size_facts s c.columns.ensures.size in
-    let few = short_size s c.columns.ensures.size (omega (
-      arith,
-      c.columns.ensures.value,
-      c.if-columns-le-FIRST_COLUMNS.true,
-    )) in
+    let few = short_size s c.columns.ensures.size (omega arith) in
     let e : c.regions_across.result * c.region_columns.result ≡ mapping_columns s =
-    ap (λ (i : ℕ). i * c.region_columns.result) c.regions_across.ensures.value
-    ∙ ap (λ (i : ℕ). s.regions_across * i) c.region_columns.ensures.value in
-    omega (arith, e, facts.columns_below, few)
+    rw (c.regions_across.ensures.value, c.region_columns.ensures.value) in
+    record {
+      least = omega (arith, facts.least_columns);
+      some = omega (arith, facts.across);
+      fits = omega (arith, e, facts.columns_below, few);
+      wide = search rules;
+    }
 
-pub long_inner_row-requires-clause-least : goal.long_inner_row-requires-clause-least
-long_inner_row-requires-clause-least c =
-    let long = long_size c.size-size.result c.columns.ensures.size (omega (
-      arith,
-      c.columns.ensures.value,
-      c.if-columns-le-FIRST_COLUMNS.false,
-    )) in
-    omega (arith, long.least, c.region_columns-else-columns-le-FIRST_COLUMNS.ensures.value)
-
-pub long_inner_row-requires-clause-most : goal.long_inner_row-requires-clause-most
-long_inner_row-requires-clause-most c =
-    let long = long_size c.size-size.result c.columns.ensures.size (omega (
-      arith,
-      c.columns.ensures.value,
-      c.if-columns-le-FIRST_COLUMNS.false,
-    )) in
-    omega (arith, long.most, c.region_columns-else-columns-le-FIRST_COLUMNS.ensures.value)
+pub long_inner_row-requires : goal.long_inner_row-requires
+long_inner_row-requires c =
+    let long = long_size c.size-size.result c.columns.ensures.size (omega arith) in
+    let e = c.region_columns-else-columns-le-FIRST_COLUMNS.ensures.value in
+    record { least = omega (arith, long.least, e); most = omega (arith, long.most, e) }
 
 pub returns-then-columns-le-FIRST_COLUMNS-clause-cells : goal.returns-then-columns-le-FIRST_COLUMNS-clause-cells
 returns-then-columns-le-FIRST_COLUMNS-clause-cells c = λ q l.
@@ -56,39 +39,23 @@ returns-then-columns-le-FIRST_COLUMNS-clause-cells c = λ q l.
     c.inner_row-inner.result c.inner_row-inner.ensures.cells
     (λ k lk.
     let e = ap (λ (s : SizeEntry). s.columns) es in
-    c.row.ensures k (omega (arith, lk, e, c.columns.ensures.value, c.if-columns-le-FIRST_COLUMNS.true)) lk) q l
+    c.row.ensures k (omega (arith, lk, e)) lk) q l
 
-pub returns-else-columns-le-FIRST_COLUMNS-clause-cells : goal.returns-else-columns-le-FIRST_COLUMNS-clause-cells
-returns-else-columns-le-FIRST_COLUMNS-clause-cells c =
-    let es = c.size-size.ensures.value in
+pub returns-else-columns-le-FIRST_COLUMNS : goal.returns-else-columns-le-FIRST_COLUMNS
+returns-else-columns-le-FIRST_COLUMNS c =
     let m = c.args.symbol.now in
-    let w : ℕ = c.region_columns-else-columns-le-FIRST_COLUMNS.result in
-    let e = ap (λ (s : SizeEntry). s.columns) es in
-    let long = long_size m.size c.size-size.ensures.modules.size (omega (
-      arith,
-      e,
-      c.columns.ensures.value,
-      c.if-columns-le-FIRST_COLUMNS.false,
-    )) in
-    matrix_cells m c.args.row w 6 c.size-size.ensures.modules.size
-    (c.region_columns-else-columns-le-FIRST_COLUMNS.ensures.value ∙ ap (λ (s : SizeEntry). s.region_columns) es)
-    (sym long.across) (whole_row c.row-else-columns-le-FIRST_COLUMNS.result c.end.result)
-    (whole_row c.long_inner_row.result.0 c.long_inner_row.result.1) c.long_inner_row.ensures.cells
-    (whole_cells c.row-else-columns-le-FIRST_COLUMNS.result c.end.result m.size.columns (module_at m c.args.row)
-    c.row-else-columns-le-FIRST_COLUMNS.type_inv c.row-else-columns-le-FIRST_COLUMNS.ensures c.end.ensures)
-
-pub returns-else-columns-le-FIRST_COLUMNS-clause-width : goal.returns-else-columns-le-FIRST_COLUMNS-clause-width
-returns-else-columns-le-FIRST_COLUMNS-clause-width c =
     let es = c.size-size.ensures.value in
-    let m = c.args.symbol.now in
     let e = ap (λ (s : SizeEntry). s.columns) es in
-    let long = long_size m.size c.size-size.ensures.modules.size (omega (
-      arith,
-      e,
-      c.columns.ensures.value,
-      c.if-columns-le-FIRST_COLUMNS.false,
-    )) in
     let ew = c.region_columns-else-columns-le-FIRST_COLUMNS.ensures.value
     ∙ ap (λ (s : SizeEntry). s.region_columns) es in
-    subst (λ (i : ℕ). whole_row c.long_inner_row.result.0 c.long_inner_row.result.1 < 2 ^ i)
-    (ap (λ (i : ℕ). 6 * i) ew ∙ sym long.matrix) c.long_inner_row.ensures.width
+    let long = long_size m.size c.size-size.ensures.modules.size (omega (arith, e)) in
+    record {
+      cells =
+          matrix_cells m c.args.row _ 6 c.size-size.ensures.modules.size ew (sym long.across)
+          (whole_row c.row-else-columns-le-FIRST_COLUMNS.result c.end.result)
+          (whole_row c.long_inner_row.result.0 c.long_inner_row.result.1) c.long_inner_row.ensures.cells
+          (whole_cells c.row-else-columns-le-FIRST_COLUMNS.result c.end.result m.size.columns (module_at m c.args.row)
+          c.row-else-columns-le-FIRST_COLUMNS.type_inv c.row-else-columns-le-FIRST_COLUMNS.ensures c.end.ensures);
+      width =
+          rw (ap (λ (i : ℕ). 6 * i) ew ∙ sym long.matrix) at c.long_inner_row.ensures.width;
+    }

@@ -1,9 +1,8 @@
-use Rattle.std.proofs.Common.{◌≡◌, ℕ, ◌+◌, ◌*◌, ◌<◌, ◌≤◌, ◌^◌, List, length, ap, subst, arith, ◌∙◌}
+use Rattle.std.proofs.Common.{◌≡◌, ℕ, ◌+◌, ◌*◌, ◌<◌, ◌≤◌, ◌^◌, List, length, ap, arith, ◌∙◌}
 use Rattle.std.proofs.lemmas.List.{length-set}
 use Rattle.std.proofs.Math.Pow.{pow_mono}
 use Rattle.dm_place.specs.Border.{symbol_line}
 use Rattle.dm_layout.specs.symbols.Border.{mapped_cell}
-use Rattle.dm_layout.specs.symbols.Symbols.{module_at, is_dark_bit}
 use Rattle.dm_layout.specs.symbols.Sizes.{SizeEntry, mapping_columns, mapping_rows}
 use Rattle.dm_layout.specs.symbols.inner.Reading.{whole_row}
 use Rattle.dm_layout.proofs.symbols.Sizes.{region_ends}
@@ -25,21 +24,16 @@ loop-row-preserved g c =
     let x : ℕ = whole_row c.matrix_row-inner.result.0 c.matrix_row-inner.result.1 in
     let i = c.loop-row.invariant in
     let es = c.size-size.ensures.value in
-    let ed : d ≡ size.region_rows = c.region_rows-region_rows.ensures.value ∙ ap (λ
-    (s : SizeEntry). s.region_rows) es in
+    let ed : d ≡ size.region_rows = rw (c.region_rows-region_rows.ensures.value, es) in
     let all : (c.args.region + 1) * d ≡ c.args.region * d + d = omega arith in
     let line : row + 2 * c.args.region + 1 ≡ symbol_line d row =
     line_here row c.args.region d ((c.args.region + 1) * d) (omega arith) i.begun
     (omega (arith, all, c.loop-row-test.true)) in
-    let ends : (c.args.region + 1) * size.region_rows ≤ mapping_rows size =
-    region_ends size c.args.region c.requires.region in
+    let ends = region_ends size c.args.region c.requires.region in
     let same : (c.args.region + 1) * d ≡ (c.args.region + 1) * size.region_rows =
     ap (λ (k : ℕ). (c.args.region + 1) * k) ed in
     let below : row < mapping_rows size = omega (arith, ends, same, all, c.loop-row-test.true) in
-    let cells =
-    subst (λ (k : ℕ). (q : ℕ) → q < C → is_dark_bit x q ≡ module_at c.args.symbol.now k
-    (symbol_line size.region_columns q)) (line ∙ ap (λ (k : ℕ). symbol_line k row) ed) c.matrix_row-inner.ensures.cells
-    in
+    let cells = rw (line, ed) at c.matrix_row-inner.ensures.cells in
     record {
       count = ap length c.put.ensures ∙ length-set rows (row + 2) _ ∙ i.count;
       begun = omega (arith, i.begun);

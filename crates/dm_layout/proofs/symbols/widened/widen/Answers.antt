@@ -1,62 +1,48 @@
-use Rattle.std.proofs.Common.{◌≡◌, ℕ, ◌+◌, ◌-◌, ◌<◌, ◌≤◌, subst, sym, arith, ◌∙◌, ap}
+use Rattle.std.proofs.Common.{◌≡◌, ℕ, arith, rules}
 use Rattle.dm_layout.specs.symbols.Border.{mapped_cell}
-use Rattle.dm_layout.specs.symbols.Sizes.{SizeEntry, mapping_rows, mapping_columns}
-use Rattle.dm_layout.specs.symbols.inner.Reading.{look_in}
-use Rattle.dm_layout.specs.symbols.inner.Widened.{IsMoved, IsWidened}
-use Rattle.dm_layout.proofs.symbols.LongSizes.{has_matrix}
-use Rattle.dm_layout.proofs.symbols.WidenedRows.{is_widened, wrapped_left}
+use Rattle.dm_layout.specs.symbols.Sizes.{mapping_rows, mapping_columns}
+use Rattle.dm_layout.proofs.symbols.LongSizes.{HasMatrix, has_matrix}
+use Rattle.dm_layout.proofs.symbols.WidenedRows.{is_widened}
 use Rattle.dm_layout.proofs.symbols.widened.widen.Goals as goal
+use Rattle.dm_layout.proofs.symbols.widened.widen.Goals.{After-mapping_columns-columns}
 
-pub wrap_columns-requires-clause-some : goal.wrap_columns-requires-clause-some
-wrap_columns-requires-clause-some g c =
-    let b = has_matrix c.size-size.result c.mapping_rows-height.ensures.size in
-    omega (arith, b.least_rows, c.mapping_rows-height.ensures.value)
+-- What is known of the mapping matrix.
+matrix : (g : _) (c : After-mapping_columns-columns g) → HasMatrix c.size-size.result
+matrix g c = has_matrix c.size-size.result c.mapping_rows-height.ensures.size
 
-pub wrap_columns-requires-clause-least : goal.wrap_columns-requires-clause-least
-wrap_columns-requires-clause-least g c =
-    let b = has_matrix c.size-size.result c.mapping_rows-height.ensures.size in
-    omega (arith, b.least_columns, c.mapping_columns-columns.ensures.value)
+pub wrap_columns-requires : goal.wrap_columns-requires
+wrap_columns-requires g c =
+    let b = matrix g (goal.at.wrap_columns-requires g c).After-mapping_columns-columns in
+    record {
+      room = search rules;
+      some = omega (arith, b.least_rows);
+      least = omega (arith, b.least_columns);
+      high = search rules;
+      wide = search rules;
+      shift = omega (arith, b.even_columns);
+      width = search rules;
+    }
 
-pub wrap_columns-requires-clause-shift : goal.wrap_columns-requires-clause-shift
-wrap_columns-requires-clause-shift g c =
-    let b = has_matrix c.size-size.result c.mapping_rows-height.ensures.size in
-    omega (arith, b.even_columns, c.mapping_columns-columns.ensures.value, c.wrap_shift-down.ensures)
-
-pub wrap_rows-requires-clause-some : goal.wrap_rows-requires-clause-some
-wrap_rows-requires-clause-some g c =
-    let b = has_matrix c.size-size.result c.mapping_rows-height.ensures.size in
-    omega (arith, b.least_rows, c.mapping_rows-height.ensures.value)
-
-pub wrap_rows-requires-clause-shift : goal.wrap_rows-requires-clause-shift
-wrap_rows-requires-clause-shift g c =
-    let b = has_matrix c.size-size.result c.mapping_rows-height.ensures.size in
-    omega (arith, b.even_rows, c.mapping_rows-height.ensures.value, c.wrap_shift-right.ensures)
+pub wrap_rows-requires : goal.wrap_rows-requires
+wrap_rows-requires g c =
+    let b = matrix g (goal.at.wrap_rows-requires g c).After-mapping_columns-columns in
+    record {
+      room = search rules;
+      some = omega (arith, b.least_rows);
+      high = search rules;
+      wide = search rules;
+      shift = omega (arith, b.even_rows);
+    }
 
 pub returns-clause-widened : goal.returns-clause-widened
 returns-clause-widened g c =
-    let b = has_matrix c.size-size.result c.mapping_rows-height.ensures.size in
-    let size : SizeEntry = c.args.symbol.now.size in
-    let look = mapped_cell c.args.symbol.now in
-    let rows = g.R.BitRows.numbers in
+    let b = matrix g (goal.at.returns-clause-widened g c).After-mapping_columns-columns in
     let m : ℕ = c.mapping_rows-height.result in
     let k : ℕ = c.mapping_columns-columns.result in
-    let em : m ≡ mapping_rows size = c.mapping_rows-height.ensures.value ∙ ap mapping_rows c.size-size.ensures.value in
-    let ek : k ≡ mapping_columns size =
-    c.mapping_columns-columns.ensures.value ∙ ap mapping_columns c.size-size.ensures.value in
-    let moved : IsMoved k m look (rows c.move_rows.new.rows) =
-    subst (λ (i : ℕ). IsMoved k i look (rows c.move_rows.new.rows)) (sym em)
-    (subst (λ (i : ℕ). IsMoved i (mapping_rows size) look (rows c.move_rows.new.rows))
-    (sym ek) c.move_rows.ensures.moved)
-    in
-    subst (λ (i : ℕ). IsWidened i (mapping_columns size) look (rows c.wrap_rows.new.rows)) em
-    (subst (λ (i : ℕ). IsWidened m i look (rows c.wrap_rows.new.rows)) ek
-    (is_widened m k look (rows c.move_rows.new.rows) (rows c.wrap_columns.new.rows) (rows c.wrap_rows.new.rows)
-    (omega (arith, b.least_rows, c.mapping_rows-height.ensures.value))
-    (omega (arith, b.least_columns, c.mapping_columns-columns.ensures.value)) moved
-    (subst (λ (i : ℕ). (r q : ℕ) → look_in (rows c.wrap_columns.new.rows) r q ≡
-    wrapped_left (rows c.move_rows.new.rows) m k i
-    (m + 2) r q) c.wrap_shift-down.ensures c.wrap_columns.ensures.wrapped)
-    (subst (λ (i : ℕ). (r q : ℕ) → r < 2 → q < k + 4 → i ≤ q + 4 →
-    look_in (rows c.wrap_rows.new.rows) r q ≡ look_in (rows c.wrap_columns.new.rows) (r + m) (q + 4 - i))
-    c.wrap_shift-right.ensures c.wrap_rows.ensures.above)
-    c.wrap_rows.ensures.others))
+    let em : m ≡ mapping_rows c.args.symbol.now.size = cc (c.mapping_rows-height.ensures.value) in
+    let ek : k ≡ mapping_columns c.args.symbol.now.size = cc (c.mapping_columns-columns.ensures.value) in
+    let moved = rw (← em, ← ek) at c.move_rows.ensures.moved in
+    let wrapped = rw c.wrap_shift-down.ensures at c.wrap_columns.ensures.wrapped in
+    let above = rw c.wrap_shift-right.ensures at c.wrap_rows.ensures.above in
+    rw (← em, ← ek) (is_widened m k (mapped_cell c.args.symbol.now) _ _ _ (omega (arith, b.least_rows))
+    (omega (arith, b.least_columns)) moved wrapped above c.wrap_rows.ensures.others)

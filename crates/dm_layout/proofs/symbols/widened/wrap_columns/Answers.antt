@@ -1,15 +1,8 @@
-use Rattle.std.proofs.Common.{◌≡◌, ◌∙◌, ℕ, ◌+◌, ◌&&◌, ◌||◌, nat_le, nat_lt, List, length, ap, arith}
+use Rattle.std.proofs.Common.{◌≡◌, ◌∙◌, ℕ, ◌+◌, List, length, ap, arith}
 use Rattle.std.proofs.lemmas.List.{length-set}
 use Rattle.dm_layout.specs.symbols.inner.Reading.{look_in}
-use Rattle.dm_layout.specs.symbols.inner.Widened.{source}
-use Rattle.dm_layout.proofs.symbols.WidenedRows.{source_small, wrap_more}
+use Rattle.dm_layout.proofs.symbols.WidenedRows.{wrap_more}
 use Rattle.dm_layout.proofs.symbols.widened.wrap_columns.Goals as goal
-
-pub wrap_left-requires-clause-from : goal.wrap_left-requires-clause-from
-wrap_left-requires-clause-from g c =
-    let s = source_small c.args.height c.args.shift (c.loop-row.row + 2) in
-    let e = c.source-from.ensures in
-    omega (arith, s, e, c.loop-row.invariant.count, c.loop-row-test.true, c.requires.high)
 
 pub loop-row-preserved : goal.loop-row-preserved
 loop-row-preserved g c =
@@ -30,5 +23,4 @@ pub returns-clause-wrapped : goal.returns-clause-wrapped
 returns-clause-wrapped g c = λ r q.
     let olds = g.R.BitRows.numbers c.args.rows.now in
     let e : c.loop-row.row ≡ c.args.height = omega (arith, c.loop-row-test.false, c.loop-row.auto.row-end) in
-    c.loop-row.invariant.so_far r q ∙ ap (λ (i : ℕ). look_in olds r q
-    || ((nat_le 2 r && nat_lt r (i + 2)) && look_in olds (source c.args.height c.args.shift r) (c.args.columns + q))) e
+    rw (c.loop-row.invariant.so_far, e)

@@ -1,6 +1,6 @@
 use Rattle.std.proofs.Common.{rules, ◌∙◌, sym}
 use Rattle.dm_layout.proofs.SquareSizes.{no_square_for, one_square_for}
-use Rattle.dm_layout.proofs.TableRows.{enough_for_words, none_for_words, row_for_words_row, smallest_for_words}
+use Rattle.dm_layout.proofs.TableRows.{none_for_words, smallest_for_words}
 use Rattle.dm_layout.proofs.grids.size.Size.for_words.Goals as goal
 
 pub returns-in_err-for_words-clause-value : goal.returns-in_err-for_words-clause-value
@@ -16,12 +16,6 @@ returns-clause-value c =
     let found = c.in_ok-for_words.ensures in
     c.of_symbol.ensures.value
     ∙ sym (one_square_for c.args.count c.in_ok-for_words.field-0 found.size found.chosen found.enough found.smallest)
-
-pub returns-clause-row : goal.returns-clause-row
-returns-clause-row c = row_for_words_row c.args.count c.of_symbol.result (returns-clause-value c)
-
-pub returns-clause-enough : goal.returns-clause-enough
-returns-clause-enough c = enough_for_words c.args.count c.of_symbol.result (returns-clause-value c)
 
 pub returns-clause-smallest : goal.returns-clause-smallest
 returns-clause-smallest c = smallest_for_words c.args.count c.of_symbol.result (returns-clause-value c)

@@ -1,12 +1,6 @@
 use Rattle.dm_layout.specs.symbols.inner.Reading.{whole_row}
-use Rattle.dm_layout.proofs.symbols.BorderMasks.{dark_in_last, dark_in_first}
+use Rattle.dm_layout.proofs.symbols.BorderMasks.{dark_in_first}
 use Rattle.dm_layout.proofs.symbols.borders.Borders.dark.Goals as goal
-
-pub returns-then-inner-self-clause-cells : goal.returns-then-inner-self-clause-cells
-returns-then-inner-self-clause-cells c =
-    let i = c.self.inside in
-    rw (← c.self.view_is) (dark_in_last i.size i.last (whole_row i.left.0 i.left.1) (whole_row i.both.0 i.both.1)
-    (whole_row i.even.0 i.even.1) (whole_row i.all.0 i.all.1) c.self.invariant c.args.inner c.if-inner-self.true)
 
 pub returns-then-inner-eq0-clause-cells : goal.returns-then-inner-eq0-clause-cells
 returns-then-inner-eq0-clause-cells c =

@@ -1,22 +1,10 @@
-use Rattle.std.proofs.Common.{◌≡◌, ℕ, ◌+◌, ◌*◌, ap, ◌∙◌, sym, arith}
+use Rattle.std.proofs.Common.{ℕ, ◌+◌, ap, arith}
 use Rattle.std.proofs.Math.Pow.{pow_pos}
 use Rattle.dm_layout.specs.symbols.Sizes.{SizeEntry}
 use Rattle.dm_layout.proofs.symbols.LongSizes.{short_size}
 use Rattle.dm_layout.proofs.symbols.Rows.{weight}
 use Rattle.dm_layout.proofs.symbols.SizeBorders.{short_borders}
-use Rattle.dm_layout.proofs.symbols.TableEntries.{size_facts}
 use Rattle.dm_layout.proofs.symbols.borders.Borders.short.Goals as goal
-
-pub ruled-left-requires-clause-fits : goal.ruled-left-requires-clause-fits
-ruled-left-requires-clause-fits c =
-    let s : SizeEntry = c.args.size in
-    let facts = size_facts s c.columns-columns.ensures.size in
-    let two : c.region_columns-last.result + 1 + 1 ≡ s.region_columns + 2 =
-    omega (arith, c.region_columns-last.ensures.value) in
-    let e : c.regions_across.result * (c.region_columns-last.result + 1 + 1) ≡ s.columns =
-    ap (λ (i : ℕ). i * (c.region_columns-last.result + 1 + 1)) c.regions_across.ensures.value
-    ∙ ap (λ (i : ℕ). s.regions_across * i) two ∙ sym facts.columns in
-    omega (arith, e, c.requires)
 
 pub overflow_shl-all : goal.overflow_shl-all
 overflow_shl-all c =

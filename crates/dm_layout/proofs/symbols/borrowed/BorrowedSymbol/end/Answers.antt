@@ -3,11 +3,6 @@ use Rattle.dm_layout.specs.symbols.Symbols.{SymbolView}
 use Rattle.dm_layout.proofs.symbols.KeptRows.{module_of_end}
 use Rattle.dm_layout.proofs.symbols.borrowed.BorrowedSymbol.end.Goals as goal
 
-pub bounds-self-inside-row : goal.bounds-self-inside-row
-bounds-self-inside-row c =
-    let h = ap (λ (m : SymbolView). m.size.rows) c.self.view_is in
-    omega (arith, c.self.invariant.fits, c.requires, h)
-
 pub returns : goal.returns
 returns c =
     rw (← c.self.view_is) (λ column l.

@@ -1,19 +1,11 @@
-use Rattle.std.proofs.Common.{◌∙◌, ℕ, List, ap, ◌+◌, ◌/◌, ◌^◌, get_or, length}
-use Rattle.std.proofs.Common.{get_or-set_same, get_or-set_other}
-use Rattle.std.proofs.lemmas.List.{length-set}
+use Rattle.std.proofs.Common.{◌∙◌, ℕ, List, ap, ◌+◌, ◌/◌, ◌^◌, get_or}
+use Rattle.std.proofs.Common.{get_or-set_same}
 use Rattle.dm_layout.specs.symbols.Symbols.{is_dark_bit}
 use Rattle.dm_layout.specs.symbols.inner.Slots.{in_bytes}
 use Rattle.dm_layout.proofs.symbols.SlotBytes.{eight_first}
-use Rattle.dm_layout.proofs.symbols.SlotRows.{narrow_joined_bit}
+use Rattle.dm_layout.proofs.symbols.SlotRows.{joined_in, narrow_masks_at}
 use Rattle.dm_layout.proofs.symbols.WidenedRows.{low_bit}
 use Rattle.dm_layout.proofs.symbols.narrow_rows.NarrowRowsBitRows.join.Goals as goal
-
-pub returns-clause-room : goal.returns-clause-room
-returns-clause-room c = ap length c.put_row.ensures ∙ length-set c.args.slots.now c.args.row _
-
-pub returns-clause-others : goal.returns-clause-others
-returns-clause-others c = λ r ne.
-    ap (λ (xs : List ℕ). get_or xs r 0) c.put_row.ensures ∙ get_or-set_other c.args.slots.now c.args.row r _ 0 ne
 
 pub returns-clause-cells : goal.returns-clause-cells
 returns-clause-cells c = λ room q l.
@@ -21,6 +13,6 @@ returns-clause-cells c = λ room q l.
     ∙ ap (λ (x : ℕ). is_dark_bit x q) (get_or-set_same c.args.slots.now c.args.row _ 0 room
     ∙ ap in_bytes c.to_le_bytes.ensures ∙ eight_first _)
     ∙ low_bit _ 64 q l
-    ∙ narrow_joined_bit (get_or c.args.self.now c.args.row 0 / 2 ^ c.args.column)
+    ∙ joined_in 64 _ _ narrow_masks_at (get_or c.args.self.now c.args.row 0 / 2 ^ c.args.column)
     (get_or c.args.self.now (c.args.row + 1) 0 / 2 ^ c.args.column)
     (get_or c.args.self.now (c.args.row + 2) 0 / 2 ^ c.args.column) q l

@@ -1,4 +1,4 @@
-use Rattle.std.proofs.Common.{◌≡◌, ◌∙◌, ◌^◌, ◌*◌, ◌+◌, ◌++◌, ℕ, List, drop, length, take, ap, sym, arith}
+use Rattle.std.proofs.Common.{◌≡◌, ◌∙◌, ℕ, List, drop, length, take, arith}
 use Rattle.std.proofs.lemmas.List.{length-drop, take-append-drop, take_all}
 use borrow.Rule.Slice.PartMut.{mid_of}
 use Rattle.std.specs.Int.{from_le_bytes, w128}
@@ -15,11 +15,7 @@ last_half xs n = take_all 16 (drop 16 xs) (let k = length-drop 16 xs in omega (a
 both_halves : (l h : ℕ) (xs bs cs : List ℕ) → length xs ≡ 32 → l ≡ from_le_bytes w128 bs → h ≡ from_le_bytes w128 cs →
     bs ≡ take 16 xs → cs ≡ drop 16 xs → length bs ≡ 16 → length cs ≡ 16 → pair l h ≡ in_bytes xs
 both_halves l h xs bs cs n el eh eb ec nb nc =
-    ap (λ (x : ℕ). pair x h) (el ∙ in_sixteen bs nb) ∙ ap (pair (in_bytes bs)) (eh ∙ in_sixteen cs nc)
-    ∙ ap (λ (k : ℕ). in_bytes cs * 2 ^ (8 * k) + in_bytes bs) (sym nb)
-    ∙ sym (in_bytes_append bs cs)
-    ∙ ap (λ (ys : List ℕ). in_bytes (ys ++ cs)) eb ∙ ap (λ (ys : List ℕ). in_bytes (take 16 xs ++ ys)) ec
-    ∙ ap in_bytes (take-append-drop 16 xs)
+    cc (el, in_sixteen bs nb, eh, in_sixteen cs nc, nb, in_bytes_append bs cs, eb, ec, take-append-drop 16 xs)
 
 pub returns : goal.returns
 returns c =

@@ -1,4 +1,4 @@
-use Rattle.std.proofs.Common.{◌≡◌, List, ◌∷◌, [], get_or, ◌^◌, ◌*◌, ◌<◌, ◌∙◌, ℕ, ◌+◌, ◌++◌, ap, refl, arith, subst, sym}
+use Rattle.std.proofs.Common.{◌≡◌, List, ◌∷◌, [], ◌^◌, ◌<◌, ◌∙◌, ℕ, ◌++◌, ap, refl, arith}
 use Rattle.std.proofs.Math.Nat.{mod-eq_of_lt}
 use borrow.Rule.Slice.PartMut.{put_mid}
 use Rattle.std.specs.Int.{to_le_bytes, w128}
@@ -15,23 +15,19 @@ zeros = 0 ∷ 0 ∷ 0 ∷ 0 ∷ 0 ∷ 0 ∷ 0 ∷ 0 ∷ 0 ∷ 0 ∷ 0 ∷ 0 ∷ 
 both_bytes : (l h : ℕ) (bs cs : List ℕ) → bs ≡ to_le_bytes w128 l → cs ≡ to_le_bytes w128 h →
     put_mid 16 16 (bs ++ zeros) cs ≡ to_le_bytes w128 l ++ to_le_bytes w128 h
 both_bytes l h bs cs eb ec =
-    ap (λ (xs : List ℕ). put_mid 16 16 (xs ++ zeros) cs) eb ∙ ap (put_mid 16 16 (to_le_bytes w128 l ++ zeros)) ec
-    ∙ two_put (to_le_bytes w128 l) (to_le_bytes w128 h) zeros refl refl refl
+    rw (eb, ec, two_put (to_le_bytes w128 l) (to_le_bytes w128 h) zeros refl refl refl)
 
 -- Their number is that of both numbers.
 both_number : (l h : ℕ) → l < 2 ^ 128 → h < 2 ^ 128 → in_bytes (to_le_bytes w128 l ++ to_le_bytes w128 h) ≡ pair l h
 both_number l h ll lh =
-    in_bytes_append (to_le_bytes w128 l) (to_le_bytes w128 h)
-    ∙ ap (λ (x : ℕ). x * 2 ^ 128 + in_bytes (to_le_bytes w128 l)) (sixteen_first h ∙ mod-eq_of_lt lh)
-    ∙ ap (λ (x : ℕ). h * 2 ^ 128 + x) (sixteen_first l ∙ mod-eq_of_lt ll)
+    rw (in_bytes_append, sixteen_first, mod-eq_of_lt, sixteen_first, mod-eq_of_lt)
 
 pub returns-clause-bytes : goal.returns-clause-bytes
 returns-clause-bytes c = λ i.
-    subst (λ (bs : List ℕ). get_or bs i 0 < 256) (sym (both_bytes c.args.self.now.low c.args.self.now.high _ _
-    (c.copy_from_slice.ensures.after ∙ c.to_le_bytes.ensures)
-    (c.copy_from_slice-2.ensures.after ∙ c.to_le_bytes-2.ensures)))
-    (bytes_append (to_le_bytes w128 c.args.self.now.low) (to_le_bytes w128 c.args.self.now.high)
-    (low_first_small 16 0 c.args.self.now.low) (low_first_small 16 0 c.args.self.now.high) i)
+    rw (both_bytes c.args.self.now.low c.args.self.now.high _ _ (c.copy_from_slice.ensures.after ∙
+    c.to_le_bytes.ensures) (c.copy_from_slice-2.ensures.after ∙ c.to_le_bytes-2.ensures)) (bytes_append (to_le_bytes
+    w128 c.args.self.now.low) (to_le_bytes w128 c.args.self.now.high) (low_first_small 16 0 c.args.self.now.low)
+    (low_first_small 16 0 c.args.self.now.high) i)
 
 pub returns-clause-number : goal.returns-clause-number
 returns-clause-number c =

@@ -1,6 +1,4 @@
 use Rattle.std.proofs.Common.{◌≡◌, ◌∙◌, ◌-◌, ◌*◌, ◌/◌, ◌%◌, ◌^◌, ◌≤◌, ◌<◌, ℕ, List, ap, get_or, length, refl, set}
-use Rattle.std.proofs.Common.{subst}
-use Rattle.std.proofs.Common.{sym}
 use Rattle.std.specs.Int.RustNames.{bit_or}
 use Rattle.dm_layout.specs.declared.symbols.pair.Pair.{Pair}
 use Rattle.dm_layout.specs.symbols.inner.Pairs.{number_of, numbers_of}
@@ -16,10 +14,8 @@ module _ (ps : List Pair) (row from shift : ℕ) (p q d e : Pair) (inside : row 
         IsOver (numbers_of ps) (numbers_of (set ps row p)) 256 row from shift
     by_left l eq =
         let x : ℕ = get_or (numbers_of ps) from 0 in
-        subst (λ (xs : List ℕ). IsOver (numbers_of ps) xs 256 row from shift)
-        (sym (over_is ps (numbers_of ps) row p d (x * 2 ^ (4 - shift) % 2 ^ 256) refl inside (over
-        ∙ ap (bit_or (number_of (get_or ps row d))) (eq ∙ ap (λ (i : ℕ). i * 2 ^ (4 - shift) % 2 ^ 256)
-        (at_is ps from e there)))))
+        rw (← over_is ps (numbers_of ps) row p d (x * 2 ^ (4 - shift) % 2 ^ 256) refl inside (over ∙ ap (bit_or
+        (number_of (get_or ps row d))) (eq ∙ ap (λ (i : ℕ). i * 2 ^ (4 - shift) % 2 ^ 256) (at_is ps from e there)))) at
         (over_row (numbers_of ps) 256 row from shift _ inside (λ c h. moved_right 256 x shift c l h))
 
     -- One over which another one is laid that was moved to the right.
@@ -27,11 +23,9 @@ module _ (ps : List Pair) (row from shift : ℕ) (p q d e : Pair) (inside : row 
         IsOver (numbers_of ps) (numbers_of (set ps row p)) 256 row from shift
     by_right l eq =
         let x : ℕ = get_or (numbers_of ps) from 0 in
-        subst (λ (xs : List ℕ). IsOver (numbers_of ps) xs 256 row from shift)
-        (sym (over_is ps (numbers_of ps) row p d (x / 2 ^ (shift - 4)) refl inside (over
-        ∙ ap (bit_or (number_of (get_or ps row d))) (eq ∙ ap (λ (i : ℕ). i / 2 ^ (shift - 4)) (at_is ps from e
-        there)))))
-        (over_row (numbers_of ps) 256 row from shift _ inside (λ c h. moved_left x shift c l))
+        rw (← over_is ps (numbers_of ps) row p d (x / 2 ^ (shift - 4)) refl inside (over ∙ ap (bit_or (number_of (get_or
+        ps row d))) (eq ∙ ap (λ (i : ℕ). i / 2 ^ (shift - 4)) (at_is ps from e there)))) at (over_row (numbers_of ps)
+        256 row from shift _ inside (λ c h. moved_left x shift c l))
 
 pub returns-then-shift-le4-clause-others : goal.returns-then-shift-le4-clause-others
 returns-then-shift-le4-clause-others c =

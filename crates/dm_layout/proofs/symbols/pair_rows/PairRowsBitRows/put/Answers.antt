@@ -1,4 +1,4 @@
-use Rattle.std.proofs.Common.{◌∙◌, ◌≡◌, ◌+◌, ◌*◌, ◌^◌, ◌%◌, ◌<◌, ℕ, ap, arith}
+use Rattle.std.proofs.Common.{◌≡◌, ◌+◌, ◌*◌, ◌^◌, ◌%◌, ◌<◌, ℕ, arith}
 use Rattle.dm_layout.proofs.symbols.Pairs.{put_is}
 use Rattle.dm_layout.proofs.symbols.pair_rows.PairRowsBitRows.put.Goals as goal
 
@@ -10,5 +10,4 @@ moved inner rest l = omega (arith, l)
 pub returns : goal.returns
 returns c =
     put_is c.args.self.now c.args.row c.left.result _
-    (c.left.ensures ∙ ap (λ (x : ℕ). (x * 2 ^ 128 + c.args.inner) * 2 ^ 4 % 2 ^ 256) c.from.ensures
-    ∙ moved c.args.inner c.args.rest c.requires.inner)
+    (rw (c.left.ensures, c.from.ensures, moved c.args.inner c.args.rest c.requires.inner))

@@ -1,6 +1,5 @@
-use Rattle.std.proofs.Common.{◌∙◌, ◌<◌, ◌/◌, ℕ, List, get_or, length, ap, arith}
-use Rattle.dm_layout.specs.symbols.inner.Slots.{in_bytes}
-use Rattle.dm_layout.proofs.symbols.SlotPlaces.{row_bytes, row_found, row_read}
+use Rattle.std.proofs.Common.{◌∙◌, ◌<◌, ◌/◌, ℕ, length, ap, arith}
+use Rattle.dm_layout.proofs.symbols.SlotPlaces.{row_bytes, row_found}
 use Rattle.dm_layout.proofs.symbols.slot_rows.Slots.row.Goals as goal
 
 pub returns-clause-count : goal.returns-clause-count
@@ -11,13 +10,3 @@ returns-clause-count g c =
     let l : c.args.row < length bytes / n = omega (arith, c.requires.row, e) in
     ap length (row_found n bytes c.requires.some _ c.args.row _ c.as_chunks.ensures.front l c.index-rows-row.is)
     ∙ row_bytes n bytes c.requires.some c.args.row l
-
-pub returns-clause-number : goal.returns-clause-number
-returns-clause-number g c =
-    let n : ℕ = g.row.BYTES in
-    let bytes = c.self.inside.bytes in
-    let e = ap (λ (i : ℕ). i / n) c.self.told in
-    let l : c.args.row < length bytes / n = omega (arith, c.requires.row, e) in
-    ap in_bytes (row_found n bytes c.requires.some _ c.args.row _ c.as_chunks.ensures.front l c.index-rows-row.is)
-    ∙ row_read n bytes c.requires.some c.args.row l
-    ∙ ap (λ (xs : List ℕ). get_or xs c.args.row 0) c.self.view_is

@@ -1,5 +1,4 @@
-use Rattle.std.proofs.Common.{◌≡◌, ◌-◌, ℕ, ◌<◌, ◌↔◌, IsTrue, ap, ◌∙◌, subst, arith}
-use Rattle.dm_layout.specs.symbols.Symbols.{is_dark_bit}
+use Rattle.std.proofs.Common.{ap, ◌∙◌, arith}
 use Rattle.dm_layout.specs.symbols.Sizes.{SizeEntry}
 use Rattle.dm_layout.proofs.symbols.KeptEquality.{told_end, told_none}
 use Rattle.dm_layout.proofs.symbols.LongSizes.{short_size}
@@ -18,11 +17,9 @@ pub returns-then-row : goal.returns-then-row
 returns-then-row g c =
     let n = c.columns-columns.result in
     let told =
-    subst (λ (x : ℕ). IsTrue c.same_modules-then-row.result ↔ ((k : ℕ) → k < n - 128 →
-    is_dark_bit x k ≡ is_dark_bit c.from-other_end.result k)) c.from-end.ensures c.same_modules-then-row.ensures in
+    rw c.from-end.ensures at c.same_modules-then-row.ensures in
     let both =
-    subst (λ (y : ℕ). IsTrue c.same_modules-then-row.result ↔ ((k : ℕ) → k < n - 128 →
-    is_dark_bit c.end.result k ≡ is_dark_bit y k)) c.from-other_end.ensures told in
+    rw c.from-other_end.ensures at told in
     told_end c.args.self.now c.args.other.now c.args.row c.row-else-columns-le-FIRST_COLUMNS.result
     c.row-else-columns-le-FIRST_COLUMNS-2.result c.requires.size c.row-else-columns-le-FIRST_COLUMNS.ensures
     c.row-else-columns-le-FIRST_COLUMNS-2.ensures c.end.result c.end-then-row.result c.same_modules-then-row.result n

@@ -3,16 +3,6 @@ use Rattle.dm_layout.specs.symbols.Symbols.{SymbolView}
 use Rattle.dm_layout.proofs.symbols.KeptRows.{modules_of_kept, put_end, put_first, put_others}
 use Rattle.dm_layout.proofs.symbols.symbol.SymbolIn.put_row.Goals as goal
 
-pub bounds-self-inside-row : goal.bounds-self-inside-row
-bounds-self-inside-row g c =
-    let h = ap (λ (m : SymbolView). m.size.rows) c.self.view_is in
-    omega (arith, c.self.invariant.fits, c.requires, h)
-
-pub bounds-self-inside-row-2 : goal.bounds-self-inside-row-2
-bounds-self-inside-row-2 g c =
-    let h = ap (λ (m : SymbolView). m.size.rows) c.self.view_is in
-    omega (arith, c.self.invariant.fits, c.requires, h)
-
 pub returns-clause-start : goal.returns-clause-start
 returns-clause-start g c =
     rw (← c.self.view_is) (let h = ap (λ (m : SymbolView). m.size.rows) c.self.view_is in

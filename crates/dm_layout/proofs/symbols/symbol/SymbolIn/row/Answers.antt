@@ -3,11 +3,6 @@ use Rattle.dm_layout.specs.symbols.Symbols.{SymbolView}
 use Rattle.dm_layout.proofs.symbols.KeptRows.{module_of_first}
 use Rattle.dm_layout.proofs.symbols.symbol.SymbolIn.row.Goals as goal
 
-pub bounds-self-inside-row : goal.bounds-self-inside-row
-bounds-self-inside-row g c =
-    let h = ap (λ (m : SymbolView). m.size.rows) c.self.view_is in
-    omega (arith, c.self.invariant.fits, c.requires, h)
-
 pub returns : goal.returns
 returns g c =
     rw (← c.self.view_is) (λ column low l.

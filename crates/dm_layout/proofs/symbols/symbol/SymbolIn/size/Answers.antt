@@ -1,5 +1,5 @@
-use Rattle.std.proofs.Common.{◌≤◌, subst}
-use Rattle.dm_layout.specs.symbols.Symbols.{SymbolView, IsSymbol}
+use Rattle.std.proofs.Common.{subst}
+use Rattle.dm_layout.specs.symbols.Symbols.{IsSymbol}
 use Rattle.dm_layout.proofs.symbols.KeptRows.{modules_of_kept}
 use Rattle.dm_layout.proofs.symbols.symbol.SymbolIn.size.Goals as goal
 
@@ -7,6 +7,3 @@ pub returns-clause-modules : goal.returns-clause-modules
 returns-clause-modules g c =
     subst IsSymbol c.self.view_is (modules_of_kept c.self.inside.size c.self.inside.rows c.self.inside.ends
     c.self.invariant.entry)
-
-pub returns-clause-room : goal.returns-clause-room
-returns-clause-room g c = subst (λ (m : SymbolView). m.size.rows ≤ g.row.ROWS) c.self.view_is c.self.invariant.fits

@@ -1,4 +1,4 @@
-use Rattle.std.proofs.Common.{◌≡◌, true, ◌∙◌, sym, ap}
+use Rattle.std.proofs.Common.{◌≡◌, true, sym}
 use Rattle.dm_layout.specs.symbols.Equality.{equal_sizes}
 use Rattle.dm_layout.proofs.symbols.EqualityLaws.{told_sizes}
 use Rattle.dm_layout.proofs.symbols.KeptEquality.{all_tell, by_told}
@@ -7,8 +7,7 @@ use Rattle.dm_layout.proofs.symbols.symbol.SymbolInPartialEq.eq.Goals as goal
 pub returns-then-is_same-clause-same : goal.returns-then-is_same-clause-same
 returns-then-is_same-clause-same g c =
     let same : equal_sizes c.args.self.now.size c.args.other.now.size ≡ true =
-    ap (λ s. equal_sizes s c.args.other.now.size) (sym c.size.ensures.value)
-    ∙ ap (equal_sizes c.size.result) (sym c.size-2.ensures.value) ∙ sym c.is_same.ensures ∙ c.if-is_same.true in
+    cc (c.size.ensures.value, c.size-2.ensures.value, c.is_same.ensures, c.if-is_same.true) in
     all_tell c.args.self.now c.args.other.now c.has_rows_of.result c.size.ensures.modules c.size-2.ensures.modules
     (sym (told_sizes c.args.self.now.size c.args.other.now.size c.size.ensures.modules.size
     c.size-2.ensures.modules.size same)) c.has_rows_of.ensures

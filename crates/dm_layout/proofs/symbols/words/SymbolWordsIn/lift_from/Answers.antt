@@ -3,10 +3,9 @@ use Rattle.std.proofs.Common.{length-take}
 use Rattle.std.proofs.Math.Seq.{take-append_seam}
 use Rattle.dm_place.specs.Holding.{HoldsBits}
 use Rattle.dm_layout.specs.symbols.Border.{mapped_cell}
-use Rattle.dm_layout.specs.symbols.Symbols.{SymbolView}
 use Rattle.dm_layout.specs.symbols.Sizes.{SizeEntry, codeword_count, mapping_rows, mapping_columns}
 use Rattle.dm_layout.specs.symbols.inner.Keeping.{AreKeptIn}
-use Rattle.dm_layout.proofs.symbols.KeptWords.{kept_for, part_kept, words_of_kept}
+use Rattle.dm_layout.proofs.symbols.KeptWords.{kept_for, part_kept}
 use Rattle.dm_layout.proofs.symbols.words.SymbolWordsIn.lift_from.Goals as goal
 
 pub invariant_of-self : goal.invariant_of-self
@@ -28,9 +27,6 @@ invariant_of-self g c =
       c.self.invariant.count,
     ))
     c.lift_list.ensures.bytes
-
-pub returns-clause-words : goal.returns-clause-words
-returns-clause-words g c = words_of_kept c.size-size.result _ (invariant_of-self g c)
 
 pub returns-clause-holds : goal.returns-clause-holds
 returns-clause-holds g c =
@@ -54,6 +50,5 @@ returns-clause-holds g c =
     let e : take (codeword_count s) (words ++ rest) ≡ words =
     ap (λ (i : ℕ). take i (words ++ rest)) count ∙ take-append_seam words rest in
     let held =
-    subst (λ (s : SymbolView). HoldsBits (mapping_rows s.size) (mapping_columns s.size) (mapped_cell s) words)
-    c.borrowed.ensures c.lift_list.ensures.holds in
+    rw c.borrowed.ensures at c.lift_list.ensures.holds in
     subst (HoldsBits (mapping_rows m.size) (mapping_columns m.size) (mapped_cell m)) (sym e) held

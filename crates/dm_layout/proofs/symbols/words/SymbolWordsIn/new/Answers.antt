@@ -3,7 +3,7 @@ use Rattle.std.specs.Prelude.{All}
 use Rattle.std.proofs.Math.Seq.{take-append_seam}
 use Rattle.std.proofs.lemmas.List.Elements.{All-from_get_or}
 use Rattle.dm_layout.specs.symbols.Sizes.{codeword_count}
-use Rattle.dm_layout.proofs.symbols.KeptWords.{part_kept, words_of_kept, zeros_kept}
+use Rattle.dm_layout.proofs.symbols.KeptWords.{part_kept, zeros_kept}
 use Rattle.dm_layout.proofs.symbols.words.SymbolWordsIn.new.Goals as goal
 
 pub invariant_of-result : goal.invariant_of-result
@@ -25,6 +25,3 @@ returns-clause-value g c =
     omega (arith, ap length c.copy_from_slice.ensures.after, c.requires.count) in
     ap (λ (words : List ℕ). record { size = c.args.size; list = words })
     (ap (λ (n : ℕ). take n (list ++ rest)) count ∙ take-append_seam list rest ∙ c.copy_from_slice.ensures.after)
-
-pub returns-clause-words : goal.returns-clause-words
-returns-clause-words g c = words_of_kept c.args.size _ (invariant_of-result g c)

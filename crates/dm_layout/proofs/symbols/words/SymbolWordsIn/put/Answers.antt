@@ -2,13 +2,7 @@ use Rattle.std.proofs.Common.{◌<◌, ℕ, List, length, ap, subst, sym, length
 use Rattle.std.proofs.Math.Seq.{take-set-lt}
 use Rattle.dm_layout.specs.symbols.Sizes.{codeword_count}
 use Rattle.dm_layout.specs.symbols.Words.{WordsView}
-use Rattle.dm_layout.proofs.symbols.KeptWords.{one_kept, words_of_kept}
 use Rattle.dm_layout.proofs.symbols.words.SymbolWordsIn.put.Goals as goal
-
-pub invariant_of-self : goal.invariant_of-self
-invariant_of-self g c =
-    one_kept c.self.inside.size c.self.inside.kept c.args.place c.args.word (omega (arith, c.ranges.word))
-    c.self.invariant
 
 pub returns-clause-value : goal.returns-clause-value
 returns-clause-value g c =
@@ -17,6 +11,3 @@ returns-clause-value g c =
     let k = length-take n c.self.inside.kept in
     rw (← c.self.view_is) (ap (λ (ws : List ℕ). record { size = c.self.inside.size; list = ws })
     (take-set-lt n c.self.inside.kept c.args.place c.args.word (omega (arith, l, k))))
-
-pub returns-clause-words : goal.returns-clause-words
-returns-clause-words g c = words_of_kept c.self.inside.size _ (invariant_of-self g c)

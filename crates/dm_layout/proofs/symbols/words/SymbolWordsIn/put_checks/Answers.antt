@@ -1,5 +1,4 @@
 use Rattle.std.proofs.Common.{◌≡◌, ◌∙◌, ◌<◌, ◌-◌, length, sym, ap, arith}
-use Rattle.std.proofs.lemmas.Grind.{common_steps}
 use Rattle.std.specs.Prelude.{All}
 use Rattle.std.proofs.lemmas.List.Elements.{All-from_get_or}
 use Rattle.dm_layout.specs.symbols.Sizes.{SizeEntry}
@@ -24,6 +23,3 @@ invariant_of-self g c =
 
 pub returns-clause-words : goal.returns-clause-words
 returns-clause-words g c = words_of_kept c.self.inside.size _ (invariant_of-self g c)
-
-pub returns-clause-value : goal.returns-clause-value
-returns-clause-value g c = grind (arith, common_steps)

@@ -3,7 +3,7 @@ use Rattle.std.specs.Prelude.{All}
 use Rattle.std.proofs.lemmas.List.Elements.{All-from_get_or}
 use Rattle.dm_layout.specs.symbols.Sizes.{SizeEntry, codeword_count}
 use Rattle.dm_layout.specs.symbols.Words.{WordsView}
-use Rattle.dm_layout.proofs.symbols.KeptWords.{front_words, part_kept, words_of_kept}
+use Rattle.dm_layout.proofs.symbols.KeptWords.{front_words, part_kept}
 use Rattle.dm_layout.proofs.symbols.words.SymbolWordsIn.put_data.Goals as goal
 
 pub invariant_of-self : goal.invariant_of-self
@@ -34,6 +34,3 @@ returns-clause-value g c =
     c.copy_from_slice.ensures.after
     ∙ ap (λ (i : ℕ). take (codeword_count s) (prefix ++ drop i kept)) none
     ∙ front_words kept prefix (codeword_count s) s.data_count (omega arith) count))
-
-pub returns-clause-words : goal.returns-clause-words
-returns-clause-words g c = words_of_kept c.self.inside.size _ (invariant_of-self g c)
