@@ -1,11 +1,10 @@
 -- The blocks of a square's codewords, which are all of one length.
-use Rattle.std.proofs.Common.{◌≡◌, ℕ, ◌+◌, ◌*◌, ◌<◌, length, get_or, refl, sym, ◌∙◌, ap}
-use Rattle.std.proofs.Common.{subst}
+use Rattle.dm_layout.proofs.Names.{◌≡◌, ℕ, ◌+◌, ◌*◌, ◌<◌, length, get_or, refl, sym, ◌∙◌, ap, subst, SizeRow, IsRow}
+use Rattle.dm_layout.proofs.Names.{symbol_size, block_length, symbol_words}
 use Rattle.dm_layout.proofs.symbols.Exported as symbols
 use Rattle.dm_layout.specs.symbols.Sizes as sizes
-use Rattle.dm_layout.specs.Sizes.{SizeRow, IsRow, symbol_size, block_length}
 use Rattle.dm_layout.specs.Sizes.{codeword_count}
-use Rattle.dm_layout.specs.Words.{WordsView, IsWords, symbol_words}
+use Rattle.dm_layout.specs.Words.{WordsView, IsWords}
 use Rattle.dm_layout.specs.Blocks.{block_of, BlocksTellWords, BlocksTellData, DataComesFirst, BlocksMakeWords}
 use Rattle.dm_layout.proofs.Squares.{is_size, is_square, are_codewords}
 

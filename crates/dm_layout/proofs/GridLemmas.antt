@@ -1,8 +1,7 @@
 -- Squares of cells.
-use Rattle.std.proofs.Common.{◌≡◌, ℕ, ◌<◌, Bool, List, get_or, take, sym, ap}
-use Rattle.std.proofs.lemmas.List.{get_or-take}
+use Rattle.dm_layout.proofs.Names.{◌≡◌, ℕ, ◌<◌, Bool, List, get_or, take, sym, ap, get_or-take, is_dark_in, square_by}
 use Rattle.dm_layout.proofs.symbols.Exported.{same_rows_by}
-use Rattle.dm_layout.specs.Grid.{is_dark_in, square_by, square_of_rows}
+use Rattle.dm_layout.specs.Grid.{square_of_rows}
 
 -- Colours that agree in all cells of a square draw the same square.
 pub same_squares : (n : ℕ) (f g : ℕ → ℕ → Bool) → ((r c : ℕ) → r < n → c < n → f r c ≡ g r c) →

@@ -1,23 +1,17 @@
 -- Grids and codewords of squares, which are kept as those of symbols.
-use Rattle.std.proofs.Common.{◌≡◌, ◌≢◌, ℕ, ◌+◌, ◌<◌, ◌≤◌, Bool, true, false, ◌&&◌, None, below_more, refl, sym, ◌∙◌, ap}
-use Rattle.std.proofs.Common.{subst, arith}
-use Rattle.std.specs.Prelude.{sum_by, count_by}
-use Rattle.std.specs.List.{range_with_len}
+use Rattle.dm_layout.proofs.Names.{◌≡◌, ◌≢◌, ℕ, ◌+◌, ◌<◌, ◌≤◌, Bool, true, false, ◌&&◌, None, below_more, refl, sym}
+use Rattle.dm_layout.proofs.Names.{◌∙◌, ap, subst, arith, sum_by, count_by, range_with_len, SizeEntry, SymbolView}
+use Rattle.dm_layout.proofs.Names.{IsSymbol, module_at, is_dark_bit, SizeRow, IsRow, row_of_entry, symbol_size}
+use Rattle.dm_layout.proofs.Names.{block_length, largest_side, most_grid_codewords, IsGrid, symbol_modules, square_by}
+use Rattle.dm_layout.proofs.Names.{symbol_words, Holds, IsLaid, IsKept, kept_grid, kept_words}
 use Rattle.std.proofs.Math.Path.{fun_ext}
 use Rattle.dm_layout.specs.symbols.Sizes as sizes
-use Rattle.dm_layout.specs.symbols.Sizes.{SizeEntry}
-use Rattle.dm_layout.specs.symbols.Symbols.{SymbolView, IsSymbol, module_at, is_dark_bit}
 use Rattle.dm_layout.specs.symbols.Words as codewords
 use Rattle.dm_layout.specs.symbols.Holding as holding
 use Rattle.dm_layout.specs.symbols.Border as borders
 use Rattle.dm_layout.specs.symbols.SureFaults.{sure_fault_count}
 use Rattle.dm_layout.proofs.symbols.Exported.{modules_by, module_by, same_modules}
-use Rattle.dm_layout.specs.Sizes.{SizeRow, IsRow, row_of_entry, symbol_size, block_data, block_length, largest_side}
-use Rattle.dm_layout.specs.Sizes.{most_grid_codewords}
-use Rattle.dm_layout.specs.Grid.{IsGrid, symbol_modules, square_by}
-use Rattle.dm_layout.specs.Words.{symbol_words}
-use Rattle.dm_layout.specs.Holds.{Holds, IsLaid}
-use Rattle.dm_layout.specs.inner.Keeping.{IsKept, kept_grid, kept_words}
+use Rattle.dm_layout.specs.Sizes.{block_data}
 use Rattle.dm_layout.proofs.Squares.{is_grid, is_size, grid_holds, laid_in_grid, is_square}
 use Rattle.dm_layout.proofs.TableRows.{row_facts}
 

@@ -1,3 +1,4 @@
+mod Names
 mod TableRows
 mod Squares
 mod SquareSizes

@@ -1,14 +1,10 @@
 -- Each module of a symbol is of exactly one kind.
-use Rattle.std.proofs.Common.{◌≡◌, ℕ, ◌<◌, Bool, true, false, refl, sym, ◌∙◌, ap, subst}
-use Rattle.std.proofs.lemmas.Bool.{true≢false}
-use Rattle.dm_layout.specs.Sizes.{SizeRow, IsRow}
+use Rattle.dm_layout.proofs.Names.{◌≡◌, ℕ, ◌<◌, Bool, true, false, refl, sym, ◌∙◌, ap, subst, true≢false, SizeRow}
+use Rattle.dm_layout.proofs.Names.{IsRow, Cell, mapping_line, none_fixed, one_bit, some_bit}
 use Rattle.dm_layout.specs.Border.{is_border, is_fixed}
 use Rattle.dm_layout.specs.Modules.{Kind, LiesAt, IsOfKind, EachModuleHasOneKind}
 use Rattle.dm_layout.specs.Modules.Kind.{OfBorder, OfFixedSquare, Bit}
 use Rattle.dm_layout.specs.Placement.{At, IsPlace}
-use Rattle.dm_place.specs.declared.shape.Cell.{Cell}
-use Rattle.dm_layout.specs.symbols.inner.Drawing.{mapping_line}
-use Rattle.dm_place.proofs.Exported.{none_fixed, one_bit, some_bit}
 use Rattle.dm_layout.proofs.PlacementRows.{once_at_row}
 use Rattle.dm_layout.proofs.SymbolLines.{no_border, off_border, symbol_line-one}
 use Rattle.dm_layout.proofs.TableRows.{row_facts}

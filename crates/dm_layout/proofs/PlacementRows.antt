@@ -1,11 +1,10 @@
 -- What the placement of matrices says of each size of the table.
-use Rattle.std.proofs.Common.{◌≡◌, length, Some}
-use Rattle.std.specs.Prelude.{All}
-use Rattle.std.proofs.lemmas.List.Elements.{All-from_recursion, All-weaker}
-use Rattle.dm_place.specs.Sides.{sides_of, row_with_sides}
-use Rattle.dm_place.proofs.Exported.{once_at_sides, count_at_sides, swept_at_sides, matrix_facts, MatrixFacts}
+use Rattle.dm_layout.proofs.Names.{◌≡◌, length, Some, All, All-from_recursion, All-weaker, row_with_sides}
+use Rattle.dm_layout.proofs.Names.{once_at_sides, count_at_sides, SizeRow, IsRow, symbol_size}
+use Rattle.dm_place.specs.Sides.{sides_of}
+use Rattle.dm_place.proofs.Exported.{swept_at_sides, matrix_facts, MatrixFacts}
 use Rattle.dm_layout.proofs.symbols.Exported.{placed_size}
-use Rattle.dm_layout.specs.Sizes.{SizeRow, size_table, IsRow, symbol_size, codeword_count}
+use Rattle.dm_layout.specs.Sizes.{size_table, codeword_count}
 use Rattle.dm_layout.specs.Placement.{shapes, EachCellOnce, Sweeps}
 use Rattle.dm_layout.proofs.Squares.{is_size, to_square}
 use Rattle.dm_layout.proofs.TableRows.{rows_found}

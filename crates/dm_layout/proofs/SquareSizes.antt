@@ -1,20 +1,15 @@
 -- The sizes of squares among the sizes of symbols, as they are kept and looked up.
-use Rattle.std.proofs.lemmas.Bool.Decides.{nat_tests}
-use Rattle.std.proofs.Common.{◌≡◌, ℕ, ◌*◌, ◌<◌, ◌≤◌, Bool, true, false, cond, ◌&&◌, nat_eq, nat_le, Option}
-use Rattle.std.proofs.Common.{Some, None, List, map, length, get_or, refl, sym, ◌∙◌, ap, subst, arith}
-use Rattle.std.proofs.Common.{eq-eqb}
-use Rattle.std.specs.Prelude.{All}
-use Rattle.std.specs.List.{AllByRecursion}
-use Rattle.std.proofs.lemmas.Bool.{and_parts, eqb-true, leb-true, leb-false, le-leb}
-use Rattle.std.proofs.lemmas.List.{get_or-map}
-use Rattle.std.proofs.lemmas.List.Elements.{All-from_recursion, All-get_or, recursion_from_All}
-use Rattle.std.proofs.Math.Nat.{mul-le-mul_left, mul-lt-mul_of_pos_right}
+use Rattle.dm_layout.proofs.Names.{nat_tests, ◌≡◌, ℕ, ◌*◌, ◌<◌, ◌≤◌, Bool, true, false, cond, ◌&&◌, nat_eq, nat_le}
+use Rattle.dm_layout.proofs.Names.{Option, Some, None, List, map, length, get_or, refl, sym, ◌∙◌, ap, subst, arith}
+use Rattle.dm_layout.proofs.Names.{eq-eqb, All, AllByRecursion, and_parts, eqb-true, leb-true, leb-false, le-leb}
+use Rattle.dm_layout.proofs.Names.{get_or-map, All-from_recursion, All-get_or, recursion_from_All, mul-le-mul_left}
+use Rattle.dm_layout.proofs.Names.{SizeEntry, IsSize, entry_with, area, SizeRow, IsRow, row_with_side}
+use Rattle.dm_layout.proofs.Names.{row_for_words, row_of_entry, symbol_size, largest_side, IsKept}
+use Rattle.std.proofs.Math.Nat.{mul-lt-mul_of_pos_right}
 use Rattle.dm_layout.specs.symbols.Sizes as sizes
-use Rattle.dm_layout.specs.symbols.Sizes.{SizeEntry, IsSize, entry_with, entry_for, is_square, area}
+use Rattle.dm_layout.specs.symbols.Sizes.{is_square}
 use Rattle.dm_layout.proofs.symbols.Exported.{at_found, found_passes}
-use Rattle.dm_layout.specs.Sizes.{SizeRow, size_table, IsRow, row_with_side, row_for_words, row_of_entry, row_of_symbol}
-use Rattle.dm_layout.specs.Sizes.{symbol_size, largest_side}
-use Rattle.dm_layout.specs.inner.Keeping.{IsKept}
+use Rattle.dm_layout.specs.Sizes.{size_table, row_of_symbol}
 use Rattle.dm_layout.specs.declared.grids.size.TheConstants.{PLACES}
 use Rattle.dm_layout.proofs.TableRows.{enough_for_words, found_row, row_for_words_row, row_facts}
 use Rattle.dm_layout.proofs.TableRows.{rows_found, smallest_for_words}

@@ -1,23 +1,17 @@
 -- Squares are symbols whose rows and columns are alike, and so what holds of symbols holds of squares.
-use Rattle.std.proofs.Common.{arith}
-use Rattle.std.proofs.lemmas.Bool.Decides.{nat_tests}
-use Rattle.std.proofs.Common.{◌≡◌, ℕ, ◌*◌, ◌<◌, Bool, true, List, Some, nat_eq, refl, sym, ◌∙◌, ap, subst}
-use Rattle.std.specs.List.{AllByRecursion, list_all, range_with_len}
-use Rattle.std.proofs.lemmas.Bool.{eqb-true}
+use Rattle.dm_layout.proofs.Names.{arith, nat_tests, ◌≡◌, ℕ, ◌*◌, ◌<◌, Bool, true, List, Some, nat_eq, refl, sym, ◌∙◌}
+use Rattle.dm_layout.proofs.Names.{ap, subst, AllByRecursion, list_all, range_with_len, eqb-true, HoldsBits, all_below}
+use Rattle.dm_layout.proofs.Names.{SymbolView, IsSymbol, SizeRow, IsRow, symbol_size, regions_across, block_length}
+use Rattle.dm_layout.proofs.Names.{GridView, IsGrid, symbol_modules, symbol_words, Holds, IsLaid}
 use Rattle.dm_place.specs.Border as matrix
-use Rattle.dm_place.specs.Holding.{HoldsBits}
-use Rattle.dm_place.proofs.Exported.{all_below}
 use Rattle.dm_layout.specs.symbols.Sizes as sizes
-use Rattle.dm_layout.specs.symbols.Symbols.{SymbolView, IsSymbol}
 use Rattle.dm_layout.specs.symbols.Words as codewords
 use Rattle.dm_layout.specs.symbols.Holding as holding
 use Rattle.dm_layout.proofs.symbols.Exported.{at_found, one_held, one_laid as one_laid_of, some_held, some_laid}
-use Rattle.dm_layout.specs.Sizes.{SizeRow, size_table, IsRow, symbol_size, regions_across, block_data}
-use Rattle.dm_layout.specs.Sizes.{block_length, TableIsOfSquares}
-use Rattle.dm_layout.specs.Grid.{GridView, IsGrid, symbol_modules}
-use Rattle.dm_layout.specs.Words.{WordsView, IsWords, symbol_words}
+use Rattle.dm_layout.specs.Sizes.{size_table, block_data}
+use Rattle.dm_layout.specs.Sizes.{TableIsOfSquares}
+use Rattle.dm_layout.specs.Words.{WordsView, IsWords}
 use Rattle.dm_layout.specs.Border.{mapped_cell}
-use Rattle.dm_layout.specs.Holds.{Holds, IsLaid}
 use Rattle.dm_layout.specs.Squares.{IsSquare, GridsAreModules, WordsAreCodewords, HeldAlike, LaidAlike}
 use Rattle.dm_layout.proofs.TableRows.{passed_at_row, row_facts, same_at_row}
 use Rattle.dm_layout.proofs.symbols.Exported.{same_in_each}

@@ -1,9 +1,7 @@
 -- Rows and columns of the mapping square in the symbol, whose regions have a side of at least 8.
-use Rattle.std.proofs.Common.{◌≡◌, ℕ, ◌<◌, ◌≤◌, false, arith}
+use Rattle.dm_layout.proofs.Names.{◌≡◌, ℕ, ◌<◌, ◌≤◌, false, arith, SizeRow, IsRow, symbol_size, mapping_line}
 use Rattle.dm_layout.proofs.symbols.Exported as symbols
-use Rattle.dm_layout.specs.Sizes.{SizeRow, IsRow, symbol_size}
 use Rattle.dm_layout.specs.Border.{is_border, symbol_line}
-use Rattle.dm_layout.specs.symbols.inner.Drawing.{mapping_line}
 use Rattle.dm_layout.proofs.Squares.{is_size, from_square, to_square}
 
 -- Two different lines of the mapping square lie in different lines of the symbol.

@@ -1,19 +1,17 @@
 -- What holds for each row of the size table.
-use Rattle.std.proofs.lemmas.Bool.Decides.{nat_tests}
-use Rattle.std.proofs.Common.{◌≡◌, ℕ, ◌+◌, ◌*◌, ◌%◌, ◌<◌, ◌≤◌, Bool, true, false, nat_eq, nat_le}
-use Rattle.std.proofs.Common.{Option, Some, None, refl, sym, arith}
-use Rattle.std.specs.Prelude.{All, IfSome, IfNone}
-use Rattle.std.specs.List.{AllByRecursion, list_all, list_any}
-use Rattle.std.proofs.lemmas.Bool.{eqb-true, leb-true, leb-false, le-leb}
-use Rattle.std.proofs.lemmas.List.Elements.{recursion_from_All, All-from_recursion}
-use Rattle.std.proofs.lemmas.List.Sums.{AllPass-from_list_all}
+use Rattle.dm_layout.proofs.Names.{nat_tests, ◌≡◌, ℕ, ◌+◌, ◌*◌, ◌%◌, ◌<◌, ◌≤◌, Bool, true, false, nat_eq, nat_le}
+use Rattle.dm_layout.proofs.Names.{Option, Some, None, refl, sym, arith, All, IfSome, IfNone, AllByRecursion, list_all}
+use Rattle.dm_layout.proofs.Names.{list_any, eqb-true, leb-true, leb-false, le-leb, recursion_from_All}
+use Rattle.dm_layout.proofs.Names.{All-from_recursion, AllPass-from_list_all, SizeRow, IsRow, row_with_side}
+use Rattle.dm_layout.proofs.Names.{row_for_words, regions_across, block_length, largest_side, largest_mapping}
+use Rattle.dm_layout.proofs.Names.{most_across, most_grid_codewords, most_grid_data, most_grid_blocks, longest_block}
+use Rattle.dm_layout.proofs.Names.{IsGreatest}
 use Rattle.dm_layout.proofs.symbols.Exported.{at_found, found_passes, greatest_of}
 use Rattle.dm_layout.proofs.symbols.Exported.{Rises, found_first, rises_test, weaker_all}
 use Rattle.dm_layout.proofs.symbols.Exported.{found_none, same_in_each}
-use Rattle.dm_layout.specs.Sizes.{SizeRow, size_table, IsRow, row_with_side, row_for_words, regions_across, block_data}
-use Rattle.dm_layout.specs.Sizes.{block_check, block_length, codeword_count, largest_side, largest_mapping, most_across}
-use Rattle.dm_layout.specs.Sizes.{row_of, most_grid_codewords, most_grid_data, most_grid_blocks, longest_block}
-use Rattle.dm_layout.specs.Sizes.{IsGreatest}
+use Rattle.dm_layout.specs.Sizes.{size_table, block_data}
+use Rattle.dm_layout.specs.Sizes.{block_check, codeword_count}
+use Rattle.dm_layout.specs.Sizes.{row_of}
 
 -- The size that is found for a side has that side and stands in the table.
 pub found_row : (side : ℕ) (s : SizeRow) → row_with_side side ≡ Some s → (s.side ≡ side) × IsRow s

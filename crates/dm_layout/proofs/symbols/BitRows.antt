@@ -1,7 +1,5 @@
 -- What is left of a row that is taken off sixteen modules at a time.
-use Rattle.std.proofs.Common.{◌≡◌, ℕ, ◌+◌, ◌/◌, ◌^◌}
-use Rattle.std.proofs.Math.Nat.{div-div-eq-div-mul}
-use Rattle.std.proofs.lemmas.Nat.{pow-add}
+use Rattle.dm_layout.proofs.Names.{◌≡◌, ℕ, ◌+◌, ◌/◌, ◌^◌, div-div-eq-div-mul, pow-add}
 
 -- What is left of a row when sixteen more modules are taken off.
 pub rest_more : (row column rest : ℕ) → rest ≡ row / 2 ^ column → rest / 65536 ≡ row / 2 ^ (column + 16)

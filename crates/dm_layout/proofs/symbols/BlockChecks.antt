@@ -1,11 +1,9 @@
 -- A block whose check codewords are put: its data codewords, and behind them the checks.
-use Rattle.std.proofs.lemmas.Bool.Decides.{nat_tests}
-use Rattle.std.proofs.Common.{◌≡◌, ◌∙◌, ℕ, ◌+◌, ◌*◌, ◌<◌, List, ◌++◌, length, get_or, set, take, sym, ap}
-use Rattle.std.proofs.Common.{arith}
-use Rattle.std.proofs.lemmas.List.{get_or_append_left, get_or-append_right, get_or-take, length-append, length-take-le}
-use Rattle.dm_layout.specs.symbols.Sizes.{block_check, block_data, block_length}
-use Rattle.dm_layout.specs.symbols.Words.{WordsView, IsWords}
-use Rattle.dm_layout.specs.symbols.Blocks.{block_of}
+use Rattle.dm_layout.proofs.Names.{nat_tests, ◌≡◌, ◌∙◌, ℕ, ◌+◌, ◌*◌, ◌<◌, List, ◌++◌, length, get_or, set, take, sym}
+use Rattle.dm_layout.proofs.Names.{ap, arith, get_or_append_left, get_or-take, length-append, length-take-le}
+use Rattle.dm_layout.proofs.Names.{block_check, block_data, WordsView, IsWords, block_of}
+use Rattle.std.proofs.lemmas.List.{get_or-append_right}
+use Rattle.dm_layout.specs.symbols.Sizes.{block_length}
 use Rattle.dm_layout.proofs.symbols.TableEntries.{block_parts}
 use Rattle.dm_layout.proofs.symbols.BlockLemmas.{length_of_block, next_inside, put_one, word_of_block}
 

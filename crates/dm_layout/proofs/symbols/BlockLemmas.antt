@@ -1,15 +1,12 @@
 -- The blocks of a symbol's codewords.
-use Rattle.std.proofs.lemmas.Bool.Decides.{nat_tests}
-use Rattle.std.proofs.Common.{◌≡◌, ◌≢◌, ℕ, ◌+◌, ◌*◌, ◌/◌, ◌%◌, ◌<◌, ◌≤◌, List, map, length, get_or, set, take, sym, ◌∙◌}
-use Rattle.std.proofs.Common.{ap, subst, arith, below_more, get_or-set_other, get_or-set_same, length-take}
-use Rattle.std.specs.List.{range_with_len}
-use Rattle.std.proofs.lemmas.Nat.{mod-mul-add}
-use Rattle.std.proofs.lemmas.Grind.{same_number_lists}
-use Rattle.std.proofs.Math.Nat.{mul-le-mul_right}
-use Rattle.std.proofs.lemmas.List.{get_or-take}
-use Rattle.dm_layout.specs.symbols.Sizes.{SizeEntry, count_in_block, block_data, block_length, codeword_count}
-use Rattle.dm_layout.specs.symbols.Words.{WordsView, IsWords, data_of}
-use Rattle.dm_layout.specs.symbols.Blocks.{block_of, HasLengths}
+use Rattle.dm_layout.proofs.Names.{nat_tests, ◌≡◌, ◌≢◌, ℕ, ◌+◌, ◌*◌, ◌/◌, ◌%◌, ◌<◌, ◌≤◌, List, map, length, get_or, set}
+use Rattle.dm_layout.proofs.Names.{take, sym, ◌∙◌, ap, subst, arith, below_more, get_or-set_other, get_or-set_same}
+use Rattle.dm_layout.proofs.Names.{length-take, range_with_len, mod-mul-add, same_number_lists, mul-le-mul_right}
+use Rattle.dm_layout.proofs.Names.{get_or-take, SizeEntry, count_in_block, block_data, codeword_count, WordsView}
+use Rattle.dm_layout.proofs.Names.{IsWords, block_of}
+use Rattle.dm_layout.specs.symbols.Sizes.{block_length}
+use Rattle.dm_layout.specs.symbols.Words.{data_of}
+use Rattle.dm_layout.specs.symbols.Blocks.{HasLengths}
 use Rattle.dm_layout.proofs.symbols.TableEntries.{size_facts, block_parts}
 use Rattle.dm_layout.proofs.symbols.BlockPlaces.{block_by_steps, length-block_of, get_or-block_of}
 use Rattle.dm_layout.proofs.symbols.BlockPlaces.{count_in_block_inside, place_parts}

@@ -1,16 +1,11 @@
 -- The places of a block among codewords that are dealt, whether or not the number of blocks divides that of the
 -- codewords.
-use Rattle.std.proofs.lemmas.Bool.Decides.{nat_tests}
-use Rattle.std.proofs.Common.{◌≡◌, ◌≢◌, ℕ, zero, suc, ◌+◌, ◌-◌, ◌*◌, ◌/◌, ◌%◌, ◌<◌, ◌≤◌, Bool, true, false, List, []}
-use Rattle.std.proofs.Common.{◌∷◌, map, length, get_or, nat_eq, nat_lt, refl, sym, ◌∙◌, ap, arith}
+use Rattle.dm_layout.proofs.Names.{nat_tests, ◌≡◌, ◌≢◌, ℕ, zero, suc, ◌+◌, ◌-◌, ◌*◌, ◌/◌, ◌%◌, ◌<◌, ◌≤◌, Bool, true}
+use Rattle.dm_layout.proofs.Names.{false, List, [], ◌∷◌, map, length, get_or, nat_eq, nat_lt, refl, sym, ◌∙◌, ap, arith}
+use Rattle.dm_layout.proofs.Names.{range_with_len, ltb-true, ltb-false, div-mul-add, mod-mul-add}
+use Rattle.dm_layout.proofs.Names.{length-map-range_with_len, get_or-map-range_with_len, mul-le-mul_right}
+use Rattle.dm_layout.proofs.Names.{lt_of_mul-lt-mul_right, div-add-mod, count_in_block, block_of}
 use Rattle.std.specs.Prelude.{filter}
-use Rattle.std.specs.List.{range_with_len}
-use Rattle.std.proofs.lemmas.Bool.{ltb-true, ltb-false}
-use Rattle.std.proofs.lemmas.Nat.{div-mul-add, mod-mul-add}
-use Rattle.std.proofs.lemmas.List.FromFn.{length-map-range_with_len, get_or-map-range_with_len}
-use Rattle.std.proofs.Math.Nat.{mul-le-mul_right, lt_of_mul-lt-mul_right, div-add-mod}
-use Rattle.dm_layout.specs.symbols.Sizes.{count_in_block}
-use Rattle.dm_layout.specs.symbols.Blocks.{block_of}
 use Rattle.dm_place.proofs.Exported.{filter_skip, filter_keep}
 
 -- A place belongs to block b of B if it leaves b when divided by B.

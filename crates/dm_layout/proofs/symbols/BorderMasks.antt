@@ -1,22 +1,13 @@
 -- The border cells of a symbol's rows as bits.
-use Rattle.std.proofs.Common.{◌≡◌, ◌≢◌, ◌⊎◌, inl, inr, ℕ, zero, suc, ◌+◌, ◌-◌, ◌*◌, ◌/◌, ◌%◌, ◌^◌, ◌<◌, ◌≤◌, Bool, true}
-use Rattle.std.proofs.Common.{false, ◌&&◌, ◌||◌, cond, nat_eq, nat_lt, refl, sym, ◌∙◌, ap, subst}
-use Rattle.std.proofs.Common.{arith, eq-eqb}
-use Rattle.std.specs.Bool.{beq}
-use Rattle.std.specs.Cmp.{booleans_Decides}
-use lib.Bits.{bit_and}
-use Rattle.std.specs.List.{range_with_len, list_all}
-use Rattle.std.proofs.Math.Pow.{pow_mono, pow_pos}
-use Rattle.std.proofs.lemmas.Bool.{eqb-true, ne_eqb, cases_lt, le-ltb, lt-ltb}
-use Rattle.std.proofs.lemmas.Nat.{div-add-mod', mod-mul-add, div-mul-add, pow-add}
-use Rattle.dm_place.specs.Border.{is_on_edge, edge_is_dark}
-use Rattle.dm_place.proofs.Exported.{same_tests, all_below}
-use Rattle.dm_layout.specs.symbols.Symbols.{is_dark_bit}
-use Rattle.dm_layout.specs.symbols.Sizes.{SizeEntry, IsSize}
+use Rattle.dm_layout.proofs.Names.{◌≡◌, ◌≢◌, ◌⊎◌, inl, inr, ℕ, zero, suc, ◌+◌, ◌-◌, ◌*◌, ◌/◌, ◌%◌, ◌^◌, ◌<◌, ◌≤◌, Bool}
+use Rattle.dm_layout.proofs.Names.{true, false, ◌&&◌, ◌||◌, cond, nat_eq, nat_lt, refl, sym, ◌∙◌, ap, subst, arith}
+use Rattle.dm_layout.proofs.Names.{eq-eqb, beq, booleans_Decides, bit_and, range_with_len, list_all, pow_mono, pow_pos}
+use Rattle.dm_layout.proofs.Names.{eqb-true, ne_eqb, cases_lt, le-ltb, lt-ltb, div-add-mod', mod-mul-add, div-mul-add}
+use Rattle.dm_layout.proofs.Names.{pow-add, is_on_edge, edge_is_dark, all_below, is_dark_bit, SizeEntry, IsSize}
+use Rattle.dm_layout.proofs.Names.{AreBorders, AreRuled, nat_tests, EVEN_COLUMNS, EVEN_END}
+use Rattle.dm_place.proofs.Exported.{same_tests}
 use Rattle.dm_layout.proofs.symbols.TableEntries.{size_facts}
-use Rattle.dm_layout.specs.symbols.inner.BorderMasks.{AreBorders, AreRuled, AreBorderCells, AreDarkCells}
-use Rattle.std.proofs.lemmas.Bool.Decides.{nat_tests}
-use Rattle.dm_layout.specs.declared.symbols.borders.TheConstants.{EVEN_COLUMNS, EVEN_END}
+use Rattle.dm_layout.specs.symbols.inner.BorderMasks.{AreBorderCells, AreDarkCells}
 use Rattle.dm_layout.proofs.symbols.Rows.{darkened, darkened_cell, darkened_narrow}
 use Rattle.dm_layout.proofs.symbols.SlotRows.{and_dark}
 use Rattle.dm_layout.proofs.symbols.SureCells.{row_inside}

@@ -1,13 +1,12 @@
 -- Cells of a row in lanes: sixteen that are cut out of it, and what each lane then has for its cell.
-use Rattle.std.proofs.lemmas.Bool.Decides.{nat_tests}
-use Rattle.std.proofs.Common.{◌≡◌, ◌∙◌, ℕ, ◌+◌, ◌*◌, ◌/◌, ◌%◌, ◌^◌, ◌<◌, min, not, cond, eqb, nat_eq}
-use Rattle.std.proofs.Common.{if◌then◌else◌, bit_and, List, [], ◌∷◌, ◌++◌, map, refl, sym, ap, ap₂, arith}
-use Rattle.std.specs.List.{range_with_len}
+use Rattle.dm_layout.proofs.Names.{nat_tests, ◌≡◌, ◌∙◌, ℕ, ◌+◌, ◌*◌, ◌/◌, ◌%◌, ◌^◌, ◌<◌, min, not, cond, nat_eq}
+use Rattle.dm_layout.proofs.Names.{if◌then◌else◌, List, [], ◌∷◌, ◌++◌, map, refl, sym, ap, arith, range_with_len}
+use Rattle.dm_layout.proofs.Names.{div-div-eq-div-mul, pow-add, bit_at_and, bit_at-lt, is_dark_bit}
+use Rattle.std.proofs.Common.{eqb}
+use Rattle.std.proofs.Common.{bit_and, ap₂}
 use Rattle.std.specs.Simd.Lanes.{top}
-use Rattle.std.proofs.Math.Nat.{div-div-eq-div-mul}
-use Rattle.std.proofs.lemmas.Nat.{pow-add, pow_pos}
-use Rattle.std.proofs.lemmas.Nat.Bits.{and_pow, bit_at_and, bit_at-lt, bit_at_ones}
-use Rattle.dm_layout.specs.symbols.Symbols.{is_dark_bit}
+use Rattle.std.proofs.lemmas.Nat.{pow_pos}
+use Rattle.std.proofs.lemmas.Nat.Bits.{and_pow, bit_at_ones}
 
 -- A lane is `dark` where the bit of this weight is 1, and else `light`.
 abbrev pub lane : ℕ → ℕ → ℕ → ℕ → ℕ

@@ -1,17 +1,10 @@
 -- How many cells of a row are dark.
-use Rattle.std.proofs.lemmas.Bool.Decides.{nat_tests}
-use Rattle.dm_layout.specs.symbols.Symbols.{is_dark_bit}
-use Rattle.std.proofs.Common.{◌≡◌, ℕ, zero, suc, ◌+◌, ◌*◌, ◌/◌, ◌%◌, ◌^◌, ◌<◌, Bool}
-use Rattle.std.proofs.Common.{cond, nat_eq, refl, sym, ◌∙◌, ap, subst}
-use Rattle.std.proofs.Common.{arith}
-use Rattle.std.specs.Prelude.{count_by, count_ones}
+use Rattle.dm_layout.proofs.Names.{nat_tests, is_dark_bit, ◌≡◌, ℕ, zero, suc, ◌+◌, ◌*◌, ◌/◌, ◌%◌, ◌^◌, ◌<◌, Bool, cond}
+use Rattle.dm_layout.proofs.Names.{nat_eq, refl, sym, ◌∙◌, ap, subst, arith, count_by, count_ones, range_with_len}
+use Rattle.dm_layout.proofs.Names.{mod-lt, sum_by_push, ones_cat, ones-le, div-add-mod', bit_at_cat_low, range-append}
 use lib.Count.{ones}
-use Rattle.std.specs.List.{range_with_len}
-use Rattle.std.proofs.Math.Nat.{mod-lt, div-lt_iff_lt-mul, pow-succ'}
-use Rattle.std.proofs.lemmas.List.Sums.{sum_by_push}
-use Rattle.std.proofs.lemmas.Nat.{ones_cat, ones-le, pow_pos, div-add-mod'}
-use Rattle.std.proofs.lemmas.Nat.Bits.{bit_at_cat_low}
-use Rattle.dm_place.proofs.Exported.{range-append}
+use Rattle.std.proofs.Math.Nat.{div-lt_iff_lt-mul, pow-succ'}
+use Rattle.std.proofs.lemmas.Nat.{pow_pos}
 
 -- One more column adds 1 to the count if its test passes.
 count_more : (f : ℕ → Bool) (n : ℕ) → count_by f (range_with_len 0 (n + 1)) ≡

@@ -1,14 +1,10 @@
 -- Blocks make the codewords of a symbol.
-use Rattle.std.proofs.Common.{◌≡◌, ℕ, ◌+◌, ◌*◌, ◌/◌, ◌%◌, ◌<◌, List, map, length, get_or, refl, sym, ◌∙◌, ap, subst}
-use Rattle.std.proofs.Common.{arith}
-use Rattle.std.specs.List.{range_with_len}
-use Rattle.std.proofs.lemmas.Nat.{div-mul-add, mod-mul-add}
-use Rattle.std.proofs.lemmas.Grind.{same_number_lists}
-use Rattle.std.proofs.lemmas.List.Elements.{All-get_or, All-from_get_or}
-use Rattle.std.proofs.lemmas.List.FromFn.{length-map-range_with_len, get_or-map-range_with_len}
-use Rattle.dm_layout.specs.symbols.Sizes.{SizeEntry, IsSize, block_length, codeword_count}
-use Rattle.dm_layout.specs.symbols.Words.{WordsView, IsWords}
-use Rattle.dm_layout.specs.symbols.Blocks.{AreBlocks, block_of}
+use Rattle.dm_layout.proofs.Names.{◌≡◌, ℕ, ◌+◌, ◌*◌, ◌/◌, ◌%◌, ◌<◌, List, map, length, get_or, refl, sym, ◌∙◌, ap}
+use Rattle.dm_layout.proofs.Names.{subst, arith, range_with_len, div-mul-add, mod-mul-add, same_number_lists}
+use Rattle.dm_layout.proofs.Names.{All-get_or, All-from_get_or, length-map-range_with_len, get_or-map-range_with_len}
+use Rattle.dm_layout.proofs.Names.{SizeEntry, IsSize, codeword_count, WordsView, IsWords, block_of}
+use Rattle.dm_layout.specs.symbols.Sizes.{block_length}
+use Rattle.dm_layout.specs.symbols.Blocks.{AreBlocks}
 use Rattle.dm_layout.proofs.symbols.BlockPlaces.{place_parts}
 use Rattle.dm_layout.proofs.symbols.BlockLemmas.{length_of_block, place_inside, word_of_block}
 use Rattle.dm_layout.proofs.symbols.TableEntries.{size_facts}

@@ -1,12 +1,6 @@
 -- The modules of a symbol that are drawn from the cells of a mapping matrix.
-use Rattle.std.proofs.Common.{arith}
-use Rattle.std.proofs.lemmas.Bool.Decides.{nat_tests}
-use Rattle.std.proofs.Common.{◌≡◌, ℕ, Bool, true, false}
-use Rattle.std.proofs.Common.{List, ◌∙◌, ap}
-use Rattle.dm_place.specs.Border.{symbol_line}
-use Rattle.dm_layout.specs.symbols.Sizes.{SizeEntry, IsSize}
-use Rattle.dm_layout.specs.symbols.Border.{is_border, border_is_dark}
-use Rattle.dm_layout.specs.symbols.inner.Drawing.{mapping_line, inner_colour, drawn_colour}
+use Rattle.dm_layout.proofs.Names.{arith, nat_tests, ◌≡◌, ℕ, Bool, true, false, List, ◌∙◌, ap, symbol_line, SizeEntry}
+use Rattle.dm_layout.proofs.Names.{IsSize, is_border, border_is_dark, mapping_line, inner_colour, drawn_colour}
 use Rattle.dm_layout.proofs.symbols.TableEntries.{size_facts}
 use Rattle.dm_layout.proofs.symbols.SymbolLines.{no_border, mapping_line-symbol_line}
 

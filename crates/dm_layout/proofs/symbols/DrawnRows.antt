@@ -1,31 +1,20 @@
 -- A symbol that is drawn from the rows of its mapping matrix.
-use Rattle.std.proofs.lemmas.Bool.Decides.{nat_tests}
-use Rattle.std.proofs.Common.{◌≡◌, ◌≢◌, ◌⊎◌, inl, inr, ℕ, ◌+◌, ◌*◌, ◌%◌, ◌^◌, ◌<◌, ◌≤◌, Bool, true, false, ◌&&◌}
-use Rattle.std.proofs.Common.{◌||◌, nat_eq, nat_le, List, refl, sym, ◌∙◌, ap, arith, subst, eq-eqb, length, get_or, set}
-use Rattle.std.specs.Int.RustNames.{bit_or}
-use Rattle.std.proofs.lemmas.List.{length-set}
+use Rattle.dm_layout.proofs.Names.{nat_tests, ◌≡◌, ◌≢◌, ◌⊎◌, inl, inr, ℕ, ◌+◌, ◌*◌, ◌%◌, ◌^◌, ◌<◌, ◌≤◌, Bool, true}
+use Rattle.dm_layout.proofs.Names.{false, ◌&&◌, ◌||◌, nat_eq, nat_le, List, refl, sym, ◌∙◌, ap, arith, subst, eq-eqb}
+use Rattle.dm_layout.proofs.Names.{length, get_or, set, bit_or, length-set, true≢false, eqb-true, eqb-false, ne_eqb}
+use Rattle.dm_layout.proofs.Names.{and_parts, leb-true, le-leb, cases_lt, cases_eq, mod-mul-add, Cell, is_fixed}
+use Rattle.dm_layout.proofs.Names.{fixed_is_dark, symbol_line, is_on_edge, edge_is_dark, IsPlace, EachCellOnce, bit_of}
+use Rattle.dm_layout.proofs.Names.{once_at_sides, none_fixed, is_border, border_is_dark, mapped_cell, SymbolView}
+use Rattle.dm_layout.proofs.Names.{IsSymbol, module_at, SizeEntry, IsSize, mapping_rows, mapping_columns}
+use Rattle.dm_layout.proofs.Names.{codeword_count, WordsView, IsWords, IsDrawn, mapping_line, look_in, whole_row}
+use Rattle.dm_layout.proofs.Names.{is_dark_bit}
 use Rattle.dm_layout.proofs.symbols.KeptRows.{whole_cells}
 use Rattle.dm_layout.proofs.symbols.Painting.{bit_put}
-use Rattle.std.proofs.lemmas.Bool.{true≢false, eqb-true, eqb-false, ne_eqb, and_parts, leb-true, le-leb, cases_lt}
-use Rattle.std.proofs.lemmas.Bool.{cases_eq}
-use Rattle.std.proofs.lemmas.Nat.{mod-mul-add}
-use Rattle.dm_place.specs.declared.shape.Cell.{Cell}
-use Rattle.dm_place.specs.Border.{is_fixed, fixed_is_dark, symbol_line, is_on_edge, edge_is_dark}
-use Rattle.dm_place.specs.Placement.{IsPlace, EachCellOnce}
-use Rattle.dm_place.specs.Holding.{bit_of}
-use Rattle.dm_place.proofs.Exported.{once_at_sides, none_fixed}
-use Rattle.dm_layout.specs.symbols.Border.{is_border, border_is_dark, mapped_cell}
 use Rattle.dm_layout.specs.symbols.Holding.{IsLaid}
-use Rattle.dm_layout.specs.symbols.Symbols.{SymbolView, IsSymbol, module_at}
-use Rattle.dm_layout.specs.symbols.Sizes.{SizeEntry, IsSize, mapping_rows, mapping_columns, codeword_count}
-use Rattle.dm_layout.specs.symbols.Words.{WordsView, IsWords}
 use Rattle.dm_layout.proofs.symbols.Exported.{no_faults, off_border, off_edge, mapping_line-symbol_line, placed_size}
 use Rattle.dm_layout.proofs.symbols.Exported.{row_inside}
 use Rattle.dm_layout.proofs.symbols.Exported.{size_facts}
-use Rattle.dm_layout.specs.symbols.inner.RowDrawing.{drawn_colour, IsDrawn}
-use Rattle.dm_layout.specs.symbols.inner.Drawing.{mapping_line}
-use Rattle.dm_layout.specs.symbols.inner.Reading.{look_in, whole_row}
-use Rattle.dm_layout.specs.symbols.Symbols.{is_dark_bit}
+use Rattle.dm_layout.specs.symbols.inner.RowDrawing.{drawn_colour}
 use Rattle.dm_layout.proofs.symbols.Sizes.{column_inside}
 
 -- A border module has its colour.

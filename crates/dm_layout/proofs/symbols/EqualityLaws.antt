@@ -1,12 +1,7 @@
 -- That `==` on modules tells equal values.
-use Rattle.std.proofs.Common.{◌≡◌, Bool, true, nat_eq, sym, ◌∙◌, ap}
-use Rattle.std.specs.Bool.{beq}
-use Rattle.std.specs.Cmp.{IsEquivalence, booleans_Decides}
-use Rattle.std.specs.Cmp.Lexicographic.{pointwise}
-use Rattle.std.proofs.lemmas.Bool.{and_parts, eqb-true}
-use Rattle.dm_layout.specs.symbols.Sizes.{SizeEntry, IsSize}
-use Rattle.dm_layout.specs.symbols.Symbols.{SymbolView, IsSymbol}
-use Rattle.dm_layout.specs.symbols.Equality.{equal_sizes, equal_modules}
+use Rattle.dm_layout.proofs.Names.{◌≡◌, Bool, true, nat_eq, sym, ◌∙◌, ap, beq, booleans_Decides, pointwise, and_parts}
+use Rattle.dm_layout.proofs.Names.{eqb-true, SizeEntry, IsSize, SymbolView, IsSymbol, equal_sizes, equal_modules}
+use Rattle.std.specs.Cmp.{IsEquivalence}
 use Rattle.dm_layout.proofs.symbols.TableEntries.{same_size}
 use Rattle.dm_place.proofs.Exported.{same_by_pointwise}
 use Rattle.dm_layout.proofs.symbols.ModulesLemmas.{same_parts}

@@ -1,15 +1,11 @@
 -- Widened rows that are folded back into the matrix.
-use Rattle.std.proofs.lemmas.Bool.Decides.{nat_tests}
-use Rattle.std.proofs.Common.{◌≡◌, ◌⊎◌, inl, inr, ℕ, ◌+◌, ◌-◌, ◌*◌, ◌%◌, ◌<◌, ◌≤◌, Bool, true, false, ◌&&◌, ◌||◌}
-use Rattle.std.proofs.Common.{nat_eq, nat_le, nat_lt, refl, ◌∙◌, ap, subst, sym, arith}
-use Rattle.std.specs.Prelude.{Decides}
-use Rattle.std.proofs.Math.Bool.{and-or_distrib_left}
-use Rattle.std.proofs.lemmas.Bool.{le-leb, leb-true, ltb-true, ltb-false, lt-leb, cases_lt}
-use Rattle.std.proofs.lemmas.Bool.Decides.{Decides-and, Decides-or, Decides-like, Decides-eqb, Decides-ltb}
-use Rattle.std.proofs.lemmas.Bool.Decides.{same_from_decides}
-use Rattle.dm_place.specs.Placement.{wrapped_at_top_and_left, wrapped_cell}
-use Rattle.dm_layout.specs.symbols.inner.Laying.{lowered, moved_in, folded}
-use Rattle.dm_layout.specs.symbols.inner.Widened.{round}
+use Rattle.dm_layout.proofs.Names.{nat_tests, ◌≡◌, ◌⊎◌, inl, inr, ℕ, ◌+◌, ◌-◌, ◌*◌, ◌%◌, ◌<◌, ◌≤◌, Bool, true, false}
+use Rattle.dm_layout.proofs.Names.{◌&&◌, ◌||◌, nat_eq, nat_le, nat_lt, refl, ◌∙◌, ap, subst, sym, arith, Decides}
+use Rattle.dm_layout.proofs.Names.{and-or_distrib_left, le-leb, leb-true, ltb-true, ltb-false, lt-leb, cases_lt}
+use Rattle.dm_layout.proofs.Names.{Decides-and, Decides-or, Decides-like, same_from_decides, wrapped_cell, lowered}
+use Rattle.dm_layout.proofs.Names.{moved_in, folded, round}
+use Rattle.std.proofs.lemmas.Bool.Decides.{Decides-eqb, Decides-ltb}
+use Rattle.dm_place.specs.Placement.{wrapped_at_top_and_left}
 use Rattle.dm_layout.proofs.symbols.LiftedWords.{cell_by, lowered_row, lowered_column}
 
 -- ---- what is dark in one of two pictures

@@ -1,17 +1,9 @@
 -- Rows of the mapping matrix as numbers.
-use Rattle.std.proofs.lemmas.Bool.Decides.{nat_tests}
-use Rattle.std.proofs.Common.{◌≡◌, ◌⊎◌, inl, inr, ℕ, ◌+◌, ◌-◌, ◌*◌, ◌/◌, ◌%◌, ◌^◌, ◌<◌, ◌≤◌, Bool, true, false, nat_eq}
-use Rattle.std.proofs.Common.{nat_lt, refl, sym, ◌∙◌, ap, arith, subst}
-use Rattle.std.specs.Int.RustNames.{bit_or}
-use Rattle.std.specs.Int.Bits.{or_shifted_r}
-use Rattle.std.proofs.lemmas.Bool.{ltb-true, ltb-false}
-use Rattle.std.proofs.Math.Nat.{mod-eq_of_lt, mul-le-mul_right}
-use Rattle.std.proofs.Math.Pow.{pow_pos}
-use Rattle.std.proofs.lemmas.Nat.{pow-add, mul-add-lt, div-mul-add, pow_below}
-use Rattle.std.proofs.lemmas.Nat.Bits.{bit_at_cat_low, bit_at_cat_high}
-use Rattle.dm_place.specs.Border.{symbol_line}
-use Rattle.dm_layout.specs.symbols.Symbols.{is_dark_bit}
-use Rattle.dm_layout.specs.symbols.inner.Widths.{wide_matrix}
+use Rattle.dm_layout.proofs.Names.{nat_tests, ◌≡◌, ◌⊎◌, inl, inr, ℕ, ◌+◌, ◌-◌, ◌*◌, ◌/◌, ◌%◌, ◌^◌, ◌<◌, ◌≤◌, Bool, true}
+use Rattle.dm_layout.proofs.Names.{false, nat_eq, nat_lt, refl, sym, ◌∙◌, ap, arith, subst, bit_or, or_shifted_r}
+use Rattle.dm_layout.proofs.Names.{ltb-true, ltb-false, mod-eq_of_lt, mul-le-mul_right, pow_pos, pow-add, mul-add-lt}
+use Rattle.dm_layout.proofs.Names.{div-mul-add, pow_below, bit_at_cat_low, bit_at_cat_high, symbol_line, is_dark_bit}
+use Rattle.dm_layout.proofs.Names.{wide_matrix}
 use Rattle.dm_layout.proofs.symbols.Rows.{moved_bit, weight, prefix_cell}
 
 -- ---- a row without its borders, region by region

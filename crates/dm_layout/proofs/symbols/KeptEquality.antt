@@ -1,12 +1,9 @@
 -- Rows with the same modules.
-use Rattle.std.proofs.lemmas.Bool.Decides.{nat_tests}
-use Rattle.std.proofs.Common.{◌≡◌, ◌↔◌, ◌⊎◌, inl, inr, IsTrue, ℕ, ◌+◌, ◌-◌, ◌*◌, ◌%◌, ◌^◌, ◌<◌, ◌≤◌, Bool, true, false}
-use Rattle.std.proofs.Common.{nat_eq, refl, sym, ◌∙◌, ap, arith, eq-eqb}
-use Rattle.std.proofs.lemmas.Bool.{eqb-true, cases_lt}
-use Rattle.std.proofs.Math.Pow.{pow_pos}
-use Rattle.dm_layout.specs.symbols.Equality.{equal_modules, modules_equiv}
-use Rattle.dm_layout.specs.symbols.Symbols.{SymbolView, IsSymbol, is_dark_bit, module_at}
-use Rattle.dm_layout.specs.symbols.Sizes.{SizeEntry}
+use Rattle.dm_layout.proofs.Names.{nat_tests, ◌≡◌, ◌⊎◌, inl, inr, ℕ, ◌+◌, ◌-◌, ◌*◌, ◌%◌, ◌^◌, ◌<◌, ◌≤◌, Bool, true}
+use Rattle.dm_layout.proofs.Names.{false, nat_eq, refl, sym, ◌∙◌, ap, arith, eq-eqb, eqb-true, cases_lt, pow_pos}
+use Rattle.dm_layout.proofs.Names.{equal_modules, SymbolView, IsSymbol, is_dark_bit, module_at, SizeEntry}
+use Rattle.std.proofs.Common.{◌↔◌, IsTrue}
+use Rattle.dm_layout.specs.symbols.Equality.{modules_equiv}
 use Rattle.dm_layout.proofs.symbols.EqualityLaws.{equal_itself, told_modules}
 use Rattle.dm_layout.proofs.symbols.ModulesLemmas.{same_modules}
 use Rattle.dm_layout.proofs.symbols.Rows.{prefix_cell, same_row_numbers, weight}

@@ -1,14 +1,9 @@
 -- A symbol whose rows are kept as numbers.
-use Rattle.std.proofs.lemmas.Bool.Decides.{nat_tests}
-use Rattle.std.proofs.Common.{◌≡◌, ◌≢◌, ◌⊎◌, set, get_or-set_same, get_or-set_other, ℕ, zero, suc, ◌+◌, ◌-◌}
-use Rattle.std.proofs.Common.{◌^◌}
-use Rattle.std.proofs.Common.{◌<◌, ◌≤◌, Bool, false, List, length, get_or, replicate, ◌∙◌, ap, arith, nat_eq}
-use Rattle.std.proofs.lemmas.Bool.{cases_lt, lt-ltb, le-ltb}
-use Rattle.std.proofs.lemmas.Nat.Bits.{bit_at-zero, bit_at_cat_low, bit_at_cat_high}
-use Rattle.dm_layout.specs.symbols.Symbols.{IsSymbol, module_at, is_dark_bit}
-use Rattle.dm_layout.specs.symbols.Sizes.{SizeEntry, IsSize}
-use Rattle.dm_layout.specs.symbols.inner.Keeping.{kept_cell, kept_symbol}
-use Rattle.dm_layout.specs.symbols.inner.Reading.{whole_row}
+use Rattle.dm_layout.proofs.Names.{nat_tests, ◌≡◌, ◌≢◌, ◌⊎◌, set, get_or-set_same, get_or-set_other, ℕ, zero, suc, ◌+◌}
+use Rattle.dm_layout.proofs.Names.{◌-◌, ◌^◌, ◌<◌, ◌≤◌, Bool, false, List, length, get_or, replicate, ◌∙◌, ap, arith}
+use Rattle.dm_layout.proofs.Names.{nat_eq, cases_lt, lt-ltb, le-ltb, bit_at-zero, bit_at_cat_low, bit_at_cat_high}
+use Rattle.dm_layout.proofs.Names.{IsSymbol, module_at, is_dark_bit, SizeEntry, IsSize, kept_symbol, whole_row}
+use Rattle.dm_layout.specs.symbols.inner.Keeping.{kept_cell}
 use Rattle.dm_layout.proofs.symbols.ModulesLemmas.{module_by, modules_by}
 
 -- What is kept are well-formed modules.

@@ -1,16 +1,13 @@
 -- Codewords that are kept at the start of a list of bytes.
-use Rattle.std.proofs.Common.{◌≡◌, ℕ, ◌+◌, ◌-◌, ◌<◌, ◌≤◌, List, length, set, take, drop, replicate, ◌∙◌, arith}
-use Rattle.std.proofs.Common.{length-take, ap, ◌++◌}
-use Rattle.std.specs.Prelude.{All}
+use Rattle.dm_layout.proofs.Names.{◌≡◌, ℕ, ◌+◌, ◌-◌, ◌<◌, ◌≤◌, List, length, set, take, drop, replicate, ◌∙◌, arith}
+use Rattle.dm_layout.proofs.Names.{length-take, ap, ◌++◌, All, take-replicate, length-append, length-drop}
+use Rattle.dm_layout.proofs.Names.{length-replicate, put_mid, SizeEntry, IsSize, codeword_count, IsWords, AreKeptIn}
 use Rattle.std.proofs.Math.Seq.{take-append-add}
 use Rattle.std.proofs.Math.ListN.{length-set}
-use Rattle.std.proofs.lemmas.List.{drop-take, drop-replicate, take-replicate, length-append, length-drop}
-use Rattle.std.proofs.lemmas.List.{length-replicate}
+use Rattle.std.proofs.lemmas.List.{drop-take, drop-replicate}
 use Rattle.std.proofs.lemmas.List.Elements.{All-append, All-drop, All-replicate, All-set, All-take}
-use borrow.Rule.Slice.PartMut.{put_mid, same_len_mid}
-use Rattle.dm_layout.specs.symbols.Sizes.{SizeEntry, IsSize, codeword_count}
-use Rattle.dm_layout.specs.symbols.Words.{IsWords}
-use Rattle.dm_layout.specs.symbols.inner.Keeping.{kept_words, AreKeptIn}
+use borrow.Rule.Slice.PartMut.{same_len_mid}
+use Rattle.dm_layout.specs.symbols.inner.Keeping.{kept_words}
 
 -- The codewords that are kept for a size are well-formed codewords of that size.
 pub words_of_kept : {room : ℕ} (size : SizeEntry) (kept : List ℕ) → AreKeptIn room size kept →

@@ -1,23 +1,17 @@
 -- The modules in which codewords are laid: what is drawn from the cells that hold them, and no others.
-use Rattle.std.proofs.Common.{◌≡◌, ℕ, ◌+◌, ◌*◌, ◌/◌, ◌%◌, ◌<◌, Bool, true, false, nat_lt, List, map, refl, sym, ◌∙◌, ap}
-use Rattle.std.proofs.Common.{arith}
-use Rattle.std.specs.Prelude.{if◌then◌else◌}
-use Rattle.std.specs.List.{range_with_len}
-use Rattle.std.proofs.lemmas.Bool.{ltb-true, ltb-false}
-use Rattle.std.proofs.lemmas.Nat.{div-mul-add, mod-mul-add}
-use Rattle.std.proofs.lemmas.List.FromFn.{get_or-map-range_with_len}
-use Rattle.dm_place.specs.declared.shape.Cell.{Cell}
-use Rattle.dm_place.specs.Border.{is_fixed, fixed_is_dark, symbol_line}
-use Rattle.dm_place.specs.Placement.{At, IsPlace, EachCellOnce, OnePlace}
-use Rattle.dm_place.specs.Holding.{HoldsBits, AreWords, bit_of, look_at}
-use Rattle.dm_place.proofs.Exported.{once_at_sides, count_at_sides, none_fixed, some_bit, words_of, length-words_of}
-use Rattle.dm_place.proofs.Exported.{holds_words_of, words_are_bytes, one_list}
-use Rattle.dm_layout.specs.symbols.Sizes.{SizeEntry, IsSize, mapping_rows, mapping_columns, codeword_count}
-use Rattle.dm_layout.specs.symbols.Symbols.{SymbolView, IsSymbol, module_at, rows_by}
-use Rattle.dm_layout.specs.symbols.Words.{WordsView, IsWords}
-use Rattle.dm_layout.specs.symbols.Border.{is_border, border_is_dark, mapped_cell}
+use Rattle.dm_layout.proofs.Names.{◌≡◌, ℕ, ◌+◌, ◌*◌, ◌/◌, ◌%◌, ◌<◌, Bool, true, false, nat_lt, List, map, refl, sym}
+use Rattle.dm_layout.proofs.Names.{◌∙◌, ap, arith, if◌then◌else◌, range_with_len, ltb-true, ltb-false, div-mul-add}
+use Rattle.dm_layout.proofs.Names.{mod-mul-add, get_or-map-range_with_len, Cell, is_fixed, fixed_is_dark, symbol_line}
+use Rattle.dm_layout.proofs.Names.{At, IsPlace, EachCellOnce, HoldsBits, bit_of, once_at_sides, count_at_sides}
+use Rattle.dm_layout.proofs.Names.{none_fixed, some_bit, words_of, holds_words_of, SizeEntry, IsSize, mapping_rows}
+use Rattle.dm_layout.proofs.Names.{mapping_columns, codeword_count, SymbolView, IsSymbol, module_at, rows_by, WordsView}
+use Rattle.dm_layout.proofs.Names.{IsWords, is_border, border_is_dark, mapped_cell, mapping_line, inner_colour}
+use Rattle.dm_layout.proofs.Names.{drawn_colour}
+use Rattle.dm_place.specs.Placement.{OnePlace}
+use Rattle.dm_place.specs.Holding.{AreWords, look_at}
+use Rattle.dm_place.proofs.Exported.{length-words_of}
+use Rattle.dm_place.proofs.Exported.{words_are_bytes, one_list}
 use Rattle.dm_layout.specs.symbols.Holding.{Holds, IsLaid}
-use Rattle.dm_layout.specs.symbols.inner.Drawing.{mapping_line, inner_colour, drawn_colour}
 use Rattle.dm_layout.proofs.symbols.Matrices.{placed_size}
 use Rattle.dm_layout.proofs.symbols.ModulesLemmas.{modules_by, module_by, same_modules, place_below}
 use Rattle.dm_layout.proofs.symbols.SymbolLines.{row_inside, column_inside, off_border}

@@ -1,16 +1,11 @@
 -- Rows of slots that are scattered into widened rows.
-use Rattle.std.proofs.lemmas.Bool.Decides.{nat_tests}
-use Rattle.std.proofs.Common.{◌≡◌, ◌⊎◌, inl, inr, ℕ, ◌+◌, ◌-◌, ◌*◌, ◌/◌, ◌%◌, ◌^◌, ◌<◌, ◌≤◌, Bool, true, false, ◌&&◌}
-use Rattle.std.proofs.Common.{◌||◌, nat_eq, nat_le, nat_lt, List, length, get_or, set, refl, sym, ◌∙◌, ap, arith}
-use Rattle.std.specs.Int.RustNames.{bit_or}
-use lib.Bits.{bit_and}
-use Rattle.std.proofs.Math.Bool.{or-false, and_comm}
-use Rattle.std.proofs.lemmas.Bool.{ltb-true, eqb-true, eqb-false, ne_eqb, lt-ltb, le-ltb, lt-leb, le-leb, cases_lt}
-use Rattle.std.proofs.lemmas.List.{length-set}
-use Rattle.dm_layout.specs.symbols.Symbols.{is_dark_bit}
-use Rattle.dm_layout.specs.symbols.inner.Laying.{part_of, by_anchors, scattered, with_scattered}
-use Rattle.dm_layout.specs.symbols.inner.Reading.{look_in}
-use Rattle.dm_layout.specs.symbols.inner.Slots.{first_column}
+use Rattle.dm_layout.proofs.Names.{nat_tests, ◌≡◌, ◌⊎◌, inl, inr, ℕ, ◌+◌, ◌-◌, ◌*◌, ◌/◌, ◌%◌, ◌^◌, ◌<◌, ◌≤◌, Bool, true}
+use Rattle.dm_layout.proofs.Names.{false, ◌&&◌, ◌||◌, nat_eq, nat_le, nat_lt, List, length, get_or, set, refl, sym, ◌∙◌}
+use Rattle.dm_layout.proofs.Names.{ap, arith, bit_or, bit_and, or-false, ltb-true, eqb-true, eqb-false, ne_eqb, lt-ltb}
+use Rattle.dm_layout.proofs.Names.{le-ltb, lt-leb, le-leb, cases_lt, length-set, is_dark_bit, by_anchors, scattered}
+use Rattle.dm_layout.proofs.Names.{look_in, first_column}
+use Rattle.std.proofs.Math.Bool.{and_comm}
+use Rattle.dm_layout.specs.symbols.inner.Laying.{part_of, with_scattered}
 use Rattle.dm_layout.proofs.symbols.Rows.{moved_bit}
 use Rattle.dm_layout.proofs.symbols.SlotRows.{masked_up}
 use Rattle.dm_layout.proofs.symbols.WidenedRows.{put_over}

@@ -1,26 +1,12 @@
 -- One more codeword in its slot, and the cells that it darkens.
-use Rattle.std.proofs.lemmas.Bool.Decides.{nat_tests}
-use Rattle.std.proofs.Common.{◌≡◌, ◌⊎◌, inl, inr, ℕ, zero, suc, ◌+◌, ◌-◌, ◌*◌, ◌/◌, ◌%◌, ◌^◌, ◌<◌, ◌≤◌, Bool, true}
-use Rattle.std.proofs.Common.{false, ◌&&◌, ◌||◌, nat_eq, nat_le, nat_lt, List, [], ◌∷◌, ◌++◌, length, get_or, set}
-use Rattle.std.proofs.Common.{sym, ◌∙◌, ap, arith}
-use Rattle.std.specs.Prelude.{Decides}
-use Rattle.std.specs.Int.RustNames.{bit_or}
-use Rattle.std.proofs.Math.Bool.{and-or_distrib_left, or-false, and-true, and-false}
-use Rattle.std.proofs.Math.Nat.{mod-eq_of_lt}
-use Rattle.std.proofs.Math.Pow.{pow_pos, pow_mono}
-use Rattle.std.proofs.lemmas.Nat.{pow-add, mul-add-lt}
-use Rattle.std.proofs.lemmas.Nat.Bits.{bit_at_above}
-use Rattle.std.proofs.lemmas.Bool.{true≢false, cases_eq, cases_lt, lt-leb, le-leb}
-use Rattle.std.proofs.lemmas.Bool.{ltb-true, ne_eqb}
-use Rattle.std.proofs.lemmas.Bool.Decides.{Decides-and, Decides-or, Decides-like}
-use Rattle.std.proofs.lemmas.Bool.Decides.{same_from_decides}
-use Rattle.dm_place.specs.declared.shape.Cell.{Cell}
-use Rattle.dm_place.specs.Placement.{At}
-use Rattle.dm_place.specs.Placement.{wrapped_cell, standard, CellsInside}
-use Rattle.dm_layout.specs.symbols.Symbols.{is_dark_bit}
-use Rattle.dm_layout.specs.symbols.inner.Laying.{by_anchors, scattered, folded}
-use Rattle.dm_layout.specs.symbols.inner.Reading.{look_in}
-use Rattle.dm_layout.specs.symbols.inner.Slots.{first_column}
+use Rattle.dm_layout.proofs.Names.{nat_tests, ◌≡◌, ◌⊎◌, inl, inr, ℕ, zero, suc, ◌+◌, ◌-◌, ◌*◌, ◌/◌, ◌%◌, ◌^◌, ◌<◌, ◌≤◌}
+use Rattle.dm_layout.proofs.Names.{Bool, true, false, ◌&&◌, ◌||◌, nat_eq, nat_le, nat_lt, List, [], ◌∷◌, ◌++◌, length}
+use Rattle.dm_layout.proofs.Names.{get_or, set, sym, ◌∙◌, ap, arith, Decides, bit_or, and-or_distrib_left, or-false}
+use Rattle.dm_layout.proofs.Names.{and-true, and-false, mod-eq_of_lt, pow_pos, pow_mono, pow-add, mul-add-lt}
+use Rattle.dm_layout.proofs.Names.{bit_at_above, true≢false, cases_eq, cases_lt, lt-leb, le-leb, ltb-true, ne_eqb}
+use Rattle.dm_layout.proofs.Names.{Decides-and, Decides-or, Decides-like, same_from_decides, Cell, At, wrapped_cell}
+use Rattle.dm_layout.proofs.Names.{standard, CellsInside, is_dark_bit, by_anchors, scattered, folded, look_in}
+use Rattle.dm_layout.proofs.Names.{first_column}
 use Rattle.dm_layout.proofs.symbols.FoldedRows.{IsCell, one_cell, decides_le, decides_cell, folded_or, folded_same}
 use Rattle.dm_layout.proofs.symbols.FoldedRows.{folded_none, folded_cell}
 use Rattle.dm_layout.proofs.symbols.WidenedRows.{put_over, bit_up, none_up}

@@ -1,26 +1,16 @@
 -- That the codewords in slots, scattered and folded, lie at their places.
-use Rattle.std.proofs.lemmas.Bool.Decides.{nat_tests}
-use Rattle.std.proofs.Common.{◌≡◌, ◌≢◌, ℕ, zero, suc, ◌+◌, ◌*◌, ◌/◌, ◌%◌, ◌^◌, ◌<◌, ◌≤◌, Bool, true, false, ◌&&◌}
-use Rattle.std.proofs.Common.{◌||◌, nat_eq, nat_lt, List, [], ◌∷◌, map, length, get_or, set, drop, replicate}
-use Rattle.std.proofs.Common.{refl, sym, ◌∙◌, ap, arith, get_or-set_same, get_or-set_other, drop-cons}
+use Rattle.dm_layout.proofs.Names.{nat_tests, ◌≡◌, ◌≢◌, ℕ, zero, suc, ◌+◌, ◌*◌, ◌/◌, ◌%◌, ◌^◌, ◌<◌, ◌≤◌, Bool, true}
+use Rattle.dm_layout.proofs.Names.{false, ◌&&◌, ◌||◌, nat_eq, nat_lt, List, [], ◌∷◌, map, length, get_or, set, drop}
+use Rattle.dm_layout.proofs.Names.{replicate, refl, sym, ◌∙◌, ap, arith, get_or-set_same, get_or-set_other, drop-cons}
+use Rattle.dm_layout.proofs.Names.{bit_or, list_all, or_assoc, or-false, and-false, mul-div_cancel_left, mul-mod_right}
+use Rattle.dm_layout.proofs.Names.{and_parts, ltb-true, eqb-true, get_or-map, Place, Cell, Shape, Standard, Corner1}
+use Rattle.dm_layout.proofs.Names.{Corner2, Corner3, Corner4, cells_of, shapes, standard, CellsInside, is_dark_bit}
+use Rattle.dm_layout.proofs.Names.{by_anchors, scattered, folded, corner_marks, with_byte, marks_in, reversed_bits}
+use Rattle.dm_layout.proofs.Names.{slot_of, inside_test, cells_inside}
 use Rattle.std.proofs.Common.{drop_of_length-le}
-use Rattle.std.specs.Int.RustNames.{bit_or}
-use Rattle.std.specs.List.{list_all}
-use Rattle.std.proofs.Math.Bool.{or_assoc, or-false, and-false}
-use Rattle.std.proofs.Math.Nat.{mul-div_cancel_left, mul-mod_right}
-use Rattle.std.proofs.lemmas.Bool.{and_parts, ltb-true, eqb-true}
-use Rattle.std.proofs.lemmas.List.{get_or-map}
-use Rattle.dm_place.specs.declared.cells.Place.{Place}
-use Rattle.dm_place.specs.declared.shape.Cell.{Cell}
-use Rattle.dm_place.specs.declared.shape.Shape.{Shape}
-use Rattle.dm_place.specs.declared.shape.Shape.TheVariants.{Standard, Corner1, Corner2, Corner3, Corner4}
-use Rattle.dm_place.specs.Placement.{cells_of, shapes, places_from, places_in_order, standard, CellsInside}
-use Rattle.dm_layout.specs.symbols.Symbols.{is_dark_bit}
-use Rattle.dm_layout.specs.symbols.inner.Laying.{by_anchors, scattered, folded, corner_marks, with_byte}
-use Rattle.dm_layout.specs.symbols.inner.Reading.{marks_in}
-use Rattle.dm_layout.specs.symbols.inner.Slots.{reversed_bits, slot_of}
+use Rattle.dm_place.specs.Placement.{places_from, places_in_order}
 use Rattle.dm_layout.proofs.symbols.FoldedRows.{folded_or, folded_same, folded_none}
-use Rattle.dm_place.proofs.Exported.{eight, inside_test, cells_inside}
+use Rattle.dm_place.proofs.Exported.{eight}
 use Rattle.dm_layout.proofs.symbols.MarkedCells.{marks_low, marks_reversed, marks_turned, marks_or}
 use Rattle.dm_layout.proofs.symbols.LaidSlots.{byte_fits, wide_cells}
 use Rattle.dm_layout.proofs.symbols.LaidSlots.{scattered_shape, scattered_corner, folded_marks, wide_folded}

@@ -1,22 +1,15 @@
 -- That the codewords of widened rows, read slot by slot, are those of the symbol.
-use Rattle.std.proofs.lemmas.Bool.Decides.{nat_tests}
-use Rattle.std.proofs.Common.{◌≡◌, ℕ, ◌+◌, ◌-◌, ◌*◌, ◌/◌, ◌%◌, ◌^◌, ◌<◌, ◌≤◌, Bool, true, false, ◌&&◌, nat_eq}
-use Rattle.std.proofs.Common.{nat_lt, List, [], ◌∷◌, map, get_or, refl, sym, ◌∙◌, ap, arith}
-use Rattle.std.specs.List.{list_all}
-use Rattle.std.proofs.Math.Nat.{add-mul-div_left, add-mul-mod_self_left, div-eq_of_lt, mod-eq_of_lt}
-use Rattle.std.proofs.lemmas.Bool.{and_parts, ltb-true, ltb-false, eqb-true, lt-leb}
-use Rattle.dm_place.specs.declared.shape.Cell.{Cell}
-use Rattle.dm_place.specs.declared.shape.Shape.{Shape}
-use Rattle.dm_place.specs.declared.shape.Shape.TheVariants.{Standard, Corner1, Corner2, Corner3, Corner4}
-use Rattle.dm_place.specs.Placement.{At, cells_of, lowered_cell, wrapped_cell, standard}
-use Rattle.dm_place.specs.Placement.{CellsInside}
-use Rattle.dm_place.specs.Holding.{digit, number_of, word_at}
-use Rattle.dm_place.proofs.Exported.{digit-has, sum_of_digits, inside_test, cells_inside}
-use Rattle.dm_layout.specs.symbols.Symbols.{is_dark_bit}
-use Rattle.dm_layout.specs.symbols.inner.Reading.{look_in}
-use Rattle.dm_layout.specs.symbols.inner.Slots.{bits_in, reversed_bits, first_column, slot_of, slot_byte, IsJoined}
-use Rattle.dm_layout.specs.symbols.inner.Slots.{HasSlots}
-use Rattle.dm_layout.specs.symbols.inner.Widened.{round, IsWidened}
+use Rattle.dm_layout.proofs.Names.{nat_tests, ◌≡◌, ℕ, ◌+◌, ◌-◌, ◌*◌, ◌/◌, ◌%◌, ◌^◌, ◌<◌, ◌≤◌, Bool, true, false, ◌&&◌}
+use Rattle.dm_layout.proofs.Names.{nat_eq, nat_lt, List, [], ◌∷◌, map, get_or, refl, sym, ◌∙◌, ap, arith, list_all}
+use Rattle.dm_layout.proofs.Names.{div-eq_of_lt, mod-eq_of_lt, and_parts, ltb-true, ltb-false, eqb-true, lt-leb, Cell}
+use Rattle.dm_layout.proofs.Names.{Shape, Standard, Corner1, Corner2, Corner3, Corner4, At, cells_of, wrapped_cell}
+use Rattle.dm_layout.proofs.Names.{standard, CellsInside, digit, digit-has, inside_test, cells_inside, is_dark_bit}
+use Rattle.dm_layout.proofs.Names.{look_in, bits_in, reversed_bits, first_column, slot_of, slot_byte, IsJoined}
+use Rattle.dm_layout.proofs.Names.{HasSlots, round, IsWidened}
+use Rattle.std.proofs.Math.Nat.{add-mul-div_left, add-mul-mod_self_left}
+use Rattle.dm_place.specs.Placement.{lowered_cell}
+use Rattle.dm_place.specs.Holding.{number_of, word_at}
+use Rattle.dm_place.proofs.Exported.{sum_of_digits}
 use Rattle.dm_layout.proofs.symbols.SlotRows.{corner_slot_is}
 
 -- ---- rows of slots

@@ -1,17 +1,10 @@
 -- Rows of more than 128 columns, of which the last region lies across column 128.
-use Rattle.std.proofs.lemmas.Bool.Decides.{nat_tests}
-use Rattle.std.proofs.Common.{◌≡◌, ◌⊎◌, inl, inr, ℕ, ◌+◌, ◌-◌, ◌*◌, ◌/◌, ◌%◌, ◌^◌, ◌<◌, ◌≤◌, Bool, ◌||◌, sym, ◌∙◌, ap}
-use Rattle.std.proofs.Common.{subst, arith}
-use Rattle.std.specs.Int.RustNames.{bit_or}
-use Rattle.std.specs.Int.Bits.{or_shifted_r}
-use Rattle.std.proofs.lemmas.Bool.{cases_lt}
-use Rattle.std.proofs.lemmas.Nat.{or_lt, div-add-mod', div-mul-add, mod-mul-add, div_below, pow-add, mul-add-lt}
-use Rattle.std.proofs.Math.Nat.{mod-eq_of_lt, mod-lt, lt_of_mul-lt-mul_right, mul-le-mul_right}
-use Rattle.std.proofs.Math.Pow.{pow_mono, pow_pos}
-use Rattle.dm_place.specs.Border.{symbol_line}
-use Rattle.dm_layout.specs.symbols.Symbols.{SymbolView, module_at, is_dark_bit}
-use Rattle.dm_layout.specs.symbols.Sizes.{IsSize, mapping_columns}
-use Rattle.dm_layout.specs.symbols.inner.Reading.{whole_row}
+use Rattle.dm_layout.proofs.Names.{nat_tests, ◌≡◌, ◌⊎◌, inl, inr, ℕ, ◌+◌, ◌-◌, ◌*◌, ◌/◌, ◌%◌, ◌^◌, ◌<◌, ◌≤◌, Bool, ◌||◌}
+use Rattle.dm_layout.proofs.Names.{sym, ◌∙◌, ap, subst, arith, bit_or, or_shifted_r, cases_lt, or_lt, div-add-mod'}
+use Rattle.dm_layout.proofs.Names.{div-mul-add, mod-mul-add, pow-add, mul-add-lt, mod-eq_of_lt, mod-lt}
+use Rattle.dm_layout.proofs.Names.{lt_of_mul-lt-mul_right, mul-le-mul_right, pow_mono, pow_pos, symbol_line, SymbolView}
+use Rattle.dm_layout.proofs.Names.{module_at, is_dark_bit, IsSize, mapping_columns, whole_row}
+use Rattle.std.proofs.lemmas.Nat.{div_below}
 use Rattle.dm_layout.proofs.symbols.InnerRows.{one_more}
 use Rattle.dm_layout.proofs.symbols.KeptRows.{whole_end, whole_first}
 use Rattle.dm_layout.proofs.symbols.OuterRows.{IsOut, out_more}

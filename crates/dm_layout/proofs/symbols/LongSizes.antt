@@ -1,9 +1,8 @@
 -- What holds of the sizes of more than 128 columns, and of the others.
-use Rattle.std.proofs.Common.{◌≡◌, ◌⊎◌, inl, inr, ℕ, ◌+◌, ◌-◌, ◌*◌, ◌%◌, ◌<◌, ◌≤◌, Bool, true, ◌&&◌, ◌||◌, nat_eq}
-use Rattle.std.proofs.Common.{nat_le, refl, ap, ◌∙◌, arith}
-use Rattle.std.specs.List.{list_all}
-use Rattle.std.proofs.lemmas.Bool.{and_parts, cases_lt, eqb-true, leb-true, lt-leb}
-use Rattle.dm_layout.specs.symbols.Sizes.{SizeEntry, size_table, IsSize, mapping_rows, mapping_columns}
+use Rattle.dm_layout.proofs.Names.{◌≡◌, ◌⊎◌, inl, inr, ℕ, ◌+◌, ◌-◌, ◌*◌, ◌%◌, ◌<◌, ◌≤◌, Bool, true, ◌&&◌, ◌||◌, nat_eq}
+use Rattle.dm_layout.proofs.Names.{nat_le, refl, ap, ◌∙◌, arith, list_all, and_parts, cases_lt, eqb-true, leb-true}
+use Rattle.dm_layout.proofs.Names.{lt-leb, SizeEntry, IsSize, mapping_rows, mapping_columns}
+use Rattle.dm_layout.specs.symbols.Sizes.{size_table}
 use Rattle.dm_layout.proofs.symbols.Sizes.{even_product, second_of}
 use Rattle.dm_layout.proofs.symbols.TableEntries.{passed_at_size}
 use Rattle.dm_layout.proofs.symbols.TableEntries.{size_facts}

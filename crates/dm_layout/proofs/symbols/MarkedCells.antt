@@ -1,18 +1,10 @@
 -- The cells that a codeword marks, also with its bits in the opposite order.
-use Rattle.std.proofs.lemmas.Bool.Decides.{nat_tests}
-use Rattle.std.proofs.Common.{◌≡◌, ℕ, suc, ◌+◌, ◌-◌, ◌/◌, ◌%◌, ◌^◌, ◌<◌, ◌≤◌, Bool, true}
-use Rattle.std.proofs.Common.{false, ◌&&◌, ◌||◌, nat_eq, List, [], ◌∷◌, ◌++◌, length, refl}
-use Rattle.std.proofs.Common.{sym, ◌∙◌, ap, arith}
-use Rattle.std.specs.Int.RustNames.{bit_or}
-use Rattle.std.specs.List.{list_all, range_with_len}
-use Rattle.std.proofs.Math.Bool.{or_assoc}
+use Rattle.dm_layout.proofs.Names.{nat_tests, ◌≡◌, ℕ, suc, ◌+◌, ◌-◌, ◌/◌, ◌%◌, ◌^◌, ◌<◌, ◌≤◌, Bool, true, false, ◌&&◌}
+use Rattle.dm_layout.proofs.Names.{◌||◌, nat_eq, List, [], ◌∷◌, ◌++◌, length, refl, sym, ◌∙◌, ap, arith, bit_or}
+use Rattle.dm_layout.proofs.Names.{list_all, range_with_len, or_assoc, Cell, is_dark_bit, marks_in, reversed_bits}
+use Rattle.dm_layout.proofs.Names.{all_below}
 use Rattle.std.proofs.lemmas.Bool.{agree_below, agree_below_at}
-use Rattle.dm_place.specs.declared.shape.Cell.{Cell}
-use Rattle.dm_layout.specs.symbols.Symbols.{is_dark_bit}
-use Rattle.dm_layout.specs.symbols.inner.Reading.{marks_in}
-use Rattle.dm_layout.specs.symbols.inner.Slots.{reversed_bits}
 use Rattle.dm_layout.proofs.symbols.Rows.{or_dark}
-use Rattle.dm_place.proofs.Exported.{all_below}
 use Rattle.dm_layout.proofs.symbols.SlotRows.{reversed_twice}
 use Rattle.dm_layout.proofs.symbols.WidenedRows.{low_bit}
 

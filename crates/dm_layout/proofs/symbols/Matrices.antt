@@ -1,13 +1,10 @@
 -- The mapping matrices of the sizes are those of `dm_place`.
-use Rattle.std.proofs.Common.{◌≡◌, Bool, true, false, ◌&&◌, nat_eq, Option, Some, None, refl, ap}
+use Rattle.dm_layout.proofs.Names.{◌≡◌, Bool, true, false, ◌&&◌, nat_eq, Option, Some, None, refl, ap, list_all}
+use Rattle.dm_layout.proofs.Names.{list_any, and_parts, eqb-true, All-weaker, Any-from_list_any, AllPass-from_list_all}
+use Rattle.dm_layout.proofs.Names.{row_with_sides, SizeEntry, IsSize, mapping_rows, mapping_columns}
 use Rattle.std.specs.Prelude.{Any}
-use Rattle.std.specs.List.{list_all, list_any}
-use Rattle.std.proofs.lemmas.Bool.{and_parts, eqb-true}
-use Rattle.std.proofs.lemmas.List.Elements.{All-weaker}
-use Rattle.std.proofs.lemmas.List.Folds.{Any-from_list_any}
-use Rattle.std.proofs.lemmas.List.Sums.{AllPass-from_list_all}
-use Rattle.dm_place.specs.Sides.{SidesRow, row_with_sides, sides_table}
-use Rattle.dm_layout.specs.symbols.Sizes.{SizeEntry, size_table, IsSize, mapping_rows, mapping_columns}
+use Rattle.dm_place.specs.Sides.{SidesRow, sides_table}
+use Rattle.dm_layout.specs.symbols.Sizes.{size_table}
 use Rattle.dm_layout.specs.symbols.Sizes.{matrix_of, MatricesAgree}
 use Rattle.dm_layout.proofs.symbols.TableEntries.{passed_at_size}
 

@@ -1,17 +1,12 @@
 -- The modules of a symbol, by row and column.
-use Rattle.std.proofs.lemmas.Bool.Decides.{nat_tests}
-use Rattle.std.proofs.Common.{◌≡◌, ℕ, zero, suc, ◌+◌, ◌*◌, ◌/◌, ◌%◌, ◌<◌, Bool, false}
-use Rattle.std.proofs.Common.{List, [], ◌∷◌, map, length, get_or, refl, sym, ◌∙◌, ap}
-use Rattle.std.proofs.Common.{subst, arith}
-use Rattle.std.specs.Prelude.{All}
-use Rattle.std.specs.List.{range_with_len}
-use Rattle.std.proofs.lemmas.Nat.{div-mul-add, mod-mul-add, mul-add-lt}
+use Rattle.dm_layout.proofs.Names.{nat_tests, ◌≡◌, ℕ, zero, suc, ◌+◌, ◌*◌, ◌/◌, ◌%◌, ◌<◌, Bool, false, List, [], ◌∷◌}
+use Rattle.dm_layout.proofs.Names.{map, length, get_or, refl, sym, ◌∙◌, ap, subst, arith, All, range_with_len}
+use Rattle.dm_layout.proofs.Names.{div-mul-add, mod-mul-add, mul-add-lt, same_lists, length-map-range_with_len}
+use Rattle.dm_layout.proofs.Names.{get_or-map-range_with_len, SizeEntry, IsSize, SymbolView, IsSymbol, module_at}
+use Rattle.dm_layout.proofs.Names.{rows_by}
 use Rattle.std.proofs.Math.Nat.{mul_comm}
-use Rattle.std.proofs.lemmas.List.{same_lists}
-use Rattle.std.proofs.lemmas.List.FromFn.{length-map-range_with_len, get_or-map-range_with_len, fill_by_all}
+use Rattle.std.proofs.lemmas.List.FromFn.{fill_by_all}
 use Rattle.std.proofs.lemmas.List.Elements.{All-map}
-use Rattle.dm_layout.specs.symbols.Sizes.{SizeEntry, IsSize}
-use Rattle.dm_layout.specs.symbols.Symbols.{SymbolView, IsSymbol, module_at, rows_by}
 
 -- Modules that are drawn by colours are well formed.
 pub modules_by : (size : SizeEntry) (colour : ℕ → ℕ → Bool) → IsSize size →

@@ -1,19 +1,10 @@
 -- Rows laid over one another, which folds widened rows step by step.
-use Rattle.std.proofs.lemmas.Bool.Decides.{nat_tests}
-use Rattle.std.proofs.Common.{◌≡◌, ◌≢◌, ◌⊎◌, inl, inr, ℕ, ◌+◌, ◌-◌, ◌*◌, ◌/◌, ◌%◌, ◌^◌, ◌<◌, ◌≤◌, Bool, true, false}
-use Rattle.std.proofs.Common.{◌&&◌, ◌||◌, nat_eq, nat_le, nat_lt, List, length, get_or, set, refl, sym, ◌∙◌, ap, arith}
-use Rattle.std.proofs.Common.{get_or-set_other, eq-eqb, subst}
-use Rattle.std.specs.Int.RustNames.{bit_or}
-use Rattle.std.proofs.Math.Bool.{or-false}
-use Rattle.std.proofs.Math.Nat.{mod-eq_of_lt}
-use Rattle.std.proofs.Math.Pow.{pow_pos}
-use Rattle.std.proofs.lemmas.Bool.{eqb-true, eqb-false, lt-ltb, le-ltb, lt-leb, le-leb, ltb-true, and_parts}
-use Rattle.std.proofs.lemmas.Bool.{cases_lt}
-use Rattle.std.proofs.lemmas.Nat.{pow-add, pow_below, mul-add-lt}
-use Rattle.std.proofs.lemmas.Nat.Bits.{bit_at_above}
-use Rattle.dm_layout.specs.symbols.Symbols.{is_dark_bit}
-use Rattle.dm_layout.specs.symbols.inner.Laying.{lowered, moved_in, folded}
-use Rattle.dm_layout.specs.symbols.inner.Reading.{look_in}
+use Rattle.dm_layout.proofs.Names.{nat_tests, ◌≡◌, ◌≢◌, ◌⊎◌, inl, inr, ℕ, ◌+◌, ◌-◌, ◌*◌, ◌/◌, ◌%◌, ◌^◌, ◌<◌, ◌≤◌, Bool}
+use Rattle.dm_layout.proofs.Names.{true, false, ◌&&◌, ◌||◌, nat_eq, nat_le, nat_lt, List, length, get_or, set, refl}
+use Rattle.dm_layout.proofs.Names.{sym, ◌∙◌, ap, arith, get_or-set_other, eq-eqb, subst, bit_or, or-false, mod-eq_of_lt}
+use Rattle.dm_layout.proofs.Names.{pow_pos, eqb-true, eqb-false, lt-ltb, le-ltb, lt-leb, le-leb, ltb-true, and_parts}
+use Rattle.dm_layout.proofs.Names.{cases_lt, pow-add, pow_below, mul-add-lt, bit_at_above, is_dark_bit, lowered}
+use Rattle.dm_layout.proofs.Names.{moved_in, folded, look_in}
 use Rattle.dm_layout.proofs.symbols.Rows.{moved_bit}
 use Rattle.dm_layout.proofs.symbols.WidenedRows.{put_over, bit_up, none_up, low_bit, laid_over, over_more}
 

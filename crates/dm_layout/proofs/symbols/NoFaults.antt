@@ -1,14 +1,10 @@
 -- A symbol has no border fault exactly where its border modules have their colours.
-use Rattle.std.proofs.lemmas.Bool.Decides.{nat_tests}
-use Rattle.std.proofs.Common.{◌≡◌, ℕ, zero, suc, ◌+◌, ◌<◌, Bool, true, cond, not, ◌&&◌, nat_eq, refl, sym, ◌∙◌}
-use Rattle.std.proofs.Common.{arith, subst, eq-eqb, add-zero, zero-add}
-use Rattle.std.specs.Prelude.{sum_by, count_by}
-use Rattle.std.specs.Bool.{beq}
-use Rattle.std.specs.List.{range_with_len, list_all}
-use Rattle.std.proofs.lemmas.Bool.{eqb-true}
+use Rattle.dm_layout.proofs.Names.{nat_tests, ◌≡◌, ℕ, zero, suc, ◌+◌, ◌<◌, Bool, true, cond, not, ◌&&◌, nat_eq, refl}
+use Rattle.dm_layout.proofs.Names.{sym, ◌∙◌, arith, subst, eq-eqb, sum_by, count_by, beq, range_with_len, list_all}
+use Rattle.dm_layout.proofs.Names.{eqb-true, SymbolView, module_at, is_border, border_is_dark}
+use Rattle.std.proofs.Common.{add-zero, zero-add}
 use Rattle.std.proofs.lemmas.List.Folds.{sum_by-zero}
-use Rattle.dm_layout.specs.symbols.Symbols.{SymbolView, module_at}
-use Rattle.dm_layout.specs.symbols.Border.{is_border, border_is_dark, is_fault, border_fault_count}
+use Rattle.dm_layout.specs.symbols.Border.{is_fault, border_fault_count}
 use Rattle.dm_place.proofs.Exported.{all_at}
 
 -- The border modules have their colours.

@@ -1,19 +1,13 @@
 -- Rows of the mapping matrix in the rows of the symbol.
-use Rattle.std.proofs.lemmas.Bool.Decides.{nat_tests}
-use Rattle.std.proofs.Common.{◌≡◌, ◌⊎◌, inl, inr, ℕ, ◌+◌, ◌-◌, ◌*◌, ◌/◌, ◌%◌, ◌^◌, ◌<◌, ◌≤◌, false, nat_eq}
-use Rattle.std.proofs.Common.{sym, ◌∙◌, ap, arith, subst}
-use lib.Bits.{bit_and}
-use Rattle.std.proofs.Math.Nat.{mod-eq_of_lt, mul-le-mul_right, div-div-eq-div-mul, div-mul-le_self}
-use Rattle.std.proofs.Math.Nat.{lt_of_mul-lt-mul_right}
-use Rattle.std.proofs.Math.Pow.{pow_pos, pow_mono}
-use Rattle.std.proofs.lemmas.Bool.{cases_lt}
-use Rattle.std.proofs.lemmas.Nat.{pow-add, mul-add-lt, div-mul-add, mod-mul-add, mod_below, div-add-mod', pow_below}
-use Rattle.std.proofs.lemmas.Nat.{and_mask, and_le_l}
-use Rattle.std.proofs.lemmas.Nat.Bits.{bit_at_cat_low, bit_at_cat_high, bit_at_above, bit_at-zero}
-use Rattle.dm_place.specs.Border.{symbol_line}
-use Rattle.dm_layout.specs.symbols.Symbols.{is_dark_bit}
+use Rattle.dm_layout.proofs.Names.{nat_tests, ◌≡◌, ◌⊎◌, inl, inr, ℕ, ◌+◌, ◌-◌, ◌*◌, ◌/◌, ◌%◌, ◌^◌, ◌<◌, ◌≤◌, false}
+use Rattle.dm_layout.proofs.Names.{nat_eq, sym, ◌∙◌, ap, arith, subst, bit_and, mod-eq_of_lt, mul-le-mul_right}
+use Rattle.dm_layout.proofs.Names.{div-div-eq-div-mul, lt_of_mul-lt-mul_right, pow_pos, pow_mono, cases_lt, pow-add}
+use Rattle.dm_layout.proofs.Names.{mul-add-lt, div-mul-add, mod-mul-add, mod_below, div-add-mod', pow_below, and_le_l}
+use Rattle.dm_layout.proofs.Names.{bit_at_cat_low, bit_at_cat_high, bit_at_above, bit_at-zero, symbol_line, is_dark_bit}
+use Rattle.dm_layout.proofs.Names.{wide_matrix, most_wide}
+use Rattle.std.proofs.Math.Nat.{div-mul-le_self}
+use Rattle.std.proofs.lemmas.Nat.{and_mask}
 use Rattle.dm_layout.proofs.symbols.Exported.{symbol_line-form, region_below}
-use Rattle.dm_layout.specs.symbols.inner.Widths.{wide_matrix, most_wide}
 use Rattle.dm_layout.proofs.symbols.Rows.{moved_bit, weight, prefix_cell}
 
 -- ---- a row between borders, region by region

@@ -1,23 +1,13 @@
 -- Rows of the mapping matrix in which the bits of codewords are put at their places.
-use Rattle.std.proofs.lemmas.Bool.Decides.{nat_tests}
-use Rattle.std.proofs.Common.{◌≡◌, ◌⊎◌, inl, inr, ℕ, zero, suc, ◌+◌, ◌-◌, ◌*◌, ◌/◌, ◌%◌, ◌^◌, ◌<◌, ◌≤◌, Bool, true}
-use Rattle.std.proofs.Common.{false, ◌&&◌, ◌||◌, nat_eq, List, [], ◌∷◌, ◌++◌, length, get_or, set, drop}
-use Rattle.std.proofs.Common.{refl, sym, ◌∙◌, ap, arith, eq-eqb}
-use Rattle.std.specs.Int.RustNames.{bit_or}
-use Rattle.std.proofs.Math.Bool.{or_assoc, false-or, and_assoc, and-true, and-false}
-use Rattle.std.proofs.Math.Nat.{mod-eq_of_lt}
-use Rattle.std.proofs.Math.Pow.{pow_pos}
-use Rattle.std.proofs.lemmas.Bool.{eqb-true, eqb-false, ne_eqb, cases_lt}
-use Rattle.std.proofs.lemmas.Nat.{pow_below}
-use Rattle.std.proofs.lemmas.Nat.Bits.{bit_at-zero, bit_at_above}
-use Rattle.dm_place.specs.declared.shape.Cell.{Cell}
-use Rattle.dm_place.specs.declared.cells.Place.{Place}
-use Rattle.dm_place.specs.Border.{is_fixed}
-use Rattle.dm_place.specs.Holding.{bit_of}
-use Rattle.dm_place.specs.Placement.{At, IsPlace, EachCellOnce, bits_from, places_in_order}
-use Rattle.dm_layout.specs.symbols.Symbols.{is_dark_bit}
-use Rattle.dm_layout.specs.symbols.inner.Reading.{look_in, marks_in}
-use Rattle.dm_place.proofs.Exported.{ArePlaces, all_are_places, one_bit, none_fixed, place_at, lies_in}
+use Rattle.dm_layout.proofs.Names.{nat_tests, ◌≡◌, ◌⊎◌, inl, inr, ℕ, zero, suc, ◌+◌, ◌-◌, ◌*◌, ◌/◌, ◌%◌, ◌^◌, ◌<◌, ◌≤◌}
+use Rattle.dm_layout.proofs.Names.{Bool, true, false, ◌&&◌, ◌||◌, nat_eq, List, [], ◌∷◌, ◌++◌, length, get_or, set}
+use Rattle.dm_layout.proofs.Names.{drop, refl, sym, ◌∙◌, ap, arith, eq-eqb, bit_or, or_assoc, and-true, and-false}
+use Rattle.dm_layout.proofs.Names.{mod-eq_of_lt, pow_pos, eqb-true, eqb-false, ne_eqb, cases_lt, pow_below, bit_at-zero}
+use Rattle.dm_layout.proofs.Names.{bit_at_above, Cell, Place, is_fixed, bit_of, At, IsPlace, EachCellOnce}
+use Rattle.dm_layout.proofs.Names.{places_in_order, is_dark_bit, look_in, marks_in, one_bit, none_fixed}
+use Rattle.std.proofs.Math.Bool.{false-or, and_assoc}
+use Rattle.dm_place.specs.Placement.{bits_from}
+use Rattle.dm_place.proofs.Exported.{ArePlaces, all_are_places, place_at, lies_in}
 use Rattle.dm_place.proofs.Exported.{length-places_in_order}
 use Rattle.dm_layout.proofs.symbols.WidenedRows.{put_over, bit_up, none_up}
 

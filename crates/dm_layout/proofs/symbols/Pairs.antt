@@ -1,21 +1,13 @@
 -- Numbers of 256 bits as two of 128.
-use Rattle.std.proofs.lemmas.Bool.Decides.{nat_tests}
-use Rattle.std.proofs.Common.{◌≡◌, ◌⊎◌, inl, inr, ℕ, suc, ◌+◌, ◌-◌, ◌*◌, ◌/◌, ◌%◌, ◌^◌, ◌<◌, ◌≤◌, Bool, false, ◌&&◌}
-use Rattle.std.proofs.Common.{◌||◌, nat_eq, nat_lt, List, get_or, length, set, sym, ◌∙◌, ap, arith}
-use lib.Bits.{bit_and}
+use Rattle.dm_layout.proofs.Names.{nat_tests, ◌≡◌, ◌⊎◌, inl, inr, ℕ, suc, ◌+◌, ◌-◌, ◌*◌, ◌/◌, ◌%◌, ◌^◌, ◌<◌, ◌≤◌, Bool}
+use Rattle.dm_layout.proofs.Names.{false, ◌&&◌, ◌||◌, nat_eq, nat_lt, List, get_or, length, set, sym, ◌∙◌, ap, arith}
+use Rattle.dm_layout.proofs.Names.{bit_and, bit_or, or-false, div-div-eq-div-mul, pow-suc, pow_pos, cases_lt, mod_below}
+use Rattle.dm_layout.proofs.Names.{mul-add-lt, or_lt, bit_at-zero, bit_at_above, bit_at_cat_low, bit_at_cat_high}
+use Rattle.dm_layout.proofs.Names.{get_or-map, length-map, map-set, is_dark_bit, LOW_TWO_BITS, LOW_THREE_BITS, Pair}
+use Rattle.dm_layout.proofs.Names.{number_of, numbers_of, pair}
 use Rattle.std.specs.Int.Bits.{and_lt}
-use Rattle.std.specs.Int.RustNames.{bit_or}
-use Rattle.std.proofs.Math.Bool.{or-false}
-use Rattle.std.proofs.Math.Nat.{div-div-eq-div-mul, div-le_self, pow-suc}
-use Rattle.std.proofs.Math.Pow.{pow_pos}
-use Rattle.std.proofs.lemmas.Bool.{cases_lt}
-use Rattle.std.proofs.lemmas.Nat.{mod_below, mul-add-lt, mul-mod_first, or_lt}
-use Rattle.std.proofs.lemmas.Nat.Bits.{bit_at-zero, bit_at_above, bit_at_cat_low, bit_at_cat_high}
-use Rattle.std.proofs.lemmas.List.{get_or-map, length-map, map-set}
-use Rattle.dm_layout.specs.symbols.Symbols.{is_dark_bit}
-use Rattle.dm_layout.specs.declared.symbols.wide_rows.TheConstants.{LOW_TWO_BITS, LOW_THREE_BITS}
-use Rattle.dm_layout.specs.declared.symbols.pair.Pair.{Pair}
-use Rattle.dm_layout.specs.symbols.inner.Pairs.{number_of, numbers_of, pair}
+use Rattle.std.proofs.Math.Nat.{div-le_self}
+use Rattle.std.proofs.lemmas.Nat.{mul-mod_first}
 use Rattle.dm_layout.proofs.symbols.Rows.{moved_bit, or_dark, same_row_numbers}
 use Rattle.dm_layout.proofs.symbols.SlotRows.{AreMasks, and_dark, masks_at}
 use Rattle.dm_layout.proofs.symbols.WidenedRows.{bit_up, low_bit, none_up}

@@ -1,21 +1,11 @@
 -- Rows that are numbers.
-use Rattle.std.proofs.lemmas.Bool.Decides.{nat_tests}
-use Rattle.dm_layout.specs.symbols.Symbols.{is_dark_bit}
-use Rattle.std.proofs.Common.{◌≡◌, ℕ, zero, suc, ◌+◌, ◌*◌, ◌/◌, ◌%◌, ◌^◌, ◌<◌, Bool, true, false, cond, ◌||◌, nat_eq}
-use Rattle.std.proofs.Common.{sym, ◌∙◌, ap}
-use Rattle.std.proofs.Common.{refl, arith, get_or, replicate}
+use Rattle.dm_layout.proofs.Names.{nat_tests, is_dark_bit, ◌≡◌, ℕ, zero, suc, ◌+◌, ◌*◌, ◌/◌, ◌%◌, ◌^◌, ◌<◌, Bool, true}
+use Rattle.dm_layout.proofs.Names.{false, cond, ◌||◌, nat_eq, sym, ◌∙◌, ap, refl, arith, get_or, replicate, bit_at}
+use Rattle.dm_layout.proofs.Names.{bit_or, mod-eq_of_lt, div-div-eq-div-mul, pow-add, pow_below, div-add-mod'}
+use Rattle.dm_layout.proofs.Names.{bit_at-lt, bit_at-zero, bit_at_cat_low, bit_at_set_same, bit_at_set_other, or_lt}
+use Rattle.dm_layout.proofs.Names.{w128, eqb-true, eqb-false, digit, digit-has}
 use Rattle.std.specs.Prelude.{max}
-use Rattle.std.specs.Int.{bit_at}
-use Rattle.std.specs.Int.RustNames.{bit_or}
-use Rattle.std.proofs.Math.Nat.{mod-eq_of_lt, div-div-eq-div-mul}
-use Rattle.std.proofs.lemmas.Nat.{pow-add, pow_below, div-add-mod'}
-use Rattle.std.proofs.lemmas.Nat.Bits.{bit_at_or, bit_at-lt, bit_at-zero, bit_at_cat_low, same_from_bits_below}
-use Rattle.std.proofs.lemmas.Nat.Bits.{bit_at_set_same, bit_at_set_other}
-use Rattle.std.proofs.lemmas.Nat.{or_lt}
-use Rattle.std.specs.Int.{w128}
-use Rattle.std.proofs.lemmas.Bool.{eqb-true, eqb-false}
-use Rattle.dm_place.specs.Holding.{digit}
-use Rattle.dm_place.proofs.Exported.{digit-has}
+use Rattle.std.proofs.lemmas.Nat.Bits.{bit_at_or, same_from_bits_below}
 
 -- The greater of two binary digits is 1 exactly if one of them is.
 max_one : (x y : ℕ) → x < 2 → y < 2 → nat_eq (max x y) 1 ≡ (nat_eq x 1 || nat_eq y 1)

@@ -1,18 +1,10 @@
 -- The borders of a size as bits.
-use Rattle.std.proofs.lemmas.Bool.Decides.{nat_tests}
-use Rattle.std.proofs.Common.{◌≡◌, ◌≢◌, ◌⊎◌, inl, inr, ℕ, ◌+◌, ◌-◌, ◌*◌, ◌/◌, ◌%◌, ◌^◌, ◌<◌, ◌≤◌, Bool, true, cond}
-use Rattle.std.proofs.Common.{nat_eq, sym, ◌∙◌, ap, subst, arith, eq-eqb}
-use lib.Bits.{bit_and}
-use Rattle.std.proofs.Math.Nat.{mod-eq_of_lt}
-use Rattle.std.proofs.Math.Pow.{pow_mono, pow_pos}
-use Rattle.std.proofs.lemmas.Bool.{cases_eq, cases_lt, ne_eqb}
-use Rattle.std.proofs.lemmas.Nat.{and_le_r, mul-add-lt, pow-add, pow_below}
-use Rattle.std.proofs.lemmas.Nat.Bits.{bit_at-pow_other, bit_at-pow_same, bit_at_above, ones_shr}
-use Rattle.dm_layout.specs.symbols.Symbols.{is_dark_bit}
-use Rattle.dm_layout.specs.symbols.Sizes.{SizeEntry, IsSize}
-use Rattle.dm_layout.specs.symbols.inner.BorderMasks.{AreBorders, AreRuled}
-use Rattle.dm_layout.specs.symbols.inner.Reading.{whole_row}
-use Rattle.dm_layout.specs.declared.symbols.borders.TheConstants.{EVEN_COLUMNS, EVEN_END}
+use Rattle.dm_layout.proofs.Names.{nat_tests, ◌≡◌, ◌≢◌, ◌⊎◌, inl, inr, ℕ, ◌+◌, ◌-◌, ◌*◌, ◌/◌, ◌%◌, ◌^◌, ◌<◌, ◌≤◌, Bool}
+use Rattle.dm_layout.proofs.Names.{true, cond, nat_eq, sym, ◌∙◌, ap, subst, arith, eq-eqb, bit_and, mod-eq_of_lt}
+use Rattle.dm_layout.proofs.Names.{pow_mono, pow_pos, cases_eq, cases_lt, ne_eqb, and_le_r, mul-add-lt, pow-add}
+use Rattle.dm_layout.proofs.Names.{pow_below, bit_at_above, is_dark_bit, SizeEntry, IsSize, AreBorders, AreRuled}
+use Rattle.dm_layout.proofs.Names.{whole_row, EVEN_COLUMNS, EVEN_END}
+use Rattle.std.proofs.lemmas.Nat.Bits.{bit_at-pow_other, bit_at-pow_same, ones_shr}
 use Rattle.dm_layout.proofs.symbols.BorderMasks.{all_ones, are_borders, both_at, end_patterns_at, left_at, left_by_all}
 use Rattle.dm_layout.proofs.symbols.BorderMasks.{patterns_at, stands}
 use Rattle.dm_layout.proofs.symbols.KeptRows.{whole_cells, whole_end, whole_first}

@@ -1,18 +1,13 @@
 -- The rows of numbers by which sizes are looked for.
-use Rattle.std.proofs.lemmas.Bool.Decides.{nat_tests}
-use Rattle.std.proofs.Common.{arith}
-use Rattle.std.proofs.Common.{◌≡◌, ℕ, ◌<◌, Bool, true, false, cond, ◌&&◌, nat_eq, nat_le, List, [], ◌∷◌}
-use Rattle.std.proofs.Common.{map, length, get_or, Option, Some, option_map, refl, sym, ◌∙◌, ap}
-use Rattle.std.specs.Prelude.{find}
-use Rattle.std.specs.List.{AllByRecursion}
-use Rattle.std.proofs.lemmas.List.{get_or-map}
-use Rattle.std.proofs.lemmas.List.Elements.{All-from_recursion, All-get_or}
-use Rattle.dm_layout.specs.declared.symbols.size.SizeChoice.{SizeChoice}
-use Rattle.dm_layout.specs.symbols.Sizes.{SizeEntry, size_table, IsSize, entry_with, entry_for, takes}
+use Rattle.dm_layout.proofs.Names.{nat_tests, arith, ◌≡◌, ℕ, ◌<◌, Bool, true, false, cond, ◌&&◌, nat_eq, nat_le, List}
+use Rattle.dm_layout.proofs.Names.{[], ◌∷◌, map, length, get_or, Option, Some, refl, sym, ◌∙◌, ap, find, AllByRecursion}
+use Rattle.dm_layout.proofs.Names.{get_or-map, All-from_recursion, All-get_or, SizeChoice, SizeEntry, IsSize}
+use Rattle.dm_layout.proofs.Names.{entry_with, entry_for, takes, at_found}
+use Rattle.std.proofs.Common.{option_map}
+use Rattle.dm_layout.specs.symbols.Sizes.{size_table}
 use Rattle.dm_layout.specs.declared.symbols.size_rows.TheConstants.{SIZE_ROWS}
 use Rattle.dm_layout.specs.symbols.inner.SizeRows.{row_entry, has_sides, takes_sides}
 use Rattle.dm_layout.proofs.symbols.TableEntries.{same_in_each}
-use Rattle.dm_place.proofs.Exported.{at_found}
 
 -- The rows are the table, as the checker finds.
 rows_are : map row_entry SIZE_ROWS ≡ size_table

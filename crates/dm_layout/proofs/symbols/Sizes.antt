@@ -1,12 +1,8 @@
 -- What holds for each size.
-use Rattle.std.proofs.Common.{◌≡◌, ℕ, ◌+◌, ◌*◌, ◌/◌, ◌%◌, ◌<◌, ◌≤◌, Bool, true, false, ◌&&◌, ◌||◌, nat_eq}
-use Rattle.std.proofs.Common.{refl}
-use Rattle.std.proofs.Common.{◌∙◌, ap, arith, not, eq-eqb}
-use Rattle.std.specs.List.{list_all}
-use Rattle.std.proofs.lemmas.Bool.{eqb-true}
-use Rattle.std.proofs.Math.Nat.{mul-le-mul_right}
-use Rattle.dm_place.specs.Border.{symbol_line}
-use Rattle.dm_layout.specs.symbols.Sizes.{SizeEntry, size_table, IsSize, mapping_rows, mapping_columns}
+use Rattle.dm_layout.proofs.Names.{◌≡◌, ℕ, ◌+◌, ◌*◌, ◌/◌, ◌%◌, ◌<◌, ◌≤◌, Bool, true, false, ◌&&◌, ◌||◌, nat_eq, refl}
+use Rattle.dm_layout.proofs.Names.{◌∙◌, ap, arith, not, eq-eqb, list_all, eqb-true, mul-le-mul_right, symbol_line}
+use Rattle.dm_layout.proofs.Names.{SizeEntry, IsSize, mapping_rows, mapping_columns}
+use Rattle.dm_layout.specs.symbols.Sizes.{size_table}
 use Rattle.dm_layout.proofs.symbols.Exported.{size_facts, symbol_line-form, region_below}
 use Rattle.dm_layout.proofs.symbols.TableEntries.{passed_at_size}
 

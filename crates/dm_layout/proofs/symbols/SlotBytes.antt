@@ -1,20 +1,16 @@
 -- Rows of bytes as numbers.
-use Rattle.std.proofs.Common.{◌≡◌, ◌⊎◌, inl, inr, ℕ, zero, suc, ◌+◌, ◌-◌, ◌*◌, ◌/◌, ◌%◌, ◌^◌, ◌<◌, ◌≤◌, Bool, false}
-use Rattle.std.proofs.Common.{◌&&◌, ◌||◌, nat_eq, nat_le, List, [], ◌∷◌, ◌++◌, length}
-use Rattle.std.proofs.Common.{append-nil, get_or, set}
-use Rattle.std.proofs.Common.{refl, sym, ◌∙◌, ap, arith, subst, get_or-set_other, get_or-set_same}
-use Rattle.std.specs.Int.{from_le_bytes, to_le_bytes, bytes_low_first, byte_at, w64, w128}
-use Rattle.std.specs.Int.RustNames.{bit_or}
+use Rattle.dm_layout.proofs.Names.{◌≡◌, ◌⊎◌, inl, inr, ℕ, zero, suc, ◌+◌, ◌-◌, ◌*◌, ◌/◌, ◌%◌, ◌^◌, ◌<◌, ◌≤◌, Bool}
+use Rattle.dm_layout.proofs.Names.{false, ◌&&◌, ◌||◌, nat_eq, nat_le, List, [], ◌∷◌, ◌++◌, length, get_or, set, refl}
+use Rattle.dm_layout.proofs.Names.{sym, ◌∙◌, ap, arith, subst, get_or-set_other, get_or-set_same, from_le_bytes}
+use Rattle.dm_layout.proofs.Names.{to_le_bytes, w128, bit_or, put_mid, or-false, drop-append_seam, take-append_seam}
+use Rattle.dm_layout.proofs.Names.{div-div-eq-div-mul, pow-suc, le-leb, lt-leb, cases_lt, cases_eq, length-set, or_lt}
+use Rattle.dm_layout.proofs.Names.{pow-add, mod_below, bit_at-zero, bit_at_cat_low, bit_at_cat_high, bit_at_above}
+use Rattle.dm_layout.proofs.Names.{is_dark_bit}
+use Rattle.std.proofs.Common.{append-nil}
+use Rattle.std.specs.Int.{bytes_low_first, byte_at, w64}
 use Rattle.std.proofs.Math.Arith.{mod-mul}
-use borrow.Rule.Slice.PartMut.{put_mid}
-use Rattle.std.proofs.Math.Bool.{or-false}
-use Rattle.std.proofs.Math.Seq.{drop-append_seam, take-append_seam}
-use Rattle.std.proofs.Math.Nat.{div-div-eq-div-mul, pow-suc}
-use Rattle.std.proofs.lemmas.Bool.{le-leb, lt-leb, cases_lt, cases_eq}
-use Rattle.std.proofs.lemmas.List.{drop_all, length-set}
-use Rattle.std.proofs.lemmas.Nat.{or_lt, pow-add, pow_pos, mod_below}
-use Rattle.std.proofs.lemmas.Nat.Bits.{bit_at-zero, bit_at_cat_low, bit_at_cat_high, bit_at_above}
-use Rattle.dm_layout.specs.symbols.Symbols.{is_dark_bit}
+use Rattle.std.proofs.lemmas.List.{drop_all}
+use Rattle.std.proofs.lemmas.Nat.{pow_pos}
 use Rattle.dm_layout.specs.symbols.inner.Slots.{in_bytes}
 use Rattle.dm_layout.proofs.symbols.Rows.{or_dark}
 use Rattle.dm_layout.proofs.symbols.Rows.{same_row_numbers}

@@ -1,20 +1,17 @@
 -- What the computed tests of the slots say of each size.
-use Rattle.std.proofs.Common.{◌≡◌, inl, inr, ℕ, zero, suc, ◌+◌, ◌-◌, ◌*◌, ◌/◌, ◌%◌, ◌<◌, ◌≤◌, true, refl, subst, ◌&&◌}
-use Rattle.std.proofs.Common.{nat_eq}
-use Rattle.std.proofs.Common.{nat_lt, nat_le, List, [], ◌∷◌, ◌++◌, map, length, take, set, get_or, ap, sym, ◌∙◌, arith}
-use Rattle.std.specs.List.{list_all}
-use Rattle.std.specs.Cmp.Lexicographic.{pointwise, same_text}
-use Rattle.std.proofs.lemmas.Bool.{and_parts, ltb-true, leb-true}
-use Rattle.std.proofs.lemmas.List.{length-map, length-append, take_more, take_more_set, get_or-map}
-use Rattle.std.proofs.lemmas.List.{get_or_append_left, get_or-append-add}
-use Rattle.dm_layout.specs.symbols.Sizes.{SizeEntry, IsSize, codeword_count, mapping_rows, mapping_columns}
+use Rattle.dm_layout.proofs.Names.{◌≡◌, inl, inr, ℕ, zero, suc, ◌+◌, ◌-◌, ◌*◌, ◌/◌, ◌%◌, ◌<◌, ◌≤◌, true, refl, subst}
+use Rattle.dm_layout.proofs.Names.{◌&&◌, nat_eq, nat_lt, nat_le, List, [], ◌∷◌, ◌++◌, map, length, take, set, get_or}
+use Rattle.dm_layout.proofs.Names.{ap, sym, ◌∙◌, arith, list_all, pointwise, and_parts, ltb-true, leb-true, length-map}
+use Rattle.dm_layout.proofs.Names.{length-append, get_or-map, get_or_append_left, SizeEntry, IsSize, codeword_count}
+use Rattle.dm_layout.proofs.Names.{mapping_rows, mapping_columns, shapes, cells_of, Shape, Standard, Corner1, Corner2}
+use Rattle.dm_layout.proofs.Names.{Corner3, Corner4, few_shapes, inside_test, count_at_sides, bytes_of, most_of}
+use Rattle.dm_layout.proofs.Names.{order_of, slot_of, HasSlot, rest_order_of, less_of}
+use Rattle.std.specs.Cmp.Lexicographic.{same_text}
+use Rattle.std.proofs.lemmas.List.{take_more, take_more_set}
+use Rattle.std.proofs.lemmas.List.{get_or-append-add}
 use Rattle.dm_layout.proofs.symbols.Exported.{placed_size, size_facts}
-use Rattle.dm_place.specs.Placement.{shapes, cells_of}
-use Rattle.dm_place.specs.declared.shape.Shape.{Shape}
-use Rattle.dm_place.specs.declared.shape.Shape.TheVariants.{Standard, Corner1, Corner2, Corner3, Corner4}
-use Rattle.dm_place.proofs.Exported.{few_shapes, inside_test, shapes-few, count_at_sides}
-use Rattle.dm_layout.specs.symbols.inner.Slots.{bytes_of, most_of, order_of, slot_of, HasSlot}
-use Rattle.dm_layout.specs.symbols.inner.Slots.{first_order_of, rest_order_of, less_of}
+use Rattle.dm_place.proofs.Exported.{shapes-few}
+use Rattle.dm_layout.specs.symbols.inner.Slots.{first_order_of}
 use Rattle.dm_layout.proofs.symbols.LiftedWords.{fits_test, kind_test, slot_row, slot_place}
 use Rattle.dm_layout.proofs.symbols.Sizes.{even_product}
 use Rattle.dm_layout.proofs.symbols.TableEntries.{passed_at_size}

@@ -1,19 +1,17 @@
 -- Rows of slots, and the bytes in them.
-use Rattle.std.proofs.lemmas.Bool.Decides.{nat_tests}
-use Rattle.std.proofs.Common.{◌≡◌, ℕ, zero, suc, ◌+◌, ◌*◌, ◌/◌, ◌%◌, ◌^◌, ◌<◌, ◌≤◌}
-use Rattle.std.proofs.Common.{List, [], ◌∷◌, ◌++◌, length, append_assoc, length-append, length-take}
-use Rattle.std.proofs.Common.{get_or, set, take, drop}
-use Rattle.std.proofs.Common.{replicate, refl, sym, ◌∙◌, ap, arith, subst}
-use Rattle.std.specs.Int.RustNames.{bit_or}
+use Rattle.dm_layout.proofs.Names.{nat_tests, ◌≡◌, ℕ, zero, suc, ◌+◌, ◌*◌, ◌/◌, ◌%◌, ◌^◌, ◌<◌, ◌≤◌, List, [], ◌∷◌, ◌++◌}
+use Rattle.dm_layout.proofs.Names.{length, length-take, get_or, set, take, drop, replicate, refl, sym, ◌∙◌, ap, arith}
+use Rattle.dm_layout.proofs.Names.{subst, bit_or, put_mid, div-add-mod, mod-lt, mul-le-mul_left, take-append_seam}
+use Rattle.dm_layout.proofs.Names.{drop-append_seam, take-set-lt, get_or-map, get_or-take, get_or-drop, map-set}
+use Rattle.dm_layout.proofs.Names.{length-drop, length-set, length-replicate, length-take-le, with_byte, slot_byte}
+use Rattle.dm_layout.proofs.Names.{slot_numbers, slot_rows}
+use Rattle.std.proofs.Common.{append_assoc, length-append}
 use Rattle.std.specs.Simd.{first_chunks}
-use borrow.Rule.Slice.PartMut.{put_mid}
-use Rattle.std.proofs.Math.Nat.{div-add-mod, mod-lt, mul-le-mul_left}
-use Rattle.std.proofs.Math.Seq.{take-add, take-append_seam, drop-append_seam, take-set-lt}
-use Rattle.std.proofs.lemmas.List.{get_or-map, get_or-take, get_or-drop, map-set, drop-drop, length-drop}
-use Rattle.std.proofs.lemmas.List.{get_or_default, length-set, length-replicate, length-take-le, take-set-le}
+use Rattle.std.proofs.Math.Seq.{take-add}
+use Rattle.std.proofs.lemmas.List.{drop-drop}
+use Rattle.std.proofs.lemmas.List.{get_or_default, take-set-le}
 use Rattle.std.proofs.lemmas.List.{drop-set-lt, drop-set-add}
-use Rattle.dm_layout.specs.symbols.inner.Laying.{with_byte}
-use Rattle.dm_layout.specs.symbols.inner.Slots.{in_bytes, slot_byte, slot_numbers, slot_rows}
+use Rattle.dm_layout.specs.symbols.inner.Slots.{in_bytes}
 use Rattle.dm_layout.proofs.symbols.SlotBytes.{byte_over, in_bytes_byte}
 
 -- ---- bytes row by row

@@ -1,33 +1,18 @@
 -- The codewords of a row as the bytes of one number.
-use Rattle.std.proofs.lemmas.Bool.Decides.{nat_tests}
-use Rattle.std.proofs.Common.{◌≡◌, ◌≢◌, ◌⊎◌, inl, inr, ℕ, zero, suc, ◌+◌, ◌-◌, ◌*◌, ◌/◌, ◌%◌, ◌^◌, ◌<◌, ◌≤◌, Bool, true}
-use Rattle.std.proofs.Common.{false, ◌&&◌, ◌||◌, nat_eq, nat_le, nat_lt, List, [], ◌∷◌, length, get_or, set, refl, sym}
-use Rattle.std.proofs.Common.{◌∙◌, ap, arith, subst, below_more, get_or-set_same, get_or-set_other}
-use lib.Bits.{bit_and}
-use Rattle.std.proofs.Math.Bool.{or-false}
-use Rattle.std.proofs.Math.Nat.{mul-div_cancel_left, mul-mod_right}
-use Rattle.std.specs.Bool.{beq}
-use Rattle.std.specs.Cmp.{booleans_Decides}
-use Rattle.std.specs.Prelude.{min}
-use Rattle.std.specs.Int.{bit_at}
+use Rattle.dm_layout.proofs.Names.{nat_tests, ◌≡◌, ◌≢◌, ◌⊎◌, inl, inr, ℕ, zero, suc, ◌+◌, ◌-◌, ◌*◌, ◌/◌, ◌%◌, ◌^◌, ◌<◌}
+use Rattle.dm_layout.proofs.Names.{◌≤◌, Bool, true, false, ◌&&◌, ◌||◌, nat_eq, nat_le, nat_lt, List, [], ◌∷◌, length}
+use Rattle.dm_layout.proofs.Names.{get_or, set, refl, sym, ◌∙◌, ap, arith, subst, below_more, get_or-set_same}
+use Rattle.dm_layout.proofs.Names.{get_or-set_other, bit_and, or-false, mul-div_cancel_left, mul-mod_right, beq}
+use Rattle.dm_layout.proofs.Names.{booleans_Decides, min, bit_at, bit_or, list_all, range_with_len, eqb-true, and_parts}
+use Rattle.dm_layout.proofs.Names.{lt-ltb, le-ltb, le-leb, lt-leb, cases_lt, bit_at_and, bit_at-lt, is_dark_bit}
+use Rattle.dm_layout.proofs.Names.{look_in, with_byte, reversed_bits, LOW_TWO_BITS, LOW_THREE_BITS, NARROW_LOW_TWO_BITS}
+use Rattle.dm_layout.proofs.Names.{NARROW_LOW_THREE_BITS, all_below, cells_of, Corner1, Corner2, Corner3, Corner4}
+use Rattle.dm_layout.proofs.Names.{IsJoined, HasSlots, first_column, slot_byte}
 use Rattle.std.specs.Int.Bits.{or_zero_l}
-use Rattle.std.specs.Int.RustNames.{bit_or}
-use Rattle.std.specs.List.{list_all, range_with_len}
-use Rattle.std.proofs.lemmas.Bool.{eqb-true, and_parts, lt-ltb, le-ltb, le-leb, lt-leb, cases_lt}
-use Rattle.std.proofs.lemmas.Nat.Bits.{bit_at_and, bit_at-lt}
-use Rattle.dm_layout.specs.symbols.Symbols.{is_dark_bit}
-use Rattle.dm_layout.specs.symbols.inner.Reading.{look_in}
-use Rattle.dm_layout.specs.symbols.inner.Laying.{with_byte}
-use Rattle.dm_layout.specs.symbols.inner.Slots.{is_joined, reversed_bits}
+use Rattle.dm_layout.specs.symbols.inner.Slots.{is_joined}
 use Rattle.dm_layout.specs.declared.symbols.slots.TheConstants.{REVERSED}
-use Rattle.dm_layout.specs.declared.symbols.wide_rows.TheConstants.{LOW_TWO_BITS, LOW_THREE_BITS}
-use Rattle.dm_layout.specs.declared.symbols.narrow_rows.TheConstants.{NARROW_LOW_TWO_BITS}
-use Rattle.dm_layout.specs.declared.symbols.narrow_rows.TheConstants.{NARROW_LOW_THREE_BITS}
-use Rattle.dm_place.proofs.Exported.{all_below}
 use Rattle.dm_layout.proofs.symbols.Rows.{or_dark}
-use Rattle.dm_place.specs.Placement.{cells_of}
-use Rattle.dm_place.specs.declared.shape.Shape.TheVariants.{Corner1, Corner2, Corner3, Corner4}
-use Rattle.dm_layout.specs.symbols.inner.Slots.{IsJoined, AreJoined, HasSlots, first_column, slot_byte, word_in}
+use Rattle.dm_layout.specs.symbols.inner.Slots.{AreJoined, word_in}
 use Rattle.dm_layout.proofs.symbols.Rows.{moved_bit}
 use Rattle.dm_layout.proofs.symbols.WidenedRows.{bit_up, none_up, low_bit}
 

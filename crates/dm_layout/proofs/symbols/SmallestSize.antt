@@ -1,14 +1,10 @@
 -- The smallest size that is large enough.
-use Rattle.std.proofs.lemmas.Bool.Decides.{nat_tests}
-use Rattle.std.proofs.Common.{◌≡◌, ℕ, ◌<◌, ◌≤◌, Bool, true, false, cond, not, ◌&&◌, ◌||◌, nat_eq, nat_le, List, [], ◌∷◌}
-use Rattle.std.proofs.Common.{Option, Some, None, refl, sym, ◌∙◌, ap, arith, eq-eqb}
-use Rattle.std.specs.Prelude.{All, IfSome, IfNone, find}
-use Rattle.std.specs.List.{AllByRecursion, list_all}
-use Rattle.std.proofs.lemmas.Bool.{and_parts, leb-true, leb-false, le-leb}
-use Rattle.std.proofs.lemmas.List.Elements.{All-from_recursion, recursion_from_All}
-use Rattle.std.proofs.lemmas.List.Sums.{AllPass-from_list_all}
-use Rattle.dm_layout.specs.declared.symbols.size.SizeChoice.{SizeChoice}
-use Rattle.dm_layout.specs.symbols.Sizes.{SizeEntry, size_table, takes, entry_for, area}
+use Rattle.dm_layout.proofs.Names.{nat_tests, ◌≡◌, ℕ, ◌<◌, ◌≤◌, Bool, true, false, cond, not, ◌&&◌, ◌||◌, nat_eq}
+use Rattle.dm_layout.proofs.Names.{nat_le, List, [], ◌∷◌, Option, Some, None, refl, sym, ◌∙◌, ap, arith, eq-eqb, All}
+use Rattle.dm_layout.proofs.Names.{IfSome, IfNone, find, AllByRecursion, list_all, and_parts, leb-true, leb-false}
+use Rattle.dm_layout.proofs.Names.{le-leb, All-from_recursion, recursion_from_All, AllPass-from_list_all, SizeChoice}
+use Rattle.dm_layout.proofs.Names.{SizeEntry, takes, entry_for, area}
+use Rattle.dm_layout.specs.symbols.Sizes.{size_table}
 use Rattle.dm_layout.proofs.symbols.TableEntries.{found_none, found_passes}
 
 -- A size is at most as large as another: it has fewer modules, or as many and at most as many columns.

@@ -1,28 +1,17 @@
 -- Border modules of the wrong colour that aren't doubtful, counted as bits.
-use Rattle.std.proofs.lemmas.Bool.Decides.{nat_tests}
-use Rattle.std.proofs.Common.{◌≡◌, ◌⊎◌, inl, inr, ℕ, zero, suc, ◌+◌, ◌-◌, ◌*◌, ◌%◌, ◌^◌, ◌<◌, ◌≤◌, Bool, true, false}
-use Rattle.std.proofs.Common.{not, ◌&&◌, nat_eq, refl, sym, ◌∙◌, ap, subst, Option, arith}
-use Rattle.std.proofs.Common.{◌/◌, Some, None}
-use Rattle.std.specs.Prelude.{count_by, count_ones, min, IfSome}
-use Rattle.std.specs.Bool.{beq}
-use Rattle.std.specs.Int.{bit_at, bit_not, w128}
+use Rattle.dm_layout.proofs.Names.{nat_tests, ◌≡◌, ◌⊎◌, inl, inr, ℕ, zero, suc, ◌+◌, ◌-◌, ◌*◌, ◌%◌, ◌^◌, ◌<◌, ◌≤◌, Bool}
+use Rattle.dm_layout.proofs.Names.{true, false, not, ◌&&◌, nat_eq, refl, sym, ◌∙◌, ap, subst, Option, arith, ◌/◌, Some}
+use Rattle.dm_layout.proofs.Names.{None, count_by, count_ones, min, IfSome, beq, bit_at, w128, bit_and, range_with_len}
+use Rattle.dm_layout.proofs.Names.{mul-le-mul_right, pow_mono, cases_lt, sum_by_push, and_le_l, and_le_r, div-add-mod'}
+use Rattle.dm_layout.proofs.Names.{mod-mul-add, ones-le, ones_cat, bit_at_and, bit_at-lt, is_on_edge, edge_is_dark}
+use Rattle.dm_layout.proofs.Names.{range-append, is_border, border_is_dark, SymbolView, module_at, is_dark_bit}
+use Rattle.dm_layout.proofs.Names.{SizeEntry, is_sure_fault, sure_faults_in, whole_row}
+use Rattle.std.specs.Int.{bit_not}
 use Rattle.std.specs.Int.RustNames.{bit_xor}
-use lib.Bits.{bit_and}
-use Rattle.std.specs.List.{range_with_len}
-use Rattle.std.proofs.Math.Nat.{mul-le-mul_right}
-use Rattle.std.proofs.Math.Pow.{pow_mono}
-use Rattle.std.proofs.lemmas.Bool.{cases_lt}
-use Rattle.std.proofs.lemmas.List.Sums.{sum_by-append, sum_by_push}
-use Rattle.std.proofs.lemmas.Nat.{and_le_l, and_le_r, div-add-mod', mod-mul-add, ones-le, ones_cat}
-use Rattle.std.proofs.lemmas.Nat.Bits.{bit_at_and, bit_at_xor, bit_at_not, bit_at-lt}
-use Rattle.dm_place.specs.Border.{is_on_edge, edge_is_dark}
-use Rattle.dm_place.proofs.Exported.{range-append}
-use Rattle.dm_layout.specs.symbols.Border.{is_border, border_is_dark}
-use Rattle.dm_layout.specs.symbols.Symbols.{SymbolView, module_at, is_dark_bit}
-use Rattle.dm_layout.specs.symbols.Sizes.{SizeEntry}
-use Rattle.dm_layout.specs.symbols.SureFaults.{is_doubtful, is_sure_fault}
-use Rattle.dm_layout.specs.symbols.inner.BorderMasks.{sure_faults_in, sure_part}
-use Rattle.dm_layout.specs.symbols.inner.Reading.{whole_row}
+use Rattle.std.proofs.lemmas.List.Sums.{sum_by-append}
+use Rattle.std.proofs.lemmas.Nat.Bits.{bit_at_xor, bit_at_not}
+use Rattle.dm_layout.specs.symbols.SureFaults.{is_doubtful}
+use Rattle.dm_layout.specs.symbols.inner.BorderMasks.{sure_part}
 use Rattle.dm_layout.proofs.symbols.DarkCells.{counted_ones}
 use Rattle.dm_layout.proofs.symbols.KeptRows.{whole_end, whole_first}
 

@@ -1,14 +1,9 @@
 -- Rows and columns of the mapping matrix in the symbol: lines of k regions of d lines each.
-use Rattle.std.proofs.lemmas.Bool.Decides.{nat_tests}
-use Rattle.std.proofs.Common.{◌≡◌, ◌≢◌, ℕ, ◌+◌, ◌-◌, ◌*◌, ◌/◌, ◌%◌, ◌<◌, ◌≤◌, Bool, true, false, nat_eq, nat_lt, refl}
-use Rattle.std.proofs.Common.{sym, ◌∙◌, ap, subst, arith}
-use Rattle.std.proofs.lemmas.Bool.{or_parts, eqb-false, ne_eqb, ltb-true, ltb-false}
-use Rattle.std.proofs.lemmas.Nat.{div-mul-add, mod-mul-add}
-use Rattle.std.proofs.Math.Nat.{mul-le-mul_right}
-use Rattle.dm_layout.specs.symbols.Sizes.{SizeEntry, IsSize, mapping_rows, mapping_columns}
-use Rattle.dm_place.specs.Border.{is_on_edge, symbol_line}
-use Rattle.dm_layout.specs.symbols.Border.{is_border}
-use Rattle.dm_layout.specs.symbols.inner.Drawing.{mapping_line}
+use Rattle.dm_layout.proofs.Names.{nat_tests, ◌≡◌, ◌≢◌, ℕ, ◌+◌, ◌-◌, ◌*◌, ◌/◌, ◌%◌, ◌<◌, ◌≤◌, Bool, true, false, nat_eq}
+use Rattle.dm_layout.proofs.Names.{nat_lt, refl, sym, ◌∙◌, ap, subst, arith, eqb-false, ne_eqb, ltb-true, ltb-false}
+use Rattle.dm_layout.proofs.Names.{div-mul-add, mod-mul-add, mul-le-mul_right, SizeEntry, IsSize, mapping_rows}
+use Rattle.dm_layout.proofs.Names.{mapping_columns, is_on_edge, symbol_line, is_border, mapping_line}
+use Rattle.std.proofs.lemmas.Bool.{or_parts}
 use Rattle.dm_layout.proofs.symbols.TableEntries.{size_facts}
 
 -- A line of the mapping matrix lies in the lines of its region with its border, one line further than in the region

@@ -1,22 +1,15 @@
 -- What holds for each size of the table.
-use Rattle.std.proofs.lemmas.Bool.Decides.{nat_tests}
-use Rattle.std.proofs.Common.{◌≡◌, ℕ, ◌+◌, ◌*◌, ◌/◌, ◌%◌, ◌<◌, ◌≤◌, Bool, true, false, cond, ◌&&◌, nat_eq, nat_le, List}
-use Rattle.std.proofs.Common.{[], ◌∷◌, Option, Some, None, refl, arith, map, length, set}
-use Rattle.std.proofs.Common.{get_or, below_more, get_or-set_other, get_or-set_same}
-use Rattle.std.specs.Prelude.{All, find}
-use Rattle.std.specs.List.{AllByRecursion, list_all, list_any, range_with_len}
-use Rattle.std.proofs.lemmas.Bool.{and_parts, eqb-true, leb-true}
-use Rattle.std.proofs.lemmas.List.Elements.{recursion_from_All, All-weaker}
-use Rattle.std.proofs.lemmas.List.Folds.{Any-from_list_any}
-use Rattle.std.proofs.lemmas.List.Sums.{AllPass-from_list_all}
-use Rattle.dm_layout.specs.symbols.Sizes.{SizeEntry, size_table, IsSize, area, mapping_rows}
-use Rattle.dm_layout.specs.symbols.Sizes.{mapping_columns}
-use Rattle.dm_layout.specs.symbols.Sizes.{codeword_count, block_data, block_check, block_length, most_rows}
-use Rattle.dm_layout.specs.symbols.Sizes.{most_columns}
-use Rattle.dm_layout.specs.symbols.Sizes.{most_modules, most_cells, most_data, most_codewords, most_blocks}
-use Rattle.dm_layout.specs.symbols.Sizes.{most_block_check}
+use Rattle.dm_layout.proofs.Names.{nat_tests, ◌≡◌, ℕ, ◌+◌, ◌*◌, ◌/◌, ◌%◌, ◌<◌, ◌≤◌, Bool, true, false, cond, ◌&&◌}
+use Rattle.dm_layout.proofs.Names.{nat_eq, nat_le, List, [], ◌∷◌, Option, Some, None, refl, arith, map, length, set}
+use Rattle.dm_layout.proofs.Names.{get_or, below_more, get_or-set_other, get_or-set_same, All, find, AllByRecursion}
+use Rattle.dm_layout.proofs.Names.{list_all, list_any, range_with_len, and_parts, eqb-true, leb-true}
+use Rattle.dm_layout.proofs.Names.{recursion_from_All, All-weaker, Any-from_list_any, AllPass-from_list_all, SizeEntry}
+use Rattle.dm_layout.proofs.Names.{IsSize, area, mapping_rows, mapping_columns, codeword_count, block_data, block_check}
+use Rattle.dm_layout.proofs.Names.{most_rows, most_columns, most_modules, most_cells, most_data, most_codewords}
+use Rattle.dm_layout.proofs.Names.{most_blocks, most_block_check, all_below, at_found}
+use Rattle.dm_layout.specs.symbols.Sizes.{size_table}
+use Rattle.dm_layout.specs.symbols.Sizes.{block_length}
 use Rattle.dm_layout.specs.symbols.Sizes.{longest_block, IsGreatest, IsGreatestOf, Agrees}
-use Rattle.dm_place.proofs.Exported.{all_below, at_found}
 
 -- What is found passes the test, if it does so among the other items.
 passes_case : {X : Type 0} (p : X → Bool) (y x : X) (o : Option X) (b : Bool) → p y ≡ b → (o ≡ Some x → p x ≡ true) →

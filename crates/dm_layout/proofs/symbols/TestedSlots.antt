@@ -1,11 +1,9 @@
 -- The tables of slots, computed for the mapping matrix of each size: they are those of the shapes in order, and each
 -- cell of a shape lies in the matrix. Its rows have room for the matrix.
-use Rattle.std.proofs.Common.{◌≡◌, true, ◌&&◌, refl, map}
-use Rattle.std.specs.Prelude.{ℕ, Bool, nat_eq, nat_le, ◌*◌}
-use Rattle.std.specs.List.{list_all}
-use Rattle.std.specs.Cmp.Lexicographic.{pointwise}
-use Rattle.dm_layout.specs.symbols.Sizes.{size_table, mapping_rows, mapping_columns}
-use Rattle.dm_layout.specs.symbols.inner.Slots.{bytes_of, most_of, order_of, slot_of, rest_order_of, less_of}
+use Rattle.dm_layout.proofs.Names.{◌≡◌, true, ◌&&◌, refl, map, ℕ, Bool, nat_eq, nat_le, ◌*◌, list_all, pointwise}
+use Rattle.dm_layout.proofs.Names.{mapping_rows, mapping_columns, bytes_of, most_of, order_of, slot_of, rest_order_of}
+use Rattle.dm_layout.proofs.Names.{less_of}
+use Rattle.dm_layout.specs.symbols.Sizes.{size_table}
 use Rattle.dm_place.proofs.Exported.{few_shapes}
 use Rattle.dm_layout.proofs.symbols.LiftedWords.{fits_test}
 

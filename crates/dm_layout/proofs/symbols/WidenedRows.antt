@@ -1,18 +1,10 @@
 -- Rows of the mapping matrix that are widened.
-use Rattle.std.proofs.lemmas.Bool.Decides.{nat_tests}
-use Rattle.std.proofs.Common.{◌≡◌, ◌≢◌, ◌⊎◌, ℕ, ◌+◌, ◌-◌, ◌*◌, ◌/◌, ◌%◌, ◌^◌, ◌<◌, ◌≤◌, Bool, true, false}
-use Rattle.std.proofs.Common.{◌&&◌, ◌||◌, nat_eq, nat_le, nat_lt, List, length, get_or, set, refl, sym, ◌∙◌, ap, arith}
-use Rattle.std.proofs.Common.{subst, get_or-set_other, get_or-set_same}
-use Rattle.std.specs.Int.RustNames.{bit_or}
-use Rattle.std.proofs.Math.Bool.{or-false}
-use Rattle.std.proofs.Math.Pow.{pow_pos}
-use Rattle.std.proofs.lemmas.Bool.{eqb-true, eqb-false, lt-ltb, le-ltb, le-leb, lt-leb, cases_lt}
-use Rattle.std.proofs.lemmas.Nat.{div-add-mod', div-mul-add, pow-add}
-use Rattle.std.proofs.lemmas.Nat.Bits.{bit_at_cat_low, bit_at_cat_high, bit_at_above}
-use Rattle.dm_place.specs.Border.{symbol_line}
-use Rattle.dm_layout.specs.symbols.Symbols.{is_dark_bit}
-use Rattle.dm_layout.specs.symbols.inner.Reading.{look_in}
-use Rattle.dm_layout.specs.symbols.inner.Widened.{round, source, IsMoved, IsWidened}
+use Rattle.dm_layout.proofs.Names.{nat_tests, ◌≡◌, ◌≢◌, ◌⊎◌, ℕ, ◌+◌, ◌-◌, ◌*◌, ◌/◌, ◌%◌, ◌^◌, ◌<◌, ◌≤◌, Bool, true}
+use Rattle.dm_layout.proofs.Names.{false, ◌&&◌, ◌||◌, nat_eq, nat_le, nat_lt, List, length, get_or, set, refl, sym, ◌∙◌}
+use Rattle.dm_layout.proofs.Names.{ap, arith, subst, get_or-set_other, get_or-set_same, bit_or, or-false, pow_pos}
+use Rattle.dm_layout.proofs.Names.{eqb-true, eqb-false, lt-ltb, le-ltb, le-leb, lt-leb, cases_lt, div-add-mod'}
+use Rattle.dm_layout.proofs.Names.{div-mul-add, pow-add, bit_at_cat_low, bit_at_cat_high, bit_at_above, symbol_line}
+use Rattle.dm_layout.proofs.Names.{is_dark_bit, look_in, round, source, IsMoved, IsWidened}
 use Rattle.dm_layout.proofs.symbols.Rows.{moved_bit, or_dark}
 
 -- ---- rows that are laid over others

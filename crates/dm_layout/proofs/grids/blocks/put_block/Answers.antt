@@ -1,5 +1,4 @@
-use Rattle.std.proofs.Common.{◌∙◌, ◌<◌, ap, sym, subst, lit<}
-use Rattle.dm_layout.specs.Sizes.{block_length}
+use Rattle.dm_layout.proofs.Names.{◌∙◌, ◌<◌, ap, sym, subst, lit<, block_length}
 use Rattle.dm_layout.specs.Words.{WordsView}
 use Rattle.dm_layout.proofs.KeptSymbols.{kept_whole}
 use Rattle.dm_layout.proofs.grids.blocks.put_block.Goals as goal

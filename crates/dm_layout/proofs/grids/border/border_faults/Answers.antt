@@ -1,6 +1,5 @@
-use Rattle.std.proofs.Common.{sym, ◌∙◌, ap}
+use Rattle.dm_layout.proofs.Names.{sym, ◌∙◌, ap, symbol_modules}
 use Rattle.dm_layout.specs.symbols.Border as symbols
-use Rattle.dm_layout.specs.Grid.{symbol_modules}
 use Rattle.dm_layout.proofs.KeptSymbols.{all_sure, same_symbol}
 use Rattle.dm_layout.proofs.grids.border.border_faults.Goals as goal
 

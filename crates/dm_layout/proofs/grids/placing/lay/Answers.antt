@@ -1,10 +1,7 @@
-use Rattle.std.proofs.Common.{◌≡◌, subst}
-use Rattle.dm_layout.specs.symbols.Symbols.{SymbolView}
+use Rattle.dm_layout.proofs.Names.{◌≡◌, subst, SymbolView, IsLaid, IsKept, kept_grid, kept_words}
 use Rattle.dm_layout.specs.symbols.Words as symbols
 use Rattle.dm_layout.specs.symbols.Holding as holding
 use Rattle.dm_layout.specs.Words.{WordsView}
-use Rattle.dm_layout.specs.Holds.{IsLaid}
-use Rattle.dm_layout.specs.inner.Keeping.{IsKept, kept_grid, kept_words}
 use Rattle.dm_layout.proofs.KeptSymbols.{kept_laid}
 use Rattle.dm_layout.proofs.Squares.{one_laid, one_list}
 use Rattle.dm_layout.proofs.grids.placing.lay.Goals as goal

@@ -1,5 +1,4 @@
-use Rattle.std.proofs.Common.{lit<}
-use Rattle.dm_layout.specs.inner.Keeping.{kept_words}
+use Rattle.dm_layout.proofs.Names.{lit<, kept_words}
 use Rattle.dm_layout.proofs.KeptSymbols.{kept_holds, kept_room}
 use Rattle.dm_layout.proofs.Squares.{one_list}
 use Rattle.dm_layout.proofs.grids.placing.lift.Goals as goal

@@ -1,5 +1,4 @@
-use Rattle.std.proofs.Common.{◌∙◌, sym, arith, lit<}
-use Rattle.std.proofs.lemmas.List.{length-set, same_lists}
+use Rattle.dm_layout.proofs.Names.{◌∙◌, sym, arith, lit<, length-set, same_lists}
 use Rattle.dm_layout.specs.Sizes.{size_table}
 use Rattle.dm_layout.proofs.SquareSizes.{kept_at, row_at, square_count}
 use Rattle.dm_layout.proofs.symbols.Exported.{put_more}

@@ -1,7 +1,6 @@
-use Rattle.std.proofs.Common.{◌≡◌, ◌+◌, ◌*◌, ◌∙◌, sym, ap, [], ◌∷◌, ◌++◌, map, get_or, length, arith, lit<}
-use Rattle.std.specs.List.{range_with_len}
-use Rattle.std.proofs.lemmas.List.FromFn.{map-range_with_len_more, length-map-range_with_len}
-use Rattle.dm_layout.specs.symbols.Sizes.{count_in_block}
+use Rattle.dm_layout.proofs.Names.{◌≡◌, ◌+◌, ◌*◌, ◌∙◌, sym, ap, [], ◌∷◌, ◌++◌, map, get_or, length, arith, lit<}
+use Rattle.dm_layout.proofs.Names.{range_with_len, length-map-range_with_len, count_in_block}
+use Rattle.std.proofs.lemmas.List.FromFn.{map-range_with_len_more}
 use Rattle.dm_layout.proofs.symbols.TableEntries.{short_block}
 use Rattle.dm_layout.proofs.symbols.BlockLemmas.{steps_of_block, walk_of_block, data_of_block}
 use Rattle.dm_layout.proofs.symbols.blocks.block.Goals as goal

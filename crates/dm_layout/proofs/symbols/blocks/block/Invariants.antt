@@ -1,5 +1,4 @@
-use Rattle.std.proofs.Common.{◌≡◌, ◌+◌, ◌*◌, map, get_or}
-use Rattle.std.specs.List.{range_with_len}
+use Rattle.dm_layout.proofs.Names.{◌≡◌, ◌+◌, ◌*◌, map, get_or, range_with_len}
 use Rattle.dm_layout.proofs.symbols.blocks.block.Given as goal
 
 abbrev pub invariant-loop-i : goal.invariant-loop-i

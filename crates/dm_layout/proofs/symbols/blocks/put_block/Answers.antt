@@ -1,6 +1,4 @@
-use Rattle.std.proofs.Common.{◌≡◌, ◌+◌, ◌*◌, ◌%◌, ◌<◌, ◌∙◌, sym, ap, get_or, arith}
-use Rattle.dm_layout.specs.symbols.Sizes.{SizeEntry}
-use Rattle.dm_layout.specs.symbols.Words.{WordsView}
+use Rattle.dm_layout.proofs.Names.{◌≡◌, ◌+◌, ◌*◌, ◌%◌, ◌<◌, ◌∙◌, sym, ap, get_or, arith, SizeEntry, WordsView}
 use Rattle.dm_layout.proofs.symbols.BlockLemmas.{next_inside, put_gives, others_stay, put_one, stay_one}
 use Rattle.dm_layout.proofs.symbols.blocks.put_block.Goals as goal
 

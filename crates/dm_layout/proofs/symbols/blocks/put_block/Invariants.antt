@@ -1,5 +1,4 @@
-use Rattle.std.proofs.Common.{◌≡◌, ◌≢◌, ℕ, ◌+◌, ◌*◌, ◌%◌, ◌<◌, get_or}
-use Rattle.dm_layout.specs.symbols.Words.{IsWords}
+use Rattle.dm_layout.proofs.Names.{◌≡◌, ◌≢◌, ℕ, ◌+◌, ◌*◌, ◌%◌, ◌<◌, get_or, IsWords}
 use Rattle.dm_layout.proofs.symbols.blocks.put_block.Given as goal
 
 abbrev pub invariant-loop-i : goal.invariant-loop-i

@@ -1,6 +1,4 @@
-use Rattle.std.proofs.Common.{◌≡◌, ◌+◌, ◌*◌, ◌%◌, ◌<◌, ◌∙◌, ℕ, refl, sym, ap, get_or, arith}
-use Rattle.dm_layout.specs.symbols.Sizes.{block_data}
-use Rattle.dm_layout.specs.symbols.Words.{WordsView}
+use Rattle.dm_layout.proofs.Names.{◌≡◌, ◌+◌, ◌*◌, ◌%◌, ◌<◌, ◌∙◌, ℕ, refl, sym, ap, get_or, arith, block_data, WordsView}
 use Rattle.dm_layout.proofs.symbols.BlockChecks.{check_inside, check_put, finished, finished_front, finished_length}
 use Rattle.dm_layout.proofs.symbols.BlockChecks.{finished_parts}
 use Rattle.dm_layout.proofs.symbols.BlockLemmas.{put_gives, others_stay, stay_one}

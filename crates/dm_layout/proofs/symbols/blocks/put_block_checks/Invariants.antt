@@ -1,7 +1,4 @@
-use Rattle.std.proofs.Common.{◌≡◌, ◌≢◌, ℕ, ◌+◌, ◌*◌, ◌%◌, ◌<◌, ◌++◌, get_or, take}
-use Rattle.dm_layout.specs.symbols.Sizes.{block_data}
-use Rattle.dm_layout.specs.symbols.Words.{IsWords}
-use Rattle.dm_layout.specs.symbols.Blocks.{block_of}
+use Rattle.dm_layout.proofs.Names.{◌≡◌, ◌≢◌, ℕ, ◌+◌, ◌*◌, ◌%◌, ◌<◌, ◌++◌, get_or, take, block_data, IsWords, block_of}
 use Rattle.dm_layout.proofs.symbols.blocks.put_block_checks.Given as goal
 
 -- The codewords of the block before this check codeword stand at their places.

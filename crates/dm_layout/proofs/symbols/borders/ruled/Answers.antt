@@ -1,5 +1,4 @@
-use Rattle.std.proofs.Common.{ℕ, ◌+◌, ◌*◌, ◌<◌, ◌≤◌, arith}
-use Rattle.std.proofs.Math.Nat.{mul-le-mul_right}
+use Rattle.dm_layout.proofs.Names.{ℕ, ◌+◌, ◌*◌, ◌<◌, ◌≤◌, arith, mul-le-mul_right}
 use Rattle.dm_layout.proofs.symbols.BorderMasks.{one_ruled}
 use Rattle.dm_layout.proofs.symbols.borders.ruled.Goals as goal
 

@@ -1,9 +1,7 @@
-use Rattle.std.proofs.Common.{◌≡◌, inl, inr, ℕ, ◌+◌, ◌*◌, ◌%◌, ◌<◌, ◌≤◌, ◌&&◌, ◌∙◌, ap, refl, subst, arith}
-use Rattle.dm_layout.specs.symbols.Sizes.{SizeEntry, IsSize, most_rows}
-use Rattle.dm_place.specs.Border.{is_on_edge, edge_is_dark}
+use Rattle.dm_layout.proofs.Names.{◌≡◌, inl, inr, ℕ, ◌+◌, ◌*◌, ◌%◌, ◌<◌, ◌≤◌, ◌&&◌, ◌∙◌, ap, refl, subst, arith}
+use Rattle.dm_layout.proofs.Names.{SizeEntry, IsSize, most_rows, is_on_edge, edge_is_dark, look_in, whole_row}
+use Rattle.dm_layout.proofs.Names.{is_dark_bit}
 use Rattle.dm_layout.specs.symbols.inner.RowDrawing.{drawn_colour}
-use Rattle.dm_layout.specs.symbols.inner.Reading.{look_in, whole_row}
-use Rattle.dm_layout.specs.symbols.Symbols.{is_dark_bit}
 use Rattle.dm_layout.proofs.symbols.DrawnRows.{drawn_to, edge_line}
 use Rattle.dm_layout.proofs.symbols.Sizes.{region_within}
 use Rattle.dm_layout.proofs.symbols.TableEntries.{size_facts}

@@ -1,7 +1,4 @@
-use Rattle.std.proofs.Common.{◌≡◌, ◌+◌, ◌*◌, length}
-use Rattle.dm_layout.specs.symbols.inner.Keeping.{kept_symbol}
-use Rattle.dm_layout.specs.symbols.inner.Reading.{look_in}
-use Rattle.dm_layout.specs.symbols.inner.RowDrawing.{IsDrawn}
+use Rattle.dm_layout.proofs.Names.{◌≡◌, ◌+◌, ◌*◌, length, kept_symbol, look_in, IsDrawn}
 use Rattle.dm_layout.proofs.symbols.drawing.draw_regions.Given as goal
 
 abbrev pub invariant-loop-inner : goal.invariant-loop-inner

@@ -1,11 +1,6 @@
-use Rattle.std.proofs.Common.{◌≡◌, ℕ, ◌+◌, ◌-◌, ◌*◌, ◌/◌, ◌%◌, ◌^◌, ◌<◌, ◌≤◌, nat_eq, List, get_or, ap}
-use Rattle.std.proofs.Common.{◌∙◌, arith}
-use Rattle.std.proofs.Math.Nat.{mul-le-mul_right}
-use Rattle.std.proofs.lemmas.Nat.{mod-mul-add, div-mul-add}
-use Rattle.dm_layout.specs.symbols.Sizes.{SizeEntry, mapping_rows}
-use Rattle.dm_layout.specs.symbols.inner.Drawing.{mapping_line}
-use Rattle.dm_layout.specs.symbols.inner.Reading.{look_in, whole_row}
-use Rattle.dm_layout.specs.symbols.Symbols.{is_dark_bit}
+use Rattle.dm_layout.proofs.Names.{◌≡◌, ℕ, ◌+◌, ◌-◌, ◌*◌, ◌/◌, ◌%◌, ◌^◌, ◌<◌, ◌≤◌, nat_eq, List, get_or, ap, ◌∙◌, arith}
+use Rattle.dm_layout.proofs.Names.{mul-le-mul_right, mod-mul-add, div-mul-add, SizeEntry, mapping_rows, mapping_line}
+use Rattle.dm_layout.proofs.Names.{look_in, whole_row, is_dark_bit}
 use Rattle.dm_layout.proofs.symbols.DrawnRows.{between_row, dark_row}
 use Rattle.dm_layout.proofs.symbols.LongRows.{whole_or}
 use Rattle.dm_layout.proofs.symbols.Rows.{moved_bit}

@@ -1,7 +1,5 @@
-use Rattle.std.proofs.Common.{ℕ, ◌+◌, ◌*◌, ◌/◌, ◌%◌, ◌^◌, ◌≤◌, ap, ◌∙◌, sym, subst, arith}
-use Rattle.std.proofs.Math.Nat.{mod-lt}
-use Rattle.std.proofs.Math.Pow.{pow_mono, pow_pos}
-use Rattle.dm_layout.specs.symbols.inner.Reading.{whole_row}
+use Rattle.dm_layout.proofs.Names.{ℕ, ◌+◌, ◌*◌, ◌/◌, ◌%◌, ◌^◌, ◌≤◌, ap, ◌∙◌, sym, subst, arith, mod-lt, pow_mono}
+use Rattle.dm_layout.proofs.Names.{pow_pos, whole_row}
 use Rattle.dm_layout.proofs.symbols.LongRows.{six_outside}
 use Rattle.dm_layout.proofs.symbols.OuterRows.{IsOut}
 use Rattle.dm_layout.proofs.symbols.drawing.long_outer_row.Goals as goal

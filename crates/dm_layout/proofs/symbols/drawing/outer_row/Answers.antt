@@ -1,7 +1,6 @@
-use Rattle.std.proofs.Common.{ℕ, ◌+◌, ◌*◌, ◌%◌, ◌^◌, ◌<◌, ◌≤◌, get_or, bit_and, subst, sym, ◌∙◌, arith}
-use Rattle.std.proofs.Math.Pow.{pow_pos}
-use Rattle.std.proofs.lemmas.Nat.{mod_below}
-use Rattle.dm_layout.specs.symbols.inner.Widths.{wide_matrix}
+use Rattle.dm_layout.proofs.Names.{ℕ, ◌+◌, ◌*◌, ◌%◌, ◌^◌, ◌<◌, ◌≤◌, get_or, subst, sym, ◌∙◌, arith, pow_pos, mod_below}
+use Rattle.dm_layout.proofs.Names.{wide_matrix}
+use Rattle.std.proofs.Common.{bit_and}
 use Rattle.dm_layout.proofs.symbols.OuterRows.{IsNext, opened_first, opened_more, opened_all}
 use Rattle.dm_layout.proofs.symbols.Rows.{weight, prefix_cell}
 use Rattle.dm_layout.proofs.symbols.drawing.outer_row.Goals as goal

@@ -1,8 +1,6 @@
-use Rattle.std.proofs.Common.{◌≡◌, ℕ, ◌+◌, ◌-◌, ◌*◌, ◌^◌, ◌<◌, ◌≤◌, ◌%◌, List, get_or, set, ap, ◌∙◌, arith, below_more}
-use Rattle.std.proofs.Common.{get_or-set_same, get_or-set_other}
-use Rattle.std.proofs.Math.Nat.{mul-le-mul_right}
-use Rattle.std.proofs.lemmas.List.{length-set}
-use Rattle.dm_layout.specs.symbols.inner.Widths.{most_wide}
+use Rattle.dm_layout.proofs.Names.{◌≡◌, ℕ, ◌+◌, ◌-◌, ◌*◌, ◌^◌, ◌<◌, ◌≤◌, ◌%◌, List, get_or, set, ap, ◌∙◌, arith}
+use Rattle.dm_layout.proofs.Names.{below_more, get_or-set_same, get_or-set_other, mul-le-mul_right, length-set}
+use Rattle.dm_layout.proofs.Names.{most_wide}
 use Rattle.dm_layout.proofs.symbols.Rows.{weight}
 use Rattle.dm_layout.proofs.symbols.drawing.prefixes.Goals as goal
 

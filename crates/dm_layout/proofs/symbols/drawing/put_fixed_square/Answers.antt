@@ -1,7 +1,4 @@
-use Rattle.std.proofs.Common.{◌≡◌, ℕ, ◌+◌, Bool, ◌&&◌, ◌||◌, nat_eq, ap, sym}
-use Rattle.std.proofs.Common.{◌∙◌, arith, rules}
-use Rattle.std.proofs.Math.Bool.{or-false}
-use Rattle.dm_layout.specs.symbols.inner.Reading.{look_in}
+use Rattle.dm_layout.proofs.Names.{◌≡◌, ℕ, ◌+◌, Bool, ◌&&◌, ◌||◌, nat_eq, ap, sym, ◌∙◌, arith, rules, or-false, look_in}
 use Rattle.dm_layout.proofs.symbols.DrawnRows.{fixed_cells, free_cells, put_twice}
 use Rattle.dm_layout.proofs.symbols.drawing.put_fixed_square.Goals as goal
 

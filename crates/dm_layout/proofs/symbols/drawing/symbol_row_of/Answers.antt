@@ -1,8 +1,5 @@
-use Rattle.std.proofs.Common.{◌≡◌, ℕ, ◌*◌, ◌≤◌, ap, ◌∙◌, sym, arith, rules}
-use Rattle.dm_place.specs.Border.{symbol_line}
-use Rattle.dm_layout.specs.symbols.Sizes.{SizeEntry, mapping_columns}
-use Rattle.dm_layout.specs.symbols.inner.Reading.{whole_row}
-use Rattle.dm_layout.specs.symbols.Symbols.{is_dark_bit}
+use Rattle.dm_layout.proofs.Names.{◌≡◌, ℕ, ◌*◌, ◌≤◌, ap, ◌∙◌, sym, arith, rules, symbol_line, SizeEntry}
+use Rattle.dm_layout.proofs.Names.{mapping_columns, whole_row, is_dark_bit}
 use Rattle.dm_layout.proofs.symbols.KeptRows.{whole_first}
 use Rattle.dm_layout.proofs.symbols.LongRows.{whole_alone}
 use Rattle.dm_layout.proofs.symbols.LongSizes.{long_size, short_size, across_fits}

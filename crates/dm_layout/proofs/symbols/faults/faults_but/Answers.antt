@@ -1,8 +1,5 @@
-use Rattle.std.proofs.Common.{◌^◌, ◌≡◌, ℕ, ◌+◌, ◌*◌, ◌<◌, ◌≤◌, ap, ◌∙◌, arith}
-use Rattle.std.proofs.Math.Nat.{mul-le-mul_right}
-use Rattle.std.proofs.lemmas.Nat.{mod-mul-add}
-use Rattle.dm_layout.specs.symbols.Sizes.{SizeEntry}
-use Rattle.dm_layout.specs.symbols.inner.BorderMasks.{sure_faults_in}
+use Rattle.dm_layout.proofs.Names.{◌^◌, ◌≡◌, ℕ, ◌+◌, ◌*◌, ◌<◌, ◌≤◌, ap, ◌∙◌, arith, mul-le-mul_right, mod-mul-add}
+use Rattle.dm_layout.proofs.Names.{SizeEntry, sure_faults_in}
 use Rattle.dm_layout.proofs.symbols.Sizes.{region_within}
 use Rattle.dm_layout.proofs.symbols.SureCells.{faults_joined}
 use Rattle.dm_layout.proofs.symbols.TableEntries.{SizeFacts, size_facts}

@@ -1,6 +1,4 @@
-use Rattle.std.proofs.Common.{◌≡◌, ◌≤◌, ◌*◌, ◌+◌}
-use Rattle.dm_layout.specs.symbols.Sizes.{most_columns}
-use Rattle.dm_layout.specs.symbols.inner.BorderMasks.{sure_faults_in}
+use Rattle.dm_layout.proofs.Names.{◌≡◌, ◌≤◌, ◌*◌, ◌+◌, most_columns, sure_faults_in}
 use Rattle.dm_layout.proofs.symbols.faults.faults_but.Given as goal
 
 abbrev pub invariant-loop-region : goal.invariant-loop-region

@@ -1,10 +1,5 @@
-use Rattle.std.proofs.Common.{◌≡◌, ℕ, ◌+◌, ◌*◌, Option, ap, ◌∙◌, subst, arith, rules}
-use Rattle.std.specs.Prelude.{count_by}
-use Rattle.std.specs.List.{range_with_len}
-use Rattle.dm_layout.specs.symbols.Symbols.{SymbolView}
-use Rattle.dm_layout.specs.symbols.SureFaults.{is_sure_fault}
-use Rattle.dm_layout.specs.symbols.Sizes.{SizeEntry}
-use Rattle.dm_layout.specs.symbols.inner.BorderMasks.{sure_faults_in}
+use Rattle.dm_layout.proofs.Names.{◌≡◌, ℕ, ◌+◌, ◌*◌, Option, ap, ◌∙◌, subst, arith, rules, count_by, range_with_len}
+use Rattle.dm_layout.proofs.Names.{SymbolView, is_sure_fault, SizeEntry, sure_faults_in}
 use Rattle.dm_layout.proofs.symbols.BorderMasks.{row_cells, row_cells_by, row_dark, row_dark_by}
 use Rattle.dm_layout.proofs.symbols.SureCells.{faults_more}
 use Rattle.dm_layout.proofs.symbols.TableEntries.{SizeFacts, size_facts}

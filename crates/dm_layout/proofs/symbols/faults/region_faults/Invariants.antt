@@ -1,6 +1,4 @@
-use Rattle.std.proofs.Common.{◌≡◌, ◌≤◌, ◌+◌, ◌*◌, ◌%◌}
-use Rattle.dm_layout.specs.symbols.Sizes.{most_columns, most_rows}
-use Rattle.dm_layout.specs.symbols.inner.BorderMasks.{sure_faults_in}
+use Rattle.dm_layout.proofs.Names.{◌≡◌, ◌≤◌, ◌+◌, ◌*◌, ◌%◌, most_columns, most_rows, sure_faults_in}
 use Rattle.dm_layout.proofs.symbols.faults.region_faults.Given as goal
 
 abbrev pub invariant-loop-pair : goal.invariant-loop-pair

@@ -1,7 +1,5 @@
-use Rattle.std.proofs.Common.{ℕ, ◌+◌, ◌^◌, ◌<◌, ◌≤◌, Option, ap, ◌∙◌, arith}
-use Rattle.std.specs.Prelude.{count_ones}
-use Rattle.dm_layout.specs.symbols.Symbols.{SymbolView, is_dark_bit}
-use Rattle.dm_layout.specs.symbols.Sizes.{SizeEntry}
+use Rattle.dm_layout.proofs.Names.{ℕ, ◌+◌, ◌^◌, ◌<◌, ◌≤◌, Option, ap, ◌∙◌, arith, count_ones, SymbolView, is_dark_bit}
+use Rattle.dm_layout.proofs.Names.{SizeEntry}
 use Rattle.dm_layout.proofs.symbols.SureCells.{IsLine, short_count, some_wide, sure_count}
 use Rattle.dm_layout.proofs.symbols.SureCells.{sure_few}
 use Rattle.dm_layout.proofs.symbols.SureCells.{sure_most}

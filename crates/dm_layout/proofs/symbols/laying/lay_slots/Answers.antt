@@ -1,9 +1,7 @@
-use Rattle.std.proofs.Common.{ℕ, ◌||◌, Bool, ap, ◌∙◌, arith}
-use Rattle.dm_layout.specs.symbols.inner.Laying.{scattered, folded, corner_marks}
-use Rattle.dm_layout.specs.symbols.inner.Reading.{look_in}
+use Rattle.dm_layout.proofs.Names.{ℕ, ◌||◌, Bool, ap, ◌∙◌, arith, scattered, folded, corner_marks, look_in}
+use Rattle.dm_layout.proofs.Names.{reversed_bits, slot_byte}
 use Rattle.dm_layout.proofs.symbols.FoldedRows.{folded_same}
 use Rattle.dm_layout.proofs.symbols.SlotRows.{corner_slot_is}
-use Rattle.dm_layout.specs.symbols.inner.Slots.{reversed_bits, slot_byte}
 use Rattle.dm_layout.proofs.symbols.laying.lay_slots.Goals as goal
 
 pub returns-clause-cells : goal.returns-clause-cells

@@ -1,11 +1,6 @@
-use Rattle.std.proofs.Common.{◌≡◌, ℕ, suc, ◌+◌, ◌<◌, ◌||◌, List, drop, get_or, length, ap, ◌∙◌, subst, refl}
-use Rattle.std.proofs.Common.{arith}
+use Rattle.dm_layout.proofs.Names.{◌≡◌, ℕ, suc, ◌+◌, ◌<◌, ◌||◌, List, drop, get_or, length, ap, ◌∙◌, subst, refl, arith}
+use Rattle.dm_layout.proofs.Names.{length-set, Cell, At, look_in, marks_in, CellsInside}
 use Rattle.std.proofs.Math.Seq.{drop-cons}
-use Rattle.std.proofs.lemmas.List.{length-set}
-use Rattle.dm_place.specs.declared.shape.Cell.{Cell}
-use Rattle.dm_place.specs.Placement.{At}
-use Rattle.dm_layout.specs.symbols.inner.Reading.{look_in, marks_in}
-use Rattle.dm_place.specs.Placement.{CellsInside}
 use Rattle.dm_layout.proofs.symbols.Painting.{cell_put}
 use Rattle.dm_layout.proofs.symbols.laying.put_cells.Goals as goal
 

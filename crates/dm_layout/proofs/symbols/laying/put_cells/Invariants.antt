@@ -1,6 +1,4 @@
-use Rattle.std.proofs.Common.{◌≡◌, ℕ, ◌+◌, ◌||◌, drop, length}
-use Rattle.dm_layout.specs.symbols.inner.Reading.{look_in, marks_in}
-use Rattle.dm_place.specs.Placement.{CellsInside}
+use Rattle.dm_layout.proofs.Names.{◌≡◌, ℕ, ◌+◌, ◌||◌, drop, length, look_in, marks_in, CellsInside}
 use Rattle.dm_layout.proofs.symbols.laying.put_cells.Given as goal
 
 abbrev pub invariant-loop-i : goal.invariant-loop-i

@@ -1,5 +1,4 @@
-use Rattle.std.proofs.Common.{◌≡◌, ℕ, ◌+◌, length}
-use Rattle.dm_layout.specs.symbols.inner.Reading.{look_in}
+use Rattle.dm_layout.proofs.Names.{◌≡◌, ℕ, ◌+◌, length, look_in}
 use Rattle.dm_layout.proofs.symbols.WidenedRows.{laid_over}
 use Rattle.dm_layout.proofs.symbols.laying.raise_rows.Given as goal
 

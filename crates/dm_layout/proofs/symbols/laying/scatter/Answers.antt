@@ -1,5 +1,4 @@
-use Rattle.std.proofs.Common.{◌≡◌, ℕ, ◌∙◌, ap, arith}
-use Rattle.dm_layout.specs.symbols.inner.Laying.{scattered}
+use Rattle.dm_layout.proofs.Names.{◌≡◌, ℕ, ◌∙◌, ap, arith, scattered}
 use Rattle.dm_layout.proofs.symbols.LaidRows.{scatter_more}
 use Rattle.dm_layout.proofs.symbols.laying.scatter.Goals as goal
 

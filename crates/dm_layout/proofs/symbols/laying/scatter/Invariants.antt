@@ -1,6 +1,4 @@
-use Rattle.std.proofs.Common.{◌≡◌, ℕ, ◌+◌, ◌<◌, length}
-use Rattle.dm_layout.specs.symbols.inner.Laying.{scattered}
-use Rattle.dm_layout.specs.symbols.inner.Reading.{look_in}
+use Rattle.dm_layout.proofs.Names.{◌≡◌, ℕ, ◌+◌, ◌<◌, length, scattered, look_in}
 use Rattle.dm_layout.proofs.symbols.laying.scatter.Given as goal
 
 abbrev pub invariant-loop-row : goal.invariant-loop-row

@@ -1,11 +1,7 @@
-use Rattle.std.proofs.Common.{◌≡◌, ℕ, ◌+◌, List, map, set, length, ap, sym, subst, refl, arith, ◌∙◌, rules}
-use Rattle.std.proofs.lemmas.List.{length-map, length-set, take_all}
-use Rattle.dm_place.specs.Placement.{shapes}
-use Rattle.dm_place.proofs.Exported.{words_of, holds_words_of}
-use Rattle.dm_layout.specs.symbols.Border.{mapped_cell}
-use Rattle.dm_layout.specs.symbols.Sizes.{SizeEntry, mapping_rows, mapping_columns}
-use Rattle.dm_layout.specs.symbols.inner.Slots.{order_of, reversed_bits, slot_byte, HasSlot}
-use Rattle.dm_layout.specs.symbols.inner.Widened.{IsWidened}
+use Rattle.dm_layout.proofs.Names.{◌≡◌, ℕ, ◌+◌, List, map, set, length, ap, sym, subst, refl, arith, ◌∙◌, rules}
+use Rattle.dm_layout.proofs.Names.{length-map, length-set, take_all, shapes, words_of, holds_words_of, mapped_cell}
+use Rattle.dm_layout.proofs.Names.{SizeEntry, mapping_rows, mapping_columns, order_of, reversed_bits, slot_byte}
+use Rattle.dm_layout.proofs.Names.{HasSlot, IsWidened}
 use Rattle.dm_layout.proofs.symbols.LiftedWords.{slot_words}
 use Rattle.dm_layout.proofs.symbols.SlotOrder.{AreKnown, AreParts, known, parts_at_size, read_more, room_at_size}
 use Rattle.dm_layout.proofs.symbols.lifting.lift_rows.Goals as goal

@@ -1,6 +1,4 @@
-use Rattle.std.proofs.Common.{◌≡◌, ◌+◌, map, take, length}
-use Rattle.dm_layout.specs.symbols.Sizes.{codeword_count}
-use Rattle.dm_layout.specs.symbols.inner.Slots.{order_of, reversed_bits, slot_byte}
+use Rattle.dm_layout.proofs.Names.{◌≡◌, ◌+◌, map, take, length, codeword_count, order_of, reversed_bits, slot_byte}
 use Rattle.dm_layout.proofs.symbols.lifting.lift_rows.Given as goal
 
 abbrev pub invariant-loop-i : goal.invariant-loop-i

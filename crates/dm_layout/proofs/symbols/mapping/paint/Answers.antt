@@ -1,11 +1,7 @@
-use Rattle.std.proofs.Common.{◌≡◌, ℕ, ◌+◌, ◌-◌, ◌<◌, List, length, get_or, ap, sym, ◌∙◌, subst, refl, arith, rules}
-use Rattle.std.proofs.lemmas.List.{length-set, length-replicate}
-use Rattle.dm_place.specs.Placement.{EachCellOnce, places_in_order}
-use Rattle.dm_place.proofs.Exported.{once_at_sides}
-use Rattle.dm_layout.specs.symbols.Sizes.{codeword_count, mapping_rows, mapping_columns}
+use Rattle.dm_layout.proofs.Names.{◌≡◌, ℕ, ◌+◌, ◌-◌, ◌<◌, List, length, get_or, ap, sym, ◌∙◌, subst, refl, arith, rules}
+use Rattle.dm_layout.proofs.Names.{length-set, length-replicate, EachCellOnce, places_in_order, once_at_sides}
+use Rattle.dm_layout.proofs.Names.{codeword_count, mapping_rows, mapping_columns, look_in, order_of, HasSlot}
 use Rattle.dm_layout.proofs.symbols.Exported.{placed_size}
-use Rattle.dm_layout.specs.symbols.inner.Reading.{look_in}
-use Rattle.dm_layout.specs.symbols.inner.Slots.{order_of, HasSlot}
 use Rattle.dm_layout.proofs.symbols.LaidWords.{laid_first, laid_more, laid_all}
 use Rattle.dm_layout.proofs.symbols.Painting.{marks, marks_bit, marks_no_fixed}
 use Rattle.dm_layout.proofs.symbols.SlotOrder.{AreKnown, AreParts, known, parts_at_size}

@@ -1,9 +1,6 @@
-use Rattle.std.proofs.Common.{ℕ, ◌+◌, Bool, refl, sym, ◌∙◌, arith}
-use Rattle.dm_place.proofs.Exported.{once_at_sides}
-use Rattle.dm_layout.specs.symbols.Sizes.{SizeEntry, IsSize, mapping_rows, mapping_columns, codeword_count}
+use Rattle.dm_layout.proofs.Names.{ℕ, ◌+◌, Bool, refl, sym, ◌∙◌, arith, once_at_sides, SizeEntry, IsSize, mapping_rows}
+use Rattle.dm_layout.proofs.Names.{mapping_columns, codeword_count, kept_symbol, look_in}
 use Rattle.dm_layout.proofs.symbols.Exported.{placed_size}
-use Rattle.dm_layout.specs.symbols.inner.Keeping.{kept_symbol}
-use Rattle.dm_layout.specs.symbols.inner.Reading.{look_in}
 use Rattle.dm_layout.proofs.symbols.DrawnRows.{bits_kept, laid_as}
 use Rattle.dm_layout.proofs.symbols.Sizes.{fixed_is_square}
 use Rattle.dm_layout.proofs.symbols.SlotOrder.{room_at_size}

@@ -1,6 +1,4 @@
-use Rattle.std.proofs.Common.{[], ◌∙◌, sym, arith, lit<}
-use Rattle.std.proofs.lemmas.List.{length-set, same_lists}
-use Rattle.dm_layout.specs.symbols.Sizes.{size_table}
+use Rattle.dm_layout.proofs.Names.{[], ◌∙◌, sym, arith, lit<, length-set, same_lists, size_table}
 use Rattle.dm_layout.proofs.symbols.SizeRows.{entry_here, size_count, size_here}
 use Rattle.dm_layout.proofs.symbols.TableEntries.{put_more}
 use Rattle.dm_layout.proofs.symbols.size.table.Goals as goal

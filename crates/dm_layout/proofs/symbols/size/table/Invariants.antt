@@ -1,5 +1,4 @@
-use Rattle.std.proofs.Common.{◌≡◌, ℕ, ◌<◌, length, get_or}
-use Rattle.dm_layout.specs.symbols.Sizes.{SizeEntry, size_table}
+use Rattle.dm_layout.proofs.Names.{◌≡◌, ℕ, ◌<◌, length, get_or, SizeEntry, size_table}
 use Rattle.dm_layout.proofs.symbols.size.table.Given as goal
 
 abbrev pub invariant-loop-i : goal.invariant-loop-i

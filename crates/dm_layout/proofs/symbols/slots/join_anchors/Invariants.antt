@@ -1,5 +1,4 @@
-use Rattle.std.proofs.Common.{◌≡◌, ℕ, ◌+◌, ◌<◌, length, get_or}
-use Rattle.dm_layout.specs.symbols.inner.Slots.{IsJoined}
+use Rattle.dm_layout.proofs.Names.{◌≡◌, ℕ, ◌+◌, ◌<◌, length, get_or, IsJoined}
 use Rattle.dm_layout.proofs.symbols.slots.join_anchors.Given as goal
 
 abbrev pub invariant-loop-row : goal.invariant-loop-row

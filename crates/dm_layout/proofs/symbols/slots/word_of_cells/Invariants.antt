@@ -1,6 +1,4 @@
-use Rattle.std.proofs.Common.{◌≡◌, ◌^◌, ◌<◌, drop}
-use Rattle.dm_layout.specs.symbols.inner.Slots.{bits_in}
-use Rattle.dm_place.specs.Placement.{CellsInside}
+use Rattle.dm_layout.proofs.Names.{◌≡◌, ◌^◌, ◌<◌, drop, bits_in, CellsInside}
 use Rattle.dm_layout.proofs.symbols.slots.word_of_cells.Given as goal
 
 abbrev pub invariant-loop-cell : goal.invariant-loop-cell

@@ -1,6 +1,4 @@
-use Rattle.std.proofs.Common.{◌≡◌, ℕ, ◌*◌, ◌^◌, ◌<◌}
-use Rattle.dm_place.specs.Border.{symbol_line}
-use Rattle.dm_layout.specs.symbols.Symbols.{is_dark_bit}
+use Rattle.dm_layout.proofs.Names.{◌≡◌, ℕ, ◌*◌, ◌^◌, ◌<◌, symbol_line, is_dark_bit}
 use Rattle.dm_layout.proofs.symbols.widened.inner_row.Given as goal
 
 abbrev pub invariant-loop-region : goal.invariant-loop-region

@@ -1,8 +1,5 @@
-use Rattle.std.proofs.Common.{◌≡◌, ℕ, ◌+◌, ◌*◌, ◌/◌, ◌%◌, ◌^◌, ◌<◌, ◌≤◌, ap, ◌∙◌, arith}
-use Rattle.std.proofs.Math.Nat.{mod-lt}
-use Rattle.std.proofs.Math.Pow.{pow_mono, pow_pos}
-use Rattle.dm_layout.specs.symbols.Symbols.{is_dark_bit}
-use Rattle.dm_layout.specs.symbols.inner.Reading.{whole_row}
+use Rattle.dm_layout.proofs.Names.{◌≡◌, ℕ, ◌+◌, ◌*◌, ◌/◌, ◌%◌, ◌^◌, ◌<◌, ◌≤◌, ap, ◌∙◌, arith, mod-lt, pow_mono, pow_pos}
+use Rattle.dm_layout.proofs.Names.{is_dark_bit, whole_row}
 use Rattle.dm_layout.proofs.symbols.LongRows.{end_below, six_inside, six_narrow}
 use Rattle.dm_layout.proofs.symbols.widened.long_inner_row.Goals as goal
 use Rattle.dm_layout.proofs.symbols.widened.long_inner_row.Goals.{After-with_part-inner}

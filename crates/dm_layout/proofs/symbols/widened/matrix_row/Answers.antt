@@ -1,7 +1,5 @@
-use Rattle.std.proofs.Common.{◌≡◌, ℕ, ◌*◌, ap, ◌∙◌, sym, arith, rules}
-use Rattle.dm_layout.specs.symbols.Symbols.{module_at, is_dark_bit}
-use Rattle.dm_layout.specs.symbols.Sizes.{SizeEntry, mapping_columns}
-use Rattle.dm_layout.specs.symbols.inner.Reading.{whole_row}
+use Rattle.dm_layout.proofs.Names.{◌≡◌, ℕ, ◌*◌, ap, ◌∙◌, sym, arith, rules, module_at, is_dark_bit, SizeEntry}
+use Rattle.dm_layout.proofs.Names.{mapping_columns, whole_row}
 use Rattle.dm_layout.proofs.symbols.KeptRows.{whole_cells}
 use Rattle.dm_layout.proofs.symbols.LongRows.{matrix_cells, whole_alone}
 use Rattle.dm_layout.proofs.symbols.LongSizes.{long_size, short_size}

@@ -1,10 +1,5 @@
-use Rattle.std.proofs.Common.{◌≡◌, ℕ, ◌+◌, ◌*◌, ◌<◌, ◌≤◌, ◌^◌, List, length, ap, arith, ◌∙◌}
-use Rattle.std.proofs.lemmas.List.{length-set}
-use Rattle.std.proofs.Math.Pow.{pow_mono}
-use Rattle.dm_place.specs.Border.{symbol_line}
-use Rattle.dm_layout.specs.symbols.Border.{mapped_cell}
-use Rattle.dm_layout.specs.symbols.Sizes.{SizeEntry, mapping_columns, mapping_rows}
-use Rattle.dm_layout.specs.symbols.inner.Reading.{whole_row}
+use Rattle.dm_layout.proofs.Names.{◌≡◌, ℕ, ◌+◌, ◌*◌, ◌<◌, ◌≤◌, ◌^◌, List, length, ap, arith, ◌∙◌, length-set, pow_mono}
+use Rattle.dm_layout.proofs.Names.{symbol_line, mapped_cell, SizeEntry, mapping_columns, mapping_rows, whole_row}
 use Rattle.dm_layout.proofs.symbols.Sizes.{region_ends}
 use Rattle.dm_layout.proofs.symbols.WidenedRows.{line_here, moved_more}
 use Rattle.dm_layout.proofs.symbols.widened.move_regions.Goals as goal

@@ -1,7 +1,4 @@
-use Rattle.std.proofs.Common.{◌≡◌, ◌+◌, ◌*◌, length}
-use Rattle.dm_layout.specs.symbols.Border.{mapped_cell}
-use Rattle.dm_layout.specs.symbols.Sizes.{mapping_columns}
-use Rattle.dm_layout.specs.symbols.inner.Widened.{IsMoved}
+use Rattle.dm_layout.proofs.Names.{◌≡◌, ◌+◌, ◌*◌, length, mapped_cell, mapping_columns, IsMoved}
 use Rattle.dm_layout.proofs.symbols.widened.move_rows.Given as goal
 
 abbrev pub invariant-loop-region : goal.invariant-loop-region

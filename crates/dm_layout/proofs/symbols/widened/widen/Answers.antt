@@ -1,6 +1,4 @@
-use Rattle.std.proofs.Common.{◌≡◌, ℕ, arith, rules}
-use Rattle.dm_layout.specs.symbols.Border.{mapped_cell}
-use Rattle.dm_layout.specs.symbols.Sizes.{mapping_rows, mapping_columns}
+use Rattle.dm_layout.proofs.Names.{◌≡◌, ℕ, arith, rules, mapped_cell, mapping_rows, mapping_columns}
 use Rattle.dm_layout.proofs.symbols.LongSizes.{HasMatrix, has_matrix}
 use Rattle.dm_layout.proofs.symbols.WidenedRows.{is_widened}
 use Rattle.dm_layout.proofs.symbols.widened.widen.Goals as goal

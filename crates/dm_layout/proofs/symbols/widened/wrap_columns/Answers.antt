@@ -1,6 +1,4 @@
-use Rattle.std.proofs.Common.{◌≡◌, ◌∙◌, ℕ, ◌+◌, List, length, ap, arith}
-use Rattle.std.proofs.lemmas.List.{length-set}
-use Rattle.dm_layout.specs.symbols.inner.Reading.{look_in}
+use Rattle.dm_layout.proofs.Names.{◌≡◌, ◌∙◌, ℕ, ◌+◌, List, length, ap, arith, length-set, look_in}
 use Rattle.dm_layout.proofs.symbols.WidenedRows.{wrap_more}
 use Rattle.dm_layout.proofs.symbols.widened.wrap_columns.Goals as goal
 

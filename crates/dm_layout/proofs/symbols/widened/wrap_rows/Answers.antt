@@ -1,5 +1,4 @@
-use Rattle.std.proofs.Common.{◌≡◌, ◌∙◌, ℕ, ◌+◌, ◌*◌, ◌/◌, ◌%◌, ◌^◌, List, get_or, set, ap, arith}
-use Rattle.dm_layout.specs.symbols.inner.Reading.{look_in}
+use Rattle.dm_layout.proofs.Names.{◌≡◌, ◌∙◌, ℕ, ◌+◌, ◌*◌, ◌/◌, ◌%◌, ◌^◌, List, get_or, set, ap, arith, look_in}
 use Rattle.dm_layout.proofs.symbols.WidenedRows.{row_above}
 use Rattle.dm_layout.proofs.symbols.widened.wrap_rows.Goals as goal
 

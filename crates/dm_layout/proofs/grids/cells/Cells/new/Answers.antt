@@ -1,10 +1,7 @@
-use Rattle.std.proofs.Common.{◌≡◌, ℕ, arith, ap, ◌∙◌, sym, subst, List}
-use Rattle.dm_layout.specs.Sizes.{SizeRow, IsRow}
-use Rattle.dm_place.specs.declared.shape.Cell.{Cell}
-use Rattle.dm_place.specs.declared.shape.Shape.{Shape}
+use Rattle.dm_layout.proofs.Names.{◌≡◌, ℕ, arith, ap, ◌∙◌, sym, subst, List, SizeRow, IsRow, Cell, Shape, places_from}
 use Rattle.dm_place.specs.Placement as general
 use Rattle.dm_place.specs.Sides.{SidesAreSafe}
-use Rattle.dm_layout.specs.Placement.{places_from, shapes}
+use Rattle.dm_layout.specs.Placement.{shapes}
 use Rattle.dm_layout.specs.inner.Walking.{CellsAreSafe}
 use Rattle.dm_layout.proofs.PlacementRows.{facts_at_row}
 use Rattle.dm_layout.proofs.TableRows.{row_facts}

@@ -1,9 +1,6 @@
-use Rattle.std.proofs.Common.{◌≡◌, ◌∙◌, ◌+◌, ◌*◌, ◌<◌, ℕ, Bool, false, Some, ap, sym, subst, get_or, arith, lit<}
-use Rattle.dm_layout.specs.symbols.Sizes.{SizeEntry}
-use Rattle.dm_layout.specs.symbols.Symbols.{SymbolView}
-use Rattle.dm_layout.specs.Sizes.{SizeRow, row_with_side, symbol_size}
-use Rattle.dm_layout.specs.Grid.{GridView, square_by}
-use Rattle.dm_layout.specs.inner.Keeping.{kept_grid}
+use Rattle.dm_layout.proofs.Names.{◌≡◌, ◌∙◌, ◌+◌, ◌*◌, ◌<◌, ℕ, Bool, false, Some, ap, sym, subst, get_or, arith, lit<}
+use Rattle.dm_layout.proofs.Names.{SizeEntry, SymbolView, SizeRow, row_with_side, symbol_size, GridView, square_by}
+use Rattle.dm_layout.proofs.Names.{kept_grid}
 use Rattle.dm_layout.proofs.TableRows.{found_row, side_fits}
 use Rattle.dm_layout.proofs.KeptSymbols.{IsPut, kept_fits, kept_sides, row_more, square_put}
 use Rattle.dm_layout.proofs.PackedRows.{length_of_part, cell_of_part}

@@ -1,5 +1,4 @@
-use Rattle.std.proofs.Common.{get_or, arith}
-use Rattle.dm_layout.specs.Grid.{is_dark_in}
+use Rattle.dm_layout.proofs.Names.{get_or, arith, is_dark_in}
 use Rattle.dm_layout.proofs.KeptSymbols.{square_put}
 use Rattle.dm_layout.proofs.grids.grid.Grid.put_rows.Goals as goal
 

@@ -1,6 +1,4 @@
-use Rattle.std.proofs.Common.{get_or}
-use Rattle.dm_layout.specs.Sizes.{symbol_size}
-use Rattle.dm_layout.specs.Grid.{is_dark_in}
+use Rattle.dm_layout.proofs.Names.{get_or, symbol_size, is_dark_in}
 use Rattle.dm_layout.proofs.KeptSymbols.{IsPut}
 use Rattle.dm_layout.proofs.grids.grid.Grid.put_rows.Given as goal
 

@@ -1,5 +1,4 @@
-use Rattle.std.proofs.Common.{subst}
-use Rattle.dm_layout.specs.Sizes.{IsRow}
+use Rattle.dm_layout.proofs.Names.{subst, IsRow}
 use Rattle.dm_layout.proofs.TableRows.{row_facts}
 use Rattle.dm_layout.proofs.grids.size.Size.region_side.Goals as goal
 

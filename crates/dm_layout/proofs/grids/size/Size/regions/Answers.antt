@@ -1,5 +1,4 @@
-use Rattle.std.proofs.Common.{arith}
-use Rattle.dm_layout.specs.Sizes.{row_of_entry}
+use Rattle.dm_layout.proofs.Names.{arith, row_of_entry}
 use Rattle.dm_layout.proofs.TableRows.{row_facts}
 use Rattle.dm_layout.proofs.grids.size.Size.regions.Goals as goal
 

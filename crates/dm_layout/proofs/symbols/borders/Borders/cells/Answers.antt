@@ -1,6 +1,4 @@
-use Rattle.std.proofs.Common.{inl, inr, sym, ◌∙◌}
-use Rattle.std.proofs.lemmas.Bool.{eqb-true}
-use Rattle.dm_layout.specs.symbols.inner.Reading.{whole_row}
+use Rattle.dm_layout.proofs.Names.{inl, inr, sym, ◌∙◌, eqb-true, whole_row}
 use Rattle.dm_layout.proofs.symbols.BorderMasks.{cells_all}
 use Rattle.dm_layout.proofs.symbols.borders.Borders.cells.Goals as goal
 use Rattle.dm_layout.proofs.symbols.borders.Borders.cells.Goals.{then-inner-eq0, else-inner-eq0}

@@ -1,6 +1,4 @@
-use Rattle.std.proofs.Common.{ℕ, ◌+◌, ◌-◌, ◌*◌, ◌^◌, ◌≤◌, ap, arith}
-use Rattle.std.proofs.Math.Pow.{pow_mono}
-use Rattle.dm_layout.specs.symbols.Sizes.{SizeEntry}
+use Rattle.dm_layout.proofs.Names.{ℕ, ◌+◌, ◌-◌, ◌*◌, ◌^◌, ◌≤◌, ap, arith, pow_mono, SizeEntry}
 use Rattle.dm_layout.proofs.symbols.LongSizes.{long_size}
 use Rattle.dm_layout.proofs.symbols.SizeBorders.{long_borders}
 use Rattle.dm_layout.proofs.symbols.borders.Borders.long.Goals as goal

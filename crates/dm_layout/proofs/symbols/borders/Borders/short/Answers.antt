@@ -1,6 +1,4 @@
-use Rattle.std.proofs.Common.{ℕ, ◌+◌, ap, arith}
-use Rattle.std.proofs.Math.Pow.{pow_pos}
-use Rattle.dm_layout.specs.symbols.Sizes.{SizeEntry}
+use Rattle.dm_layout.proofs.Names.{ℕ, ◌+◌, ap, arith, pow_pos, SizeEntry}
 use Rattle.dm_layout.proofs.symbols.LongSizes.{short_size}
 use Rattle.dm_layout.proofs.symbols.Rows.{weight}
 use Rattle.dm_layout.proofs.symbols.SizeBorders.{short_borders}

@@ -1,5 +1,4 @@
-use Rattle.std.proofs.Common.{subst}
-use Rattle.dm_layout.specs.symbols.Symbols.{IsSymbol}
+use Rattle.dm_layout.proofs.Names.{subst, IsSymbol}
 use Rattle.dm_layout.proofs.symbols.KeptRows.{modules_of_kept}
 use Rattle.dm_layout.proofs.symbols.borrowed.BorrowedSymbol.size.Goals as goal
 

@@ -1,6 +1,4 @@
-use Rattle.std.proofs.Common.{◌∙◌, ℕ, ap, refl, arith}
-use Rattle.dm_layout.specs.symbols.Symbols.{is_dark_bit}
-use Rattle.dm_layout.specs.declared.symbols.narrow_rows.TheConstants.{NARROW_LOW_TWO_BITS, NARROW_LOW_THREE_BITS}
+use Rattle.dm_layout.proofs.Names.{◌∙◌, ℕ, ap, refl, arith, is_dark_bit, NARROW_LOW_TWO_BITS, NARROW_LOW_THREE_BITS}
 use Rattle.dm_layout.proofs.symbols.LaidRows.{row_scattered}
 use Rattle.dm_layout.proofs.symbols.SlotBytes.{in_eight}
 use Rattle.dm_layout.proofs.symbols.SlotRows.{narrow_masks_at}

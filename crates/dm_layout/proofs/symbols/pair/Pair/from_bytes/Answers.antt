@@ -1,9 +1,7 @@
-use Rattle.std.proofs.Common.{◌≡◌, ◌∙◌, ℕ, List, drop, length, take, arith}
-use Rattle.std.proofs.lemmas.List.{length-drop, take-append-drop, take_all}
+use Rattle.dm_layout.proofs.Names.{◌≡◌, ◌∙◌, ℕ, List, drop, length, take, arith, length-drop, take_all, from_le_bytes}
+use Rattle.dm_layout.proofs.Names.{w128, pair, in_bytes}
+use Rattle.std.proofs.lemmas.List.{take-append-drop}
 use borrow.Rule.Slice.PartMut.{mid_of}
-use Rattle.std.specs.Int.{from_le_bytes, w128}
-use Rattle.dm_layout.specs.symbols.inner.Pairs.{pair}
-use Rattle.dm_layout.specs.symbols.inner.Slots.{in_bytes}
 use Rattle.dm_layout.proofs.symbols.SlotBytes.{in_bytes_append, in_sixteen}
 use Rattle.dm_layout.proofs.symbols.pair.Pair.from_bytes.Goals as goal
 

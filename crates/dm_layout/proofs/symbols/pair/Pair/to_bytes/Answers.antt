@@ -1,9 +1,5 @@
-use Rattle.std.proofs.Common.{◌≡◌, List, ◌∷◌, [], ◌^◌, ◌<◌, ◌∙◌, ℕ, ◌++◌, ap, refl, arith}
-use Rattle.std.proofs.Math.Nat.{mod-eq_of_lt}
-use borrow.Rule.Slice.PartMut.{put_mid}
-use Rattle.std.specs.Int.{to_le_bytes, w128}
-use Rattle.dm_layout.specs.symbols.inner.Pairs.{pair}
-use Rattle.dm_layout.specs.symbols.inner.Slots.{in_bytes}
+use Rattle.dm_layout.proofs.Names.{◌≡◌, List, ◌∷◌, [], ◌^◌, ◌<◌, ◌∙◌, ℕ, ◌++◌, ap, refl, arith, mod-eq_of_lt, put_mid}
+use Rattle.dm_layout.proofs.Names.{to_le_bytes, w128, pair, in_bytes}
 use Rattle.dm_layout.proofs.symbols.SlotBytes.{bytes_append, in_bytes_append, low_first_small, sixteen_first, two_put}
 use Rattle.dm_layout.proofs.symbols.pair.Pair.to_bytes.Goals as goal
 

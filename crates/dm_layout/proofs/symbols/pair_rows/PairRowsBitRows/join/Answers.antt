@@ -1,10 +1,5 @@
-use Rattle.std.proofs.Common.{◌∙◌, ◌+◌, ◌*◌, ◌/◌, ◌%◌, ◌^◌, ℕ, List, ap, get_or, arith}
-use Rattle.std.proofs.Common.{get_or-set_same}
-use lib.Bits.{bit_and}
-use Rattle.std.specs.Int.RustNames.{bit_or}
-use Rattle.dm_layout.specs.symbols.Symbols.{is_dark_bit}
-use Rattle.dm_layout.specs.declared.symbols.wide_rows.TheConstants.{LOW_TWO_BITS, LOW_THREE_BITS}
-use Rattle.dm_layout.specs.symbols.inner.Pairs.{number_of, numbers_of, pair}
+use Rattle.dm_layout.proofs.Names.{◌∙◌, ◌+◌, ◌*◌, ◌/◌, ◌%◌, ◌^◌, ℕ, List, ap, get_or, arith, get_or-set_same, bit_and}
+use Rattle.dm_layout.proofs.Names.{bit_or, is_dark_bit, LOW_TWO_BITS, LOW_THREE_BITS, number_of, numbers_of, pair}
 use Rattle.dm_layout.proofs.symbols.Pairs.{at_is, pair_masks_at}
 use Rattle.dm_layout.proofs.symbols.SlotRows.{joined_in}
 use Rattle.dm_layout.proofs.symbols.pair_rows.PairRowsBitRows.join.Goals as goal

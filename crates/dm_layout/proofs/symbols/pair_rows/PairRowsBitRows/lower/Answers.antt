@@ -1,7 +1,5 @@
-use Rattle.std.proofs.Common.{◌≡◌, ◌∙◌, ◌-◌, ◌*◌, ◌/◌, ◌%◌, ◌^◌, ◌≤◌, ◌<◌, ℕ, List, ap, get_or, length, refl, set}
-use Rattle.std.specs.Int.RustNames.{bit_or}
-use Rattle.dm_layout.specs.declared.symbols.pair.Pair.{Pair}
-use Rattle.dm_layout.specs.symbols.inner.Pairs.{number_of, numbers_of}
+use Rattle.dm_layout.proofs.Names.{◌≡◌, ◌∙◌, ◌-◌, ◌*◌, ◌/◌, ◌%◌, ◌^◌, ◌≤◌, ◌<◌, ℕ, List, ap, get_or, length, refl, set}
+use Rattle.dm_layout.proofs.Names.{bit_or, Pair, number_of, numbers_of}
 use Rattle.dm_layout.proofs.symbols.MovedRows.{moved_left, moved_right, over_row, IsOver}
 use Rattle.dm_layout.proofs.symbols.Pairs.{at_is, over_is}
 use Rattle.dm_layout.proofs.symbols.pair_rows.PairRowsBitRows.lower.Goals as goal

@@ -1,5 +1,4 @@
-use Rattle.std.proofs.Common.{◌∙◌, ◌≡◌, ◌+◌, ◌*◌, ◌%◌, ◌^◌, ℕ, ap, refl, arith}
-use Rattle.std.specs.Int.RustNames.{bit_or}
+use Rattle.dm_layout.proofs.Names.{◌∙◌, ◌≡◌, ◌+◌, ◌*◌, ◌%◌, ◌^◌, ℕ, ap, refl, arith, bit_or}
 use Rattle.dm_layout.proofs.symbols.Pairs.{at_is, over_is}
 use Rattle.dm_layout.proofs.symbols.pair_rows.PairRowsBitRows.move_left_end.Goals as goal
 

@@ -1,5 +1,4 @@
-use Rattle.std.proofs.Common.{◌∙◌, ap, refl}
-use Rattle.std.specs.Int.RustNames.{bit_or}
+use Rattle.dm_layout.proofs.Names.{◌∙◌, ap, refl, bit_or}
 use Rattle.dm_layout.proofs.symbols.Pairs.{at_is, over_is}
 use Rattle.dm_layout.proofs.symbols.pair_rows.PairRowsBitRows.raise.Goals as goal
 

@@ -1,11 +1,6 @@
-use Rattle.std.proofs.Common.{◌∙◌, ◌+◌, ◌*◌, ◌/◌, ◌%◌, ◌^◌, ℕ, List, ap, get_or, refl, set, arith}
-use lib.Bits.{bit_and}
-use Rattle.std.specs.Int.RustNames.{bit_or}
-use Rattle.std.proofs.lemmas.List.{length-set}
-use Rattle.dm_layout.specs.symbols.Symbols.{is_dark_bit}
-use Rattle.dm_layout.specs.declared.symbols.wide_rows.TheConstants.{LOW_TWO_BITS, LOW_THREE_BITS}
-use Rattle.dm_layout.specs.symbols.inner.Pairs.{number_of, numbers_of, pair}
-use Rattle.dm_layout.specs.symbols.inner.Reading.{look_in}
+use Rattle.dm_layout.proofs.Names.{◌∙◌, ◌+◌, ◌*◌, ◌/◌, ◌%◌, ◌^◌, ℕ, List, ap, get_or, refl, set, arith, bit_and, bit_or}
+use Rattle.dm_layout.proofs.Names.{length-set, is_dark_bit, LOW_TWO_BITS, LOW_THREE_BITS, number_of, numbers_of, pair}
+use Rattle.dm_layout.proofs.Names.{look_in}
 use Rattle.dm_layout.proofs.symbols.LaidRows.{row_scattered}
 use Rattle.dm_layout.proofs.symbols.Pairs.{over_is, pair_masks_at}
 use Rattle.dm_layout.proofs.symbols.pair_rows.PairRowsBitRows.scatter.Goals as goal

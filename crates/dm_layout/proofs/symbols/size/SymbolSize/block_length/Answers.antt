@@ -1,5 +1,4 @@
-use Rattle.std.proofs.Common.{subst, arith}
-use Rattle.dm_layout.specs.symbols.Sizes.{IsSize}
+use Rattle.dm_layout.proofs.Names.{subst, arith, IsSize}
 use Rattle.dm_layout.proofs.symbols.TableEntries.{size_facts, short_block}
 use Rattle.dm_layout.proofs.symbols.size.SymbolSize.block_length.Goals as goal
 

@@ -1,5 +1,4 @@
-use Rattle.std.proofs.Common.{subst}
-use Rattle.dm_layout.specs.symbols.Sizes.{IsSize}
+use Rattle.dm_layout.proofs.Names.{subst, IsSize}
 use Rattle.dm_layout.proofs.symbols.TableEntries.{size_facts}
 use Rattle.dm_layout.proofs.symbols.size.SymbolSize.blocks.Goals as goal
 

@@ -1,5 +1,4 @@
-use Rattle.std.proofs.Common.{◌∙◌, ◌/◌, ℕ, List, ap, arith}
-use Rattle.dm_layout.specs.symbols.inner.Laying.{with_byte}
+use Rattle.dm_layout.proofs.Names.{◌∙◌, ◌/◌, ℕ, List, ap, arith, with_byte}
 use Rattle.dm_layout.proofs.symbols.SlotPlaces.{slot_added}
 use Rattle.dm_layout.proofs.symbols.slot_rows.Slots.add.Goals as goal
 

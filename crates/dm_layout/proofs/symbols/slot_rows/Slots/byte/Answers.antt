@@ -1,5 +1,4 @@
-use Rattle.std.proofs.Common.{◌∙◌, ◌/◌, ℕ, List, ap, arith}
-use Rattle.dm_layout.specs.symbols.inner.Slots.{slot_byte}
+use Rattle.dm_layout.proofs.Names.{◌∙◌, ◌/◌, ℕ, List, ap, arith, slot_byte}
 use Rattle.dm_layout.proofs.symbols.SlotPlaces.{slot_read}
 use Rattle.dm_layout.proofs.symbols.slot_rows.Slots.byte.Goals as goal
 

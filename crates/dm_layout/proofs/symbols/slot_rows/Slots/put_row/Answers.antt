@@ -1,6 +1,5 @@
-use Rattle.std.proofs.Common.{◌∙◌, ◌≡◌, ◌/◌, ◌+◌, ◌-◌, ◌*◌, ℕ, List, set, ap, arith}
-use borrow.Rule.Slice.PartMut.{put_mid}
-use Rattle.dm_layout.specs.symbols.inner.Slots.{in_bytes, slot_numbers, slot_rows}
+use Rattle.dm_layout.proofs.Names.{◌∙◌, ◌≡◌, ◌/◌, ◌+◌, ◌-◌, ◌*◌, ℕ, List, set, ap, arith, put_mid, in_bytes}
+use Rattle.dm_layout.proofs.Names.{slot_numbers, slot_rows}
 use Rattle.dm_layout.proofs.symbols.SlotPlaces.{row_written}
 use Rattle.dm_layout.proofs.symbols.slot_rows.Slots.put_row.Goals as goal
 

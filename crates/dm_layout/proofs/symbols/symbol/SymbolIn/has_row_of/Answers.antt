@@ -1,5 +1,4 @@
-use Rattle.std.proofs.Common.{ap, ◌∙◌, arith}
-use Rattle.dm_layout.specs.symbols.Sizes.{SizeEntry}
+use Rattle.dm_layout.proofs.Names.{ap, ◌∙◌, arith, SizeEntry}
 use Rattle.dm_layout.proofs.symbols.KeptEquality.{told_end, told_none}
 use Rattle.dm_layout.proofs.symbols.LongSizes.{short_size}
 use Rattle.dm_layout.proofs.symbols.symbol.SymbolIn.has_row_of.Goals as goal

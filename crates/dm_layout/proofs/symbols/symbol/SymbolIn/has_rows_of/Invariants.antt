@@ -1,5 +1,4 @@
-use Rattle.std.proofs.Common.{◌≡◌, ℕ, ◌<◌}
-use Rattle.dm_layout.specs.symbols.Symbols.{module_at}
+use Rattle.dm_layout.proofs.Names.{◌≡◌, ℕ, ◌<◌, module_at}
 use Rattle.dm_layout.proofs.symbols.symbol.SymbolIn.has_rows_of.Given as goal
 
 abbrev pub invariant-loop-row : goal.invariant-loop-row

@@ -1,5 +1,4 @@
-use Rattle.std.proofs.Common.{ap, arith}
-use Rattle.dm_layout.specs.symbols.Symbols.{SymbolView}
+use Rattle.dm_layout.proofs.Names.{ap, arith, SymbolView}
 use Rattle.dm_layout.proofs.symbols.KeptRows.{modules_of_kept, put_end, put_first, put_others}
 use Rattle.dm_layout.proofs.symbols.symbol.SymbolIn.put_row.Goals as goal
 

@@ -1,5 +1,4 @@
-use Rattle.std.proofs.Common.{ap, sym, arith}
-use Rattle.dm_layout.specs.symbols.Symbols.{SymbolView}
+use Rattle.dm_layout.proofs.Names.{ap, sym, arith, SymbolView}
 use Rattle.dm_layout.proofs.symbols.KeptRows.{module_of_first}
 use Rattle.dm_layout.proofs.symbols.symbol.SymbolIn.row.Goals as goal
 

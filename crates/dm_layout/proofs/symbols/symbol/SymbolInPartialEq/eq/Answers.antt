@@ -1,5 +1,4 @@
-use Rattle.std.proofs.Common.{◌≡◌, true, sym}
-use Rattle.dm_layout.specs.symbols.Equality.{equal_sizes}
+use Rattle.dm_layout.proofs.Names.{◌≡◌, true, sym, equal_sizes}
 use Rattle.dm_layout.proofs.symbols.EqualityLaws.{told_sizes}
 use Rattle.dm_layout.proofs.symbols.KeptEquality.{all_tell, by_told}
 use Rattle.dm_layout.proofs.symbols.symbol.SymbolInPartialEq.eq.Goals as goal

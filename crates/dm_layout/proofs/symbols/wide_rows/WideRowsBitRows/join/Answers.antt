@@ -1,7 +1,4 @@
-use Rattle.std.proofs.Common.{◌∙◌, ℕ, List, ap, ◌+◌, ◌/◌, ◌^◌, get_or}
-use Rattle.std.proofs.Common.{get_or-set_same}
-use Rattle.dm_layout.specs.symbols.Symbols.{is_dark_bit}
-use Rattle.dm_layout.specs.symbols.inner.Slots.{in_bytes}
+use Rattle.dm_layout.proofs.Names.{◌∙◌, ℕ, List, ap, ◌+◌, ◌/◌, ◌^◌, get_or, get_or-set_same, is_dark_bit, in_bytes}
 use Rattle.dm_layout.proofs.symbols.SlotBytes.{sixteen_first}
 use Rattle.dm_layout.proofs.symbols.SlotRows.{joined_in, masks_at}
 use Rattle.dm_layout.proofs.symbols.WidenedRows.{low_bit}

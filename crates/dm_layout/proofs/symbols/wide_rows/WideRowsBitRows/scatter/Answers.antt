@@ -1,6 +1,4 @@
-use Rattle.std.proofs.Common.{◌∙◌, ℕ, ap, refl, arith}
-use Rattle.dm_layout.specs.symbols.Symbols.{is_dark_bit}
-use Rattle.dm_layout.specs.declared.symbols.wide_rows.TheConstants.{LOW_TWO_BITS, LOW_THREE_BITS}
+use Rattle.dm_layout.proofs.Names.{◌∙◌, ℕ, ap, refl, arith, is_dark_bit, LOW_TWO_BITS, LOW_THREE_BITS}
 use Rattle.dm_layout.proofs.symbols.LaidRows.{row_scattered}
 use Rattle.dm_layout.proofs.symbols.SlotBytes.{in_sixteen}
 use Rattle.dm_layout.proofs.symbols.SlotRows.{masks_at}

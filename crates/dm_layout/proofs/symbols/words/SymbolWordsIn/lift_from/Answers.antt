@@ -1,10 +1,6 @@
-use Rattle.std.proofs.Common.{◌≡◌, ℕ, ◌+◌, ◌-◌, ◌≤◌, ◌++◌, List, drop, length, take, ap, sym, subst, ◌∙◌, arith}
-use Rattle.std.proofs.Common.{length-take}
-use Rattle.std.proofs.Math.Seq.{take-append_seam}
-use Rattle.dm_place.specs.Holding.{HoldsBits}
-use Rattle.dm_layout.specs.symbols.Border.{mapped_cell}
-use Rattle.dm_layout.specs.symbols.Sizes.{SizeEntry, codeword_count, mapping_rows, mapping_columns}
-use Rattle.dm_layout.specs.symbols.inner.Keeping.{AreKeptIn}
+use Rattle.dm_layout.proofs.Names.{◌≡◌, ℕ, ◌+◌, ◌-◌, ◌≤◌, ◌++◌, List, drop, length, take, ap, sym, subst, ◌∙◌, arith}
+use Rattle.dm_layout.proofs.Names.{length-take, take-append_seam, HoldsBits, mapped_cell, SizeEntry, codeword_count}
+use Rattle.dm_layout.proofs.Names.{mapping_rows, mapping_columns, AreKeptIn}
 use Rattle.dm_layout.proofs.symbols.KeptWords.{kept_for, part_kept}
 use Rattle.dm_layout.proofs.symbols.words.SymbolWordsIn.lift_from.Goals as goal
 

@@ -1,8 +1,5 @@
-use Rattle.std.proofs.Common.{◌≡◌, ◌-◌, ◌<◌, ◌++◌, ◌∙◌, ℕ, List, drop, length, take, replicate, ap, arith}
-use Rattle.std.specs.Prelude.{All}
-use Rattle.std.proofs.Math.Seq.{take-append_seam}
-use Rattle.std.proofs.lemmas.List.Elements.{All-from_get_or}
-use Rattle.dm_layout.specs.symbols.Sizes.{codeword_count}
+use Rattle.dm_layout.proofs.Names.{◌≡◌, ◌-◌, ◌<◌, ◌++◌, ◌∙◌, ℕ, List, drop, length, take, replicate, ap, arith, All}
+use Rattle.dm_layout.proofs.Names.{take-append_seam, All-from_get_or, codeword_count}
 use Rattle.dm_layout.proofs.symbols.KeptWords.{part_kept, zeros_kept}
 use Rattle.dm_layout.proofs.symbols.words.SymbolWordsIn.new.Goals as goal
 

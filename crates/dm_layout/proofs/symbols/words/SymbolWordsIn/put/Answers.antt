@@ -1,7 +1,5 @@
-use Rattle.std.proofs.Common.{◌<◌, ℕ, List, length, ap, subst, sym, length-take, arith}
-use Rattle.std.proofs.Math.Seq.{take-set-lt}
-use Rattle.dm_layout.specs.symbols.Sizes.{codeword_count}
-use Rattle.dm_layout.specs.symbols.Words.{WordsView}
+use Rattle.dm_layout.proofs.Names.{◌<◌, ℕ, List, length, ap, subst, sym, length-take, arith, take-set-lt}
+use Rattle.dm_layout.proofs.Names.{codeword_count, WordsView}
 use Rattle.dm_layout.proofs.symbols.words.SymbolWordsIn.put.Goals as goal
 
 pub returns-clause-value : goal.returns-clause-value

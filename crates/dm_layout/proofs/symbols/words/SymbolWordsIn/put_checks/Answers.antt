@@ -1,8 +1,5 @@
-use Rattle.std.proofs.Common.{◌≡◌, ◌∙◌, ◌<◌, ◌-◌, length, sym, ap, arith}
-use Rattle.std.specs.Prelude.{All}
-use Rattle.std.proofs.lemmas.List.Elements.{All-from_get_or}
-use Rattle.dm_layout.specs.symbols.Sizes.{SizeEntry}
-use Rattle.dm_layout.specs.symbols.Words.{WordsView}
+use Rattle.dm_layout.proofs.Names.{◌≡◌, ◌∙◌, ◌<◌, ◌-◌, length, sym, ap, arith, All, All-from_get_or, SizeEntry}
+use Rattle.dm_layout.proofs.Names.{WordsView}
 use Rattle.dm_layout.proofs.symbols.KeptWords.{part_kept, words_of_kept}
 use Rattle.dm_layout.proofs.symbols.words.SymbolWordsIn.put_checks.Goals as goal
 

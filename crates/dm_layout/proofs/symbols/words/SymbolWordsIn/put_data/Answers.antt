@@ -1,8 +1,5 @@
-use Rattle.std.proofs.Common.{◌≡◌, ◌-◌, ◌∙◌, ◌<◌, ◌++◌, List, ℕ, drop, length, take, sym, ap, arith}
-use Rattle.std.specs.Prelude.{All}
-use Rattle.std.proofs.lemmas.List.Elements.{All-from_get_or}
-use Rattle.dm_layout.specs.symbols.Sizes.{SizeEntry, codeword_count}
-use Rattle.dm_layout.specs.symbols.Words.{WordsView}
+use Rattle.dm_layout.proofs.Names.{◌≡◌, ◌-◌, ◌∙◌, ◌<◌, ◌++◌, List, ℕ, drop, length, take, sym, ap, arith, All}
+use Rattle.dm_layout.proofs.Names.{All-from_get_or, SizeEntry, codeword_count, WordsView}
 use Rattle.dm_layout.proofs.symbols.KeptWords.{front_words, part_kept}
 use Rattle.dm_layout.proofs.symbols.words.SymbolWordsIn.put_data.Goals as goal
 

@@ -1,6 +1,4 @@
-use Rattle.std.proofs.Common.{ap}
-use Rattle.std.proofs.lemmas.List.{take-replicate}
-use Rattle.dm_layout.specs.symbols.Sizes.{codeword_count}
+use Rattle.dm_layout.proofs.Names.{ap, take-replicate, codeword_count}
 use Rattle.dm_layout.proofs.symbols.words.SymbolWordsIn.zeros.Goals as goal
 
 pub returns-clause-value : goal.returns-clause-value
