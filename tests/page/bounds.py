@@ -3,8 +3,8 @@ taken, or said not to be."""
 import base64
 
 from tests.page.pictures import chunks, opened, png
-from tests.page.stage import (Keys, area_of, count, find, grid, head, on, processor_time, push, put, put_in, run,
-                              settle, shown, text_of, unfold, wait_for, write, written)
+from tests.page.stage import (Keys, area_of, expect, find, give, grid, head, is_seen, on, processor_time, push, put,
+                              run, settle, shown, soon, text_of, unfold, value_of, wait_for, write, written)
 
 SOON = 6  # seconds of a processor that the page may take
 MANY_LINES = "#\n" * 130000
@@ -21,13 +21,10 @@ def seconds_of(act):
 def much_is_refused():
     """130,000 lines, pasted by keys or put there otherwise, are said and not laid out."""
     write("123456")
-    put_in(area_of("a"), "123456")
+    put(area_of("a"), "123456")
     unfold("sheet", "comparison", "as-text")
-    copied = on.page.execute_async_script(
-        "navigator.clipboard.writeText(arguments[0]).then(() => arguments[1](''), (why) => arguments[1](why.message))",
-        MANY_LINES,
-    )
-    count.expect("copied", copied, "")
+    copy = "navigator.clipboard.writeText(arguments[0]).then(() => arguments[1](''), arguments[1])"
+    expect("copied", on.page.execute_async_script(copy, MANY_LINES), "")
     for name, tab, area, said in (("slot-a", "tab-read", area_of("a"), lambda: text_of("slot-a")),
                                   ("messages", "tab-make", find("messages"), lambda: text_of("sheet-hint")),
                                   ("message", "tab-make", find("message"), lambda: text_of("message-hint"))):
@@ -37,25 +34,22 @@ def much_is_refused():
         lines = f"{MANY_LINES.count(chr(10)) + 1:,} lines, and no more than 10,000"
         much = lines if name == "messages" else f"{260000 + len(before):,} characters, and no more than 25,000"
         wanted = f"Nothing was taken: {much} are taken."
-        count.expect(f"130,000 lines pasted in {name}", (area.get_attribute("value"), wanted in said(), taken < SOON),
-                     (before, True, True))
+        expect(f"130,000 lines pasted in {name}", (area.get_attribute("value"), wanted in said(), taken < SOON),
+               (before, True, True))
     push("tab-read", "example-c40")
-    before = find("grid").get_attribute("value")
+    before = value_of("grid")
     taken = seconds_of(lambda: find("grid").send_keys(Keys.CONTROL, "a", Keys.NULL, Keys.CONTROL, "v", Keys.NULL))
-    count.expect("130,000 lines pasted in the grid",
-                 (find("grid").get_attribute("value"), "Nothing was taken: 260,000 characters" in text_of("grid-hint"),
-                  taken < SOON), (before, True, True))
+    expect("130,000 lines pasted in the grid",
+           (value_of("grid"), "Nothing was taken: 260,000 characters" in text_of("grid-hint"), taken < SOON),
+           (before, True, True))
     for name, area in (("a slot", area_of("b")), ("the grid", find("grid"))):
-        taken = seconds_of(lambda: put_in(area, MANY_LINES))
-        count.expect(f"130,000 lines put in {name}", (area.get_attribute("value"), taken < SOON), ("", True))
-    count.expect("the slot says so", (head(), "260,000 characters" in text_of("slot-b")),
-                 (["No answer", "Symbol B can’t be taken."], True))
+        taken = seconds_of(lambda: put(area, MANY_LINES))
+        expect(f"130,000 lines put in {name}", (area.get_attribute("value"), taken < SOON), ("", True))
+    expect("the slot says so", (head(), "260,000 characters" in text_of("slot-b")),
+           (["No answer", "Symbol B can’t be taken."], True))
     taken = seconds_of(lambda: drop("#slot-a", text="\n" * 1500))
-    count.expect("1,501 lines dropped on a slot",
-                 ("1,501 lines, and no more than 1,000 are taken." in text_of("slot-a"), taken < SOON), (True, True))
-    run("document.getElementById('sheet').open = false")
-    push("tab-make")
-    write("123456")
+    expect("1,501 lines dropped on a slot",
+           ("1,501 lines, and no more than 1,000 are taken." in text_of("slot-a"), taken < SOON), (True, True))
 
 
 # ---- Drawings
@@ -68,8 +62,8 @@ def svg_of(text, inner=None, size=None, more=""):
     """A drawing of a grid, a rectangle for each dark module; or of what is given."""
     rows = text.split("\n")
     all_of = len(rows) + 4
-    inner = inner or "".join(f'<rect x="{c}" y="{r}" width="1" height="1"/>' for r, row in enumerate(rows)
-                             for c, module in enumerate(row) if module == "1")
+    inner = inner or "".join(f'<rect x="{c}" y="{r}" width="1" height="1"/>' for r, row in enumerate(rows) for c,
+                             module in enumerate(row) if module == "1")
     size = f'width="{all_of * 8}" height="{all_of * 8}"' if size is None else size
     return (f'<svg {NAMESPACES} viewBox="-2 -2 {all_of} {all_of}" {size} shape-rendering="crispEdges">{more}'
             f'<path fill="#fff" d="M-2-2h{all_of}v{all_of}h-{all_of}z"/>{inner}</svg>').encode()
@@ -96,8 +90,8 @@ def drawings():
     draw a symbol."""
     push("tab-read")
     small, large = written("123456"), written("0" * 1632)
-    dots = "".join(f'<use href="#m" x="{c}" y="{r}"/>' for r, row in enumerate(large.split("\n"))
-                   for c, module in enumerate(row) if module == "1")
+    dots = "".join(f'<use href="#m" x="{c}" y="{r}"/>' for r, row in enumerate(large.split("\n")) for c,
+                   module in enumerate(row) if module == "1")
     used = f'<defs><rect id="m" width="1" height="1"/></defs>{dots}'
     paths = {"rectangles": (svg_of(small), small), "the largest": (svg_of(large), large),
              "used modules": (svg_of(large, used), large),
@@ -107,9 +101,10 @@ def drawings():
              "nested thrice": (svg_of(small, more=f'<g visibility="hidden">{nested(3)}</g>'), small)}
     for name, (body, text) in paths.items():
         taken, side = seconds_of(lambda: opened("drawing.svg", body)), text.index("\n")
-        count.expect(f"a drawing of {name}",
-                     (text_of("picture-hint").startswith(f"drawing.svg: {side} × {side}."), grid(), taken < 3 * SOON),
-                     (True, text, True))
+        expect(f"a drawing of {name}",
+               (text_of("picture-hint").startswith(f"drawing.svg: {side} × {side}."), grid(), taken < 3 * SOON),
+               (True, text, True))
+        expect("how large it is drawn", run("return document.getElementById('outlines').dataset.width <= 2800"), True)
     many = "The drawing has more than 60,000 elements, as often as they are used."
     chain = ("<defs>" + "".join(f'<g id="d{k}"><use href="#d{k + 1}"/></g>' for k in range(9000))
              + '</defs><use href="#d0"/>')
@@ -132,27 +127,25 @@ def drawings():
         ("no end", "<g>", "The file can’t be opened as a picture."),
     ):
         taken = seconds_of(lambda: opened("drawing.svg", svg_of(small, inner)))
-        count.expect(f"a drawing of {name}", (text_of("picture-hint"), shown()["state"], taken < SOON),
-                     (f"drawing.svg: {why}", "Nothing is read", True))
+        expect(f"a drawing of {name}", (text_of("picture-hint"), shown()["state"], taken < SOON),
+               (f"drawing.svg: {why}", "Nothing is read", True))
     taken = seconds_of(lambda: opened("drawing.svg", svg_of(small, '<circle r="99"/>' * 20000)))
     told = text_of("picture-hint").removeprefix("drawing.svg: ")
     # (a machine that draws them in time sees nothing but the last one)
     whys = ("The drawing takes too long to draw. Save it as PNG, and open that.", "The picture has only one colour.")
-    count.expect("a drawing of large shapes", (told if told not in whys else "", shown()["state"], taken < 2 * SOON),
-                 ("", "Nothing is read", True))
+    expect("a drawing of large shapes", (told if told not in whys else "", shown()["state"], taken < 2 * SOON),
+           ("", "Nothing is read", True))
     # (as UTF-8 two names in Shift_JIS are the same one, of which the second has little to draw)
     declared, body = b'<?xml version="1.0" encoding="Shift_JIS"?>', svg_of(small, FIRST_OF_A_NAME)
     hidden = declared + body.replace(b'<g id="d4"/>', b'<g id="\x84\x41"/>').replace(b"d4", b"\x83\x41")
-    count.expect("names in another encoding", opened("drawing.svg", hidden), f"drawing.svg: {many}")
+    expect("names in another encoding", opened("drawing.svg", hidden), f"drawing.svg: {many}")
     entities = b'<!DOCTYPE svg [<!ENTITY a "a">]>' + svg_of(small)
-    count.expect("entities", opened("drawing.svg", entities),
-                 "drawing.svg: The drawing declares entities, which aren’t read here.")
-    count.expect("many bytes", opened("drawing.svg", svg_of(small) + b" " * 4000000),
-                 "drawing.svg: The drawing has more than 4 million bytes.")
-    (on.folder / "drawing.svg").write_bytes(svg_of(small, nested(9)))
-    find("picture-A").send_keys(str(on.folder / "drawing.svg"))
-    count.expect_soon("a slot says so too", lambda: many in text_of("slot-a"), True)
-    push("tab-make")
+    expect("entities", opened("drawing.svg", entities),
+           "drawing.svg: The drawing declares entities, which aren’t read here.")
+    expect("many bytes", opened("drawing.svg", svg_of(small) + b" " * 4000000),
+           "drawing.svg: The drawing has more than 4 million bytes.")
+    give("picture-A", "drawing.svg", svg_of(small, nested(9)))
+    soon("a slot says so too", lambda: many in text_of("slot-a"), True)
 
 
 # ---- What is dropped
@@ -160,17 +153,13 @@ def drawings():
 
 def drop(where, files=(), text=None):
     """Drops files, each with a name, a kind and a body, or a text."""
-    run(
-        """const [where, files, text] = arguments, data = new DataTransfer();
+    run("""const [where, files, text] = arguments, data = new DataTransfer();
            const bytes = (body) => Uint8Array.from(atob(body), (c) => c.charCodeAt(0));
            for (const [name, type, body] of files) data.items.add(new File([bytes(body)], name, { type }));
            if (text !== null) data.setData('text/plain', text);
            const how = { dataTransfer: data, bubbles: true, cancelable: true };
            document.querySelector(where).dispatchEvent(new DragEvent('drop', how))""",
-        where,
-        [(name, kind, base64.b64encode(body).decode()) for name, kind, body in files],
-        text,
-    )
+        where, [(name, kind, base64.b64encode(body).decode()) for name, kind, body in files], text)
 
 
 def many_files():
@@ -180,43 +169,36 @@ def many_files():
     picture = png(written("the first").split("\n"), 3, 2)
     some = [("notes.txt", "text/plain", b"notes")] + [(f"mark{k}.png", "image/png", picture) for k in range(200)]
     drop("body", some[:21])
-    count.expect_soon("20 pictures", lambda: (text_of("picture-hint"), shown()["says"]),
-                      ("20 pictures are looked at. notes.txt isn’t looked at.", "the first"))
+    soon("20 pictures", lambda: (text_of("picture-hint"), shown()["says"]),
+         ("20 pictures are looked at. notes.txt isn’t looked at.", "the first"))
     settle()
     drop("#slot-a", some)
     note = "It is one of 200 pictures. notes.txt isn’t looked at."
-    count.expect_soon("the first of 200 pictures in a slot",
-                      lambda: (note in text_of("slot-a"), "the first" in text_of("slot-a")), (True, True))
+    soon("the first of 200 pictures in a slot", lambda: (note in text_of("slot-a"), "the first" in text_of("slot-a")),
+         (True, True))
     settle()
     drop("#slot-a", [("mark.txt", "text/plain", b"by a file\r\n")])
     drop("#slot-b", [("grid.txt", "", (written("by a file") + "\n").encode())])
-    count.expect_soon("files of text in the slots", head,
-                      ["Yes, they say the same.", "Both have this one normal grid:"])
+    soon("files of text in the slots", head, ["Yes, they say the same.", "Both have this one normal grid:"])
     drop("#slot-a", [("mark.zip", "application/zip", b"PK")])
-    count.expect_soon("neither a picture nor a text",
-                      lambda: (head(), "mark.zip is neither a picture nor a text." in text_of("slot-a")),
-                      (["No answer", "Symbol A isn’t there."], True))
+    soon("neither a picture nor a text",
+         lambda: (head(), "mark.zip is neither a picture nor a text." in text_of("slot-a")),
+         (["No answer", "Symbol A isn’t there."], True))
     drop("#slot-a", [("long.txt", "text/plain", b"1" * 110000)])
-    count.expect_soon(
-        "a long file of text",
-        lambda: "long.txt has 110,000 bytes, which are too many for a message or a grid." in text_of("slot-a"),
-        True,
-    )
+    soon("a long file of text",
+         lambda: "long.txt has 110,000 bytes, which are too many for a message or a grid." in text_of("slot-a"), True)
     drop("body", [("grid.txt", "text/plain", written("a grid in a file").encode())])
-    count.expect_soon("a grid in a file", lambda: (find("pane-read").is_displayed(), shown()["says"]),
-                      (True, "a grid in a file"))
+    soon("a grid in a file", lambda: (is_seen("pane-read"), shown()["says"]), (True, "a grid in a file"))
     push("kind-typed")
     drop("body", [("western.txt", "text/plain", "Größe".encode("cp1252"))])
-    count.expect_soon("a message that isn't UTF-8", lambda: (shown()["says"], text_of("toast")),
-                      ("Größe", "western.txt: It isn’t UTF-8, and is read as Windows-1252."))
+    soon("a message that isn't UTF-8", lambda: (shown()["says"], text_of("toast")),
+         ("Größe", "western.txt: It isn’t UTF-8, and is read as Windows-1252."))
     drop("body", [("message.txt", "text/plain", b"a message in a file\n")])
-    count.expect_soon("a message in a file", lambda: (find("pane-make").is_displayed(), shown()["says"]),
-                      (True, "a message in a file"))
+    soon("a message in a file", lambda: (is_seen("pane-make"), shown()["says"]), (True, "a message in a file"))
     for name, why in (("mark.doc", "mark.doc is neither a picture nor a text."),
                       ("mark.zip", "mark.zip holds no labels of this page.")):
         drop("body", [(name, "application/octet-stream", b"PK")])
-        count.expect_soon(f"{name}, above", lambda: text_of("picture-hint"), why)
-    write("123456")
+        soon(f"{name}, above", lambda: text_of("picture-hint"), why)
 
 
 SLOW = """
@@ -233,20 +215,20 @@ def dropped_on_the_sheet():
     """Text and files of text go where they are dropped; a file that is still being read doesn't take the place of what
     is entered meanwhile."""
     write("123456")
-    lines = lambda: find("messages").get_attribute("value")
+    lines = lambda: value_of("messages")
     run("document.getElementById('messages').value = ''")
     drop("#messages", text="one\ntwo")
-    count.expect("text dropped on the sheet's messages", lines(), "one\ntwo")
+    expect("text dropped on the sheet's messages", lines(), "one\ntwo")
     drop("#messages", [("lines.txt", "text/plain", b"three\nfour\nfive\n")])
-    count.expect_soon("a file dropped there", lambda: (lines(), text_of("sheet-hint")),
-                      ("three\nfour\nfive", "The lines of lines.txt."))
-    count.expect("the message stays", (shown()["says"], find("message").get_attribute("value")), ("123456", "123456"))
+    soon("a file dropped there", lambda: (lines(), text_of("sheet-hint")),
+         ("three\nfour\nfive", "The lines of lines.txt."))
+    expect("the message stays", (shown()["says"], value_of("message")), ("123456", "123456"))
     drop("#messages", [("long.txt", "text/plain", b"1" * 9000000)])
-    count.expect_soon("a long file there", lambda: (lines(), text_of("sheet-hint")),
-                      ("three\nfour\nfive", "long.txt has 9,000,000 bytes, which are too many for a sheet."))
+    soon("a long file there", lambda: (lines(), text_of("sheet-hint")),
+         ("three\nfour\nfive", "long.txt has 9,000,000 bytes, which are too many for a sheet."))
     (on.folder / "more.csv").write_text("six\nseven\n")
     find("lines").send_keys(str(on.folder / "more.csv"))
-    count.expect_soon("a file that is opened", lines, "six\nseven")
+    soon("a file that is opened", lines, "six\nseven")
     run(SLOW)
     for where, field in (("body", "message"), ("#messages", "messages")):
         drop(where, [("slow.txt", "text/plain", b"slow")])
@@ -254,12 +236,10 @@ def dropped_on_the_sheet():
         put(field, "meanwhile")
         run("gates.pop()()")
         said = "slow.txt was given up, since something else was entered meanwhile."
-        count.expect_soon(f"a file that is read while the {field} is typed",
-                          lambda: (text_of("toast"), find(field).get_attribute("value")), (said, "meanwhile"))
+        soon(f"a file that is read while the {field} is typed", lambda: (text_of("toast"), value_of(field)),
+             (said, "meanwhile"))
         run("document.getElementById('toast').textContent = ''")
     run("usual()")
-    put("messages", "")
-    write("123456")
 
 
 # ---- Low contrast
@@ -272,20 +252,18 @@ def low_contrast():
     rows = written("faint").split("\n")
     for light, dark in ((200, 180), (130, 124), (255, 251)):
         said = opened("faint.png", png(rows, 6, 2, light, dark))
-        count.expect(f"greys {dark} and {light}", (said, shown()["says"]),
-                     ("faint.png: 12 × 12. Read as it stands.", "faint"))
-    count.expect("greys 200 and 201", opened("faint.png", png(rows, 6, 2, 201, 200)),
-                 "faint.png: All of the picture is about equally bright: its greys differ by 1 of 255.")
-    count.expect("one colour", opened("one.png", png(rows, 6, 2, 200, 200)),
-                 "one.png: The picture has only one colour.")
+        expect(f"greys {dark} and {light}", (said, shown()["says"]),
+               ("faint.png: 12 × 12. Read as it stands.", "faint"))
+    expect("greys 200 and 201", opened("faint.png", png(rows, 6, 2, 201, 200)),
+           "faint.png: All of the picture is about equally bright: its greys differ by 1 of 255.")
+    expect("one colour", opened("one.png", png(rows, 6, 2, 200, 200)), "one.png: The picture has only one colour.")
     square = chunks(60, 60,
                     (b"\0" + bytes([200]) * 60) * 20
                     + (b"\0" + bytes([200]) * 20 + bytes([190]) * 20 + bytes([200]) * 20) * 20
                     + (b"\0" + bytes([200]) * 60) * 20)
-    count.expect("a faint square", opened("square.png", square),
+    expect("a faint square", opened("square.png", square),
                  "square.png: No symbol that can be read was found in the picture. "
                  "Its contrast is low: its greys differ by 10 of 255.")
-    push("tab-make")
 
 
 PARTS = [much_is_refused, drawings, many_files, dropped_on_the_sheet, low_contrast]

@@ -1,8 +1,10 @@
 """How the page conducts itself: no verdict outlives its input, nothing freezes, phones, GS1, links."""
+from tests.page.damage import turned_to_another
 from tests.page.pictures import chunks, opened, png
-from tests.page.stage import (agree, cells, changed, click, count, fill, find, grid, metrics, on, pointed,
-                              processor_time, push, put, run, settle, shown, take_time, text_of, unseen, usable,
-                              usual_metrics, wait_for, write, written)
+from tests.page.stage import (ACTS, agree, attribute, box, changed, click, expect, fetched, fill, find, fits_across,
+                              grid, is_seen, metrics, on, pointed, processor_time, push, put, run, settle, shown, soon,
+                              started, text_of, unseen, usable, usual_metrics, value_of, visit, wait_for, write,
+                              written)
 
 NOTHING = ("Nothing is read", "")
 GIVING = ("copy", "save-svg", "save-png", "print")
@@ -12,12 +14,6 @@ def verdict():
     return shown()["state"], shown()["says"]
 
 
-def started():
-    wait_for(lambda: run("return 'mitsubadoor' in globalThis"))
-    take_time()
-    settle()
-
-
 # ---- Never a stale verdict
 
 def never_stale():
@@ -25,57 +21,51 @@ def never_stale():
         write("123456")
         put("message", text)
         name = f"{text[:8]!r} leaves no verdict"
-        count.expect(name, (verdict(), [usable(it) for it in GIVING]), (NOTHING, [False] * 4))
-        count.expect(f"{name}, and dims the symbol",
-                     float(run("return getComputedStyle(document.getElementById('easel')).opacity")) < 0.5, True)
+        expect(name, (verdict(), [usable(it) for it in GIVING]), (NOTHING, [False] * 4))
+        expect(f"{name}, and dims the symbol",
+               float(run("return getComputedStyle(document.getElementById('easel')).opacity")) < 0.5, True)
         before = grid()
         click(33)
         push("to-limit", "copy")
-        count.expect(f"{name}: nothing is damaged", grid(), before)
+        expect(f"{name}: nothing is damaged", grid(), before)
     write("123456")
-    count.expect("taken again", (verdict(), [usable(it) for it in GIVING]), (("Read", "123456"), [True] * 4))
+    expect("taken again", (verdict(), [usable(it) for it in GIVING]), (("Read", "123456"), [True] * 4))
     many = "#\n" * 130000
     with unseen():  # so many lines would be laid out anew with each change of the page
         fill("a", many)
-        count.expect("130,000 lines in a slot", text_of("same").startswith("No answer"), True)
+        expect("130,000 lines in a slot", text_of("same").startswith("No answer"), True)
         fill("a", "")
         push("tab-read", "example-c40")
         put("grid", many)
-        count.expect("130,000 lines in the grid", (verdict(), find("grid").get_attribute("aria-invalid")),
-                     (NOTHING, "true"))
+        expect("130,000 lines in the grid", (verdict(), attribute("grid", "aria-invalid")), (NOTHING, "true"))
         push("example-c40")
-    count.expect("a grid again", shown()["state"], "Read")
+    expect("a grid again", shown()["state"], "Read")
     put("grid", "")
-    count.expect("no grid, no verdict", verdict(), ("Nothing is entered yet", ""))
+    expect("no grid, no verdict", verdict(), ("Nothing is entered yet", ""))
     write("123456")
     run("mitsubadoor.desks.quick.worker.postMessage = () => { throw new Error('broken off'); }")
     put("message", "654321")
-    count.expect("a worker that throws", (verdict(), "broken off" in shown()["why"], usable("save-svg")),
-                 (NOTHING, True, False))
+    expect("a worker that throws", (verdict(), "broken off" in shown()["why"], usable("save-svg")),
+           (NOTHING, True, False))
     run("mitsubadoor.desks.quick.end({ stopped: true })")
     write("123456")
-    count.expect("after a new worker", verdict(), ("Read", "123456"))
+    expect("after a new worker", verdict(), ("Read", "123456"))
 
 
 def each_pane_keeps_its_state():
-    write("923456")
-    other, values = grid(), [held for held, _, _ in cells()]
-    write("123456")
-    differing = [w for w, (cell, value) in enumerate(zip(cells(), values)) if cell[0] != value][:4]
-    places = [(x, y) for w, (_, bits) in enumerate(pointed()) if w in differing for _, x, y in bits]
-    click(*[10 * y + x for x, y in places if grid().split("\n")[y][x] != other.split("\n")[y][x]])
+    turned_to_another()
     damaged = grid()
-    count.expect("another message", shown()["state"], "Read as another message")
+    expect("another message", shown()["state"], "Read as another message")
     push("tab-read", "example-c40", "to-limit")
     second = grid()
     push("tab-make")
-    count.expect("back at the message", (shown()["state"], grid(), usable("undo")),
-                 ("Read as another message", damaged, True))
+    expect("back at the message", (shown()["state"], grid(), usable("undo")),
+           ("Read as another message", damaged, True))
     push("tab-read")
-    count.expect("back at the grid", (shown()["state"], shown()["says"], grid(), usable("undo")),
-                 ("Read", "Every answer is proved.", second, True))
+    expect("back at the grid", (shown()["state"], shown()["says"], grid(), usable("undo")),
+           ("Read", "Every answer is proved.", second, True))
     push("undo", "tab-make", "undo-all")
-    count.expect("undone in each", verdict(), ("Read", "123456"))
+    expect("undone in each", verdict(), ("Read", "123456"))
 
 
 def a_picture_does_not_win():
@@ -95,36 +85,31 @@ def a_picture_does_not_win():
     def meanwhile(script, verdict_then):
         find("picture").send_keys(str(file))
         wait_for(lambda: run("return gates.length"))
-        run(script)
-        count.expect_soon(f"meanwhile {verdict_then[1]}", verdict, verdict_then)
+        run(ACTS + script)
+        soon(f"meanwhile {verdict_then[1]}", verdict, verdict_then)
         run("gates.pop()()")
         settle()
 
     meanwhile("document.getElementById('example-c40').click()", ("Read", "Every answer is proved."))
-    count.expect("a late picture", (verdict(), "given up" in text_of("picture-hint")),
-                 (("Read", "Every answer is proved."), True))
-    meanwhile("""document.getElementById('tab-make').click();
-           const area = document.getElementById('message');
-           area.value = 'meanwhile';
-           area.dispatchEvent(new Event('input', { bubbles: true }))""", ("Read", "meanwhile"))
-    count.expect("a late picture doesn't change the message", verdict(), ("Read", "meanwhile"))
+    expect("a late picture", (verdict(), "given up" in text_of("picture-hint")),
+           (("Read", "Every answer is proved."), True))
+    meanwhile("at('tab-make').click(); put('message', 'meanwhile')", ("Read", "meanwhile"))
+    expect("a late picture doesn't change the message", verdict(), ("Read", "meanwhile"))
     push("tab-read")
-    count.expect("it is in its own pane", verdict(), ("Read", "late"))
-    run("delete mitsubadoor.desks.pictures.ask")
-    push("tab-make")
+    expect("it is in its own pane", verdict(), ("Read", "late"))
 
 
 def names_follow():
     write("123456")
     label = lambda w: find(f"word-{w}").get_attribute("aria-label")
-    count.expect("name of a codeword", label(1), "data codeword 2: 164, the digits 34")
+    expect("name of a codeword", label(1), "data codeword 2: 164, the digits 34")
     pointed([1])
     click(11)
-    count.expect("name of a damaged codeword", label(1), "data codeword 2: 36, corrected to 164, the digits 34")
+    expect("name of a damaged codeword", label(1), "data codeword 2: 36, corrected to 164, the digits 34")
     push("undo")
-    count.expect("name of a mended codeword", label(1), "data codeword 2: 164, the digits 34")
+    expect("name of a mended codeword", label(1), "data codeword 2: 164, the digits 34")
     write("654321")
-    count.expect("name of another codeword", label(1), "data codeword 2: 173, the digits 43")
+    expect("name of another codeword", label(1), "data codeword 2: 173, the digits 43")
 
 
 # ---- Nothing freezes
@@ -150,12 +135,11 @@ def nothing_freezes():
         begun = processor_time()
         put(name, text)
         taken = processor_time() - begun
-        count.expect(f"a megabyte in the {name} is bounded",
-                     (verdict(), "1,000,000 characters" in text_of(f"{name}-hint"), taken < 2000),
-                     (NOTHING, True, True))
+        expect(f"a megabyte in the {name} is bounded",
+               (verdict(), "1,000,000 characters" in text_of(f"{name}-hint"), taken < 2000), (NOTHING, True, True))
         put(name, "" if name == "grid" else "123456")
-    count.expect("a large picture", opened("huge.png", chunks(6400, 6400, (b"\0" + b"\xff" * 6400) * 6400)),
-                 "huge.png: The picture has only one colour.")
+    expect("a large picture", opened("huge.png", chunks(6400, 6400, (b"\0" + b"\xff" * 6400) * 6400)),
+           "huge.png: The picture has only one colour.")
     run("""globalThis.longest = 0;
            const lengths = (list) => list.getEntries().map((task) => task.duration);
            globalThis.watch = new PerformanceObserver((list) => { longest = Math.max(longest, ...lengths(list)); });
@@ -163,24 +147,17 @@ def nothing_freezes():
     file = on.folder / "noise.png"
     file.write_bytes(noise(6300))
     find("picture").send_keys(str(file))
-    count.expect("what runs shows that it runs", bool(wait_for(lambda: find("busy").is_displayed())), True)
-    run("""document.getElementById('tab-make').click();
-           const area = document.getElementById('message');
-           area.value = 'meanwhile';
-           area.dispatchEvent(new Event('input', { bubbles: true }))""")
-    count.expect("one can go on meanwhile", wait_for(lambda: verdict() == ("Read", "meanwhile")), True)
-    count.expect("it still runs", find("busy").is_displayed(), True)
-    run("document.getElementById('stop').click()")
-    settle()
-    count.expect("the page was never held up", run("watch.disconnect(); return longest") < HELD_UP, True)
+    expect("what runs shows that it runs", bool(wait_for(lambda: is_seen("busy"))), True)
+    run(f"{ACTS} at('tab-make').click(); put('message', 'meanwhile')")
+    expect("one can go on meanwhile", wait_for(lambda: verdict() == ("Read", "meanwhile")), True)
+    expect("it still runs", is_seen("busy"), True)
+    push("stop")
+    expect("the page was never held up", run("watch.disconnect(); return longest") < HELD_UP, True)
     push("tab-read")
-    count.expect("stopped", (verdict(), "stopped" in text_of("picture-hint"), find("busy").is_displayed()),
-                 (NOTHING, True, False))
-    count.expect("after that pictures are opened",
-                 opened("next.png", png(written("next").split("\n"), 4, 2)).split(":")[0], "next.png")
-    count.expect("and read", verdict(), ("Read", "next"))
-    push("tab-make")
-    write("123456")
+    expect("stopped", (verdict(), "stopped" in text_of("picture-hint"), is_seen("busy")), (NOTHING, True, False))
+    expect("after that pictures are opened", opened("next.png", png(written("next").split("\n"), 4, 2)).split(":")[0],
+           "next.png")
+    expect("and read", verdict(), ("Read", "next"))
 
 
 # ---- Phones
@@ -194,30 +171,23 @@ def phones():
                        ("learn", ["to-limit"])):
         push(f"tab-{task}")
         run("scrollTo(0, 0)")
-        ends = run(
-            """return arguments[0].map((id) => document.getElementById(id).getBoundingClientRect())
+        ends = run("""return arguments[0].map((id) => document.getElementById(id).getBoundingClientRect())
             .map(({ top, bottom, height }) => [Math.round(top), Math.round(bottom), height > 0])""",
             ["verdict", "easel", *acts],
         )
         out = [end for end in ends if end[0] < 0 or end[1] > 844 or not end[2]]
-        count.expect(f"{task}: symbol, act and verdict together on a phone", out, [])
+        expect(f"{task}: symbol, act and verdict together on a phone", out, [])
     write("\\F010123456789012810AB-42")
     before = find("symbol").rect["width"]
     push("zoom-in", "zoom-in")
-    count.expect("a symbol can be larger",
-                 (find("symbol").rect["width"] > 2.5 * before,
-                  run("return document.documentElement.scrollWidth <= innerWidth")), (True, True))
+    expect("a symbol can be larger", (find("symbol").rect["width"] > 2.5 * before, fits_across()), (True, True))
     push("zoom-out", "zoom-out")
     for width, height in ((320, 640), (640, 450)):
         metrics(width, height, width == 320)
         run("document.querySelector('.bench').scrollIntoView(); scrollBy(0, 60)")
-        fixed = run(
-            """const box = document.getElementById('verdict'), isFixed = getComputedStyle(box).position === 'sticky';
-               return isFixed ? box.getBoundingClientRect().height : 0"""
-        )
-        count.expect(f"{width} by {height}",
-                     (run("return document.documentElement.scrollWidth <= innerWidth"), fixed < height / 3),
-                     (True, True))
+        is_fixed = run("return getComputedStyle(document.getElementById('verdict')).position === 'sticky'")
+        expect(f"{width} by {height}", (fits_across(), is_fixed and box("verdict")["height"] >= height / 3),
+               (True, False))
     usual_metrics()
     run("scrollTo(0, 0)")
 
@@ -236,26 +206,22 @@ def gs1():
                        ("(21)1(10)2(17)271231(37)5", "\\F211\\F102\\F1727123137" + "5"), ("\\x2801)5", "(01)5"),
                        ("a(5)", "a(5)")):
         write(text)
-        count.expect(f"{text} as a symbol", grid(), written(line))
+        expect(f"{text} as a symbol", grid(), written(line))
         agree(f"{text} read")
     write(f"(01){fine}(17)280200(10)AB-42(3103)001250")
-    count.expect(
-        "table",
-        rows(),
-        [["(01)", "GTIN", f"{fine} the check digit is right"],
-         ["(17)", "USE BY OR EXPIRY", "280200 the end of February 2028"], ["(10)", "BATCH/LOT", "AB-42"],
-         ["(3103)", "NET WEIGHT (kg)", "001250 1.250"]],
-    )
-    count.expect("right", (shown()["state"], find("verdict").get_attribute("class")),
-                 ("Read, as GS1 data", "card verdict good"))
+    expect("table", rows(),
+           [["(01)", "GTIN", f"{fine} the check digit is right"],
+            ["(17)", "USE BY OR EXPIRY", "280200 the end of February 2028"], ["(10)", "BATCH/LOT", "AB-42"],
+            ["(3103)", "NET WEIGHT (kg)", "001250 1.250"]])
+    expect("right", (shown()["state"], attribute("verdict", "class")), ("Read, as GS1 data", "card verdict good"))
     for text, note in (("(3922)1099", "10.99"), ("(3903)5", "0.005"), ("(3912)978150", "1.50"), ("(3930)978150", ""),
                        ("(3941)0125", "12.5"), ("(3695)123456", "1.23456")):
         write(text)
         value = text.partition(")")[2]
-        count.expect(f"decimals of {text}", rows()[0][2], f"{value} {note}".strip())
+        expect(f"decimals of {text}", rows()[0][2], f"{value} {note}".strip())
     write("(414)9506000134352")
-    count.expect("a check digit over an even number of digits", (rows()[0][2], shown()["state"]),
-                 ("9506000134352 the check digit is right", "Read, as GS1 data"))
+    expect("a check digit over an even number of digits", (rows()[0][2], shown()["state"]),
+           ("9506000134352 the check digit is right", "Read, as GS1 data"))
     for text, fault in (("(01)09506000134353", "wrong: the check digit 3 should be 2"),
                         ("(17)271301", "wrong: 13 is no month"), ("(17)270230", "wrong: 30 is no day of that month"),
                         ("(01)0950600013435", "wrong: too short: 14 digits are due"),
@@ -264,15 +230,14 @@ def gs1():
                         ("\\F", "wrong: empty"), ("(8010)ab", "wrong: it has a character that isn’t allowed here")):
         write(text)
         said = " ".join(cell for row in rows() for cell in row)
-        count.expect(f"{text[:20]} is wrong",
-                     (fault.split(": ", 1)[1] in said, shown()["state"], find("verdict").get_attribute("class")),
-                     (True, "Read, but it isn’t right as GS1 data", "card verdict other"))
+        expect(f"{text[:20]} is wrong",
+               (fault.split(": ", 1)[1] in said, shown()["state"], attribute("verdict", "class")),
+               (True, "Read, but it isn’t right as GS1 data", "card verdict other"))
     write("123456")
-    count.expect("no table without GS1", find("elements").is_displayed(), False)
+    expect("no table without GS1", is_seen("elements"), False)
     push("tab-read")
     put("grid", written(f"\\F01{fine}"))
-    count.expect("a table of what is read", rows()[0][:2], ["(01)", "GTIN"])
-    push("tab-make")
+    expect("a table of what is read", rows()[0][:2], ["(01)", "GTIN"])
 
 
 # ---- The link
@@ -283,31 +248,32 @@ def linked():
     settle()
 
 
+def go(fragment):
+    run("location.hash = arguments[0]", fragment)
+    linked()
+
+
 def links():
     write("A & b=\\F #", 1)
     push("to-limit")
-    damaged, fetched = (
-        grid(),
-        "return performance.getEntriesByType('resource').filter((it) => !/^(data|blob):/.test(it.name)).length",
-    )
+    damaged = grid()
     push("tab-read", "example-c40", "scratch")
     second = grid()
     linked()
     address = on.page.current_url
-    for name, go in (("reload", on.page.refresh), ("Back", lambda: (on.page.get("about:blank"), on.page.back())),
-                     ("bookmark", lambda: (on.page.get("about:blank"), on.page.get(address)))):
-        go()
+    for name, come in (("reload", on.page.refresh), ("Back", lambda: (on.page.get("about:blank"), on.page.back())),
+                       ("bookmark", lambda: visit(address, False))):
+        come()
         started()
-        count.expect(f"{name}: the grid", (find("pane-read").is_displayed(), grid()), (True, second))
+        expect(f"{name}: the grid", (is_seen("pane-read"), grid()), (True, second))
         push("tab-make")
-        count.expect(f"{name}: the message",
-                     (find("message").get_attribute("value"), find("profile-1").is_selected(), grid()),
-                     ("A & b=\\F #", True, damaged))
+        expect(f"{name}: the message", (value_of("message"), find("profile-1").is_selected(), grid()),
+               ("A & b=\\F #", True, damaged))
         agree(f"{name}: what is read")
         push("undo")
-        count.expect(f"{name}: the damage can be undone", grid(), written("A & b=\\F #", 1))
+        expect(f"{name}: the damage can be undone", grid(), written("A & b=\\F #", 1))
         push("redo", "tab-read")
-        count.expect(f"{name}: nothing is fetched", run(fetched), 0)
+        expect(f"{name}: nothing is fetched", fetched(), [])
         linked()
     push("tab-make")
     write("one")
@@ -315,19 +281,14 @@ def links():
     push("tab-read")
     linked()
     on.page.back()
-    count.expect_soon("Back within the page", lambda: (find("pane-make").is_displayed(), verdict()),
-                      (True, ("Read", "one")))
+    soon("Back within the page", lambda: (is_seen("pane-make"), verdict()), (True, ("Read", "one")))
     linked()
-    run("location.hash = '#message=another&damage=5'")
-    linked()
-    count.expect("another link in the same page", (verdict()[1], changed(written("another"), grid())), ("another", [5]))
+    go("#message=another&damage=5")
+    expect("another link in the same page", (verdict()[1], changed(written("another"), grid())), ("another", [5]))
     for bad in ("#message=x&damage=zzzz.zzzz.1", "#grid=10&pane=read", "#grid=999AAAA&message=x",
                 "#border=99999&message=x&grid-border=x"):
-        run("location.hash = arguments[0]", bad)
-        linked()
-        count.expect(f"{bad} is no fault", find("broken").is_displayed(), False)
-    push("tab-make")
-    write("123456")
+        go(bad)
+        expect(f"{bad} is no fault", is_seen("broken"), False)
 
 
 PARTS = [never_stale, each_pane_keeps_its_state, a_picture_does_not_win, names_follow, nothing_freezes, phones, gs1,

@@ -12,7 +12,7 @@ import traceback
 
 from tests.page import browser
 from tests.page.parts import PARTS, fault_of
-from tests.page.stage import count, on
+from tests.page.stage import count, expect, on
 from tests.support import places
 
 BROWSERS = min(4, os.cpu_count() or 1)
@@ -48,5 +48,5 @@ def rows_of(name, page):
             break
         print(f"the browser was lost in {name}, and is started again: {browser.first_line(fault)}", flush=True)
     if not browser.is_lost():
-        count.expect("console", [entry["message"] for entry in on.page.get_log("browser")], [])
+        expect("console", [entry["message"] for entry in on.page.get_log("browser")], [])
     return count.rows, fault and "".join(traceback.format_exception(fault))

@@ -3,86 +3,78 @@ import collections
 import random
 import re
 
-from tests.page.stage import (By, Keys, QUIET, SHOWN, acting, agree, as_program, cells, changed, click, coloured, count,
-                              drawn, find, grid, learn, metrics, offset, on, pointed, push, put, ran, run, settle,
-                              shown, task, text_of, to_top, told, unseen, usable, usual_metrics, value_at, wait_for,
-                              write, written)
+from tests.page.stage import (QUIET, SHOWN, By, Keys, acting, agree, as_program, attribute, cells, changed, click,
+                              coloured, drawn, expect, find, focused, grid, is_seen, learn, metrics, offset, on,
+                              pointed, push, put, ran, run, settle, shown, soon, task, text_of, texts_of, to_top, told,
+                              unseen, usable, usual_metrics, value_at, wait_for, write, written)
 
 
 def small_symbol():
     find("message").send_keys(Keys.CONTROL, "a", Keys.NULL, "123456")
     settle()
     clean = written("123456")
-    count.expect("123456 by its pixels", drawn(10), clean)
-    count.expect("123456 in the page", grid(), clean)
-    count.expect("facts",
-                 run("return [...document.querySelectorAll('#facts dd, #facts dt')].map((it) => it.textContent)"),
-                 ["modules", "10 × 10", "data codewords", "3", "check codewords", "5",
-                  "wrong codewords can be corrected", "2", "symbology identifier", "]d1"])
-    count.expect("clean", [shown()[it] for it in ("state", "says", "why")], ["Read", "123456", ""])
+    expect("123456 by its pixels", drawn(10), clean)
+    expect("123456 in the page", grid(), clean)
+    expect("facts", texts_of("#facts dd, #facts dt"),
+           ["modules", "10 × 10", "data codewords", "3", "check codewords", "5", "wrong codewords can be corrected",
+            "2", "symbology identifier", "]d1"])
+    expect("clean", [shown()[it] for it in ("state", "says", "why")], ["Read", "123456", ""])
     click(11)  # bit 1 of codeword 2
     agree("one module")
-    count.expect("one module said", shown()["why"],
-                 "1 wrong codeword was corrected. Damage within the limits never changes the message.")
-    count.expect("one module by its pixels", drawn(10), grid())
-    count.expect("the module that was clicked", changed(clean, grid()), [11])
-    count.expect("its cross", run("return document.querySelectorAll('#symbol .turned').length"), 1)
+    expect("one module said", shown()["why"],
+           "1 wrong codeword was corrected. Damage within the limits never changes the message.")
+    expect("one module by its pixels", drawn(10), grid())
+    expect("the module that was clicked", changed(clean, grid()), [11])
+    expect("its cross", run("return document.querySelectorAll('#symbol .turned').length"), 1)
     click(16)  # codeword 4
     agree("two codewords")
-    count.expect("two codewords said", (shown()["why"].split(".")[0], shown()["meters"]),
-                 ("2 wrong codewords were corrected", ["2 wrong, 2", "0 wrong, 2"]))
+    expect("two codewords said", (shown()["why"].split(".")[0], shown()["meters"]),
+           ("2 wrong codewords were corrected", ["2 wrong, 2", "0 wrong, 2"]))
     click(24)  # codeword 5
     agree("three codewords")
-    count.expect(
-        "three codewords said",
-        (shown()["state"], shown()["why"], shown()["meters"][0]),
-        ("Refused",
-         "More than 2 codewords are wrong. The 5 check codewords correct no more than that, and nothing is guessed.",
-         "more than 2 wrong, 2"),
-    )
-    count.expect("beyond correction by its pixels", drawn(10), grid())
+    expect("three codewords said", (shown()["state"], shown()["why"], shown()["meters"][0]),
+           ("Refused",
+            "More than 2 codewords are wrong. The 5 check codewords correct no more than that, and nothing is guessed.",
+            "more than 2 wrong, 2"))
+    expect("beyond correction by its pixels", drawn(10), grid())
     click(24)
     agree("two codewords again")
     for left in ([11, 16, 24], [11, 16], [11], []):
         push("undo")
-        count.expect(f"undone to {left}", changed(clean, grid()), left)
+        expect(f"undone to {left}", changed(clean, grid()), left)
         agree(f"undone to {left}")
-    count.expect("nothing left to undo", usable("undo"), False)
+    expect("nothing left to undo", usable("undo"), False)
 
 
 def border():
     write("123456")
     click(0, 2, 4)
     agree("border")
-    count.expect("border coloured", coloured(), ["#ffdf9e", "turned"])
+    expect("border coloured", coloured(), ["#ffdf9e", "turned"])
     click(1)
-    count.expect("border coloured, dark and light", coloured(), ["#ffdf9e", "#a65f00", "turned"])
+    expect("border coloured, dark and light", coloured(), ["#ffdf9e", "#a65f00", "turned"])
     push("undo")
-    count.expect(
-        "border said",
-        shown()["why"],
-        "3 modules of the border have the wrong colour, and 2 may. The message may still be readable: accept more "
-        "under “Details”.",
-    )
+    expect("border said", shown()["why"], "3 modules of the border have the wrong colour, and 2 may. The message may "
+           "still be readable: accept more under “Details”.")
     put("border-limit", "3")
-    count.expect("border borne", [shown()[it] for it in ("state", "says", "why")],
-                 ["Read", "123456",
-                  "3 modules of the border have the wrong colour. Damage within the limits never changes the message."])
-    count.expect("the meter of what is borne", shown()["meters"], ["0 wrong, 2", "3 wrong, 3"])
+    expect("border borne", [shown()[it] for it in ("state", "says", "why")],
+           ["Read", "123456",
+            "3 modules of the border have the wrong colour. Damage within the limits never changes the message."])
+    expect("the meter of what is borne", shown()["meters"], ["0 wrong, 2", "3 wrong, 3"])
     push("usual")
     agree("border as usual")
     push("undo-all")
-    count.expect("all undone", grid(), written("123456"))
+    expect("all undone", grid(), written("123456"))
     agree("all undone")
     put("border-limit", "10")
     write("0" * 60)
-    count.expect("another size has its own limit", shown()["meters"][-1], "0 wrong, 5")
+    expect("another size has its own limit", shown()["meters"][-1], "0 wrong, 5")
     write("A" * 280)  # side 64, of 16 regions
     clean, cells_of_borders = grid(), (1, 31, 64 * 33 - 1, 64 * 33 + 16, 64 * 63)
     for cell in cells_of_borders:
         click(cell, side=64)
     agree("border between regions")
-    count.expect("its count", (changed(clean, grid()), shown()["meters"][-1]), (list(cells_of_borders), "5 wrong, 16"))
+    expect("its count", (changed(clean, grid()), shown()["meters"][-1]), (list(cells_of_borders), "5 wrong, 16"))
 
 
 def fixed_square():
@@ -92,41 +84,46 @@ def fixed_square():
     for cell in (12 * 10 + 10, 12 * 9 + 9, 12 * 9 + 10, 12 * 10 + 9):
         click(cell, side=12)
     agree("fixed square")
-    count.expect("fixed square isn't looked at", (len(changed(clean, grid())), shown()["why"]),
-                 (4, "Nothing had to be corrected."))
-    count.expect("fixed square isn't coloured", coloured(), ["turned"])
+    expect("fixed square isn't looked at", (len(changed(clean, grid())), shown()["why"]),
+           (4, "Nothing had to be corrected."))
+    expect("fixed square isn't coloured", coloured(), ["turned"])
     acting().move_to_element_with_offset(find("symbol"), *offset(12 * 9 + 10, 12)).perform()
-    count.expect("fixed square told", "fixed square in the corner" in text_of("about"), True)
+    expect("fixed square told", "fixed square in the corner" in text_of("about"), True)
 
 
-def another_message():
-    """Four of the six codewords in which two symbols differ, taken from the second: it is read as that, and the page
-    says so."""
+def turned_to_another():
+    """Makes 123456, with four of the six codewords in which 923456 differs taken from that."""
     write("923456")
     other, values = grid(), [held for held, _, _ in cells()]
     write("123456")
     differing = [w for w, (cell, value) in enumerate(zip(cells(), values)) if cell[0] != value][:4]
     places = [(x, y) for w, (_, bits) in enumerate(pointed()) if w in differing for _, x, y in bits]
     click(*[10 * y + x for x, y in places if grid().split("\n")[y][x] != other.split("\n")[y][x]])
+
+
+def another_message():
+    """Four of the six codewords in which two symbols differ, taken from the second: it is read as that, and the page
+    says so."""
+    turned_to_another()
     agree("another message")
-    count.expect("another message said", (shown()["state"], shown()["says"], shown()["why"].split(",")[0]),
-                 ("Read as another message", "923456", "The damage is beyond the limit"))
+    expect("another message said", (shown()["state"], shown()["says"], shown()["why"].split(",")[0]),
+           ("Read as another message", "923456", "The damage is beyond the limit"))
     push("undo-all")
-    count.expect("another message undone", (shown()["state"], shown()["says"]), ("Read", "123456"))
+    expect("another message undone", (shown()["state"], shown()["says"]), ("Read", "123456"))
 
 
 def dragged():
     write("123456")
     learn()
     chain = acting().move_to_element_with_offset(find("symbol"), *offset(33, 10)).click_and_hold()
-    chain.move_to_element_with_offset(find("symbol"), *offset(66, 10)).move_to_element_with_offset(
-        find("symbol"), *offset(44, 10)
-    ).release().perform()
+    for cell in (66, 44):
+        chain.move_to_element_with_offset(find("symbol"), *offset(cell, 10))
+    chain.release().perform()
     settle()
-    count.expect("a drag leaves none out, and turns each once", changed(written("123456"), grid()), [33, 44, 55, 66])
+    expect("a drag leaves none out, and turns each once", changed(written("123456"), grid()), [33, 44, 55, 66])
     agree("drag")
     push("undo")
-    count.expect("a drag is one step", grid(), written("123456"))
+    expect("a drag is one step", grid(), written("123456"))
 
 
 def touched():
@@ -161,25 +158,24 @@ def touched():
 
     tried_until(lambda: touch(33), turned_over)
     settle()
-    count.expect("a tap", turned_over(), [33])
+    expect("a tap", turned_over(), [33])
     agree("tap")
     push("undo-all")
     before = run("return scrollY")
     tried_until(lambda: touch(83, 73, 63, 53, 43, 33, 23, 13), lambda: run("return scrollY") > before + 20)
     settle()
-    count.expect("a swipe scrolls and turns nothing over", (turned_over(), run("return scrollY") > before + 20),
-                 ([], True))
+    expect("a swipe scrolls and turns nothing over", (turned_over(), run("return scrollY") > before + 20), ([], True))
     zoomed = lambda: run("return visualViewport.scale") > 1.5
     to_top()
     box = run("const b = document.getElementById('symbol').getBoundingClientRect(); return [b.left, b.top, b.width]")
     tried_until(pinch, zoomed)
     settle()
-    count.expect("a pinch zooms and turns nothing over", (zoomed(), turned_over()), (True, []))
+    expect("a pinch zooms and turns nothing over", (zoomed(), turned_over()), (True, []))
     on.page.execute_cdp_cmd("Emulation.setPageScaleFactor", {"pageScaleFactor": 1})
     push("tab-make")
     box = run("const b = document.getElementById('symbol').getBoundingClientRect(); return [b.left, b.top, b.width]")
     tried_until(lambda: touch(33), turned_over, seconds=1)
-    count.expect("elsewhere a tap does nothing", turned_over(), [])
+    expect("elsewhere a tap does nothing", turned_over(), [])
     on.page.execute_cdp_cmd("Emulation.setTouchEmulationEnabled", {"enabled": False})
     usual_metrics()
     to_top()
@@ -198,40 +194,37 @@ def by_keys():
     learn()
     find("tab-learn").send_keys(Keys.TAB)
     for _ in range(12):
-        if on.page.switch_to.active_element.get_attribute("id") == "symbol":
+        if focused() == "symbol":
             break
         on.page.switch_to.active_element.send_keys(Keys.TAB)
-    count.expect("symbol by Tab", on.page.switch_to.active_element.get_attribute("id"), "symbol")
+    expect("symbol by Tab", focused(), "symbol")
 
     def keys(*some):
         on.page.switch_to.active_element.send_keys(*some)
         settle()
 
     keys(Keys.HOME, Keys.PAGE_UP, Keys.ARROW_DOWN, Keys.ARROW_RIGHT, Keys.SPACE)
-    count.expect("a key turns over", changed(written("123456"), grid()), [11])
-    count.expect_soon("what is spoken", lambda: text_of("spoken"), "Row 2, column 2: light, codeword 2, bit 1, wrong")
-    count.expect_soon(
-        "codeword at the cursor",
-        lambda: text_of("about"),
-        "Codeword 2 of 8: data. It is 36, 00100100, and is corrected to 164, 10100100. It stands for the digits 34.",
-    )
+    expect("a key turns over", changed(written("123456"), grid()), [11])
+    soon("what is spoken", lambda: text_of("spoken"), "Row 2, column 2: light, codeword 2, bit 1, wrong")
+    soon("codeword at the cursor", lambda: text_of("about"),
+         "Codeword 2 of 8: data. It is 36, 00100100, and is corrected to 164, 10100100. It stands for the digits 34.")
     keys(Keys.HOME, Keys.ARROW_LEFT, Keys.ENTER)
-    count.expect("the cursor goes round to the right", changed(written("123456"), grid()), [11, 19])
+    expect("the cursor goes round to the right", changed(written("123456"), grid()), [11, 19])
     keys(Keys.PAGE_UP, Keys.ARROW_UP, Keys.ENTER)
-    count.expect("the cursor goes round to the bottom", changed(written("123456"), grid()), [11, 19, 99])
+    expect("the cursor goes round to the bottom", changed(written("123456"), grid()), [11, 19, 99])
     keys(Keys.CONTROL, "z", "z", Keys.NULL)
-    count.expect("undone by keys", changed(written("123456"), grid()), [11])
+    expect("undone by keys", changed(written("123456"), grid()), [11])
     keys(Keys.ESCAPE)
-    count.expect("left by Escape", on.page.switch_to.active_element.get_attribute("id") == "symbol", False)
+    expect("left by Escape", focused() == "symbol", False)
     find("words").send_keys(Keys.HOME, Keys.ARROW_RIGHT, Keys.ARROW_RIGHT)
-    count.expect("codewords by keys", (text_of("about"), find("words").get_attribute("aria-activedescendant")),
-                 ("Codeword 3 of 8: data. It is 186, 10111010. It stands for the digits 56.", "word-2"))
+    expect("codewords by keys", (text_of("about"), attribute("words", "aria-activedescendant")),
+           ("Codeword 3 of 8: data. It is 186, 10111010. It stands for the digits 56.", "word-2"))
     for key, tab in ((Keys.ARROW_LEFT, "make"), (Keys.ARROW_LEFT, "read"), (Keys.ARROW_LEFT, "learn"),
                      (Keys.ARROW_RIGHT, "read")):
         on.page.execute_script("document.getElementById(arguments[0]).focus()", f"tab-{task()}")
         on.page.switch_to.active_element.send_keys(key)
-        panes = [find(f"pane-{each}").is_displayed() for each in ("read", "make", "learn")]
-        count.expect(f"{tab} by keys", (task(), panes), (tab, [tab == each for each in ("read", "make", "learn")]))
+        panes = [is_seen(f"pane-{each}") for each in ("read", "make", "learn")]
+        expect(f"{tab} by keys", (task(), panes), (tab, [tab == each for each in ("read", "make", "learn")]))
 
 
 def codewords():
@@ -239,38 +232,36 @@ def codewords():
     to."""
     write("123456")
     learn()
-    count.expect("codewords", [held for held, _, _ in cells()], [142, 164, 186, 114, 25, 5, 88, 102])
+    expect("codewords", [held for held, _, _ in cells()], [142, 164, 186, 114, 25, 5, 88, 102])
     acting().move_to_element_with_offset(find("symbol"), *offset(11, 10)).perform()
-    count.expect("a module pointed at",
-                 (text_of("about"), len(on.page.find_elements(By.CSS_SELECTOR, "#symbol .bits text"))),
-                 ("Codeword 2 of 8: data. It is 164, 10100100. It stands for the digits 34.", 8))
+    expect("a module pointed at", (text_of("about"), len(on.page.find_elements(By.CSS_SELECTOR, "#symbol .bits text"))),
+           ("Codeword 2 of 8: data. It is 164, 10100100. It stands for the digits 34.", 8))
     for side, message in ((10, "123456"), (26, "A" * 40), (52, "".join(chr(48 + k % 43) for k in range(200)))):
         write(message)
         clean, values = grid(), [held for held, _, _ in cells()]
         expected = ([ord(c) + 1 for c in message] if not message.isdigit()
                     else [130 + int(message[k : k + 2]) for k in range(0, len(message), 2)])
         if side != 52:
-            count.expect(f"side {side}: data codewords", values[: len(expected)], expected)
-        count.expect(f"side {side}: bits make values", [value_at(bits, clean) for _, bits in pointed()], values)
+            expect(f"side {side}: data codewords", values[: len(expected)], expected)
+        expect(f"side {side}: bits make values", [value_at(bits, clean) for _, bits in pointed()], values)
         push("to-limit")
         about = [re.match(r"Codeword (\d+) of (\d+): (data|check)(?:, block (\d))?. It is (\d+), ([01]{8})"
                           r"(?:, and is corrected to (\d+), ([01]{8}))?\.", text).groups() for text, _ in pointed()]
-        count.expect(f"side {side}: corrected to", [int(it[6] or it[4]) for it in about], values)
-        count.expect(f"side {side}: in bits", [(int(it[5], 2), int(it[7] or it[5], 2)) for it in about],
-                     [(int(it[4]), int(it[6] or it[4])) for it in about])
-        count.expect(f"side {side}: as held", [int(it[4]) for it in about],
-                     [value_at(bits, grid()) for _, bits in pointed()])
-        count.expect(f"side {side}: coloured", [("corrected" in kind, held) for held, _, kind in cells()],
-                     [(it[6] is not None, int(it[4])) for it in about])
+        expect(f"side {side}: corrected to", [int(it[6] or it[4]) for it in about], values)
+        expect(f"side {side}: in bits", [(int(it[5], 2), int(it[7] or it[5], 2)) for it in about],
+               [(int(it[4]), int(it[6] or it[4])) for it in about])
+        expect(f"side {side}: as held", [int(it[4]) for it in about], [value_at(bits, grid()) for _, bits in pointed()])
+        expect(f"side {side}: coloured", [("corrected" in kind, held) for held, _, kind in cells()],
+               [(it[6] is not None, int(it[4])) for it in about])
         if side != 52:  # the cells of so many codewords have no room for it
-            count.expect(f"side {side}: corrected to, in the cells", [mended for _, mended, _ in cells()], values)
-        count.expect(f"side {side}: blocks", [it[3] for it in about],
-                     [str(1 + w % 2) if side == 52 else None for w in range(len(about))])
+            expect(f"side {side}: corrected to, in the cells", [mended for _, mended, _ in cells()], values)
+        expect(f"side {side}: blocks", [it[3] for it in about],
+               [str(1 + w % 2) if side == 52 else None for w in range(len(about))])
     push("one-more")
     beyond = [w % 2 for w, (_, _, kind) in enumerate(cells()) if "beyond" in kind]
     agree("side 52, past the limit")
-    count.expect("side 52: the block that is beyond", (len(beyond), len(set(beyond))),
-                 (144, 1) if shown()["state"] == "Refused" else (0, 0))
+    expect("side 52: the block that is beyond", (len(beyond), len(set(beyond))),
+           (144, 1) if shown()["state"] == "Refused" else (0, 0))
 
 
 def blocks():
@@ -282,8 +273,8 @@ def blocks():
         _, x, y = bits[w % 8]
         click(104 * y + x, side=104)
         agree(f"codeword {w + 1} of six blocks")
-        count.expect(f"block of codeword {w + 1}",
-                     [b for b, line in enumerate(shown()["meters"][:-1]) if line.startswith("1 ")], [w % 6])
+        expect(f"block of codeword {w + 1}",
+               [b for b, line in enumerate(shown()["meters"][:-1]) if line.startswith("1 ")], [w % 6])
         push("undo")
 
 
@@ -292,27 +283,26 @@ def sizes():
     for side, _, _, _, data, check, parts, limit in [map(int, line.split()) for line in ran("table", "").splitlines()]:
         text = "".join(random.choice("ABCDEFGHIJKLMNOPQRSTUVWXYZ") for _ in range(data))
         write(text)
-        count.expect(f"side {side} by its pixels", drawn(side), written(text))
-        count.expect(f"side {side} isn't coloured", coloured(), [])
+        expect(f"side {side} by its pixels", drawn(side), written(text))
+        expect(f"side {side} isn't coloured", coloured(), [])
         push("to-limit")
         agree(f"side {side} at the limit")
-        count.expect(f"side {side} at the limit, by the meters", shown()["meters"][:-1],
-                     [f"{limit} wrong, {limit}"] * parts)
+        expect(f"side {side} at the limit, by the meters", shown()["meters"][:-1], [f"{limit} wrong, {limit}"] * parts)
         if side <= 72:  # in larger ones a module is too small to have a corner without a cross
-            count.expect(f"side {side} damaged, by its pixels", drawn(side), grid())
+            expect(f"side {side} damaged, by its pixels", drawn(side), grid())
         push("one-more")
         agree(f"side {side} past the limit")
         if shown()["state"] == "Refused":  # one block is beyond, and the others at the limit
             kinds = collections.Counter(word for _, _, kind in cells() for word in kind.split())
-            count.expect(f"side {side} coloured", (kinds["beyond"], kinds["corrected"], kinds["check"]),
-                         ((data + check) // parts, limit * (parts - 1), check))
+            expect(f"side {side} coloured", (kinds["beyond"], kinds["corrected"], kinds["check"]),
+                   ((data + check) // parts, limit * (parts - 1), check))
         push("undo")
-        count.expect(f"side {side}, one more undone", shown()["meters"][:-1], [f"{limit} wrong, {limit}"] * parts)
+        expect(f"side {side}, one more undone", shown()["meters"][:-1], [f"{limit} wrong, {limit}"] * parts)
         push("undo-all", "scratch")
         agree(f"side {side} scratched")
-        facts = run("return [...document.querySelectorAll('#facts dd')].map((it) => it.textContent)")
+        facts = texts_of("#facts dd")
         identifier = [] if shown()["state"] == "Refused" else ["]d1"]  # (a scratch may be more than can be corrected)
-        count.expect(f"side {side}, facts", facts, [f"{side} × {side}", str(data), str(check), str(limit), *identifier])
+        expect(f"side {side}, facts", facts, [f"{side} × {side}", str(data), str(check), str(limit), *identifier])
 
 
 MUCH_DAMAGE = ("""
@@ -358,9 +348,8 @@ def much_damage():
     answers = told([text for text, _, _ in some])
     got = [as_program(seen) for _, seen, _ in some]
     odd = [(text, ours, theirs) for (text, _, _), ours, theirs in zip(some, got, answers) if ours != theirs]
-    count.expect("600 damaged grids", odd[:1], [])
-    count.expect("what their codewords stand for", [stands for _, _, stands in some if stands is not None],
-                 [read for read, _ in answers if not read.startswith("refused")])
+    expect("600 damaged grids", odd[:1], [])
+    expect("what their codewords stand for", [stands for _, _, stands in some if stands is not None],
+           [read for read, _ in answers if not read.startswith("refused")])
     reads = sum(not read.startswith("refused") for read, _ in answers)
-    count.expect("some are read and some refused", 100 < reads < 500, True)
-    push("tab-make")
+    expect("some are read and some refused", 100 < reads < 500, True)

@@ -4,8 +4,8 @@ import random
 import re
 
 from tests import corpus
-from tests.page.stage import (By, count, find, grid, line_of, on, push, rules, settle, shown, text_of, unseen, write,
-                              written)
+from tests.page.stage import (By, expect, find, grid, line_of, on, push, rules, settle, shown, text_of, unseen,
+                              value_of, write, written)
 
 NOTHING = "Nothing is read"
 
@@ -18,8 +18,7 @@ def misjoined():
                       ("(17)2712311", "(17) USE BY OR EXPIRY takes 6 digits, and has 7."),
                       ("(10)A\\F21B", "(10) BATCH/LOT has a separator in its value: FNC1 is put in where one is due.")):
         write(text)
-        count.expect(f"{text} isn't taken", (shown()["state"], text_of("message-hint").startswith(why)),
-                     (NOTHING, True))
+        expect(f"{text} isn't taken", (shown()["state"], text_of("message-hint").startswith(why)), (NOTHING, True))
     for text, why, plain in (
         ("(01) 095 06000134352(10)AB ", "(01) GTIN has a space in its value, and GS1 has none.",
          "(01)09506000134352(10)AB"),
@@ -34,19 +33,17 @@ def misjoined():
         ("(10)A(B)", "Column 6 opens a bracket that holds no identifier, such as (01).", "(10)A\\x28B)"),
     ):
         write(text)
-        count.expect(f"{text} is said", (shown()["state"], text_of("message-hint").startswith(why)), (NOTHING, True))
+        expect(f"{text} is said", (shown()["state"], text_of("message-hint").startswith(why)), (NOTHING, True))
         find("message-hint").find_element(By.TAG_NAME, "button").click()
         settle()
         line = line_of(plain) if plain.startswith("(") else plain
-        count.expect(f"{text} respelled",
-                     (find("message").get_attribute("value"), grid(), shown()["state"].split(",")[0]),
-                     (plain, written(line), "Read"))
+        expect(f"{text} respelled", (value_of("message"), grid(), shown()["state"].split(",")[0]),
+               (plain, written(line), "Read"))
     for text, line in (("(10)A\\(B)", "\\F10A(B)"), ("(10)A\\x28B)", "\\F10A(B)"), ("\\x28a)5", "(a)5"),
                        ("a(01)", "a(01)"), ("[01]09506000134352[10]A(B)", "\\F010950600013435210A(B)"),
                        ("[a]5", "[a]5")):
         write(text)
-        count.expect(f"{text} is taken", (grid(), shown()["state"].split(",")[0]), (written(line), "Read"))
-    write("123456")
+        expect(f"{text} is taken", (grid(), shown()["state"].split(",")[0]), (written(line), "Read"))
 
 
 # ---- Beside the Python library
@@ -125,12 +122,10 @@ def as_the_library_says():
         try:
             line = "".join("\\F" if item == 256 else chr(item) for item in gs1.items(gs1.parse(text)))
             accepted += 1
-            count.expect(f"{text} is right", (is_green, state, symbol), (True, "Read, as GS1 data", written(line)))
+            expect(f"{text} is right", (is_green, state, symbol), (True, "Read, as GS1 data", written(line)))
         except gs1.Faulty as why:
-            count.expect(f"{text} is wrong ({why})", is_green, False)
-    count.expect("some are right and some wrong", 150 <= accepted < 350, True)
-    push("tab-make")
-    write("123456")
+            expect(f"{text} is wrong ({why})", is_green, False)
+    expect("some are right and some wrong", 150 <= accepted < 350, True)
 
 
 PARTS = [misjoined, as_the_library_says]

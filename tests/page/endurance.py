@@ -5,19 +5,13 @@ import time
 from tests.page.bounds import drop
 from tests.page.photographs import SLOW_CAMERA
 from tests.page.pictures import png
-from tests.page.stage import count, find, learn, on, push, run, settle, unfold, wait_for, write, written
+from tests.page.stage import ACTS, expect, is_seen, learn, on, push, run, settle, unfold, wait_for, write, written
 
-ACTS, BEFORE = 2000, 200  # the first ones fill what is kept of each size of symbol
+MANY, BEFORE = 2000, 200  # the first ones fill what is kept of each size of symbol
 GROWTH = {"Nodes": 100, "JSEventListeners": 10, "JSHeapUsedSize": 1 << 20}
 
-DONE = """
-    const [count, grid, done] = arguments, at = (id) => document.getElementById(id);
-    const put = (id, text) => { at(id).value = text; at(id).dispatchEvent(new Event("input", { bubbles: true })); };
-    const tap = (across, down) => {
-        const box = at("symbol").getBoundingClientRect();
-        const place = { clientX: box.left + across * box.width, clientY: box.top + down * box.height };
-        at("symbol").dispatchEvent(new PointerEvent("click", { pointerType: "touch", bubbles: true, ...place }));
-    };
+DONE = ACTS + """
+    const [count, grid, done] = arguments;
     const point = (k) => at(`word-${k % 8}`)?.dispatchEvent(new PointerEvent("pointerover", { bubbles: true }));
     const push = (id) => () => at(id).click();
     const acts = [push("tab-make"), (k) => put("message", "A".repeat(k % 40)), push("profile-1"), push("profile-0"),
@@ -32,12 +26,9 @@ DONE = """
         }
         done();
     })();"""
-TAPS = """
-    const [count, done] = arguments, { mark, idle } = mitsubadoor, symbol = document.getElementById("symbol");
-    const { left, top, width } = symbol.getBoundingClientRect();
-    const place = { clientX: left + 0.4 * width, clientY: top + 0.4 * width };
-    for (let k = 0; k < count; k++)
-        symbol.dispatchEvent(new PointerEvent("click", { pointerType: "touch", bubbles: true, ...place }));
+TAPS = ACTS + """
+    const [count, done] = arguments, { mark, idle } = mitsubadoor;
+    for (let k = 0; k < count; k++) tap(0.4, 0.4);
     idle().then(() => done(mark.past.length));"""
 MOST_ACTS = 500
 
@@ -58,16 +49,15 @@ def without_growth():
     acts = lambda some: on.page.execute_async_script(DONE, some, written("Mitsubadoor"))
     acts(BEFORE)
     before = measured()
-    acts(ACTS)
+    acts(MANY)
     after = measured()
     grown = {name: after[name] - before[name] for name, most in GROWTH.items() if after[name] - before[name] > most}
-    count.expect(f"what has grown in {ACTS} acts", grown, {})
+    expect(f"what has grown in {MANY} acts", grown, {})
     said = [entry["message"] for entry in on.page.get_log("browser")]
-    count.expect("console", [message for message in said if "Throttling navigation" not in message], [])
+    expect("console", [message for message in said if "Throttling navigation" not in message], [])
     learn()
     kept = on.page.execute_async_script(TAPS, MOST_ACTS + 200)
-    count.expect("how many acts can be undone", kept, MOST_ACTS)
-    push("undo-all", "tab-make")
+    expect("how many acts can be undone", kept, MOST_ACTS)
 
 
 WATCH = """
@@ -94,7 +84,7 @@ def begin_camera():
     before = asked()
     run(SLOW_CAMERA)
     run("document.getElementById('camera').click(); for (const each of allowed.splice(0)) each()")
-    wait_for(lambda: find("viewfinder").is_displayed() and asked() > before)
+    wait_for(lambda: is_seen("viewfinder") and asked() > before)
     run("clearInterval(painter)")
 
 
@@ -115,15 +105,15 @@ def out_of_sight():
         settle()
         run(WATCH)
         time.sleep(WATCHED)  # (a script that waits in the page would set a timer by itself, in some drivers)
-        count.expect(f"{name}: what is done out of sight", run("return calls"), [])
+        expect(f"{name}: what is done out of sight", run("return calls"), [])
         moving = run("return document.getAnimations().filter((it) => it.playState === 'running').length")
-        count.expect(f"{name}: what moves", moving, 0)
+        expect(f"{name}: what moves", moving, 0)
         run("again(); delete document.hidden")
     tracks = run("return streams.flatMap((stream) => stream.getTracks().map((track) => track.readyState))")
-    count.expect("the camera is off", tracks, ["ended"])
+    expect("the camera is off", tracks, ["ended"])
     run("delete navigator.mediaDevices")
     write("123456")
-    count.expect("it goes on afterwards", run("return mitsubadoor.mark.stage"), "valid")
+    expect("it goes on afterwards", run("return mitsubadoor.mark.stage"), "valid")
 
 
 PARTS = [without_growth, out_of_sight]

@@ -2,7 +2,8 @@
 import contextlib
 import sys
 
-from tests.page.stage import By, count, find, media, metrics, on, push, put, run, unfold, usual_metrics, wait_for, write
+from tests.page.stage import (By, expect, fetched, find, is_seen, media, metrics, on, push, put, run, unfold,
+                              usual_metrics, wait_for, write)
 from tests.support import places
 
 sys.path.insert(0, places.path("web"))
@@ -11,13 +12,12 @@ import pack
 
 def one_file():
     """The page is one file: it fetches nothing, and its policy allows no connection."""
-    count.expect("resources", run("""return performance.getEntriesByType('resource').map((it) => it.name)
-                .filter((it) => !/^(data|blob):/.test(it))"""), [])
+    expect("resources", fetched(), [])
     policy = on.page.find_element(By.CSS_SELECTOR, "meta[http-equiv=Content-Security-Policy]").get_attribute("content")
-    count.expect("policy",
-                 (policy.startswith("default-src 'none'; script-src 'sha256-"), "connect-src" in policy,
-                  "'unsafe-inline'" in policy.split("style-src")[0]), (True, False, False))
-    count.expect("no failure", find("broken").is_displayed(), False)
+    expect("policy",
+           (policy.startswith("default-src 'none'; script-src 'sha256-"), "connect-src" in policy,
+            "'unsafe-inline'" in policy.split("style-src")[0]), (True, False, False))
+    expect("no failure", is_seen("broken"), False)
 
 
 CONTRAST = """
@@ -57,29 +57,28 @@ def to_be_seen_by_all():
             media(prefers_color_scheme=scheme)
             for state in ("to-limit", "one-more"):
                 push(state)
-                count.expect(f"contrast, {task}, {scheme}, {state}", run(CONTRAST), [])
+                expect(f"contrast, {task}, {scheme}, {state}", run(CONTRAST), [])
             push("undo-all")
         media(prefers_color_scheme="light")
-        count.expect(f"{task}: each control has a name", nameless(), [])
+        expect(f"{task}: each control has a name", nameless(), [])
     write("0" * 1632)  # the largest numbers
     for width in (320, 390, 768):
         metrics(width, 800, mobile=True, scale=2)
         for tab in ("tab-read", "tab-make", "tab-learn"):
             push(tab)
             unfold("details")
-            count.expect(f"width {width}, {tab}", run("return document.documentElement.scrollWidth <= innerWidth"),
-                         True)
+            expect(f"width {width}, {tab}", run("return document.documentElement.scrollWidth <= innerWidth"), True)
         push("tab-make")
         too_wide = run("""return [...document.querySelectorAll('#facts dt, #facts dd')]
                 .filter((it) => it.scrollWidth > it.clientWidth).map((it) => it.textContent)""")
-        count.expect(f"width {width}: each fact has its place", too_wide, [])
+        expect(f"width {width}: each fact has its place", too_wide, [])
     push("kind-text")
     put("message", "\u041f\u0440\u0438\u0432\u0435\u0442" * 18)  # whose bytes are told, in one word
     push("tab-learn")
     metrics(320, 800, mobile=True, scale=2)
     wide = run("""const it = document.getElementById('why');
         return [it.textContent.length > 400, it.scrollWidth > it.clientWidth]""")
-    count.expect("width 320: bytes have their place", wide, [True, False])
+    expect("width 320: bytes have their place", wide, [True, False])
     usual_metrics()
 
 
@@ -87,10 +86,10 @@ def nameless():
     """The roles of what has a role, and no name for a screen reader."""
     roles = {"button", "textbox", "spinbutton", "radio", "tab", "tabpanel", "listbox", "application", "region",
              "heading", "combobox"}
-    nodes = [node for node in on.page.execute_cdp_cmd("Accessibility.getFullAXTree", {})["nodes"]
-             if not node.get("ignored")]
-    value_of = lambda node, name: node.get(name, {}).get("value")
-    return [value_of(node, "role") for node in nodes if value_of(node, "role") in roles and not value_of(node, "name")]
+    nodes = [node for node in on.page.execute_cdp_cmd("Accessibility.getFullAXTree",
+                                                      {})["nodes"] if not node.get("ignored")]
+    value = lambda node, name: node.get(name, {}).get("value")
+    return [value(node, "role") for node in nodes if value(node, "role") in roles and not value(node, "name")]
 
 
 SENTENCE = (
@@ -113,10 +112,10 @@ def begun_with(source):
 
 def says_so(name):
     """The page says what it needs, and shows nothing that wouldn't work."""
-    wait_for(lambda: find("broken").is_displayed())
-    count.expect(name, " ".join(find("broken").text.split()), SENTENCE)
+    wait_for(lambda: is_seen("broken"))
+    expect(name, " ".join(find("broken").text.split()), SENTENCE)
     seen = [it.is_displayed() for it in on.page.find_elements(By.CSS_SELECTOR, OTHERS)]
-    count.expect(f"{name}: nothing else", (any(seen), len(seen) > 3), (False, True))
+    expect(f"{name}: nothing else", (any(seen), len(seen) > 3), (False, True))
 
 
 def open_unreadable():
@@ -135,7 +134,6 @@ def old_browser():
             says_so(f"without {name}")
     open_unreadable()
     says_so("with a script that it can't read")
-    count.expect("what the console says", ["SyntaxError" in entry["message"] for entry in on.page.get_log("browser")],
-                 [True])
+    expect("what the console says", ["SyntaxError" in entry["message"] for entry in on.page.get_log("browser")], [True])
     on.page.get(own)
     wait_for(lambda: run("return 'mitsubadoor' in globalThis"))

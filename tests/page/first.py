@@ -1,62 +1,52 @@
 """What is shown first, by what one wants to do; one main button; plain words; and what keys and fields take."""
-from tests.page.conduct import linked, started
+from tests.page.conduct import linked
 from tests.page.labels import saved
 from tests.page.paper import paper_is
 from tests.page.pictures import opened
 from tests.page.sights import scene
-from tests.page.stage import Keys, count, find, forget, grid, on, push, put, run, settle, shown, text_of, write, written
+from tests.page.stage import (Keys, expect, find, grid, is_seen, on, push, put, reload, run, settle, shown, soon,
+                              started, text_of, unfold, value_of, visit, write, written)
 
 SEEN = "return [...document.querySelectorAll(arguments[0])].filter((it) => it.checkVisibility()).map((it) => it.id)"
-
-
-def first_visit():
-    """The page as it is shown to who comes for the first time."""
-    address = on.page.current_url.partition("#")[0]
-    forget()
-    on.page.get("about:blank")
-    on.page.get(address)
-    started()
 
 
 def jobs():
     """On a first visit it is asked what is to be done, and each answer leads there; afterwards that is shown."""
     for job, pane, more in (("start-read", "pane-read", "drop-here"), ("start-make", "pane-make", "message"),
                             ("start-compare", "pane-read", "slot-a"), ("start-learn", "pane-learn", "to-limit")):
-        first_visit()
-        count.expect(f"before {job}", (find("start").is_displayed(), run(SEEN, ".bench, details.card")), (True, []))
+        visit()
+        expect(f"before {job}", (is_seen("start"), run(SEEN, ".bench, details.card")), (True, []))
         find(job).click()
         settle()
-        count.expect(f"after {job}", [find(it).is_displayed() for it in ("start", pane, more)], [False, True, True])
+        expect(f"after {job}", [is_seen(it) for it in ("start", pane, more)], [False, True, True])
     put("message", "mine")
+    linked()
     on.page.back()
-    count.expect_soon("Back to the question", lambda: find("start").is_displayed(), True)
-    first_visit()
+    soon("Back to the question", lambda: is_seen("start"), True)
+    visit()
     push("start-make")
     put("message", "kept")
     linked()
     first = run("return mitsubadoor.linkKept()")
-    on.page.refresh()
-    started()
-    count.expect("after a reload", (find("start").is_displayed(), shown()["says"], "kept" in first),
-                 (False, "kept", True))
+    reload()
+    expect("after a reload", (is_seen("start"), shown()["says"], "kept" in first), (False, "kept", True))
 
 
 def example():
     """Where nothing is read yet there is a place to drop pictures, and an example to try."""
-    first_visit()
+    visit()
     push("start-read")
-    run("document.getElementById('example-picture').click()")
-    count.expect_soon("the example", lambda: (shown()["says"], text_of("found-title")),
-                      ("Every answer is proved.", "2 symbols are read"))
-    count.expect("no example any more", find("example-picture").is_displayed(), False)
+    push("example-picture")
+    soon("the example", lambda: (shown()["says"], text_of("found-title")),
+         ("Every answer is proved.", "2 symbols are read"))
+    expect("no example any more", is_seen("example-picture"), False)
     body = scene(120, 110, [])
     opened("none.png", body)
     gone = "return [mitsubadoor.panes.read.modules, document.getElementById('grid').value]"
     why = (shown()["state"], shown()["says"], run(gone))
-    count.expect("a picture that fails leaves no symbol of another", why, ("Nothing is read", "", [None, ""]))
+    expect("a picture that fails leaves no symbol of another", why, ("Nothing is read", "", [None, ""]))
     said = f"{text_of('picture-hint')} {shown()['why']}"
-    count.expect("what to do is said once", said.count("Take it from nearer"), 1)
-    push("tab-make")
+    expect("what to do is said once", said.count("Take it from nearer"), 1)
 
 
 def made():
@@ -64,22 +54,20 @@ def made():
     push("tab-make", "kind-typed")
     put("message", "Größe: 5 µm")
     state = lambda: (run("return document.getElementById('state').textContent"), shown()["why"])
-    count.expect("what is made", state(), ("Made", "It is text in ISO-8859-1."))
+    expect("what is made", state(), ("Made", "It is text in ISO-8859-1."))
     put("message", "plain")
-    count.expect("plain text", state(), ("Made", ""))
+    expect("plain text", state(), ("Made", ""))
     main = "return [...document.querySelectorAll('.main')].filter((it) => it.checkVisibility() && " \
         "getComputedStyle(it).fontWeight > 600).map((it) => it.textContent)"
-    count.expect("one main button", run(main), ["Save PNG"])
+    expect("one main button", run(main), ["Save PNG"])
     push("tab-learn")
-    count.expect("where damage is tried", state(), ("Read", "Nothing had to be corrected."))
+    expect("where damage is tried", state(), ("Read", "Nothing had to be corrected."))
     push("tab-make")
     put("message", "ABCDEFGHIJKLMNOPQRSTUVWXYZ")
     push("profile-2", "tab-learn")
-    run("document.getElementById('lesson').open = true")
+    unfold("lesson")
     push("step-on")
-    count.expect("C40 is explained", "C40 begins with 230" in text_of("step"), True)
-    push("tab-make")
-    write("123456")
+    expect("C40 is explained", "C40 begins with 230" in text_of("step"), True)
 
 
 def small_things():
@@ -87,29 +75,28 @@ def small_things():
     controls where scripts are switched off."""
     write("123456")
     paper_is("a4", "0,3")
-    count.expect("a comma", text_of("print-size").split(" with")[0], "4.2 × 4.2 mm")
+    expect("a comma", text_of("print-size").split(" with")[0], "4.2 × 4.2 mm")
     paper_is("a4", "0.5")
     find("message").send_keys("7", Keys.ENTER)
     active = lambda: run("return document.activeElement.id")
-    count.expect("Enter leads to what comes next", (active(), find("message").get_attribute("value")),
-                 ("save-png", "1234567"))
+    expect("Enter leads to what comes next", (active(), value_of("message")), ("save-png", "1234567"))
     push("kind-typed")
     find("message").send_keys(Keys.SHIFT, Keys.ENTER, Keys.NULL, "8")
     settle()
-    count.expect("Shift Enter is a line break", find("message").get_attribute("value"), "1234567\n8")
+    expect("Shift Enter is a line break", value_of("message"), "1234567\n8")
     write("123456")
     find("tab-make").send_keys(Keys.END)
     settle()
-    count.expect("End", active(), "tab-learn")
+    expect("End", active(), "tab-learn")
     find("tab-learn").send_keys(Keys.HOME)
     settle()
-    count.expect("Home", (active(), find("pane-read").is_displayed()), ("tab-read", True))
+    expect("Home", (active(), is_seen("pane-read")), ("tab-read", True))
     put("grid", "")
-    count.expect("nothing to scroll is no stop", run("return document.getElementById('says').tabIndex"), -1)
+    expect("nothing to scroll is no stop", run("return document.getElementById('says').tabIndex"), -1)
     push("tab-make")
     sides = run("return [...document.querySelectorAll('input[type=checkbox], input[type=radio]')].filter((it) => "
                 "it.checkVisibility()).map((it) => it.getBoundingClientRect().width)")
-    count.expect("boxes", (len(sides) > 0, min(sides, default=0) >= 20), (True, True))
+    expect("boxes", (len(sides) > 0, min(sides, default=0) >= 20), (True, True))
     on.page.execute_cdp_cmd("Emulation.setScriptExecutionDisabled", {"value": True})
     address = on.page.current_url.partition("#")[0]
     on.page.get("about:blank")
@@ -118,7 +105,7 @@ def small_things():
     roles = [node["role"]["value"] for node in tree if not node.get("ignored")]
     on.page.execute_cdp_cmd("Emulation.setScriptExecutionDisabled", {"value": False})
     dead = [role for role in roles if role in ("button", "tab", "textbox", "checkbox", "radio", "combobox")]
-    count.expect("without scripts", ("main" in roles, dead), (True, []))
+    expect("without scripts", ("main" in roles, dead), (True, []))
     on.page.get("about:blank")
     on.page.get(f"{address}#make")
     started()
@@ -131,14 +118,14 @@ def chosen_for_png():
         put(name, value)
     body = saved("symbol-10.png", "save-png")
     size = [int.from_bytes(body[at : at + 4], "big") for at in (16, 20)]
-    count.expect("its pixels", (size, text_of("print-size"), text_of("png-size")),
-                 ([126, 126], "9 × 9 mm with 4 modules of quiet zone", "PNG: 126 × 126 pixels"))
+    expect("its pixels", (size, text_of("print-size"), text_of("png-size")),
+           ([126, 126], "9 × 9 mm with 4 modules of quiet zone", "PNG: 126 × 126 pixels"))
     opened("again.png", body)
-    count.expect("what is read of it", (shown()["says"], grid()), ("123456", written("123456")))
+    expect("what is read of it", (shown()["says"], grid()), ("123456", written("123456")))
     push("tab-make")
     push("text-below")
     drawing = saved("symbol-10.svg", "save-svg").decode()
-    count.expect("with its text", ("<title>123456</title>" in drawing, 'width="20mm"' in drawing), (True, True))
+    expect("with its text", ("<title>123456</title>" in drawing, 'width="20mm"' in drawing), (True, True))
     push("text-below")
     for name, value in (("quiet", "2"), ("pixels", "")):
         put(name, value)

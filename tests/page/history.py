@@ -1,18 +1,9 @@
 """What the history keeps: Back from the other pane, the skip link, limits that a link asks for, long links."""
 import urllib.parse
 
-from tests.page.conduct import linked, started
-from tests.page.stage import (COLLECT, Keys, agree, click, count, find, forget, grid, on, push, put, run, shown,
-                              text_of, write, written)
-
-
-def afresh():
-    """The page as it begins, where nothing is kept."""
-    address = on.page.current_url.partition("#")[0]
-    forget()
-    on.page.get("about:blank")
-    on.page.get(f"{address}#make")
-    started()
+from tests.page.conduct import go, linked
+from tests.page.stage import (ACTS, COLLECT, Keys, agree, attribute, click, expect, focused, grid, is_seen, on, push,
+                              put, reload, run, shown, soon, text_of, value_of, visit, write, written)
 
 
 def fields():
@@ -33,50 +24,42 @@ def skipped():
     run("document.querySelector('.skip').focus()")
     on.page.switch_to.active_element.send_keys(Keys.ENTER)
     linked()
-    count.expect("the symbol by the link", on.page.switch_to.active_element.get_attribute("id"), "symbol")
+    expect("the symbol by the link", focused(), "symbol")
     now = (grid(), on.page.current_url, run("return followed"))
-    count.expect("damage and address stay, and no link is followed", now, (damaged, address, 0))
-    run("location.hash = '#elsewhere'")
-    linked()
-    count.expect("a fragment that isn't the page's", (grid(), fields().get("message")), (damaged, "123456"))
+    expect("damage and address stay, and no link is followed", now, (damaged, address, 0))
+    go("#elsewhere")
+    expect("a fragment that isn't the page's", (grid(), fields().get("message")), (damaged, "123456"))
     push("undo")
-    count.expect("and can be undone", grid(), written("123456"))
+    expect("and can be undone", grid(), written("123456"))
 
 
 def back():
     """Back leads from the Read tab to the message, also at the very beginning, and right after something was typed."""
-    afresh()
-    begun = find("message").get_attribute("value")
+    visit("#make")
+    begun = value_of("message")
     push("tab-read")
     linked()
     on.page.back()
-    count.expect_soon("Back at the beginning",
-                      lambda: (find("pane-make").is_displayed(), find("message").get_attribute("value"),
-                               shown()["state"]), (True, begun, "Read"))
+    soon("Back at the beginning", lambda: (is_seen("pane-make"), value_of("message"), shown()["state"]),
+         (True, begun, "Read"))
     linked()
     on.page.forward()
-    count.expect_soon("Forward", lambda: find("pane-read").is_displayed(), True)
+    soon("Forward", lambda: is_seen("pane-read"), True)
     on.page.back()
     linked()
-    run("""const area = document.getElementById('message');
-           area.value = 'typed';
-           area.dispatchEvent(new Event('input', { bubbles: true }));
-           document.getElementById('tab-read').click(); document.getElementById('example-c40').click()""")
+    run(f"{ACTS} put('message', 'typed'); at('tab-read').click(); at('example-c40').click()")
     linked()
-    count.expect("the grid", shown()["says"], "Every answer is proved.")
+    expect("the grid", shown()["says"], "Every answer is proved.")
     on.page.back()
-    count.expect_soon("Back after typing",
-                      lambda: (find("pane-make").is_displayed(), find("message").get_attribute("value"),
-                               shown()["says"]), (True, "typed", "typed"))
+    soon("Back after typing", lambda: (is_seen("pane-make"), value_of("message"), shown()["says"]),
+         (True, "typed", "typed"))
     linked()
-    afresh()
-    run("location.hash = '#message=another'")
-    linked()
-    count.expect("another link", shown()["says"], "another")
+    visit("#make")
+    go("#message=another")
+    expect("another link", shown()["says"], "another")
     on.page.back()
-    count.expect_soon("Back to an address without a fragment", lambda: find("message").get_attribute("value"), begun)
+    soon("Back to an address without a fragment", lambda: value_of("message"), begun)
     linked()
-    write("123456")
 
 
 def limits():
@@ -85,18 +68,17 @@ def limits():
     for asked in ("99999", "-1", "1.5", "x"):
         run("location.hash = `#message=123456&border=${arguments[0]}`", asked)
         linked()
-        count.expect(f"a link's limit of {asked}",
-                     (text_of("border-hint"), find("border-limit").get_attribute("value"), shown()["meters"][-1]),
-                     (f"{asked} isn’t a whole number from 0 to 65535: the usual limit is taken.", "2", "0 wrong, 2"))
+        expect(f"a link's limit of {asked}", (text_of("border-hint"), value_of("border-limit"), shown()["meters"][-1]),
+               (f"{asked} isn’t a whole number from 0 to 65535: the usual limit is taken.", "2", "0 wrong, 2"))
     put("border-limit", "3")
-    count.expect("a right one takes that away", (text_of("border-hint"), shown()["meters"][-1]), ("", "0 wrong, 3"))
+    expect("a right one takes that away", (text_of("border-hint"), shown()["meters"][-1]), ("", "0 wrong, 3"))
     put("border-limit", "99999")
-    count.expect("an entered limit of 99999",
-                 (text_of("border-hint"), find("border-limit").get_attribute("aria-invalid"), shown()["meters"][-1]),
-                 ("99999 isn’t a whole number from 0 to 65535: 3 is taken.", "true", "0 wrong, 3"))
+    expect("an entered limit of 99999",
+           (text_of("border-hint"), attribute("border-limit", "aria-invalid"), shown()["meters"][-1]),
+           ("99999 isn’t a whole number from 0 to 65535: 3 is taken.", "true", "0 wrong, 3"))
     push("usual")
     agree("the usual limit")
-    count.expect("the usual limit, said", (text_of("border-hint"), shown()["meters"][-1]), ("", "0 wrong, 2"))
+    expect("the usual limit, said", (text_of("border-hint"), shown()["meters"][-1]), ("", "0 wrong, 2"))
 
 
 def long_links():
@@ -105,31 +87,21 @@ def long_links():
     message = "\u00e9\u20ac" * 3500  # 7,000 characters, of 52,500 in the address
     put("message", message)
     linked()
-    count.expect("7,000 characters are kept", fields()["message"], message)
-    on.page.refresh()
-    started()
-    count.expect("and read from there", (find("message").get_attribute("value"), shown()["state"]),
-                 (message, "Nothing is read"))
+    expect("7,000 characters are kept", fields()["message"], message)
+    reload()
+    expect("and read from there", (value_of("message"), shown()["state"]), (message, "Nothing is read"))
     run(COLLECT)
     push("tab-read", "example-c40", "copy-link")
-    count.expect_soon("a long link says so", lambda: text_of("toast"),
-                      "Copied: a link that holds what is entered. "
-                      f"It has {len(run('return copied[0]')):,} characters, which not every program takes.")
+    said = f"It has {len(run('return copied[0]')):,} characters, which not every program takes."
+    soon("a long link says so", lambda: text_of("toast"), f"Copied: a link that holds what is entered. {said}")
     write("short")
     push("copy-link")
-    count.expect_soon("a short link", lambda: text_of("toast"), "Copied: a link that holds what is entered")
+    soon("a short link", lambda: text_of("toast"), "Copied: a link that holds what is entered")
     put("message", "~" * 25001)
-    count.expect(
-        "what isn't kept",
-        text_of("message-hint").startswith(
-            "25,001 characters, and no more than 25,000 are taken. The link doesn’t keep them."
-        ),
-        True,
-    )
+    expect("what isn't kept", text_of("message-hint").split(" them.")[0],
+           "25,001 characters, and no more than 25,000 are taken. The link doesn’t keep")
     linked()
-    count.expect("no message is kept then", "message" in fields(), False)
-    run("delete navigator.clipboard.writeText")
-    write("123456")
+    expect("no message is kept then", "message" in fields(), False)
 
 
 PARTS = [skipped, back, limits, long_links]

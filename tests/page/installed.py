@@ -8,7 +8,7 @@ import tempfile
 import threading
 import urllib.parse
 
-from tests.page.stage import count, grid, on, push, put, run, settle, shown, wait_for, written
+from tests.page.stage import expect, grid, on, push, put, run, settle, shown, soon, wait_for, written
 
 LATER = "Later: "
 OWN = {"/mitsubadoor.html", "/mitsubadoor.webmanifest", "/offline.js"}
@@ -62,10 +62,10 @@ def made_and_read(message):
     """Whether the page makes a symbol of a message and reads one."""
     push("tab-make", "kind-message", "profile-0")
     put("message", message)
-    count.expect(f"{message!r} is made", (grid(), shown()["says"]), (written(message), message))
+    expect(f"{message!r} is made", (grid(), shown()["says"]), (written(message), message))
     push("tab-read")
     put("grid", written(f"{message} again"))
-    count.expect(f"{message!r} is read", shown()["says"], f"{message} again")
+    expect(f"{message!r} is read", shown()["says"], f"{message} again")
 
 
 def installed():
@@ -73,12 +73,12 @@ def installed():
     page = folder / "mitsubadoor.html"
     with served(folder) as (server, address):
         opened_at(address)
-        count.expect_soon("what keeps it", lambda: run("return navigator.serviceWorker.controller !== null"), True)
+        soon("what keeps it", lambda: run("return navigator.serviceWorker.controller !== null"), True)
         manifest = on.page.execute_cdp_cmd("Page.getAppManifest", {})
         errors = on.page.execute_cdp_cmd("Page.getInstallabilityErrors", {})["installabilityErrors"]
         wrong = [each["errorId"] for each in errors if each["errorId"] != "in-incognito"]
-        count.expect("the manifest", (manifest["url"].rpartition("/")[2], manifest["errors"], wrong),
-                     ("mitsubadoor.webmanifest", [], []))
+        expect("the manifest", (manifest["url"].rpartition("/")[2], manifest["errors"], wrong),
+               ("mitsubadoor.webmanifest", [], []))
         made_and_read("with a network")
     opened_at(f"{address}?shared#make")
     made_and_read("without a network")
@@ -86,10 +86,10 @@ def installed():
     with served(folder, server.server_port) as (again, _):
         opened_at(f"{address}?later")
         made_and_read("once more")
-        count.expect("a later page on the server", on.page.title.startswith(LATER), True)
-    count.expect("what is asked of the server", {*server.asked, *again.asked} - OWN, set())
+        expect("a later page on the server", on.page.title.startswith(LATER), True)
+    expect("what is asked of the server", {*server.asked, *again.asked} - OWN, set())
     opened_at(address)
-    count.expect("the page that came last", on.page.title.startswith(LATER), True)
+    expect("the page that came last", on.page.title.startswith(LATER), True)
     on.page.execute_async_script("""const [done] = arguments;
            navigator.serviceWorker.getRegistrations()
                .then((all) => Promise.all(all.map((it) => it.unregister())))

@@ -6,7 +6,7 @@ import subprocess
 
 from tests import corpus
 from tests.page.judge import SMALLEST, letter_of, line_of_text, written_in
-from tests.page.stage import count, flat, on, written
+from tests.page.stage import expect, flat, on, written
 from tests.support import places
 
 USES, TYPES = places.path("tests", "page", "uses.mjs"), places.path("web", "module", "ecc200.d.mts")
@@ -14,8 +14,8 @@ TOO_LONG, NO_SIZE, BORDER, BLOCK, ITEM, MARK, HEAD = 14, 4, 5, 6, 15, 22, 23  # 
 FORM, SHAPE = 16, 18
 PART = {"part": 2, "parts": 3, "file": [9, 254]}
 # Bytes that charsets of Windows and GBK have and haven't, and a private character of GB 18030.
-IN_CHARSETS = [(number, charset, [65, byte]) for number, charset in ((21, "cp1250"), (22, "cp1251"), (23, "cp1252"),
-               (24, "cp1256")) for byte in range(128, 256)]
+IN_CHARSETS = [(number, charset, [65, byte]) for number,
+               charset in ((21, "cp1250"), (22, "cp1251"), (23, "cp1252"), (24, "cp1256")) for byte in range(128, 256)]
 IN_CHARSETS += [(number, charset, [0xaa, 0xa1]) for number, charset in ((31, "gbk"), (32, "gb18030"))]
 # Texts of which each is marked by another rule, or isn't, and one for each charset of those that take few bytes.
 WORDS = ["garçon", "São Paulo", "Schwarz-Weiß negativ", "élève", "ÄÖÜ", "éaéaéa", "ÄÖ Caféx", "ÄÖ ÄÖ Caféx", "5 µm",
@@ -127,47 +127,46 @@ def uses():
                     "weakest": "nothing is weak", "modulations": 8, "unasked": None,
                     "grades": dict.fromkeys(("contrast", "modulation", "unused", "axial", "grid"), "A")},
     }.items():
-        count.expect(name, near(came(name)), wanted)
-    count.expect("shapes", [[came(name)["rows"], came(name)["columns"]] for name in ("rectangle", "a size")],
-                 [[8, 18], [16, 48]])
-    count.expect("sizes", [came("sizes")[0], came("sizes")[1]["rows"], came("sizes")[1]["data"]], [48, 10, 3])
+        expect(name, near(came(name)), wanted)
+    expect("shapes", [[came(name)["rows"], came(name)["columns"]] for name in ("rectangle", "a size")],
+           [[8, 18], [16, 48]])
+    expect("sizes", [came("sizes")[0], came("sizes")[1]["rows"], came("sizes")[1]["data"]], [48, 10, 3])
     smallest = written_in("HELLO WORLD AND ALL THAT IS THERE", "square", SMALLEST)
-    count.expect("smallest", came("smallest")["modules"], flat(smallest))
+    expect("smallest", came("smallest")["modules"], flat(smallest))
     sizes = [[mark.name, letter_of(mark.said)] for mark in corpus.marks("sizes")]
-    count.expect("every size", came("every size"), sizes)
+    expect("every size", came("every size"), sizes)
     for mark, got in zip(corpus.marks("damaged"), came("damaged"), strict=True):
         found = [] if mark.refusal else [list(mark.content[0]), mark.damage[0], *map(list, mark.damage[1:])]
-        count.expect(mark.name, got, found or list(mark.refusal))
-    count.expect("texts", (len(came("texts")), [text for text, read in came("texts") if text != read]), (200, []))
-    count.expect("bytes in charsets", came("bytes in charsets"),
-                 [[number, items, text_in(charset, items)] for number, charset, items in IN_CHARSETS])
+        expect(mark.name, got, found or list(mark.refusal))
+    expect("texts", (len(came("texts")), [text for text, read in came("texts") if text != read]), (200, []))
+    expect("bytes in charsets", came("bytes in charsets"),
+           [[number, items, text_in(charset, items)] for number, charset, items in IN_CHARSETS])
     for text, got in zip(texts(), came("letters of texts")):
-        count.expect(f"the letter of {text}", got, letter_of(line_of_text(text)))
+        expect(f"the letter of {text}", got, letter_of(line_of_text(text)))
     for (line, charset, *text), got in zip(rows, came("charsets of letters")):
-        count.expect(f"the charset of {line}", got, [corpus.characters(text[0]) if text else None, charset])
-    count.expect("charsets of letters", len(came("charsets of letters")), len(rows))
-    others = corpus.marks("contents")
+        expect(f"the charset of {line}", got, [corpus.characters(text[0]) if text else None, charset])
+    expect("charsets of letters", len(came("charsets of letters")), len(rows))
+    others = corpus.marks("letters")
     for mark, got in zip(others, came("letters of others")):
         wanted = letter_of(mark.said), mark.more["identifier"], mark.more.get("text")
-        count.expect(f"letter of another, {mark.encoder}", got_of(got), wanted)
-    count.expect("letters of others", len(came("letters of others")), len(others))
+        expect(f"letter of another, {mark.encoder}", got_of(got), wanted)
+    expect("letters of others", len(came("letters of others")), len(others))
     letter_in = lambda it: [it["items"], it["marks"], it["head"]]
     for one, other in came("written anew"):
-        count.expect(f"written anew, {one['text']}", letter_in(other), letter_in(one))
-    count.expect("joined in one charset", came("joined in one charset"), [2, "日本"])
+        expect(f"written anew, {one['text']}", letter_in(other), letter_in(one))
+    expect("joined in one charset", came("joined in one charset"), [2, "日本"])
     for name, code in (("too long", TOO_LONG), ("too small a size", TOO_LONG), ("no size", NO_SIZE),
                        ("normal of a blot that isn't told", BLOCK), ("a torn border as usual", BORDER),
                        ("a wrong mark", MARK), ("a wrong head", HEAD), ("a wrong item", ITEM),
                        ("no such form", FORM), ("no such form of a normal symbol", FORM), ("no such shape", SHAPE),
                        ("rows that no size has", TOO_LONG)):
-        count.expect(name, [answers[name].get(each) for each in ("thrown", "isRefused", "code")],
-                     ["Refused", True, code])
-    nearest = [re.sub(r"there is no option (\w+): the nearest is (\w+), of .*", r"\1 \2", message)
-               for _, message in came("options that there aren't")]
-    count.expect("options that there aren't", ([kind for kind, _ in came("options that there aren't")], nearest),
-                 (["TypeError"] * 5, ["gs gs1", "shap shape", "limits limit", "doubtfull doubtful", "margins margin"]))
+        expect(name, [answers[name].get(each) for each in ("thrown", "isRefused", "code")], ["Refused", True, code])
+    nearest = [re.sub(r"there is no option (\w+): the nearest is (\w+), of .*", r"\1 \2", message) for _,
+               message in came("options that there aren't")]
+    expect("options that there aren't", ([kind for kind, _ in came("options that there aren't")], nearest),
+           (["TypeError"] * 5, ["gs gs1", "shap shape", "limits limit", "doubtfull doubtful", "margins margin"]))
     for name, kind in (("of no pixels", "RangeError"), ("of other pixels", "TypeError"),
                        ("joined but one", "RangeError"), ("joined with another", "RangeError"),
                        ("joined with a message", "RangeError"), ("joined of none", "RangeError"),
                        ("elements that are no text", "TypeError")):
-        count.expect(name, answers[name].get("thrown"), kind)
+        expect(name, answers[name].get("thrown"), kind)

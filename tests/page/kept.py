@@ -1,24 +1,16 @@
 """Work is kept in the browser's storage: lists, settings, what was read, and parts survive a reload and another visit,
 until they are forgotten; and no message stands in the address, but for a link that was copied."""
-from tests.page.conduct import linked, started
+from tests.page.conduct import linked
 from tests.page.labels import CHOOSE, pages_of, saved
-from tests.page.photographs import LISTED
+from tests.page.photographs import FOUND
 from tests.page.pictures import opened
 from tests.page.sights import scene
-from tests.page.stage import (COLLECT, choose, count, find, grid, on, push, put, run, shown, text_of, unfold, wait_for,
-                              write, written)
+from tests.page.stage import (COLLECT, choose, expect, find, grid, is_seen, on, press, push, put, reload, run, shown,
+                              soon, started, text_of, texts_of, unfold, value_of, visit, wait_for, write, written)
 
 FIELDS = ["message", "lines-as", "messages", "stock", "millimetres", "paper-size", "label-width", "copies", "shape"]
 STATE = "return arguments[0].map((id) => document.getElementById(id).value)"
 KEPT = "return Object.keys(localStorage).map((name) => localStorage.getItem(name)).join(' ')"
-
-
-def visit():
-    """Another visit: by the address alone, and not by the history."""
-    address = on.page.current_url.partition("#")[0]
-    on.page.get("about:blank")
-    on.page.get(address)
-    started()
 
 
 def state():
@@ -43,28 +35,25 @@ def work_survives():
     pdf = pages_of(saved("symbols.pdf", "many-pdf"))
     messages = ["first", "second", "third"]
     push("tab-read")
-    opened("three.png", scene(360, 130, [(written(it).split("\n"), (30 + 110 * k, 40))
-                                         for k, it in enumerate(messages)]))
-    count.expect_soon("what is listed", lambda: len(run(LISTED)), 3)
-    run("document.querySelectorAll('#found-are button')[1].click()")
+    opened("three.png",
+           scene(360, 130, [(written(it).split("\n"), (30 + 110 * k, 40)) for k, it in enumerate(messages)]))
+    soon("what is listed", lambda: len(texts_of(FOUND)), 3)
+    press("#found-are button", 1)
     linked()
-    listed, at_hand, before = run(LISTED), grid(), state()
+    listed, at_hand, before = texts_of(FOUND), grid(), state()
     wait_for(lambda: all(f'"text": "{it}"' in run(KEPT) for it in messages))
-    for name, go in (("a reload", on.page.refresh), ("another visit", visit)):
+    for name, go in (("a reload", reload), ("another visit", lambda: visit(is_new=False))):
         go()
-        started()
-        count.expect(f"{name}: what was read", (find("pane-read").is_displayed(), shown()["says"], grid()),
-                     (True, "second", at_hand))
-        count.expect_soon(f"{name}: the list of it", lambda: run(LISTED), listed)
+        expect(f"{name}: what was read", (is_seen("pane-read"), shown()["says"], grid()), (True, "second", at_hand))
+        soon(f"{name}: the list of it", lambda: texts_of(FOUND), listed)
         pressed = "return [...document.querySelectorAll('#found-are button')].map((it) => it.ariaPressed)"
-        count.expect(f"{name}: which is at hand", run(pressed), ["false", "true", "false"])
-        count.expect(f"{name}: settings and lists", state(), before)
+        expect(f"{name}: which is at hand", run(pressed), ["false", "true", "false"])
+        expect(f"{name}: settings and lists", state(), before)
         push("tab-make")
         unfold("sheet")
-        count.expect(f"{name}: the labels", pages_of(saved("symbols.pdf", "many-pdf")), pdf)
+        expect(f"{name}: the labels", pages_of(saved("symbols.pdf", "many-pdf")), pdf)
         push("tab-read")
         linked()
-    push("tab-make")
 
 
 def parts_survive():
@@ -75,12 +64,11 @@ def parts_survive():
     linked()
     wait_for(lambda: "parts" in run("return Object.keys(localStorage).join()"))
     title = text_of("gathered-title")
-    count.expect("parts that are read", title, "A message in 3 symbols: 2 of them read")
-    on.page.refresh()
-    started()
-    count.expect("after a reload", text_of("gathered-title"), title)
+    expect("parts that are read", title, "A message in 3 symbols: 2 of them read")
+    reload()
+    expect("after a reload", text_of("gathered-title"), title)
     put("grid", written_part(2))
-    count.expect("the last one makes the message", text_of("whole"), "one and two and three")
+    expect("the last one makes the message", text_of("whole"), "one and two and three")
 
 
 def written_part(part):
@@ -102,24 +90,24 @@ def address_is_bare():
     address = lambda: on.page.current_url.partition("#")[2]
     write("a secret")
     linked()
-    count.expect("a message", address(), "make")
+    expect("a message", address(), "make")
     push("tab-read", "example-c40")
     linked()
-    count.expect("a grid", address(), "read")
+    expect("a grid", address(), "read")
     push("tab-learn", "to-limit")
     linked()
-    count.expect("damage", address(), "learn")
+    expect("damage", address(), "learn")
     push("tab-make")
     run(COLLECT)
     push("copy-link")
-    count.expect_soon("a link that is copied", lambda: "message=a+secret" in str(run("return copied")), True)
-    count.expect("it stands in the address", [on.page.current_url], run("return copied"))
+    soon("a link that is copied", lambda: "message=a+secret" in str(run("return copied")), True)
+    expect("it stands in the address", [on.page.current_url], run("return copied"))
     put("message", "another")
     linked()
-    count.expect("until something changes", address(), "make")
+    expect("until something changes", address(), "make")
     run("delete navigator.clipboard.writeText; location.hash = '#make&message=followed'")
     linked()
-    count.expect("a link that is followed", (shown()["says"], address()), ("followed", "make"))
+    expect("a link that is followed", (shown()["says"], address()), ("followed", "make"))
 
 
 def forgotten():
@@ -133,15 +121,13 @@ def forgotten():
     run("globalThis.isOld = true; document.getElementById('forget').click()")
     wait_for(lambda: not run("return 'isOld' in globalThis"))
     started()
-    gone = lambda: (find("message").get_attribute("value"), find("messages").get_attribute("value"),
-                    find("grid").get_attribute("value"), "secret" in run(KEPT))
-    count.expect("after Forget", gone(), ("Hello", "", "", False))
-    on.page.refresh()
-    started()
-    count.expect("after a reload", gone(), ("Hello", "", "", False))
+    gone = lambda: (value_of("message"), value_of("messages"), value_of("grid"), "secret" in run(KEPT))
+    expect("after Forget", gone(), ("Hello", "", "", False))
+    reload()
+    expect("after a reload", gone(), ("Hello", "", "", False))
     on.page.back()
     linked()
-    count.expect("by the history", gone(), ("Hello", "", "", False))
+    expect("by the history", gone(), ("Hello", "", "", False))
 
 
 PARTS = [work_survives, parts_survive, address_is_bare, forgotten]

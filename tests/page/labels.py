@@ -10,8 +10,9 @@ import zlib
 
 from tests.page.paper import POINT, paper_is, printed
 from tests.page.pictures import opened
-from tests.page.stage import (choose, count, drawn_rows, find, grid, on, push, put, run, settle, shown, spelled, task,
-                              text_of, unfold, usable, wait_for, write, written)
+from tests.page.stage import (choose, do, drawn_rows, expect, find, give, grid, is_seen, on, push, put, run, shown,
+                              soon, spelled, task, text_of, texts_of, unfold, usable, value_of, wait_for, write,
+                              written)
 
 
 def saved(name, button):
@@ -33,16 +34,16 @@ def pages_of(pdf):
     [left, top, module, rows], in the order in which they are drawn; and its texts."""
     text = pdf.decode("latin-1")
     places = [int(at) for at in re.findall(r"^(\d{10}) 00000 n $", text, re.M)]
-    count.expect("the table of the PDF", [text[at:].split(" ", 1)[0] for at in places],
-                 [str(k + 1) for k in range(len(places))])
+    expect("the table of the PDF", [text[at:].split(" ", 1)[0] for at in places],
+           [str(k + 1) for k in range(len(places))])
     table = int(re.search(r"startxref\n(\d+)\n", text)[1])
-    count.expect("where the table stands", text[table : table + 5], "xref\n")
+    expect("where the table stands", text[table : table + 5], "xref\n")
     found, letters = [], letters_in(text)
     boxes = re.findall(r"/MediaBox \[0 0 ([\d.]+) ([\d.]+)\].*?/Contents (\d+) 0 R", text)
     for width, height, content in boxes:
         whole = rf"(?s)\n{content} 0 obj\n<< /Length (\d+) >>\nstream\n(.*?)endstream"
         length, stream = re.search(whole, text).groups()
-        count.expect("the length of a page's content", len(stream), int(length))
+        expect("the length of a page's content", len(stream), int(length))
         scale = float(stream.split()[0]) * POINT
         size = [float(width) * POINT, float(height) * POINT]
         symbols = [drawn_rows(part, size[1], scale) for part in stream.split("\nf\n")[:-1]]
@@ -99,47 +100,73 @@ STOCK = {"a4-2x4": labels_of(2, 4, 99.1, 67.7, 101.6), "a4-2x7": labels_of(2, 7,
          "50x30": [(0, 0, 50, 30)], "100x50": [(0, 0, 100, 50)], "own": [(0, 0, 60, 40)]}
 
 
-def on_labels():
-    """On each stock size each symbol stands in the middle of its label, has its size and is what the program writes."""
+def begin(stock="none", millimetres="0.4", lines_as="messages"):
+    """Unfolds the list, with these labels."""
     write("123456")
     unfold("sheet")
-    paper_is("a4", "0.4")
+    paper_is("a4", millimetres)
+    for field, chosen in (("stock", stock), ("lines-as", lines_as)):
+        choose(field, chosen)
+
+
+def in_pdf():
+    """The pages of a PDF of the list, as pages_of has them, their grids, and their texts."""
+    pages = pages_of(saved("symbols.pdf", "many-pdf"))
+    return pages, [rows for _, some, _ in pages for *_, rows in some], [each for *_, some in pages for each in some]
+
+
+def archived(ending):
+    """The files of an archive of the list, by their names, but for the list that it holds."""
+    with zipfile.ZipFile(io.BytesIO(saved(f"symbols-{ending}.zip", f"many-{ending}"))) as archive:
+        *names, last = archive.namelist()
+        expect(f"an archive of {ending}", (archive.testzip(), len(set(names)), last), (None, len(names), "labels.json"))
+        return {name: archive.read(name) for name in names}
+
+
+def emptied():
+    """Removes the files that were saved."""
+    for file in on.folder.glob("symbols*"):
+        file.unlink()
+
+
+def on_labels():
+    """On each stock size each symbol stands in the middle of its label, has its size and is what the program writes."""
+    begin()
     for name, labels in STOCK.items():
         choose("stock", name)
         messages = [f"label {k}" for k in range(len(labels) + 2)]
         put("messages", "\n".join(messages))
-        pages = pages_of(saved("symbols.pdf", "many-pdf"))
+        pages, grids, texts = in_pdf()
         page = [210, 297] if len(labels) > 1 else list(labels[0][2:])
-        count.expect(f"{name}: pages", [size for size, _, _ in pages], [page] * -(-len(messages) // len(labels)))
+        expect(f"{name}: pages", [size for size, _, _ in pages], [page] * -(-len(messages) // len(labels)))
         symbols = [symbol for _, some, _ in pages for symbol in some]
         wanted = [written(message) for message in messages]
-        count.expect(f"{name}: symbols", [rows for *_, rows in symbols], wanted)
-        count.expect(f"{name}: modules", {round(module, 3) for _, _, module, _ in symbols}, {0.4})
+        expect(f"{name}: symbols", grids, wanted)
+        expect(f"{name}: modules", {round(module, 3) for _, _, module, _ in symbols}, {0.4})
         places = [centred(labels[k % len(labels)], text.index("\n"), 0.4, True) for k, text in enumerate(wanted)]
-        count.expect(f"{name}: places", [[round(x, 2), round(y, 2)] for x, y, _, _ in symbols], places)
-        count.expect(f"{name}: texts", [text for *_, texts in pages for text in texts], messages)
-        said = (text_of("sheet-hint"), find("own-size").is_displayed())
-        count.expect(f"{name}: what is said", said, (f"{len(messages)} symbols are in the PDF.", name == "own"))
+        expect(f"{name}: places", [[round(x, 2), round(y, 2)] for x, y, _, _ in symbols], places)
+        expect(f"{name}: texts", texts, messages)
+        said = (text_of("sheet-hint"), is_seen("own-size"))
+        expect(f"{name}: what is said", said, (f"{len(messages)} symbols are in the PDF.", name == "own"))
 
 
 def labels_printed():
     """What the browser prints has the same millimetres."""
     run("globalThis.printed = 0; window.print = () => { printed++; }")
-    write("123456")
-    paper_is("a4", "0.5")
+    begin("none", "0.5")
     push("label-text")
     for name, per_page, page in (("a4-3x7", 21, [210, 297]), ("50x30", 1, [50, 30]), ("own", 1, [60, 40])):
         choose("stock", name)
         put("messages", "\n".join(["123456"] * (per_page + 1)))
         push("print-sheet")
         boxes, widths = printed()
-        count.expect(f"{name}: printed pages", [[round(side) for side in box] for box in boxes], [page] * 2)
+        expect(f"{name}: printed pages", [[round(side) for side in box] for box in boxes], [page] * 2)
         across = 5 if per_page == 1 else 2 * 66.04 + 5  # from the first symbol's left to the last one's right
         off = [round(abs(width - wanted), 2) for width, wanted in zip(widths, (across, 5))]
-        count.expect(f"{name}: printed millimetres", (len(widths), [each for each in off if each > 0.1]), (2, []))
+        expect(f"{name}: printed millimetres", (len(widths), [each for each in off if each > 0.1]), (2, []))
         place = run("return ['x', 'y'].map((it) => document.querySelector('#paper svg svg').getAttribute(it))")
         x, y = centred(STOCK[name][0], 10, 0.5, False)
-        count.expect(f"{name}: its place on the page", [round(float(length) + 1, 2) for length in place], [x, y])
+        expect(f"{name}: its place on the page", [round(float(length) + 1, 2) for length in place], [x, y])
         run("dispatchEvent(new Event('afterprint'))")
     push("label-text")
     for name, value, message, why in (("a4-5x13", "1", "123456789012345678901234567890",
@@ -152,15 +179,11 @@ def labels_printed():
         paper_is("a4", value)
         put("messages", message)
         push("print-sheet")
-        count.expect(f"what doesn't fit {name}", (run("return printed"), text_of("sheet-hint")), (3, why))
+        expect(f"what doesn't fit {name}", (run("return printed"), text_of("sheet-hint")), (3, why))
     choose("stock", "own")
     put("label-width", "2")
     push("many-pdf")
-    count.expect("no size of a label", text_of("sheet-hint"), "A label has 5 to 300 mm on each side.")
-    put("label-width", "60")
-    paper_is("a4", "0.5")
-    choose("stock", "none")
-    put("messages", "")
+    expect("no size of a label", text_of("sheet-hint"), "A label has 5 to 300 mm on each side.")
 
 
 CSV = {
@@ -194,54 +217,41 @@ def one_after_another():
     """On paper, one after another, print and PDF have the same symbols at the same places, within the margins; and
     there may be more than a thousand."""
     run("window.print = () => {}")
-    write("123456")
-    unfold("sheet")
-    paper_is("a4", "1")
-    choose("stock", "none")
+    begin("none", "1")
     lines = [f"label {k}" + "0" * (k % 7 * 12) for k in range(150)]
     put("messages", "\n".join(lines))
-    pages = pages_of(saved("symbols.pdf", "many-pdf"))
+    pages, _, texts = in_pdf()
     push("print-sheet")
     there = run(PLACES)
     run("dispatchEvent(new Event('afterprint'))")
-    count.expect("pages", [(box, len(places)) for box, places in there],
-                 [("0 0 210 297", len(symbols)) for _, symbols, _ in pages])
-    apart = [abs(x + 2 - left) + abs(y + 2 - top) for (_, places), (_, symbols, _) in zip(there, pages)
-             for (x, y), (left, top, *_) in zip(places, symbols)]
-    count.expect("places", max(apart) < 0.01, True)
-    count.expect("texts", [text for *_, texts in pages for text in texts], lines)
-    inside = [15 <= x and x + module * rows.index("\n") < 195 and 15 <= y < 282
-              for _, symbols, _ in pages for x, y, module, rows in symbols]
-    count.expect("within the margins", (len(pages) > 1, len(inside), all(inside)), (True, 150, True))
+    expect("pages", [(box, len(places)) for box, places in there],
+           [("0 0 210 297", len(symbols)) for _, symbols, _ in pages])
+    apart = [abs(x + 2 - left) + abs(y + 2 - top) for (_, places), (_, symbols, _) in zip(there, pages) for (x, y),
+             (left, top, *_) in zip(places, symbols)]
+    expect("places", max(apart) < 0.01, True)
+    expect("texts", texts, lines)
+    inside = [15 <= x and x + module * rows.index("\n") < 195 and 15 <= y < 282 for _, symbols, _ in pages for x, y,
+              module, rows in symbols]
+    expect("within the margins", (len(pages) > 1, len(inside), all(inside)), (True, 150, True))
     paper_is("a4", "0.5")
     choose("stock", "25x25")
     put("messages", "\n".join(str(k) for k in range(1200)))
     body = saved("symbols.pdf", "many-pdf")
-    count.expect("1,200 labels", (body.count(b"/Type /Page "), text_of("sheet-hint")),
-                 (1200, "1,200 symbols are in the PDF."))
-    choose("stock", "none")
-    put("messages", "")
+    expect("1,200 labels", (body.count(b"/Type /Page "), text_of("sheet-hint")),
+           (1200, "1,200 symbols are in the PDF."))
 
 
 def by_columns():
     """A file of CSV with one column a field, and what is wrong in one."""
-    write("123456")
-    unfold("sheet")
-    choose("stock", "50x30")
-    paper_is("a4", "0.4")
+    begin("50x30")
     for name, (text, lines, texts) in CSV.items():
-        file = on.folder / "fields.csv"
-        file.write_bytes(text.encode())
-        find("lines").send_keys(str(file))
-        wait_for(lambda: find("messages").get_attribute("value").strip() == text.replace("\r", "").strip())
+        give("lines", "fields.csv", text.encode())
+        wait_for(lambda: value_of("messages").strip() == text.replace("\r", "").strip())
         push("kind-typed" if name.startswith("line ends") else "kind-message")
         if name.startswith("names"):  # of which one isn't known
             push("columns-taken")
-        count.expect(f"{name}: taken as CSV", run("return document.getElementById('lines-as').value"), "csv")
-        pages = pages_of(saved("symbols.pdf", "many-pdf"))
-        symbols = [rows for _, some, _ in pages for *_, rows in some]
-        count.expect(f"{name}: symbols", symbols, [written(line) for line in lines])
-        count.expect(f"{name}: texts", [each for *_, some in pages for each in some], texts)
+        expect(f"{name}: taken as CSV", value_of("lines-as"), "csv")
+        expect(f"{name}: symbols and texts", in_pdf()[1:], ([written(line) for line in lines], texts))
     push("kind-message")
     for text, why in (("(01)\n123", "Message 1: It isn’t right as GS1 data: (01) GTIN, too short: 14 digits are due."),
                       ("(01),(98)\n09506000134352,", ""),
@@ -254,11 +264,7 @@ def by_columns():
                       ("message,qty\nA,1\nB,0", "1 symbol is in the PDF. 1 row wants 0 copies.")):
         put("messages", text)
         push("many-pdf")
-        count.expect(f"{text!r} is said", text_of("sheet-hint"), why or "1 symbol is in the PDF.")
-    choose("lines-as", "messages")
-    choose("stock", "none")
-    paper_is("a4", "0.5")
-    put("messages", "")
+        expect(f"{text!r} is said", text_of("sheet-hint"), why or "1 symbol is in the PDF.")
 
 
 def files():
@@ -307,103 +313,83 @@ CHOOSE = """
     choice.dispatchEvent(new Event('change', { bubbles: true }))"""
 
 
+def answer(first, columns):
+    """Says what the first row is, if that is asked, and what columns are."""
+    if first:
+        push(f"first-{first}")
+    for column, role in columns.items():
+        run(CHOOSE, column, role)
+    push("columns-taken")
+
+
 def asked_about_columns():
     """What a heading leaves open is asked, and before it is answered nothing is given."""
-    write("123456")
-    unfold("sheet")
-    choose("lines-as", "csv")
-    choose("stock", "50x30")
-    paper_is("a4", "0.4")
+    begin("50x30", lines_as="csv")
     run("globalThis.printed = 0; window.print = () => { printed++; }")
-    for file in files():
-        (on.folder / file).unlink()
+    emptied()
     for name, text, question, first, columns, messages, texts in ASKED:
         put("messages", "message\nanother list")
         put("messages", text)
-        count.expect(f"{name}: is asked", (find("columns").is_displayed(),
-                     text_of("columns-question").split(" Known headings")[0]), (True, question))
-        count.expect(f"{name}: whether the first row is", find("first-row").is_displayed(), first is not None)
+        expect(f"{name}: is asked", (is_seen("columns"), text_of("columns-question").split(" Known headings")[0]),
+               (True, question))
+        expect(f"{name}: whether the first row is", is_seen("first-row"), first is not None)
         for button in ("many-pdf", "many-png", "many-svg", "print-sheet"):
             push(button)
-            count.expect(f"{name}: {button} before", (text_of("sheet-hint"), files(), run("return printed")),
-                         (SAY_FIRST, [], 0))
-        if first:
-            push(f"first-{first}")
-        for column, role in columns.items():
-            run(CHOOSE, column, role)
-        push("columns-taken")
-        pages = pages_of(saved("symbols.pdf", "many-pdf"))
-        count.expect(f"{name}: symbols", [rows for _, some, _ in pages for *_, rows in some],
-                     [written(message) for message in messages])
-        if texts:
-            count.expect(f"{name}: texts", [each for *_, some in pages for each in some], texts)
-        (on.folder / "symbols.pdf").unlink()
+            expect(f"{name}: {button} before", (text_of("sheet-hint"), files(), run("return printed")),
+                   (SAY_FIRST, [], 0))
+        answer(first, columns)
+        _, grids, below = in_pdf()
+        expect(f"{name}: symbols", (grids, texts and below), ([written(message) for message in messages], texts))
+        emptied()
     put("messages", "part,place\nA1,left")
     push("first-headings")
     for column, role, why in ((0, "left out", "One column has to be the message."), (0, "message", ""),
                               (1, "message", "One column has to be the message."), (1, "text", "")):
         run(CHOOSE, column, role)
-        if find("columns-taken").is_displayed():
-            push("columns-taken")
-        else:
-            push("many-pdf")
+        push("columns-taken" if is_seen("columns-taken") else "many-pdf")
         if why:
-            count.expect(f"column {column} as {role}", (text_of("sheet-hint"), files()), (why, []))
+            expect(f"column {column} as {role}", (text_of("sheet-hint"), files()), (why, []))
     put("messages", "part,place\nA1,left\nB2,right")
-    pages = pages_of(saved("symbols.pdf", "many-pdf"))
-    count.expect("the answer stays while the headings do", [texts for *_, texts in pages], [["left"], ["right"]])
-    choose("lines-as", "messages")
-    choose("stock", "none")
-    paper_is("a4", "0.5")
-    put("messages", "")
-
-
-TOLD = "return [...document.querySelectorAll(arguments[0])].map((it) => it.textContent)"
+    expect("the answer stays while the headings do", in_pdf()[2], ["left", "right"])
 
 
 def labels_shown():
     """The first labels are shown as they will be, and the others in turn; what was said of a list goes with it."""
-    write("123456")
-    unfold("sheet")
+    begin("none", "0.5")
     shown_now = lambda: (text_of("labels-shown"), drawn_in("#labels-are"))
     lines = [f"label {k}" for k in range(1, 9)]
     put("messages", "\n".join(lines))
     for first in (0, 3, 6):
         some = lines[first:first + 3]
-        count.expect_soon(f"labels from {first + 1} on", shown_now,
-                          (f"{first + 1} to {first + len(some)} of 8", [written(line) for line in some]))
-        told = run(TOLD, "#labels-are :is(title, code)")
-        count.expect("their texts, and what they say", told, [line for line in some for _ in range(2)])
-        count.expect("what can be leafed to", (usable("labels-back"), usable("labels-on")), (first > 0, first < 6))
+        soon(f"labels from {first + 1} on", shown_now,
+             (f"{first + 1} to {first + len(some)} of 8", [written(line) for line in some]))
+        told = texts_of("#labels-are :is(title, code)")
+        expect("their texts, and what they say", told, [line for line in some for _ in range(2)])
+        expect("what can be leafed to", (usable("labels-back"), usable("labels-on")), (first > 0, first < 6))
         push("labels-on")
     push("labels-back")
-    count.expect_soon("and back", lambda: text_of("labels-shown"), "4 to 6 of 8")
+    soon("and back", lambda: text_of("labels-shown"), "4 to 6 of 8")
     for name, change in (("a line is added", lambda: put("messages", "\n".join([*lines, "one more"]))),
                          ("the lines become CSV", lambda: choose("lines-as", "csv")),
                          ("they become messages again", lambda: choose("lines-as", "messages")),
-                         ("the text goes", lambda: run("document.getElementById('label-text').click()")),
-                         ("it comes back", lambda: run("document.getElementById('label-text').click()")),
+                         ("the text goes", lambda: push("label-text")), ("it comes back", lambda: push("label-text")),
                          ("labels are chosen", lambda: choose("stock", "50x30")),
                          ("none are", lambda: choose("stock", "none"))):
         saved("symbols.pdf", "many-pdf") if name != "they become messages again" else None
         change()
-        count.expect(f"what was given, when {name}", text_of("sheet-hint"), "")
+        expect(f"what was given, when {name}", text_of("sheet-hint"), "")
     put("messages", "one\ncaf\u00e9\n(01)123")
     unspelled = "column 4 is \u00e9, which has no spelling of its own"
-    count.expect_soon("lines that aren't taken", shown_now, (f"1 to 3 of 3. Message 2: {unspelled}", [written("one")]))
-    told = run(TOLD, "#labels-are p")
-    count.expect("what is told of each", told, ["1: one", f"2: {unspelled}",
-                 "3: It isn’t right as GS1 data: (01) GTIN, too short: 14 digits are due."])
+    soon("lines that aren't taken", shown_now, (f"1 to 3 of 3. Message 2: {unspelled}", [written("one")]))
+    told = texts_of("#labels-are p")
+    expect("what is told of each", told,
+           ["1: one", f"2: {unspelled}", "3: It isn’t right as GS1 data: (01) GTIN, too short: 14 digits are due."])
     on_one_label()
     put("messages", "one")
-    run("""document.getElementById('many-pdf').click();
-           const field = document.getElementById('messages');
-           field.value = 'two';
-           field.dispatchEvent(new Event('input', { bubbles: true }))""")
-    settle()
-    count.expect("what is given when the list has changed", text_of("sheet-hint"), "")
+    do("at('many-pdf').click(); put('messages', 'two')")
+    expect("what is given when the list has changed", text_of("sheet-hint"), "")
     put("messages", "")
-    count.expect_soon("no labels without a list", lambda: find("labels").is_displayed(), False)
+    soon("no labels without a list", lambda: is_seen("labels"), False)
 
 
 WIDE = "a text that is wider than its label, and is smaller there, in lines"
@@ -424,24 +410,23 @@ def on_one_label():
     choose("stock", "38x25")
     put("messages", "\n".join(messages))
     grids = [written(message) for message in messages]
-    count.expect_soon("symbols on labels", lambda: drawn_in("#labels-are"), grids)
-    pages = pages_of(saved("symbols.pdf", "many-pdf"))
+    soon("symbols on labels", lambda: drawn_in("#labels-are"), grids)
+    pages, *_ = in_pdf()
     labels = run(LABELS, "#labels-are")
     places = [[x - 0.8, y - 0.8] for _, symbols, _ in pages for x, y, *_ in symbols]
-    count.expect("where they stand", [(box, [round(x, 1), round(y, 1)]) for box, x, y, _ in labels],
-                 [("0 0 38 25", [round(x, 1), round(y, 1)]) for x, y in places])
-    count.expect("what they say below", ["".join(lines) for *_, lines in labels], messages)
-    count.expect("what is too wide has lines", [len(lines) for *_, lines in labels], [1, 2])
+    expect("where they stand", [(box, [round(x, 1), round(y, 1)]) for box, x, y, _ in labels],
+           [("0 0 38 25", [round(x, 1), round(y, 1)]) for x, y in places])
+    expect("what they say below", ["".join(lines) for *_, lines in labels], messages)
+    expect("what is too wide has lines", [len(lines) for *_, lines in labels], [1, 2])
     run("window.print = () => {}")
     push("print-sheet")
-    count.expect("on paper", run(LABELS, "#paper"), labels)
+    expect("on paper", run(LABELS, "#paper"), labels)
     run("dispatchEvent(new Event('afterprint'))")
     paper_is("a4", "1")
     choose("stock", "25x25")
     length = grids[1].index("\n") + 4
     why = f"Message 2 takes {length} × {length} mm and "
-    count.expect_soon("what doesn't fit", lambda: [it.startswith(why) for it in run(TOLD, "#labels-are p")],
-                      [False, True])
+    soon("what doesn't fit", lambda: [it.startswith(why) for it in texts_of("#labels-are p")], [False, True])
     paper_is("a4", "0.5")
     choose("stock", "none")
 
@@ -499,45 +484,32 @@ def dots_of_svg(drawing):
 def saved_as_shown():
     """What is saved of labels is what is shown of them, by each format; each drawing is XML; and there are as many
     labels as rows want."""
-    write("123456")
+    begin()
     push("kind-typed", "profile-2")
-    unfold("sheet")
-    paper_is("a4", "0.4")
     for name, kind, text, stock, texts in SAVED:
-        choose("stock", stock)
-        choose("lines-as", kind)
-        put("messages", text)
-        wait_for(lambda: find("labels").is_displayed() and shown_pages())
-        pdf = pages_of(saved("symbols.pdf", "many-pdf"))
+        take(kind, text, stock)
+        wait_for(lambda: is_seen("labels") and shown_pages())
+        pdf, symbols, below = in_pdf()
         said = f"{len(pdf) if stock != 'none' else sum(len(some) for _, some, _ in pdf)} symbols are in the "
         said = said.replace("1 symbols are", "1 symbol is")
-        count.expect(f"{name}: what is said", text_of("sheet-hint").startswith(said), True)
-        count.expect(f"{name}: texts in the PDF", [each for *_, some in pdf for each in some], texts)
-        files = {}
-        for ending in ("svg", "png"):
-            with zipfile.ZipFile(io.BytesIO(saved(f"symbols-{ending}.zip", f"many-{ending}"))) as archive:
-                files[ending] = [archive.read(each) for each in archive.namelist()[:-1]]
-                count.expect(f"{name}: names are unlike", len(set(archive.namelist())), len(archive.namelist()))
-        symbols = [rows for _, some, _ in pdf for *_, rows in some]
-        count.expect(f"{name}: as many labels", [len(files[it]) for it in files], [len(symbols)] * 2)
-        whole = [body.decode() for body in files["svg"]]
+        expect(f"{name}: what is said", text_of("sheet-hint").startswith(said), True)
+        expect(f"{name}: texts in the PDF", below, texts)
+        drawings, pictures = (list(archived(ending).values()) for ending in ("svg", "png"))
+        expect(f"{name}: as many labels", [len(drawings), len(pictures)], [len(symbols)] * 2)
+        whole = [body.decode() for body in drawings]
         for body in whole:
             xml.etree.ElementTree.fromstring(body)
         there = {it.strip() for it in whole}
-        count.expect_soon(f"{name}: drawings are those that are shown", lambda: there <= set(shown_pages()), True)
+        soon(f"{name}: drawings are those that are shown", lambda: there <= set(shown_pages()), True)
         if name.startswith("elements"):
             (*_, lines), = run(LABELS, "#labels-are")
-            count.expect("elements in lines", lines, ["(01)09506000134352", "(17)271231(10)AB-42"])
-        count.expect(f"{name}: dots", dots_of_pdf(), [dots for body in whole for dots in dots_of_svg(body)])
-        for drawing, picture in zip(whole, files["png"]):
+            expect("elements in lines", lines, ["(01)09506000134352", "(17)271231(10)AB-42"])
+        expect(f"{name}: dots", dots_of_pdf(), [dots for body in whole for dots in dots_of_svg(body)])
+        for drawing, picture in zip(whole, pictures):
             across, down = re.search(r'^<svg [^>]*width="([\d.]+)mm" height="([\d.]+)mm"', drawing).groups()
             pixels = [int.from_bytes(picture[at : at + 4], "big") for at in (16, 20)]
-            count.expect(f"{name}: pixels", pixels, [round(float(length) * 25) for length in (across, down)])
+            expect(f"{name}: pixels", pixels, [round(float(length) * 25) for length in (across, down)])
     not_whole()
-    choose("lines-as", "messages")
-    choose("stock", "none")
-    paper_is("a4", "0.5")
-    put("messages", "")
 
 
 NOT_WHOLE = [
@@ -551,51 +523,49 @@ NOT_WHOLE = [
 ]
 
 
+def take(kind, text, stock):
+    """Takes a list, on these labels."""
+    choose("stock", stock)
+    choose("lines-as", kind)
+    put("messages", text)
+
+
 def not_whole():
     """What can't be shown whole, and rows that aren't labels, are named, and nothing is saved."""
     for name, kind, text, stock, why in NOT_WHOLE:
-        choose("stock", stock)
-        choose("lines-as", kind)
-        put("messages", text)
-        for file in files():
-            (on.folder / file).unlink()
+        take(kind, text, stock)
+        emptied()
         for button in ("many-pdf", "many-png", "many-svg"):
             push(button)
-            count.expect(f"{name}: {button}", (text_of("sheet-hint")[:len(why)], files()), (why, []))
-    choose("stock", "none")
-    choose("lines-as", "messages")
-    put("messages", "")
+            expect(f"{name}: {button}", (text_of("sheet-hint")[:len(why)], files()), (why, []))
+    take("messages", "", "none")
     put("messages", "gtin\tlot\n1\tA\n2\tB")
-    count.expect("a table that is pasted", (find("lines-as").get_attribute("value"), text_of("sheet-hint")),
-                 ("csv", "A table was pasted, and so the lines are taken as one."))
+    expect("a table that is pasted", (value_of("lines-as"), text_of("sheet-hint")),
+           ("csv", "A table was pasted, and so the lines are taken as one."))
     push("tab-make")
     write("(01)09506000134353")
     body = saved("symbol-16.svg", "save-svg")
-    count.expect("a wrong GS1 symbol is saved with a word", (body[:4], text_of("toast")), (b"<svg",
-                 "symbol-16.svg is saved. It isn’t right as GS1 data: (01) GTIN, the check digit 3 should be 2."))
+    expect("a wrong GS1 symbol is saved with a word", (body[:4], text_of("toast")),
+           (b"<svg", "symbol-16.svg is saved. It isn’t right as GS1 data: (01) GTIN, the check digit 3 should be 2."))
     write("123456")
 
 
 def serial_numbers():
     """Serial numbers are added to the list, and each line is had in copies."""
-    write("123456")
-    unfold("sheet", "serial")
-    choose("stock", "50x30")
-    paper_is("a4", "0.4")
+    begin("50x30")
+    unfold("serial")
     put("messages", "first")
     for name, value in (("before", "SN-"), ("behind", "/A"), ("first", "0998"), ("count", "3")):
         put(f"serial-{name}", value)
     push("serial-add")
-    lines = lambda: find("messages").get_attribute("value").split("\n")
-    count.expect("numbers that are added", (lines(), text_of("sheet-hint")),
-                 (["first", "SN-0998/A", "SN-0999/A", "SN-1000/A"], "3 lines are added."))
+    lines = lambda: value_of("messages").split("\n")
+    expect("numbers that are added", (lines(), text_of("sheet-hint")),
+           (["first", "SN-0998/A", "SN-0999/A", "SN-1000/A"], "3 lines are added."))
     push("serial-add")
-    count.expect("the next ones", lines()[4:], ["SN-1001/A", "SN-1002/A", "SN-1003/A"])
+    expect("the next ones", lines()[4:], ["SN-1001/A", "SN-1002/A", "SN-1003/A"])
     put("copies", "2")
-    pages = pages_of(saved("symbols.pdf", "many-pdf"))
-    wanted = [written(line) for line in lines() for _ in range(2)]
-    count.expect("copies of each", ([rows for _, some, _ in pages for *_, rows in some], text_of("sheet-hint")),
-                 (wanted, "14 symbols are in the PDF."))
+    expect("copies of each", (in_pdf()[1], text_of("sheet-hint")),
+           ([written(line) for line in lines() for _ in range(2)], "14 symbols are in the PDF."))
     for name, value, why in (("serial-first", "12a", "The first number has 1 to 30 digits."), ("serial-first", "9", ""),
                              ("serial-count", "10001", "From 1 to 10,000 can be added."),
                              ("serial-count", "0", "From 1 to 10,000 can be added."),
@@ -604,128 +574,101 @@ def serial_numbers():
         before = lines()
         if why:
             push("serial-add")
-            count.expect(f"{name} {value}", (text_of("sheet-hint"), lines()), (why, before))
+            expect(f"{name} {value}", (text_of("sheet-hint"), lines()), (why, before))
     put("serial-count", "2")
     choose("lines-as", "csv")
     push("serial-add")
     why = "Serial numbers are added to lines that are messages, and not to CSV."
-    count.expect("in CSV", text_of("sheet-hint"), why)
-    choose("lines-as", "messages")
-    put("messages", "")
-    put("copies", "1")
+    expect("in CSV", text_of("sheet-hint"), why)
 
 
 def opened_again():
     """A list that was saved, by itself or in a file of labels, gives the same labels again."""
-    write("123456")
-    unfold("sheet")
+    begin()
     lists = [("messages", "one\n(01)09506000134352\nthree", {}, "a4-3x7", "0.4"),
              ("csv", "place,part\nleft,A1\nright,B2", {0: "text", 1: "message"}, "own", "0.3")]
     for kind, text, columns, stock, millimetres in lists:
-        choose("lines-as", kind)
-        put("messages", text)
-        choose("stock", stock)
+        take(kind, text, stock)
         paper_is("a4", millimetres)
         put("label-width", "44.5")
         push("profile-1")
         if columns:
-            push("first-headings")
-            for column, role in columns.items():
-                run(CHOOSE, column, role)
-            push("columns-taken")
+            answer("headings", columns)
         pdf = saved("symbols.pdf", "many-pdf")
         files = {"labels.json": saved("labels.json", "save-list"), "symbols.pdf": pdf,
                  "symbols-svg.zip": saved("symbols-svg.zip", "many-svg")}
         for name, body in files.items():
-            choose("lines-as", "messages")
-            put("messages", "another list")
-            choose("stock", "none")
+            take("messages", "another list", "none")
             paper_is("letter", "1")
             put("label-width", "60")
             push("profile-0")
-            (on.folder / f"again-{name}").write_bytes(body)
-            find("lines").send_keys(str(on.folder / f"again-{name}"))
-            count.expect_soon(f"{kind} in {name}", lambda: text_of("sheet-hint"), f"The labels of again-{name}.")
+            give("lines", f"again-{name}", body)
+            soon(f"{kind} in {name}", lambda: text_of("sheet-hint"), f"The labels of again-{name}.")
             state = run("""return ["lines-as", "messages", "stock", "millimetres", "paper-size", "label-width"].map(
                            (id) => document.getElementById(id).value)""")
-            count.expect(f"{kind} in {name}: what is chosen", (state, find("profile-1").is_selected()),
-                         ([kind, text, stock, millimetres, "a4", "44.5"], True))
-            count.expect(f"{kind} in {name}: the labels", pages_of(saved("symbols.pdf", "many-pdf")), pages_of(pdf))
+            expect(f"{kind} in {name}: what is chosen", (state, find("profile-1").is_selected()),
+                   ([kind, text, stock, millimetres, "a4", "44.5"], True))
+            expect(f"{kind} in {name}: the labels", pages_of(saved("symbols.pdf", "many-pdf")), pages_of(pdf))
     write("a PDF of one", size="rectangle")
     one = saved("symbol-12x26.pdf", "save-pdf")
     rows = grid()
-    (on.folder / "again.pdf").write_bytes(one)
-    find("lines").send_keys(str(on.folder / "again.pdf"))
-    count.expect_soon("a PDF of one symbol", lambda: (shown()["says"], task(), grid()), ("a PDF of one", "read", rows))
+    give("lines", "again.pdf", one)
+    soon("a PDF of one symbol", lambda: (shown()["says"], task(), grid()), ("a PDF of one", "read", rows))
     write("123456")
     unfold("sheet")
     put("messages", "stays")
     for name, body in (("none.pdf", b"%PDF-1.4\n"), ("none.zip", b"PK\x03\x04" + bytes(40))):
-        (on.folder / name).write_bytes(body)
-        find("lines").send_keys(str(on.folder / name))
-        count.expect_soon(f"{name} is no list", lambda: text_of("sheet-hint"), f"{name} holds no labels of this page.")
-    count.expect("what is no list changes nothing", find("messages").get_attribute("value"), "stays")
+        give("lines", name, body)
+        soon(f"{name} is no list", lambda: text_of("sheet-hint"), f"{name} holds no labels of this page.")
+    expect("what is no list changes nothing", value_of("messages"), "stays")
     odd = {"labels": 1, "messages": "odd", "columns": 7, "size": "9x9", "choices": {"stock": "none such", "copies": -1}}
-    (on.folder / "odd.json").write_text(json.dumps(odd))
-    find("lines").send_keys(str(on.folder / "odd.json"))
-    count.expect_soon("a list with choices that there aren't", lambda: (text_of("sheet-hint"),
-                      find("stock").get_attribute("value"), find("shape").get_attribute("value")),
-                      ("The labels of odd.json.", "own", "square"))
-    push("profile-0")
-    choose("lines-as", "messages")
-    choose("stock", "none")
-    put("label-width", "60")
-    paper_is("a4", "0.5")
-    put("messages", "")
+    give("lines", "odd.json", json.dumps(odd).encode())
+    soon("a list with choices that there aren't", lambda: (text_of("sheet-hint"), value_of("stock"), value_of("shape")),
+         ("The labels of odd.json.", "own", "square"))
+
+
+def read_again(name, body, message, text):
+    """Opens a file of a symbol as a picture, of which that symbol is read."""
+    push("tab-read")
+    opened(name, body)
+    expect(f"{name} of {message}, opened again", (grid(), shown()["says"]), (text, message))
+    push("tab-make")
 
 
 def in_archives():
     """Many symbols in one archive, each as it would be saved alone; one symbol, and many without labels, as PDF."""
-    write("123456")
-    unfold("sheet")
-    paper_is("a4", "0.4")
+    begin()
     messages = ["one", "two", "Mitsubadoor and more"]
     put("messages", "\n".join(messages))
     sides = [written(message).index("\n") for message in messages]
     for ending in ("svg", "png"):
-        with zipfile.ZipFile(io.BytesIO(saved(f"symbols-{ending}.zip", f"many-{ending}"))) as archive:
-            names = archive.namelist()
-            count.expect(f"names in the archive of {ending}", (archive.testzip(), names),
-                         (None,
-                          [*(f"{k + 1:03}-symbol-{side}.{ending}" for k, side in enumerate(sides)), "labels.json"]))
-            bodies = [archive.read(name) for name in names[:-1]]
-        count.expect(f"{ending}: what is said", text_of("sheet-hint"), "3 symbols are in the archive.")
-        for message, side, body in zip(messages, sides, bodies):
+        files = archived(ending)
+        expect(f"names of {ending}", [*files], [f"{k + 1:03}-symbol-{side}.{ending}" for k, side in enumerate(sides)])
+        expect(f"{ending}: what is said", text_of("sheet-hint"), "3 symbols are in the archive.")
+        for message, side, body in zip(messages, sides, files.values()):
             if ending == "svg":
                 height = f"{round((side + 4) * 0.4 + height_below(message, 20), 3):g}mm"
-                count.expect(f"SVG of {message}", f'width="20mm" height="{height}"' in body.decode(), True)
+                expect(f"SVG of {message}", f'width="20mm" height="{height}"' in body.decode(), True)
             else:
                 at = body.index(b"pHYs") + 4
                 width, across = struct.unpack(">I", body[16:20])[0], struct.unpack(">I", body[at : at + 4])[0]
                 sum_of = (zlib.crc32(body[at - 4 : at + 9]), struct.unpack(">I", body[at + 9 : at + 13])[0])
-                count.expect(f"PNG of {message}", (round(1000 * width / across, 2), sum_of[0]), (20, sum_of[1]))
-            push("tab-read")
-            opened(f"from-archive.{ending}", body)
-            count.expect(f"{ending} of {message}, opened again", (grid(), shown()["says"]), (written(message), message))
-            push("tab-make")
+                expect(f"PNG of {message}", (round(1000 * width / across, 2), sum_of[0]), (20, sum_of[1]))
+            read_again(f"label.{ending}", body, message, written(message))
     paper_is("label", "0.4")
-    pages = pages_of(saved("symbols.pdf", "many-pdf"))
+    pages, grids, _ = in_pdf()
     lengths = [round((side + 4) * 0.4, 2) for side in sides]
     heights = [round(length + height_below(message, 20), 1) for length, message in zip(lengths, messages)]
-    count.expect("a PDF of many", [[width, round(height, 1)] for (width, height), _, _ in pages],
-                 [[20, height] for height in heights])
-    symbols = [rows for _, some, _ in pages for *_, rows in some]
-    count.expect("its symbols", symbols, [written(each) for each in messages])
-    run("document.getElementById('label-text').click()")
-    pages = pages_of(saved("symbols.pdf", "many-pdf"))
-    count.expect("without texts", [(size, texts) for size, _, texts in pages],
-                 [([length] * 2, []) for length in lengths])
-    run("document.getElementById('label-text').click()")
+    expect("a PDF of many", [[width, round(height, 1)] for (width, height), _, _ in pages],
+           [[20, height] for height in heights])
+    expect("its symbols", grids, [written(each) for each in messages])
+    push("label-text")
+    pages, *_ = in_pdf()
+    expect("without texts", [(size, texts) for size, _, texts in pages], [([length] * 2, []) for length in lengths])
+    push("label-text")
     ((size, [(x, y, module, rows)], texts),) = pages_of(saved("symbol-10.pdf", "save-pdf"))
-    count.expect("a PDF of one", (size, round(x, 3), round(y, 3), round(module, 3), rows, texts),
-                 ([5.6, 5.6], 0.8, 0.8, 0.4, written("123456"), []))
-    put("messages", "")
-    paper_is("a4", "0.5")
+    expect("a PDF of one", (size, round(x, 3), round(y, 3), round(module, 3), rows, texts),
+           ([5.6, 5.6], 0.8, 0.8, 0.4, written("123456"), []))
 
 
 CODINGS = {"utf-8": "", "utf-8-sig": "", "utf-16": " It is UTF-16.",
@@ -735,29 +678,20 @@ CODINGS = {"utf-8": "", "utf-8-sig": "", "utf-16": " It is UTF-16.",
 def other_letters():
     """Text is taken as it is written, in a file too, which may have another encoding: that is said. Below a symbol in a
     PDF stand the letters that are shown."""
-    write("123456")
+    begin("50x30")
     push("kind-typed")
-    unfold("sheet")
-    choose("stock", "50x30")
-    paper_is("a4", "0.4")
-    message, text, file = "Größe 5 µm", "Maß – 5 €", on.folder / "other.csv"
-    texts_below = lambda: [each for *_, some in pages_of(saved("symbols.pdf", "many-pdf")) for each in some]
+    message, text = "Größe 5 µm", "Maß – 5 €"
     for coding, note in CODINGS.items():
-        file.write_bytes(f"message;text\n{message};{text}\n".encode(coding))
         put("messages", "")
-        find("lines").send_keys(str(file))
-        count.expect_soon(f"a file in {coding}", lambda: (find("messages").get_attribute("value"),
-                          text_of("sheet-hint")), (f"message;text\n{message};{text}", f"The lines of other.csv.{note}"))
-        count.expect(f"its text, in {coding}", texts_below(), [text])
-        symbols = [rows for _, some, _ in pages_of(saved("symbols.pdf", "many-pdf")) for *_, rows in some]
-        count.expect(f"its symbol, in {coding}", symbols, [written(spelled(message.encode("iso-8859-1")))])
+        give("lines", "other.csv", f"message;text\n{message};{text}\n".encode(coding))
+        soon(f"a file in {coding}", lambda: (value_of("messages"), text_of("sheet-hint")),
+             (f"message;text\n{message};{text}", f"The lines of other.csv.{note}"))
+        expect(f"its symbol and text, in {coding}", in_pdf()[1:],
+               ([written(spelled(message.encode("iso-8859-1")))], [text]))
     choose("lines-as", "messages")
     put("messages", "plain\na → b\n→")
-    count.expect("letters that are in no font of a printer", (texts_below(), text_of("sheet-hint")),
-                 (["plain", "a → b", "→"], "3 symbols are in the PDF."))
-    choose("stock", "none")
-    paper_is("a4", "0.5")
-    put("messages", "")
+    expect("letters that are in no font of a printer", (in_pdf()[2], text_of("sheet-hint")),
+           (["plain", "a → b", "→"], "3 symbols are in the PDF."))
 
 
 PARTS = [on_labels, labels_printed, saved_as_shown, one_after_another, by_columns, asked_about_columns, labels_shown,

@@ -9,15 +9,15 @@ import zipfile
 
 from tests import corpus
 from tests.library.model import SIZE_OF, codewords, modules_of, padded
-from tests.page.conduct import linked, started
+from tests.page.conduct import go, linked
 from tests.page.history import fields
 from tests.page.judge import (SMALLEST, asked_to_read, asked_to_write, in_lines, judged, letter_of, line_of_text,
                               written_in)
 from tests.page.labels import pages_of, saved
-from tests.page.photographs import CAMERA, LISTED
+from tests.page.photographs import CAMERA, FOUND
 from tests.page.pictures import opened, png
-from tests.page.stage import (COLLECT, choose, count, fill, find, fold, grid, head, on, push, put, run, settle, shown,
-                              text_of, unfold, unseen, usable, written)
+from tests.page.stage import (COLLECT, choose, expect, fill, find, fold, grid, head, on, push, put, reload, run, settle,
+                              shown, soon, text_of, texts_of, unfold, unseen, usable, value_of, written)
 from tests.support import package
 
 
@@ -53,35 +53,33 @@ SHORTENED = [
 def the_smallest():
     """What is written at first is the smallest symbol that says it, and the page says in place of which; other forms
     are chosen and linked as such."""
-    on.page.refresh()
-    started()
-    count.expect("chosen at first", run("return document.getElementById('profile-2').checked"), True)
+    reload()
+    expect("chosen at first", run("return document.getElementById('profile-2').checked"), True)
     unfold("form")
     for line, shape in SHORTENED:
         choose("shape", shape)
         type_in(line, "message")
         plain, shorter, smallest = judged([asked_to_write(line, shape, form) for form in (0, 1, SMALLEST)])
-        count.expect(f"{line[:20]}", grid(), in_lines(smallest))
+        expect(f"{line[:20]}", grid(), in_lines(smallest))
         sides = [text_of(f"side-{form}") for form in (0, 1, SMALLEST)]
-        count.expect(f"{line[:20]}: of each form", sides, [words_of(it) for it in (plain, shorter, smallest)])
+        expect(f"{line[:20]}: of each form", sides, [words_of(it) for it in (plain, shorter, smallest)])
         saved_by = f" in place of {words_of(plain)}" if words_of(plain) != words_of(smallest) else ""
-        count.expect(f"{line[:20]}: what it saves", text_of("side-now"), words_of(smallest) + saved_by)
-        count.expect(f"{line[:20]}: as it is read", shown()["state"], "Read")
+        expect(f"{line[:20]}: what it saves", text_of("side-now"), words_of(smallest) + saved_by)
+        expect(f"{line[:20]}: as it is read", shown()["state"], "Read")
     choose("shape", "square")
     type_in("A" * 2000, "message")
     (alone,) = judged([asked_to_write("A" * 2000, "square", SMALLEST)])
-    count.expect("where no other form fits", text_of("side-now"), words_of(alone))
+    expect("where no other form fits", text_of("side-now"), words_of(alone))
     linked()
-    count.expect("in the link", fields()["profile"], "smallest")
+    expect("in the link", fields()["profile"], "smallest")
     for form, name in ((0, None), (1, "shorter")):
         push(f"profile-{form}")
         linked()
-        count.expect(f"form {form} in the link", fields().get("profile"), name)
+        expect(f"form {form} in the link", fields().get("profile"), name)
     run(f"location.hash = '#make&message={'A' * 30}&profile=toString'")
     linked()
     settle()
-    count.expect("an earlier link has ASCII", grid(), written("A" * 30))
-    as_usual()
+    expect("an earlier link has ASCII", grid(), written("A" * 30))
 
 
 def gs1_in_the_smallest():
@@ -90,8 +88,7 @@ def gs1_in_the_smallest():
         type_in(text)
         (answer,) = judged([asked_to_read(grid())])
         seen = shown()
-        count.expect(text, (answer["symbology"], seen["says"], seen["state"]), ("]d2", text, "Read, as GS1 data"))
-    as_usual()
+        expect(text, (answer["symbology"], seen["says"], seen["state"]), ("]d2", text, "Read, as GS1 data"))
 
 
 # ---- Text
@@ -102,22 +99,21 @@ READ = "const { items, marks, head } = mitsubadoor.mark.seen.answer; return { it
 def texts_of_all_scripts():
     """Texts in ten scripts are written as Python writes them, and are read as what was typed."""
     all_texts = corpus.texts()
-    count.expect("how many", len(all_texts), 200)
+    expect("how many", len(all_texts), 200)
     lines = [line_of_text(text) for _, text in all_texts]
     grids = [in_lines(it) for it in judged([asked_to_write(line, "square", SMALLEST) for line in lines])]
     run(COLLECT)
     with unseen():
         for (script, text), line, wanted in zip(all_texts, lines, grids):
             type_in(text, "text")
-            count.expect(f"{script}: {text}", grid(), wanted)
-            count.expect(f"{script}: {text} as it is read", (shown()["says"], run(READ)), (text, letter_of(line)))
+            expect(f"{script}: {text}", grid(), wanted)
+            expect(f"{script}: {text} as it is read", (shown()["says"], run(READ)), (text, letter_of(line)))
         push("tab-read")
         for (script, text), wanted in list(zip(all_texts, grids))[::7]:
             put("grid", wanted)
             push("copy-message")
-            count.expect(f"{script}: {text} in a grid", shown()["says"], text)
-    count.expect("as they are copied", run("return copied"), [text for _, text in all_texts[::7]])
-    as_usual()
+            expect(f"{script}: {text} in a grid", shown()["says"], text)
+    expect("as they are copied", run("return copied"), [text for _, text in all_texts[::7]])
 
 
 def charsets():
@@ -129,16 +125,15 @@ def charsets():
             type_in(line, "message")
             text = spelled[0] if spelled and "\\x" not in spelled[0] else None
             seen = shown()
-            count.expect(line, (seen["says"], seen["charset"]), (text or line, text and charset))
+            expect(line, (seen["says"], seen["charset"]), (text or line, text and charset))
             letter = letter_of(line)
             numbers = [it["number"] for it in letter["marks"]]
             if text and letter["marks"][0]["place"] == 0 and len(numbers) == 1:
                 told = f"It is text in {charset.upper()}, as ECI {numbers[0]} says."
-                count.expect(f"{line}: what is said", told in seen["why"], True)
-        count.expect("how many", len(marked), 57)
+                expect(f"{line}: what is said", told in seen["why"], True)
+        expect("how many", len(marked), 57)
         type_in("A\\E{7}\\xBF\\E{9}\\xD9\\E{26}", "message")
-        count.expect("said of several", "as ECIs say." in shown()["why"], True)
-    as_usual()
+        expect("said of several", "as ECIs say." in shown()["why"], True)
 
 
 # ---- Several symbols
@@ -158,12 +153,12 @@ def parts_of(text, count_of_them, kind="text"):
     choose("parts", str(count_of_them))
     grids, letters = [], []
     for k in range(count_of_them):
-        count.expect(f"part {k + 1} is named", text_of("part-shown"), f"Part {k + 1} of {count_of_them}")
+        expect(f"part {k + 1} is named", text_of("part-shown"), f"Part {k + 1} of {count_of_them}")
         grids.append(grid())
         letters.append(run(READ))
-        count.expect(f"part {k + 1} as it is read", shown()["state"], f"Read, as part {k + 1} of {count_of_them}")
+        expect(f"part {k + 1} as it is read", shown()["state"], f"Read, as part {k + 1} of {count_of_them}")
         push("part-on")
-    count.expect("after the last", (usable("part-on"), usable("part-back")), (False, True))
+    expect("after the last", (usable("part-on"), usable("part-back")), (False, True))
     return grids, letters
 
 
@@ -181,46 +176,41 @@ def made_in_parts():
         grids, letters = parts_of(text, many)
         heads = [it["head"] for it in letters]
         file = heads[0]["file"]
-        count.expect("heads", heads, [{"part": k + 1, "parts": many, "file": file} for k in range(many)])
-        count.expect("numbers of the file", all(1 <= number <= 254 for number in file), True)
-        count.expect(f"{text[:8]} in {many}", decoded(letters), text)
+        expect("heads", heads, [{"part": k + 1, "parts": many, "file": file} for k in range(many)])
+        expect("numbers of the file", all(1 <= number <= 254 for number in file), True)
+        expect(f"{text[:8]} in {many}", decoded(letters), text)
         lengths = [len(it["items"]) for it in letters]
-        count.expect("about equal parts", max(lengths) - min(lengths) <= 3, True)
+        expect("about equal parts", max(lengths) - min(lengths) <= 3, True)
         answers = judged([asked_to_read(it) for it in grids])
-        count.expect("as the library reads them", [it["head"] for it in answers], heads)
+        expect("as the library reads them", [it["head"] for it in answers], heads)
     type_in(MESSAGE, "text")
     choose("parts", "3")
     push("part-on")
     linked()
-    count.expect("in the link", (fields()["parts"], fields()["part"]), ("3", "2"))
+    expect("in the link", (fields()["parts"], fields()["part"]), ("3", "2"))
     shown_part = grid()
     side = len(shown_part.split("\n"))
-    count.expect("the name of its file", saved(f"symbol-{side}-2-of-3.svg", "save-svg")[:4], b"<svg")
+    expect("the name of its file", saved(f"symbol-{side}-2-of-3.svg", "save-svg")[:4], b"<svg")
     push("print")
     printed = run("dispatchEvent(new Event('beforeprint')); return document.getElementById('paper').textContent")
-    count.expect("on paper", f"Part 2 of 3. {side} × {side} modules of" in printed, True)
-    on.page.refresh()
-    started()
-    settle()
-    count.expect("after a reload", (text_of("part-shown"), grid()), ("Part 2 of 3", shown_part))
+    expect("on paper", f"Part 2 of 3. {side} × {side} modules of" in printed, True)
+    reload()
+    expect("after a reload", (text_of("part-shown"), grid()), ("Part 2 of 3", shown_part))
     for fragment in ("parts=17", "parts=x", "parts=0", "parts=3&part=9"):
-        run("location.hash = arguments[0]", f"#make&message=abcdef&as=typed&{fragment}")
-        linked()
-        settle()
+        go(f"#make&message=abcdef&as=typed&{fragment}")
         wanted = "Part 3 of 3" if "part=9" in fragment else ""
         got = text_of("part-shown") if run("return !document.getElementById('part-steps').hidden") else ""
-        count.expect(fragment, got, wanted)
+        expect(fragment, got, wanted)
     choose("parts", "1")
     type_in("(21)ABCDEFGHIJ(10)KLMNOPQRSTUV", "typed")
     choose("parts", "2")
     wrong = "It isn\u2019t right" in shown()["state"] or "element" in shown()["why"]
     hidden = run("return document.getElementById('elements').hidden")
     wanted = "Read, as part 1 of 2", False, True
-    count.expect("a part of GS1 data has no elements", (shown()["state"], wrong, hidden), wanted)
+    expect("a part of GS1 data has no elements", (shown()["state"], wrong, hidden), wanted)
     choose("parts", "1")
     spelled_heads()
     offered_in_parts()
-    as_usual()
 
 
 def spelled_heads():
@@ -231,32 +221,32 @@ def spelled_heads():
         type_in(line, "message")
         marks = [{"place": 0, "number": 26}] if "E{" in line else []
         wanted = state, {"items": [65, 66], "marks": marks, "head": said}
-        count.expect(line, (shown()["state"], run(READ)), wanted)
+        expect(line, (shown()["state"], run(READ)), wanted)
     choose("parts", "1")
     for line in ("\\A{6/5:001001}A", "\\A{1/17:001001}A", "\\A{1/2:000001}A", "\\A{1/2:001255}A"):
         type_in(line, "message")
         begin = "A part is one of 2 to 16, and its file has two numbers from 1 to 254."
-        count.expect(line, (shown()["state"], text_of("message-hint").startswith(begin)), ("Nothing is read", True))
+        expect(line, (shown()["state"], text_of("message-hint").startswith(begin)), ("Nothing is read", True))
     type_in("A\\P", "message")
-    count.expect("not behind something", text_of("message-hint").startswith("Column 2 is a backslash that"), True)
+    expect("not behind something", text_of("message-hint").startswith("Column 2 is a backslash that"), True)
 
 
 def offered_in_parts():
     """What is too long for one symbol is offered in several, until it fits."""
     choose("shape", "rectangle")
     type_in("Too long for any rectangle of the first standard, and by far: " * 4, "text")
-    count.expect("too long", shown()["state"], "Nothing is read")
+    expect("too long", shown()["state"], "Nothing is read")
     for _ in range(4):
         offers = [it for it in on.page.find_elements("css selector", "#message-hint button") if "symbols" in it.text]
         if not offers:
             break
         offers[0].click()
         settle()
-    many = int(run("return document.getElementById('parts').value"))
-    count.expect("it fits in several", (many > 1, shown()["state"]), (True, f"Read, as part 1 of {many}"))
+    many = int(value_of("parts"))
+    expect("it fits in several", (many > 1, shown()["state"]), (True, f"Read, as part 1 of {many}"))
     choose("parts", "2")
     hint = text_of("message-hint")
-    count.expect("which part doesn't fit", hint.startswith("Part 1 of 2: No rectangle up to 16 × 48 modules"), True)
+    expect("which part doesn't fit", hint.startswith("Part 1 of 2: No rectangle up to 16 × 48 modules"), True)
     choose("parts", "1")
     choose("shape", "square")
 
@@ -271,24 +261,20 @@ def labels_in_parts():
     pages = pages_of(saved("symbols.pdf", "many-pdf"))
     texts_below = [below for _, _, below in pages]
     wanted = [[f"{line} ({k}/2)"] for line in ("Größe 5 µm", "A second line of text") for k in (1, 2)]
-    count.expect("texts below", texts_below, wanted)
+    expect("texts below", texts_below, wanted)
     answers = judged([asked_to_read(rows) for _, ((*_, rows),), _ in pages])
-    count.expect("their heads", [it["head"]["part"] for it in answers], [1, 2, 1, 2])
+    expect("their heads", [it["head"]["part"] for it in answers], [1, 2, 1, 2])
     saved("labels.json", "save-list")
     names = zipfile.ZipFile(io.BytesIO(saved("symbols-svg.zip", "many-svg"))).namelist()
     wanted = [f"00{line}-{part}-of-2-symbol" for line in (1, 2) for part in (1, 2)]
-    count.expect("names in the archive", [name.rpartition("-")[0] for name in names[:-1]], wanted)
+    expect("names in the archive", [name.rpartition("-")[0] for name in names[:-1]], wanted)
     for parts in ("1", "4"):
         choose("parts", parts)
         put("messages", "")
         find("lines").send_keys(str(on.folder / "labels.json"))
-        chosen_now = lambda: run("return document.getElementById('parts').value")
-        count.expect_soon(f"opened again, after {parts}", chosen_now, "2")
+        chosen_now = lambda: value_of("parts")
+        soon(f"opened again, after {parts}", chosen_now, "2")
         settle()
-    put("messages", "")
-    choose("stock", "none")
-    fold("sheet")
-    as_usual()
 
 
 def read_in_parts():
@@ -300,31 +286,30 @@ def read_in_parts():
     run(COLLECT)
     put("grid", grids[2])
     first = run(CARD)
-    count.expect("the last one alone", (first["title"], first["parts"][:2], first["whole"]),
-                 ("A message in 3 symbols: 1 of them read", ["not read yet"] * 2, ""))
-    count.expect("nothing whole is copied", usable("copy-whole"), False)
+    expect("the last one alone", (first["title"], first["parts"][:2], first["whole"]),
+           ("A message in 3 symbols: 1 of them read", ["not read yet"] * 2, ""))
+    expect("nothing whole is copied", usable("copy-whole"), False)
     put("grid", others[0])
-    count.expect("another file", run(CARD)["title"], "A message in 3 symbols: 1 of them read")
-    count.expect("what is missing", "Not read yet: parts 2, 3." in shown()["why"], True)
+    expect("another file", run(CARD)["title"], "A message in 3 symbols: 1 of them read")
+    expect("what is missing", "Not read yet: parts 2, 3." in shown()["why"], True)
     put("grid", grids[1])
     card = run(CARD)
-    count.expect("two of three", (card["title"], card["whole"]), ("A message in 3 symbols: 2 of them read", ""))
-    count.expect("one is missing", "Not read yet: part 1." in shown()["why"], True)
+    expect("two of three", (card["title"], card["whole"]), ("A message in 3 symbols: 2 of them read", ""))
+    expect("one is missing", "Not read yet: part 1." in shown()["why"], True)
     put("grid", written("123456"))
-    count.expect("none for a symbol that is no part", run(CARD), None)
+    expect("none for a symbol that is no part", run(CARD), None)
     put("grid", grids[0])
     card = run(CARD)
-    count.expect("all", (card["title"], card["whole"]), ("A message in 3 symbols: all are read", MESSAGE))
-    count.expect("all parts", "".join(card["parts"]), MESSAGE)
+    expect("all", (card["title"], card["whole"]), ("A message in 3 symbols: all are read", MESSAGE))
+    expect("all parts", "".join(card["parts"]), MESSAGE)
     push("copy-whole")
-    count.expect("the whole is copied", run("return copied"), [MESSAGE])
+    expect("the whole is copied", run("return copied"), [MESSAGE])
     push("forget-parts")
-    count.expect("forgotten", run(CARD)["title"], "A message in 3 symbols: 1 of them read")
+    expect("forgotten", run(CARD)["title"], "A message in 3 symbols: 1 of them read")
     push("tab-make")
-    count.expect("only where symbols are read", run(CARD), None)
+    expect("only where symbols are read", run(CARD), None)
     found_in_parts(grids)
     other_content(grids, others)
-    as_usual()
 
 
 def found_in_parts(grids):
@@ -334,31 +319,31 @@ def found_in_parts(grids):
     opened("parts.png", png(lines, 4, 2))
     card = run(CARD)
     wanted = "A message in 3 symbols: all are read", MESSAGE
-    count.expect("parts in a picture", (card["title"], card["whole"]), wanted)
-    remarks = run("return [...document.querySelectorAll('#found-are small')].map((it) => it.textContent)")
-    count.expect("all in the verdict", "All parts are read." in shown()["why"], True)
+    expect("parts in a picture", (card["title"], card["whole"]), wanted)
+    remarks = texts_of("#found-are small")
+    expect("all in the verdict", "All parts are read." in shown()["why"], True)
     named = sorted(re.search(r"part \d of 3", it)[0] for it in remarks)
-    count.expect("named in the list", named, [f"part {k} of 3" for k in (1, 2, 3)])
+    expect("named in the list", named, [f"part {k} of 3" for k in (1, 2, 3)])
     kept = saved("found.json", "found-json").decode()
     listed = sorted(json.loads(kept)["symbols"], key=lambda it: it["head"])
     file = judged([asked_to_read(grids[0])])[0]["head"]["file"]
     heads = [[k, 3, *file] for k in (1, 2, 3)]
-    count.expect("heads in JSON", [it["head"] for it in listed], heads)
+    expect("heads in JSON", [it["head"] for it in listed], heads)
     said = [(it["marks"], it["charset"], it["identifier"]) for it in listed]
-    count.expect("marks in JSON", said, [([[0, 26]], "utf-8", "]d4")] * 3)
+    expect("marks in JSON", said, [([[0, 26]], "utf-8", "]d4")] * 3)
     table = list(csv.reader(io.StringIO(saved("found.csv", "found-csv").decode("utf-8-sig"))))[1:]
     named = sorted(row[2].rsplit("; ", 1)[-1] for row in table)
-    count.expect("parts in CSV", named, [f"part {k} of 3" for k in (1, 2, 3)])
+    expect("parts in CSV", named, [f"part {k} of 3" for k in (1, 2, 3)])
     push("found-copy")
     copied = [line.split("\t") for line in run("return copied.at(-1)").splitlines()]
     listed = sorted([row[1], row[2].rsplit("; ", 1)[-1]] for row in table)
-    count.expect("parts in what is copied", sorted(copied), listed)
+    expect("parts in what is copied", sorted(copied), listed)
 
 
 def parts_by_camera():
     """Parts that a camera sees at once, and after one another, are put together, those with the same text too."""
     grids, letters = parts_of("once " * 4, 4)
-    count.expect("all with one text", len({str(it["items"]) for it in letters}), 1)
+    expect("all with one text", len({str(it["items"]) for it in letters}), 1)
     choose("parts", "1")
     push("tab-read")
     files = [base64.b64encode(png(text.split("\n"), 12, 3)).decode() for text in grids]
@@ -366,13 +351,11 @@ def parts_by_camera():
     run("globalThis.shown = [0, 1]")
     for title in ("2 of them read", "all are read"):
         seen = lambda: (run(CARD) or {}).get("title")
-        count.expect_soon(title, seen, f"A message in 4 symbols: {title}")
+        soon(title, seen, f"A message in 4 symbols: {title}")
         run("globalThis.pictures = [...pictures.slice(2), ...pictures.slice(0, 2)]")
-    count.expect("the whole", run(CARD)["whole"], "once " * 4)
-    count.expect("each is listed", len(run(LISTED)), 4)
+    expect("the whole", run(CARD)["whole"], "once " * 4)
+    expect("each is listed", len(texts_of(FOUND)), 4)
     run("document.getElementById('camera-off').click(); clearInterval(painter); delete navigator.mediaDevices")
-    settle()
-    as_usual()
 
 
 def side_by_side(grids):
@@ -390,7 +373,7 @@ def other_content(grids, others):
     for text in grids:
         put("grid", text)
     put("grid", written_in("other", "square", 0, head))
-    count.expect("another content", run(CARD)["title"], "A message in 3 symbols: 1 of them read")
+    expect("another content", run(CARD)["title"], "A message in 3 symbols: 1 of them read")
 
 
 def programs_the_reader():
@@ -399,10 +382,9 @@ def programs_the_reader():
     put("grid", written_in("CONFIG 1", "square", 0, "programming"))
     seen = shown()
     kind = run("return document.getElementById('verdict').className")
-    count.expect("reader programming", (seen["state"], seen["says"], kind),
-                 ("Read, as reader programming", "CONFIG 1", "card verdict other"))
-    count.expect("said so", seen["why"].startswith("It is an instruction to the reader that scans it"), True)
-    as_usual()
+    expect("reader programming", (seen["state"], seen["says"], kind),
+           ("Read, as reader programming", "CONFIG 1", "card verdict other"))
+    expect("said so", seen["why"].startswith("It is an instruction to the reader that scans it"), True)
 
 
 # ---- Codewords and the lesson
@@ -419,7 +401,7 @@ def told_of_marks():
                                ("AB", "programming", ["RP", "A", "B"])):
         push("tab-read")
         put("grid", written_in(line, "square", 0, said))
-        count.expect(f"{line} {said}", run(TOLD)[: len(briefs)], briefs)
+        expect(f"{line} {said}", run(TOLD)[: len(briefs)], briefs)
     push("tab-read")
     put("grid", written_in("AB\\E{7}\\xBF", "square", 0, {"part": 2, "parts": 5, "file": [7, 9]}))
     push("tab-learn")
@@ -427,13 +409,11 @@ def told_of_marks():
     while usable("step-back"):
         push("step-back")
     said = text_of("step")
-    chips = run("return [...document.querySelectorAll('#step .chip')].map((it) => it.textContent)")
-    count.expect("the lesson's message", chips, ["65A", "66B", "ECI 7iso-8859-5", "191\\xBF"])
-    count.expect("its head", "part 2 of 5" in said and "the numbers 7 and 9" in said, True)
+    chips = texts_of("#step .chip")
+    expect("the lesson's message", chips, ["65A", "66B", "ECI 7iso-8859-5", "191\\xBF"])
+    expect("its head", "part 2 of 5" in said and "the numbers 7 and 9" in said, True)
     push("step-on")
-    count.expect("its codewords", "An ECI is 241 and its designator" in text_of("step"), True)
-    fold("lesson")
-    as_usual()
+    expect("its codewords", "An ECI is 241 and its designator" in text_of("step"), True)
 
 
 # ---- Compared
@@ -459,16 +439,14 @@ def letters_compared():
         fill("a", a)
         fill("b", b)
         settle()
-        count.expect(name, head(), wanted)
+        expect(name, head(), wanted)
     fill("a", written_in("\\F", "square"))
     size = SIZE_OF[12, 12]
     modules = "".join(map(str, modules_of(size, codewords(size, padded([230, 10, 121, 254], size.data)))))
     fill("b", "\n".join(modules[k : k + 12] for k in range(0, 144, 12)))
     settle()
     said = [same, f"{plain}, though their symbology identifiers are ]d2 and ]d1:"]
-    count.expect("identifiers", head(), said)
-    fold("comparison")
-    as_usual()
+    expect("identifiers", head(), said)
 
 
 # ---- Borders
@@ -491,38 +469,35 @@ def any_border():
         put("grid", "\n".join(row[::-1] if way else row for row in lines))
         seen = shown()
         wanted = "Read", line, f"{usual + 3} wrong, {usual + 3}"
-        count.expect("a torn border", (seen["state"], seen["says"], seen["meters"][-1]), wanted)
+        expect("a torn border", (seen["state"], seen["says"], seen["meters"][-1]), wanted)
         said = f"have the wrong colour. Usually {usual} may; more are taken here, since each block keeps a correction"
-        count.expect("is said in the verdict", said in seen["why"], True)
-        count.expect("is said", text_of("border-hint").startswith("Any number is accepted, if each block keeps"), True)
-        count.expect("the way it stands", "mirrored" in text_of("grid-hint"), bool(way))
+        expect("is said in the verdict", said in seen["why"], True)
+        expect("is said", text_of("border-hint").startswith("Any number is accepted, if each block keeps"), True)
+        expect("the way it stands", "mirrored" in text_of("grid-hint"), bool(way))
     linked()
-    count.expect("in the link", fields()["grid-border"], "auto")
-    on.page.refresh()
-    started()
-    settle()
-    count.expect("after a reload", shown()["says"], line)
+    expect("in the link", fields()["grid-border"], "auto")
+    reload()
+    expect("after a reload", shown()["says"], line)
     push("usual")
-    count.expect("as usual it is refused", shown()["state"], "Refused")
+    expect("as usual it is refused", shown()["state"], "Refused")
     push("any-border")
-    count.expect("and read by the button", (shown()["state"], usable("any-border")), ("Read", False))
+    expect("and read by the button", (shown()["state"], usable("any-border")), ("Read", False))
     push("tab-learn", "to-limit")
-    count.expect("not where no correction is left", shown()["state"], "Refused")
+    expect("not where no correction is left", shown()["state"], "Refused")
     push("undo")
-    count.expect("undone", shown()["state"], "Read")
+    expect("undone", shown()["state"], "Read")
     push("tab-read")
     put("grid", text)
-    count.expect("a whole one after it", (shown()["state"], shown()["meters"][-1]), ("Read", f"0 wrong, {usual}"))
+    expect("a whole one after it", (shown()["state"], shown()["meters"][-1]), ("Read", f"0 wrong, {usual}"))
     unfold("comparison")
     fill("a", torn(text, usual + 3))
     fill("b", line)
     settle()
-    count.expect("compared", head()[0], "Yes, they say the same.")
+    expect("compared", head()[0], "Yes, they say the same.")
     fold("comparison")
     lines = torn(text, usual + 3).split("\n")
     opened("torn.png", png(lines, 1, 2))
-    count.expect("a picture that is a grid", (shown()["state"], shown()["says"]), ("Read", line))
-    as_usual()
+    expect("a picture that is a grid", (shown()["state"], shown()["says"]), ("Read", line))
 
 
 PARTS = [the_smallest, gs1_in_the_smallest, texts_of_all_scripts, charsets, made_in_parts, labels_in_parts,

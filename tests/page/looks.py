@@ -2,8 +2,9 @@
 import re
 
 from tests.page.conduct import verdict
-from tests.page.stage import (By, Keys, acting, cells, click, count, find, grid, learn, media, metrics, on, pointed,
-                              push, put, run, settle, text_of, unfold, usable, usual_metrics, write, written)
+from tests.page.stage import (By, Keys, acting, attribute, cells, click, expect, find, focused, grid, learn, media,
+                              metrics, pointed, push, put, run, settle, text_of, unfold, usable, usual_metrics,
+                              value_of, write, written)
 
 
 def lesson():
@@ -13,17 +14,17 @@ def lesson():
     step = lambda: find("step").get_attribute("textContent")
     chips = lambda: run("return [...document.querySelectorAll('#step .chip')].map((it) => it.firstChild.textContent)")
     values = [held for held, _, _ in cells()]
-    count.expect("the message", (text_of("step-count"), chips()),
-                 ("Step 1 of 6: The message", [str(ord(c)) for c in "A" * 10 + "123"]))
+    expect("the message", (text_of("step-count"), chips()),
+           ("Step 1 of 6: The message", [str(ord(c)) for c in "A" * 10 + "123"]))
     push("step-on")
-    count.expect("codewords", ("12 data codewords" in step(), chips()), (True, [str(value) for value in values[:12]]))
+    expect("codewords", ("12 data codewords" in step(), chips()), (True, [str(value) for value in values[:12]]))
     push("step-on")
-    count.expect("blocks", ("are one block" in step(), chips()), (True, [str(value) for value in values[:12]]))
+    expect("blocks", ("are one block" in step(), chips()), (True, [str(value) for value in values[:12]]))
     push("step-on")
     sums = lambda: run("return document.querySelector('#step .sums').textContent")
-    count.expect("check codewords", (chips(), sums()), ([str(value) for value in values[12:]], " ".join(["0"] * 12)))
+    expect("check codewords", (chips(), sums()), ([str(value) for value in values[12:]], " ".join(["0"] * 12)))
     push("to-limit")
-    count.expect("damage shows in the sums", sums().split().count("0") < 12, True)
+    expect("damage shows in the sums", sums().split().count("0") < 12, True)
     push("undo", "step-on")
     run("""const walk = document.getElementById('walk');
            walk.value = walk.max;
@@ -31,11 +32,10 @@ def lesson():
     path = run("return document.querySelector('#path .way').getAttribute('d')")
     points = [(int(float(x)), int(float(y))) for x, y in re.findall(r"[ML]([\d.]+) ([\d.]+)", path)]
     last_bits = [next((x, y) for number, x, y in bits if number == "8") for _, bits in pointed()]
-    count.expect("the path of the placement", points, last_bits)
+    expect("the path of the placement", points, last_bits)
     push("step-on")
-    count.expect("the border", "16 × 16 modules" in step(), True)
-    count.expect("the last step", (usable("step-on"), usable("step-back")), (False, True))
-    run("document.getElementById('lesson').open = false")
+    expect("the border", "16 × 16 modules" in step(), True)
+    expect("the last step", (usable("step-on"), usable("step-back")), (False, True))
 
 
 def slider():
@@ -57,81 +57,71 @@ def slider():
     chain.release().perform()
     walked = run("return walked")
     last = [24, "24 of 24", "Codeword 24", 24]
-    count.expect("the slider goes on while it is held", (len(walked) >= 3, walked[-1]), (True, last))
+    expect("the slider goes on while it is held", (len(walked) >= 3, walked[-1]), (True, last))
     odd = [it for it in walked if it[1:] != [f"{it[0]} of 24", f"Codeword {it[0]}", it[0]]]
-    count.expect("what it shows goes along", odd, [])
+    expect("what it shows goes along", odd, [])
     slide.send_keys(Keys.ARROW_LEFT)
-    count.expect("by keys", run("return walked.at(-1)"), [23, "23 of 24", "Codeword 23", 23])
-    run("document.getElementById('lesson').open = false")
+    expect("by keys", run("return walked.at(-1)"), [23, "23 of 24", "Codeword 23", 23])
 
 
 def words_and_looks():
     write("C:\\new")
     button = find("message-hint").find_element(By.TAG_NAME, "button")
-    count.expect("a way to double the backslash", button.text, "Spell it with the backslash doubled")
+    expect("a way to double the backslash", button.text, "Spell it with the backslash doubled")
     button.click()
     settle()
-    count.expect("the backslash is doubled",
-                 (find("message").get_attribute("value"), verdict()[1],
-                  on.page.switch_to.active_element.get_attribute("id")), ("C:\\\\new", "C:\\new", "message"))
+    expect("the backslash is doubled", (value_of("message"), verdict()[1], focused()),
+           ("C:\\\\new", "C:\\new", "message"))
     write("\\A{1/2}")
     find("message-hint").find_element(By.TAG_NAME, "button").click()
     settle()
-    count.expect("so is one that begins no head", find("message").get_attribute("value"), "\\\\A{1/2}")
+    expect("so is one that begins no head", value_of("message"), "\\\\A{1/2}")
     for text, name in (("a\u200bb", "the invisible character U+200B"), ("a\u00a0b", "the invisible character U+00A0"),
                        ("a\x01b", "the control character U+0001"), ("a\u20acb", "\u20ac"), ("a\tb", "a tab")):
         write(text)
-        count.expect(f"{text!r} is named",
-                     text_of("message-hint").startswith(f"Column 2 is {name}, which has no spelling of its own."), True)
+        expect(f"{text!r} is named",
+               text_of("message-hint").startswith(f"Column 2 is {name}, which has no spelling of its own."), True)
     for text, more in (("A" * 1559, "1 character"), ("0" * 3124, "8 characters"), ("A" * 1642, "84 characters")):
         write(text)
-        count.expect(f"{len(text)} of {text[0]} are too long", f"It is {more} too long." in text_of("message-hint"),
-                     True)
+        expect(f"{len(text)} of {text[0]} are too long", f"It is {more} too long." in text_of("message-hint"), True)
     write("123456")
     for name, bad, good in (("millimetres", "0", "0.5"), ("millimetres", "99", "0.5"), ("border-limit", "-1", "2"),
                             ("border-limit", "70000", "2")):
         put(name, bad)
-        marked = find(name).get_attribute("aria-invalid")
+        marked = attribute(name, "aria-invalid")
         put(name, good)
-        count.expect(f"{bad} in {name} is marked", (marked, find(name).get_attribute("aria-invalid")), ("true", None))
+        expect(f"{bad} in {name} is marked", (marked, attribute(name, "aria-invalid")), ("true", None))
     push("usual")
     legend = lambda: [it.text for it in find("legend").find_elements(By.TAG_NAME, "li")]
-    count.expect("no legend without need", legend(), [])
+    expect("no legend without need", legend(), [])
     click(33)
-    count.expect("a legend for what there is", legend(), ["turned over", "corrected, or border of the wrong colour"])
-    count.expect(
-        "meters have roles",
-        run(
-            """return [...document.querySelectorAll('[role=meter]')]
-                .map((it) => [it.ariaLabel, it.ariaValueNow, it.ariaValueMax])"""
-        ),
-        [["Codewords", "1", "2"], ["Border", "0", "2"]],
-    )
-    count.expect("what is said of pictures is spoken",
-                 [find(it).get_attribute("aria-live") for it in ("picture-hint", "grid-hint", "verdict", "same")],
-                 ["polite"] * 4)
+    expect("a legend for what there is", legend(), ["turned over", "corrected, or border of the wrong colour"])
+    told = run("""return [...document.querySelectorAll('[role=meter]')]
+               .map((it) => [it.ariaLabel, it.ariaValueNow, it.ariaValueMax])""")
+    expect("meters have roles", told, [["Codewords", "1", "2"], ["Border", "0", "2"]])
+    expect("what is said of pictures is spoken",
+           [attribute(it, "aria-live") for it in ("picture-hint", "grid-hint", "verdict", "same")], ["polite"] * 4)
     click(55)
     damaged = grid()
     push("undo-all")
-    count.expect("everything is undone", grid(), written("123456"))
+    expect("everything is undone", grid(), written("123456"))
     push("undo")
-    count.expect("that can be undone too, in one step", grid(), damaged)
+    expect("that can be undone too, in one step", grid(), damaged)
     push("undo", "undo")
-    count.expect("back at the beginning", (grid(), usable("undo")), (written("123456"), False))
+    expect("back at the beginning", (grid(), usable("undo")), (written("123456"), False))
     push("redo", "redo", "redo")
-    count.expect("redone", (grid(), usable("redo")), (written("123456"), False))
+    expect("redone", (grid(), usable("redo")), (written("123456"), False))
     run("document.getElementById('undo').focus()")
     push("undo", "undo", "undo")
-    count.expect("focus stays", on.page.switch_to.active_element.get_attribute("id"), "undo")
+    expect("focus stays", focused(), "undo")
     metrics(1280, 900)
-    count.expect("the symbol on the first screen",
-                 run("scrollTo(0, 0); return document.getElementById('easel').getBoundingClientRect().bottom <= 900"),
-                 True)
+    expect("the symbol on the first screen",
+           run("scrollTo(0, 0); return document.getElementById('easel').getBoundingClientRect().bottom <= 900"), True)
     usual_metrics()
     media(forced_colors="active")
     looks = run("""return ['tab-learn', 'tab-read'].map((id) => getComputedStyle(document.getElementById(id)))
             .map((style) => style.textDecorationLine + style.borderBottomColor)""")
-    count.expect("forced colours tell the tabs apart", looks[0] != looks[1], True)
+    expect("forced colours tell the tabs apart", looks[0] != looks[1], True)
     media(forced_colors="none")
 
 

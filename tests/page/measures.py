@@ -9,7 +9,7 @@ import subprocess
 import time
 
 from tests.page.parts import load
-from tests.page.stage import DEBIANS, Keys, find, on, push, put, run, settle, wait_for, written
+from tests.page.stage import DEBIANS, Keys, find, on, push, put, run, settle, texts_of, wait_for, written
 from tests.support import places
 
 PAGE = places.path("web", "out", "mitsubadoor.html")
@@ -34,7 +34,7 @@ WATCH = """
         watched.first = 0;
         painted((at) => { watched.first = at - watched.begun; });
     }).observe(hint, { childList: true, characterData: true, subtree: true });"""
-SAID = """return [...document.querySelectorAll('#found-are button:not(.unread) code')].map((it) => it.textContent)"""
+SAID = "#found-are button:not(.unread) code"
 # The same for a key, and for the start of the page.
 WATCH_KEYS = """
     globalThis.keyed = [];
@@ -85,7 +85,7 @@ def by_page(file):
     find("picture").send_keys(str(file))
     wait_for(lambda: run("return watched.first"))
     settle()
-    said = run(SAID)
+    said = texts_of(SAID)
     if not said and run("return document.getElementById('state').textContent") == "Read":
         said = [run("return document.getElementById('says').textContent")]
     return said, run("return watched.first"), run("return watched.open")

@@ -5,8 +5,9 @@ import random
 import urllib.parse
 
 from tests.page.judge import asked_to_read, asked_to_write, in_lines, judged, line_of_items
-from tests.page.stage import (COLLECT, QUIET, SHOWN, Keys, acting, as_program, changed, count, find, fold, grid, offset,
-                              on, push, put, run, settle, shown, text_of, told, write, written)
+from tests.page.stage import (ACTS, COLLECT, QUIET, SHOWN, Keys, acting, as_program, changed, do, expect, find, fold,
+                              grid, head, offset, on, push, put, run, settle, shown, soon, text_of, told, value_of,
+                              write, written)
 
 
 # ---- Keys and the mouse, as quickly as the browser takes them
@@ -44,71 +45,41 @@ def typed_and_done_at_once():
     for text in ("7", "65", "432", "9876"):
         clean = written(text)
         typed_then(text, learning(pressing("one-more")))
-        count.expect(f"{text} and one codeword more", (shown()["state"], shown()["says"], len(changed(clean, grid()))),
-                     ("Read", text, 1))
+        expect(f"{text} and one codeword more", (shown()["state"], shown()["says"], len(changed(clean, grid()))),
+               ("Read", text, 1))
         typed_then(text, learning(turning(33)))
-        count.expect(f"{text} and a module", (shown()["says"], changed(clean, grid())), (text, [33]))
+        expect(f"{text} and a module", (shown()["says"], changed(clean, grid())), (text, [33]))
         typed_then(text, learning(pressing("one-more"), pressing("undo")))
-        count.expect(f"{text}, one codeword more, undone", (shown()["why"], grid()),
-                     ("Nothing had to be corrected.", clean))
+        expect(f"{text}, one codeword more, undone", (shown()["why"], grid()), ("Nothing had to be corrected.", clean))
         typed_then(f"{text}0", pressing("copy"))
-        count.expect(f"{text}0 is copied", run("return copied.at(-1)").strip(), written(f"{text}0"))
+        expect(f"{text}0 is copied", run("return copied.at(-1)").strip(), written(f"{text}0"))
         typed_then(text, pressing("copy-link"))
         linked = fields(run("return copied.at(-1)").partition("#")[2])
-        count.expect(f"{text} is linked", (linked["message"], "damage" in linked), (text, False))
-    run("delete navigator.clipboard.writeText")
+        expect(f"{text} is linked", (linked["message"], "damage" in linked), (text, False))
 
 
 def taken_at_once():
     """What takes the symbol above, or the written one, right after it was entered, takes that one."""
     write("123456")
-    head = "return document.querySelector('#same strong').textContent"
-    run("""const put = (where, text) => {
-               const node = document.querySelector(where);
-               node.value = text;
-               node.dispatchEvent(new Event('input', { bubbles: true }));
-           };
-           put('#slot-b textarea', '654321');
-           put('#message', '654321');
-           document.querySelector('#slot-a button').click();""")
-    settle()
-    count.expect("a slot takes what was entered last", run(head), "Yes, they say the same.")
+    do("put('#slot-b textarea', '654321'); put('message', '654321'); at('#slot-a button').click()")
+    expect("a slot takes what was entered last", head()[0], "Yes, they say the same.")
     run(COLLECT)
-    run("""const area = document.getElementById('message');
-           area.value = '8888';
-           area.dispatchEvent(new Event('input', { bubbles: true }));
-           document.getElementById('copy').click();""")
-    settle()
+    do("put('message', '8888'); at('copy').click()")
     copied = lambda: "".join(run("return copied")).strip()
-    count.expect_soon("what is copied is what was entered last", copied, written("8888"))
+    soon("what is copied is what was entered last", copied, written("8888"))
     run("delete navigator.clipboard.writeText")
-    run("""const area = document.getElementById('message');
-           area.value = '777';
-           area.dispatchEvent(new Event('input', { bubbles: true }));
-           document.getElementById('tab-read').click(); document.getElementById('take-written').click()""")
-    settle()
-    count.expect("the written symbol is the one entered last",
-                 (shown()["says"], find("grid").get_attribute("value").strip()), ("777", written("777")))
-    run("""const put = (where, text) => {
-               const node = document.querySelector(where);
-               node.value = text;
-               node.dispatchEvent(new Event('input', { bubbles: true }));
-           };
-           put('#message', '4444');
-           document.getElementById('take-written').click();
-           put('#slot-b textarea', '654321');
-           put('#grid', arguments[0]);""", written("55"))
-    settle()
-    count.expect("a grid that is entered before the written symbol is there",
-                 (shown()["state"], shown()["says"], find("grid").get_attribute("value")),
-                 ("Read", "55", written("55")))
+    do("put('message', '777'); at('tab-read').click(); at('take-written').click()")
+    expect("the written symbol is the one entered last", (shown()["says"], value_of("grid").strip()),
+           ("777", written("777")))
+    do("put('message', '4444'); at('take-written').click(); put('#slot-b textarea', '654321');"
+       "put('grid', given[0])", written("55"))
+    expect("a grid that is entered before the written symbol is there",
+           (shown()["state"], shown()["says"], value_of("grid")), ("Read", "55", written("55")))
     push("tab-make")
     put("message", "caf\u00e9")
     push("tab-read", "take-written")
-    count.expect("no written symbol", (shown()["state"], text_of("grid-hint")),
-                 ("Nothing is read", "There is no written symbol: the message can’t be taken."))
-    push("tab-make")
-    write("123456")
+    expect("no written symbol", (shown()["state"], text_of("grid-hint")),
+           ("Nothing is read", "There is no written symbol: the message can’t be taken."))
 
 
 def fields(fragment):
@@ -129,14 +100,8 @@ TASKS = {"read": "read", "make": "write", "learn": None}  # with their panes
 
 # Plays bursts of acts, as quickly as they say, and tells what the page has come to after each. Meanwhile each frame is
 # looked at: a green verdict on a message must be about what stands in the field.
-PLAY = ("""
-    const [bursts, done] = arguments, LINKED_EACH = 10, at = (id) => document.getElementById(id), told = [], wrong = [];
-    const put = (id, text) => { at(id).value = text; at(id).dispatchEvent(new Event("input", { bubbles: true })); };
-    const tap = ({ across, down }) => {
-        const box = at("symbol").getBoundingClientRect();
-        const place = { clientX: box.left + across * box.width, clientY: box.top + down * box.height };
-        at("symbol").dispatchEvent(new PointerEvent("click", { pointerType: "touch", bubbles: true, ...place }));
-    };
+PLAY = ACTS + ("""
+    const [bursts, done] = arguments, LINKED_EACH = 10, told = [], wrong = [];
     const look = () => {
         const isColoured = !document.body.hasAttribute("data-entering") && !at("pane-make").hidden;
         const isGreen = isColoured && at("verdict").className.includes("good");
@@ -153,11 +118,12 @@ PLAY = ("""
         if (one) at("size").value = one;
         at("shape").dispatchEvent(new Event("change", { bubbles: true }));
     };
-    const ACTS = { put: ({ id, text }) => put(id, text), push: ({ id }) => at(id).click(), tap, size };
+    const DOING = { put: ({ id, text }) => put(id, text), push: ({ id }) => at(id).click(),
+        tap: ({ across, down }) => tap(across, down), size };
     (async () => {
         for (const acts of bursts) {
             for (const act of acts) {
-                ACTS[act.kind](act);
+                DOING[act.kind](act);
                 if (act.wait !== null) await new Promise((then) => setTimeout(then, act.wait));
             }
             await mitsubadoor.idle();
@@ -377,8 +343,8 @@ def bursts():
     some += [maker.burst(False) for _ in range(BURSTS)] + [maker.burst(True) for _ in range(WITH_WAITS)]
     push("profile-0", "brush-turn")
     told_of = on.page.execute_async_script(PLAY, [acts for acts, *_ in some])
-    count.expect("no green verdict is about anything else than what is entered", told_of["wrong"][:3], [])
-    count.expect("acts", sum(len(acts) for acts, *_ in some) > 5000, True)
+    expect("no green verdict is about anything else than what is entered", told_of["wrong"][:3], [])
+    expect("acts", sum(len(acts) for acts, *_ in some) > 5000, True)
     odd, grids, others = [], {}, []
     for (acts, ends, size), now in list(zip(some, told_of["told"]))[1:]:
         for name, end in ends.items():
@@ -396,21 +362,18 @@ def bursts():
             grids.setdefault(here["limit"], []).append((text, as_program(now["shown"])))
         elif (now["shown"]["state"], here["stage"]) != ("Nothing is read", "bad"):
             odd.append((now["shown"], here["stage"], acts))
-    count.expect(f"each of {len(some)} bursts has come to what was entered and done last", odd[:1], [])
+    expect(f"each of {len(some)} bursts has come to what was entered and done last", odd[:1], [])
     for limit, both in grids.items():
         more = [] if limit is None else ["--border", str(limit)]
-        count.expect(f"what is read after them, limit {limit}", [shown for _, shown in both],
-                     told([text for text, _ in both], *more))
-    count.expect("rectangles, and what has doubtful modules", len(others) > 300, True)
+        expect(f"what is read after them, limit {limit}", [shown for _, shown in both],
+               told([text for text, _ in both], *more))
+    expect("rectangles, and what has doubtful modules", len(others) > 300, True)
     answers = judged([question for question, _ in others])
-    count.expect("what is read of these",
-                 [as_program(shown) if shown["state"] != "Refused" else None for _, shown in others],
-                 [as_answered(question, answer) for (question, _), answer in zip(others, answers)])
+    expect("what is read of these", [as_program(shown) if shown["state"] != "Refused" else None for _, shown in others],
+           [as_answered(question, answer) for (question, _), answer in zip(others, answers)])
     said = [entry["message"] for entry in on.page.get_log("browser")]
     # (it bounds how often an address may change, and says so)
-    count.expect("console", [message for message in said if "Throttling navigation" not in message], [])
-    push("profile-0", "tab-make", "usual", "brush-turn")
-    write("123456")
+    expect("console", [message for message in said if "Throttling navigation" not in message], [])
 
 
 def as_answered(question, answer):

@@ -3,7 +3,7 @@ import base64
 import re
 import zlib
 
-from tests.page.stage import choose, count, find, on, push, put, run, settle, text_of, write, written
+from tests.page.stage import attribute, choose, expect, on, push, put, run, text_of, write, written
 
 POINT = 25.4 / 72  # millimetres
 
@@ -12,10 +12,10 @@ def printed():
     """Prints to a PDF as the browser does: the millimetres of each page, and of the dark modules on it from the left to
     the right."""
     body = base64.b64decode(on.page.execute_cdp_cmd("Page.printToPDF", {"preferCSSPageSize": True})["data"])
-    boxes = [[round(float(x) * POINT, 1) for x in box.split()[2:]]
-             for box in re.findall(rb"/MediaBox\s*\[([^\]]*)\]", body)]
-    streams = [zlib.decompress(stream)
-               for stream in re.findall(rb"/FlateDecode.*?stream\r?\n(.*?)\r?\nendstream", body, re.S)]
+    boxes = [[round(float(x) * POINT, 1) for x in box.split()[2:]] for box in re.findall(rb"/MediaBox\s*\[([^\]]*)\]",
+                                                                                         body)]
+    streams = [zlib.decompress(stream) for stream in re.findall(rb"/FlateDecode.*?stream\r?\n(.*?)\r?\nendstream", body,
+                                                                re.S)]
     return boxes, [width for width in map(dark_width, (text.decode("latin-1") for text in streams if b" cm\n" in text))
                    if width]
 
@@ -68,25 +68,23 @@ def printed_at_its_size():
         before = asked()
         push("print")
         boxes, widths = printed()
-        count.expect(f"{millimetres} mm on {name}",
+        expect(f"{millimetres} mm on {name}",
                      (asked() - before,
                       [[round(side) if side > 7.5 and side != 215.9 and side != 279.4 else side for side in box]
                        for box in boxes], widths), (1, [page], [round(10 * float(millimetres), 2)]))
-        count.expect(f"{millimetres} mm on {name}: it is said", text_of("print-size"),
-                     f"{length_of(millimetres)} × {length_of(millimetres)} mm with 2 modules of quiet zone")
+        expect(f"{millimetres} mm on {name}: it is said", text_of("print-size"),
+               f"{length_of(millimetres)} × {length_of(millimetres)} mm with 2 modules of quiet zone")
     for name, millimetres, room in (("a4", "20", "A4 has room for 180 mm"), ("a4", "12.9", "A4 has room for 180 mm"),
                                     ("letter", "13.3", "Letter has room for 185.9 mm")):
         paper_is(name, millimetres)
         before = asked()
         push("print")
-        count.expect(f"{millimetres} mm on {name} isn't printed",
-                     (asked() - before, room in text_of("print-size"),
-                      "bad" in find("print-size").get_attribute("class"), room in text_of("toast")),
-                     (0, True, True, True))
+        expect(f"{millimetres} mm on {name} isn't printed",
+               (asked() - before, room in text_of("print-size"), "bad" in attribute("print-size", "class"),
+                room in text_of("toast")), (0, True, True, True))
         boxes, widths = printed()
-        count.expect(f"{millimetres} mm on {name}, by the browser's own command",
-                     (len(boxes), widths, room in text_of("paper")), (1, [], True))
-    paper_is("a4", "0.5")
+        expect(f"{millimetres} mm on {name}, by the browser's own command",
+               (len(boxes), widths, room in text_of("paper")), (1, [], True))
 
 
 def text_on_paper():
@@ -97,18 +95,17 @@ def text_on_paper():
         boxes, _ = printed()
         said = text_of("paper")
         shown = re.match(r"([A0]+)(?:… and ([\d,]+) characters? more)?", said)
-        count.expect(f"{len(text)} characters and {millimetres} mm",
-                     (len(boxes), len(shown[1]) + int((shown[2] or "0").replace(",", "")), shown[2] is not None),
-                     (1, len(text), is_cut))
+        expect(f"{len(text)} characters and {millimetres} mm",
+               (len(boxes), len(shown[1]) + int((shown[2] or "0").replace(",", "")), shown[2] is not None),
+               (1, len(text), is_cut))
     paper_is("a4", "0.5")
     write("(01)09506000134353")
     printed()
-    count.expect("a wrong check digit on paper",
-                 "It isn’t right as GS1 data: (01) GTIN, the check digit 3 should be 2." in text_of("paper"), True)
+    expect("a wrong check digit on paper",
+           "It isn’t right as GS1 data: (01) GTIN, the check digit 3 should be 2." in text_of("paper"), True)
     write("(01)09506000134352")
     printed()
-    count.expect("a right one", "isn’t right" in text_of("paper"), False)
-    write("123456")
+    expect("a right one", "isn’t right" in text_of("paper"), False)
 
 
 def sheets():
@@ -119,24 +116,19 @@ def sheets():
         ("a4", "0.5", "(01)09506000134353",
          "Message 1: It isn’t right as GS1 data: (01) GTIN, the check digit 3 should be 2."),
         ("a4", "0.5", "12\n(05)123", "Message 2: column 1 begins (05), which is no identifier of GS1’s table"),
-        (
-            "a4",
-            "12",
-            "12\n0123456789",
-            "Message 2 makes a symbol that is 192 mm wide: "
-            "A4 has room for 180 mm within its margins. Take narrower modules, or a label.",
-        ),
+        ("a4", "12", "12\n0123456789", "Message 2 makes a symbol that is 192 mm wide: "
+         "A4 has room for 180 mm within its margins. Take narrower modules, or a label."),
     ):
         paper_is(name, millimetres)
         put("messages", text)
         push("print-sheet")
-        count.expect(f"a sheet with {text[-20:]!r}", (asked(), text_of("sheet-hint")), (0, why))
+        expect(f"a sheet with {text[-20:]!r}", (asked(), text_of("sheet-hint")), (0, why))
     paper_is("label", "1")
     put("messages", "12\n0123456789\n7")
     push("label-text", "print-sheet")
     boxes, widths = printed()
-    count.expect("labels, each on a page of its own",
-                 (asked(), [[round(side) for side in box] for box in boxes], widths), (1, [[16, 16]] * 3, [10, 12, 10]))
+    expect("labels, each on a page of its own", (asked(), [[round(side) for side in box] for box in boxes], widths),
+           (1, [[16, 16]] * 3, [10, 12, 10]))
     run("dispatchEvent(new Event('afterprint'))")
     push("label-text")
     paper_is("a4", "0.5")
@@ -146,13 +138,10 @@ def sheets():
                            (1, "1 symbol is on the sheet, stored as bytes where that is smaller.")):
         push(f"profile-{profile}", "print-sheet")
         side = written(bytes_of, profile).index("\n")
-        count.expect(f"a sheet under profile {profile}",
-                     (run("return document.querySelector('#paper svg svg').getAttribute('viewBox')"),
-                      text_of("sheet-hint")), (f"-2 -2 {side + 4} {side + 4}", words))
+        expect(f"a sheet under profile {profile}",
+               (run("return document.querySelector('#paper svg svg').getAttribute('viewBox')"), text_of("sheet-hint")),
+               (f"-2 -2 {side + 4} {side + 4}", words))
         run("dispatchEvent(new Event('afterprint'))")
-    push("profile-0")
-    run("document.getElementById('sheet').open = false")
-    settle()
 
 
 PARTS = [printed_at_its_size, text_on_paper, sheets]

@@ -4,7 +4,7 @@ import pathlib
 from tests.page import (bounds, conduct, damage, elements, endurance, everyone, first, giving, history, installed,
                         labels, kept, letters, looks, order, paper, photographs, pictures, several, sights, sizes,
                         tasks, texts)
-from tests.page.stage import Failed, count, forget, on, run, settle, take_time, text_of, to_top, unfold, wait_for
+from tests.page.stage import Failed, to_top, unfold, visit
 
 # The longest begin first, where parts are shared out.
 LONGEST = ["bursts", "without_growth", "texts_of_all_scripts", "photographs", "other_encoders", "sizes", "doubted",
@@ -21,14 +21,8 @@ PARTS.sort(key=lambda part: LONGEST.index(part.__name__) if part.__name__ in LON
 
 
 def load(file):
-    forget()
-    on.page.get("about:blank")  # else an address that differs in its fragment alone loads nothing
-    on.page.get(f"{pathlib.Path(file).resolve().as_uri()}#make")
-    if not wait_for(lambda: run("return 'mitsubadoor' in globalThis")):
-        count.expect("the page starts", text_of("broken"), "")
+    visit(f"{pathlib.Path(file).resolve().as_uri()}#make")
     unfold("more-ways")  # so that all buttons can be pressed
-    take_time()
-    settle()
 
 
 def fault_of(part, file):

@@ -9,7 +9,8 @@ import subprocess
 
 from tests.page.bounds import drop
 from tests.page.pictures import chunks, opened, png
-from tests.page.stage import DEBIANS, count, find, on, push, put, run, settle, shown, text_of, wait_for, write, written
+from tests.page.stage import (DEBIANS, attribute, expect, is_seen, on, push, put, run, settle, shown, soon, text_of,
+                              texts_of, wait_for, written)
 
 MAKER = pathlib.Path(__file__).resolve().parents[2] / "bench" / "photographs"
 SHARE = 17  # of each kind every so many: they have different sizes
@@ -39,16 +40,15 @@ def photographs():
         file = folder / picture["file"]
         said = opened(file.name, file.read_bytes())
         is_read = shown()["state"] == "Read"
-        count.expect(f"{file.name} isn't misread", is_read and shown()["says"] not in picture["messages"], False)
+        expect(f"{file.name} isn't misread", is_read and shown()["says"] not in picture["messages"], False)
         read += is_read
         if is_read and not said.startswith(f"{file.name}: "):
-            count.expect(f"{file.name}: what is said", said, file.name)
+            expect(f"{file.name}: what is said", said, file.name)
     if pictures:
-        count.expect(f"{read} of {len(pictures)} photographs read, at least nine of ten",
-                     10 * read >= 9 * len(pictures), True)
-        count.expect("at least as many as dmtxread", dmtxread_misses(folder, pictures, len(pictures) - read), True)
+        expect(f"{read} of {len(pictures)} photographs read, at least nine of ten", 10 * read >= 9 * len(pictures),
+               True)
+        expect("at least as many as dmtxread", dmtxread_misses(folder, pictures, len(pictures) - read), True)
         print(f"photographs: {read} of {len(pictures)} read")
-    push("tab-make")
 
 
 def dmtxread_misses(folder, pictures, least):
@@ -81,8 +81,8 @@ def turned_about():
         grid = [row[::-1] for row in rows] if mirrored else rows
         body = slanted(grid, scale, dark, light, specks)
         said = opened(name, body)
-        count.expect(name, (shown()["state"], shown()["says"], said),
-                     ("Read", "Turned about", f"{name}: {side} × {side}. The symbol is {how}, and shown upright."))
+        expect(name, (shown()["state"], shown()["says"], said),
+               ("Read", "Turned about", f"{name}: {side} × {side}. The symbol is {how}, and shown upright."))
 
 
 def slanted(rows, scale, dark, light, specks):
@@ -124,7 +124,7 @@ CAMERA = """
     Object.defineProperty(navigator, 'mediaDevices', { configurable: true, value });
     document.getElementById('camera').hidden = false;
     document.getElementById('camera').click();"""
-LISTED = "return [...document.querySelectorAll('#found-are :is(code, span)')].map((it) => it.textContent)"
+FOUND = "#found-are :is(code, span)"
 
 
 def camera():
@@ -137,35 +137,31 @@ def camera():
     before = asked()
     run(CAMERA, files, True)
     wait_for(lambda: asked() > before + 1)
-    count.expect("the camera looks on", (find("viewfinder").is_displayed(), shown()["says"]),
-                 (True, "Every answer is proved."))
+    expect("the camera looks on", (is_seen("viewfinder"), shown()["says"]), (True, "Every answer is proved."))
     for k, message in enumerate(messages):
         run("globalThis.shown = arguments[0]", list(range(k + 1)))
         says = lambda: (shown()["state"], shown()["says"])
-        count.expect_soon(f"the camera reads {message!r}", says, ("Read", message))
-        count.expect_soon("what is listed", lambda: run(LISTED), messages[: k + 1])
+        soon(f"the camera reads {message!r}", says, ("Read", message))
+        soon("what is listed", lambda: texts_of(FOUND), messages[: k + 1])
         outlines = "return document.querySelectorAll('#in-camera polygon').length"
-        count.expect_soon("what is outlined", lambda: run(outlines), k + 1)
+        soon("what is outlined", lambda: run(outlines), k + 1)
     before = asked()
     wait_for(lambda: asked() > before + 2)
-    count.expect("each is listed once", run(LISTED), messages)
-    count.expect("the camera is on all the time", (find("viewfinder").is_displayed(), run("return track.readyState")),
-                 (True, "live"))
+    expect("each is listed once", texts_of(FOUND), messages)
+    expect("the camera is on all the time", (is_seen("viewfinder"), run("return track.readyState")), (True, "live"))
     push_soon("torch")
-    count.expect("the light is on", (run("return lit"), find("torch").get_attribute("aria-pressed")), ([True], "true"))
+    expect("the light is on", (run("return lit"), attribute("torch", "aria-pressed")), ([True], "true"))
     push_soon("torch")
-    count.expect("and off", (run("return lit"), find("torch").get_attribute("aria-pressed")), ([True, False], "false"))
+    expect("and off", (run("return lit"), attribute("torch", "aria-pressed")), ([True, False], "false"))
     run("document.getElementById('camera-off').click()")
     settle()
-    count.expect("the list stays when it is off", (run(LISTED), run("return track.readyState")), (messages, "ended"))
+    expect("the list stays when it is off", (texts_of(FOUND), run("return track.readyState")), (messages, "ended"))
     run("clearInterval(painter)")
     run(CAMERA, files, False)
-    wait_for(lambda: find("viewfinder").is_displayed())
-    count.expect("without a light", find("torch").is_displayed(), False)
-    count.expect("the camera begins another list", run(LISTED), [])
+    wait_for(lambda: is_seen("viewfinder"))
+    expect("without a light", is_seen("torch"), False)
+    expect("the camera begins another list", texts_of(FOUND), [])
     run("document.getElementById('camera-off').click(); clearInterval(painter); delete navigator.mediaDevices")
-    settle()
-    write("123456")
 
 
 def push_soon(name):
@@ -198,40 +194,39 @@ def camera_ends():
     def on_again():
         run("streams.length = 0; document.getElementById('camera').click()")
         allow()
-        wait_for(lambda: find("viewfinder").is_displayed())
-        count.expect("the camera is on", tracks(), ["live"])
+        wait_for(lambda: is_seen("viewfinder"))
+        expect("the camera is on", tracks(), ["live"])
 
     run("const button = document.getElementById('camera'); button.click(); button.click()")
     allow()
-    wait_for(lambda: find("viewfinder").is_displayed())
+    wait_for(lambda: is_seen("viewfinder"))
     run("document.getElementById('camera-off').click()")
     said = lambda: text_of("picture-hint")
-    seen = (set(tracks()), find("viewfinder").is_displayed(), said())
-    count.expect("asked for twice and stopped", seen, ({"ended"}, False, "The camera is off."))
+    seen = (set(tracks()), is_seen("viewfinder"), said())
+    expect("asked for twice and stopped", seen, ({"ended"}, False, "The camera is off."))
     on_again()
     push("tab-make")
-    count.expect("behind the other pane", tracks(), ["ended"])
+    expect("behind the other pane", tracks(), ["ended"])
     push("tab-read")
     why = "The camera is off, since another task was opened."
-    count.expect("behind the other pane, said", (said(), shown()["says"]), (why, "Every answer is proved."))
+    expect("behind the other pane, said", (said(), shown()["says"]), (why, "Every answer is proved."))
     on_again()
     put("grid", written("typed"))
     why = "The camera is off, since something else was entered."
-    count.expect("a grid that was typed", (tracks(), said(), shown()["says"]), (["ended"], why, "typed"))
+    expect("a grid that was typed", (tracks(), said(), shown()["says"]), (["ended"], why, "typed"))
     on_again()
     run("""Object.defineProperty(document, 'hidden', { configurable: true, value: true });
            document.dispatchEvent(new Event('visibilitychange'));
            delete document.hidden;""")
     why = "The camera is off, since the page was out of sight."
-    count.expect("out of sight", (tracks(), said()), (["ended"], why))
+    expect("out of sight", (tracks(), said()), (["ended"], why))
     run("streams.length = 0; document.getElementById('camera').click()")
     push("tab-make")
-    count.expect("allowed before the other pane was opened, or not at all", tracks(), [])
+    expect("allowed before the other pane was opened, or not at all", tracks(), [])
     allow()
-    count.expect_soon("allowed after that", tracks, ["ended"])
+    soon("allowed after that", tracks, ["ended"])
     beside_pictures(allow)
     run("clearInterval(painter); delete navigator.mediaDevices")
-    write("123456")
 
 
 def beside_pictures(allow):
@@ -246,7 +241,7 @@ def beside_pictures(allow):
     allow()
     wait_for(lambda: asked() > before)
     said = "waiting.png: 16 × 16. Read as it stands."
-    count.expect_soon("a picture that waits", lambda: text_of("picture-hint"), said)
+    soon("a picture that waits", lambda: text_of("picture-hint"), said)
     run("document.getElementById('camera-off').click()")
     settle()
 

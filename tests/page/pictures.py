@@ -5,8 +5,8 @@ import struct
 import subprocess
 import zlib
 
-from tests.page.stage import (Keys, agree, count, find, grid, on, push, put, run, settle, shown, text_of, turned,
-                              unfold, usable, wait_for, write, written)
+from tests.page.stage import (WAYS, Keys, agree, expect, find, give, grid, is_seen, on, push, put, run, settle, shown,
+                              soon, text_of, turned, unfold, usable, value_of, wait_for, write, written)
 
 
 def png(rows, scale, around, light=255, dark=0, speck=0):
@@ -57,30 +57,26 @@ def pictures():
         quarters, mirrored, inverted = stand
         grey = (dark, light) if inverted else (light, dark)
         said = opened(name, png(turned(text, quarters, mirrored, False).split("\n"), scale, around, *grey))
-        count.expect(f"picture {name}", grid(), text)
+        expect(f"picture {name}", grid(), text)
         agree(f"picture {name}")
-        how = ", and ".join(filter(None,
-                                   [inverted and "inverted, light for dark", mirrored and "mirrored left to right",
-                                    ["", "turned a quarter to the right", "turned upside down",
-                                     "turned a quarter to the left"][quarters]]))
+        how = WAYS[stand]
         side = text.index("\n")
-        count.expect(f"picture {name}: said", said,
+        expect(f"picture {name}: said", said,
                      f"{name}: {side} × {side}. "
                      + (f"The symbol is {how}, and shown upright." if how else "Read as it stands."))
     rows = written("123456").split("\n")
     spoilt = [rows[0], *(row[0] + row[1:9].translate(str.maketrans("01", "10")) + row[9] for row in rows[1:5]),
               *rows[5:]]
     said = opened("i.png", png(spoilt, 8, 3))
-    count.expect("a symbol that isn't read is shown as it stands", (said, shown()["state"]),
+    expect("a symbol that isn't read is shown as it stands", (said, shown()["state"]),
                  ("i.png: 10 × 10. It can’t be read as it stands, nor turned, mirrored or inverted. It is shown as it "
                   "stands.", "Refused"))
     before = grid()
     noise = ["".join(random.choice("01") for _ in range(23)) for _ in range(23)]
     no_symbol = "No symbol that can be read was found in the picture."
-    (on.folder / "beside.png").write_bytes(png(noise, 5, 2))
-    find("picture-A").send_keys(str(on.folder / "beside.png"))
-    count.expect_soon("a picture without a symbol in a slot", lambda: no_symbol in text_of("slot-a"), True)
-    count.expect("what is said of a picture stays, whatever is looked at in a slot", text_of("picture-hint"), said)
+    give("picture-A", "beside.png", png(noise, 5, 2))
+    soon("a picture without a symbol in a slot", lambda: no_symbol in text_of("slot-a"), True)
+    expect("what is said of a picture stays, whatever is looked at in a slot", text_of("picture-hint"), said)
     whole = png(rows, 8, 3)
     for name, body, why in (
         ("noise.png", png(noise, 5, 2), no_symbol),
@@ -89,11 +85,10 @@ def pictures():
         ("text.png", b"no picture", "The file can’t be opened as a picture."),
         ("half.png", whole[: len(whole) // 2], "The file is cut off: the end of the picture is missing."),
     ):
-        count.expect(f"{name} is no symbol", opened(name, body).split(LIKEST)[0], f"{name}: {why}")
-        count.expect(f"{name}: no verdict of the one before", (shown()["state"], shown()["says"], usable("save-png")),
-                     ("Nothing is read", "", False))
-    count.expect("no symbol of another picture is left", (grid(), before != ""), ("", True))
-    push("tab-make")
+        expect(f"{name} is no symbol", opened(name, body).split(LIKEST)[0], f"{name}: {why}")
+        expect(f"{name}: no verdict of the one before", (shown()["state"], shown()["says"], usable("save-png")),
+               ("Nothing is read", "", False))
+    expect("no symbol of another picture is left", (grid(), before != ""), ("", True))
 
 
 def printed():
@@ -107,17 +102,17 @@ def printed():
                                                ("c.png", 150, 120, "F", "12 %")):
         opened(name, png(rows, 8, 6, light, dark, 5))
         told = table()
-        count.expect(f"{name}: contrast", told[0], [grade, "contrast", contrast])
-        count.expect(f"{name}: the rest", [cells[0] for cells in told[1:]], [*"AAAA", *"––––"])
-        count.expect(f"{name}: damage", [cells[2] for cells in told[6:8]], ["none", "none"])
+        expect(f"{name}: contrast", told[0], [grade, "contrast", contrast])
+        expect(f"{name}: the rest", [cells[0] for cells in told[1:]], [*"AAAA", *"––––"])
+        expect(f"{name}: damage", [cells[2] for cells in told[6:8]], ["none", "none"])
     torn = ["0" + row[1:] if 3 <= k < 6 else row for k, row in enumerate(rows)]
     opened("torn.png", png(torn, 8, 6, speck=5))
-    count.expect("a torn border", [cells[2] for cells in table()[6:]],
-                 [f"{round(300 / len(rows))} % on the left", "none", "the left border, rows 4 to 6"])
+    expect("a torn border", [cells[2] for cells in table()[6:]],
+           [f"{round(300 / len(rows))} % on the left", "none", "the left border, rows 4 to 6"])
     opened("grid.png", png(rows, 8, 6))
-    count.expect("of a grid there is no print", (unseen_print(), table()), (True, []))
+    expect("of a grid there is no print", (unseen_print(), table()), (True, []))
     push("tab-make")
-    count.expect("nor of what is made", unseen_print(), True)
+    expect("nor of what is made", unseen_print(), True)
 
 
 def unseen_print():
@@ -139,21 +134,19 @@ def other_codes():
                                                        ("large and upside down", 17, 1, 255, 0, 2)):
         rows = turned(code, quarters, False, False).split("\n")
         said = opened("qr.png", png(rows, scale, around, light, dark))
-        count.expect(f"a QR code {name}", said, f"qr.png: {told} It shows a QR code, which isn’t a Data Matrix symbol.")
+        expect(f"a QR code {name}", said, f"qr.png: {told} It shows a QR code, which isn’t a Data Matrix symbol.")
     without = code.split("\n")
     for row in range(7):  # without the pattern in the first corner
         without[row] = "0" * 7 + without[row][7:]
-    count.expect("what has two of its patterns", opened("two.png", png(without, 4, 4)).split(LIKEST)[0],
-                 f"two.png: {told}")
+    expect("what has two of its patterns", opened("two.png", png(without, 4, 4)).split(LIKEST)[0], f"two.png: {told}")
     noise = chunks(700, 700, b"".join(b"\0" + random.randbytes(700) for _ in range(700)))
-    count.expect("noise", opened("noise.png", noise).split(LIKEST)[0], f"noise.png: {told}")
-    push("tab-make")
+    expect("noise", opened("noise.png", noise).split(LIKEST)[0], f"noise.png: {told}")
 
 
 def saved():
     write("123456")
     put("millimetres", "0.4")
-    count.expect("size in print", text_of("print-size"), "5.6 × 5.6 mm with 2 modules of quiet zone")
+    expect("size in print", text_of("print-size"), "5.6 × 5.6 mm with 2 modules of quiet zone")
     svg, picture = on.folder / "symbol-10.svg", on.folder / "symbol-10.png"
     for file in (svg, picture):
         file.unlink(missing_ok=True)
@@ -161,7 +154,7 @@ def saved():
     wait_for(lambda: svg.exists() and svg.read_bytes().endswith(b"</svg>\n") and picture.exists()
              and picture.read_bytes()[-8:-4] == b"IEND")
     text = svg.read_text()
-    count.expect(
+    expect(
         "SVG",
         text.startswith('<svg xmlns="http://www.w3.org/2000/svg" width="5.6mm" height="5.6mm" viewBox="-2 -2 14 14"'),
         True,
@@ -169,32 +162,30 @@ def saved():
     body = picture.read_bytes()
     at = body.index(b"pHYs") + 4
     width, across, down, unit = (*struct.unpack(">I", body[16:20]), *struct.unpack(">IIB", body[at : at + 9]))
-    count.expect("PNG: pixels a metre", (across, down, unit, zlib.crc32(body[at - 4 : at + 9])),
-                 (25000, 25000, 1, struct.unpack(">I", body[at + 9 : at + 13])[0]))
-    count.expect("PNG: millimetres", round(1000 * width / across, 3), 5.6)
+    expect("PNG: pixels a metre", (across, down, unit, zlib.crc32(body[at - 4 : at + 9])),
+           (25000, 25000, 1, struct.unpack(">I", body[at + 9 : at + 13])[0]))
+    expect("PNG: millimetres", round(1000 * width / across, 3), 5.6)
     push("tab-read")
     write("other")
     for name, file in (("SVG", svg), ("PNG", picture)):
-        count.expect(f"{name} opened again", (opened(f"again{file.suffix}", file.read_bytes()), grid()),
-                     (f"again{file.suffix}: 10 × 10. Read as it stands.", written("123456")))
+        expect(f"{name} opened again", (opened(f"again{file.suffix}", file.read_bytes()), grid()),
+               (f"again{file.suffix}: 10 × 10. Read as it stands.", written("123456")))
     if shutil.which("dmtxread"):
         out = subprocess.run(["dmtxread", "-n", str(picture)], stdout=subprocess.PIPE, timeout=300,
                              check=False).stdout.decode()
-        count.expect("PNG by dmtxread", out.strip(), "123456")
+        expect("PNG by dmtxread", out.strip(), "123456")
     else:
         print("left out: the saved picture read by another reader, since dmtxread isn't installed")
     put("millimetres", "0.5")
     write("Mitsubadoor")
     find("copy").click()
-    count.expect("copied", wait_for(lambda: text_of("toast")), "Copied: the symbol, a line for each row")
+    expect("copied", wait_for(lambda: text_of("toast")), "Copied: the symbol, a line for each row")
     push("tab-read")
     unfold("as-text")
     find("grid").send_keys(Keys.CONTROL, "a", Keys.NULL, Keys.DELETE)
     find("grid").send_keys(Keys.CONTROL, "v", Keys.NULL)
-    count.expect("what was copied", find("grid").get_attribute("value").strip("\n"), written("Mitsubadoor"))
+    expect("what was copied", value_of("grid").strip("\n"), written("Mitsubadoor"))
     push("tab-make")
     find("message").send_keys(Keys.CONTROL, "a", Keys.NULL)
     find("message").send_keys(Keys.CONTROL, "v", Keys.NULL)
-    count.expect("a grid that is pasted as a message", (find("pane-read").is_displayed(), shown()["says"]),
-                 (True, "Mitsubadoor"))
-    push("tab-make")
+    expect("a grid that is pasted as a message", (is_seen("pane-read"), shown()["says"]), (True, "Mitsubadoor"))

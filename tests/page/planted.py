@@ -7,7 +7,7 @@ from tests.bugs import bugs_of
 from tests.page import browser, crew
 from tests.page.javascript import uses
 from tests.page.parts import PARTS, fault_of
-from tests.page.stage import Failed, count, on
+from tests.page.stage import Failed, count, expect, on
 from tests.support import places
 
 sys.path.insert(0, places.path("web"))
@@ -47,8 +47,8 @@ def try_parts(file, first):
         random.seed(1)
         on.part = part.__name__
         if fault := fault_of(part, file):  # a part that can't go on has failed
-            count.expect(f"{part.__name__}, which broke off with {type(fault).__name__}", str(fault), "no fault")
-    count.expect("console", [entry["message"] for entry in on.page.get_log("browser")], [])
+            expect(f"{part.__name__}, which broke off with {type(fault).__name__}", str(fault), "no fault")
+    expect("console", [entry["message"] for entry in on.page.get_log("browser")], [])
 
 
 @contextlib.contextmanager

@@ -10,11 +10,11 @@ from tests.page.labels import saved
 from tests.page.photographs import CAMERA
 from tests.page.pictures import chunks, opened, png
 from tests.page.sights import LISTED, OUTLINED, beyond, scene
-from tests.page.stage import (count, find, on, push, put, run, settle, shown, take_time, text_of, wait_for, write,
-                              written)
+from tests.page.stage import (expect, find, is_seen, on, press, push, put, run, settle, shown, soon, take_time, text_of,
+                              texts_of, wait_for, written)
 from tests.page.bounds import drop
 
-ALL = "return [...document.querySelectorAll('#found-are li')].map((it) => it.textContent)"
+ALL = "#found-are li"
 VIEW = "const it = document.getElementById('view'); return [it.width, it.height]"
 
 
@@ -38,32 +38,32 @@ def in_order():
     for name, body in files:
         (on.folder / name).write_bytes(body)
     find("picture").send_keys("\n".join(str(on.folder / name) for name, _ in files))
-    count.expect_soon("all are looked at", lambda: text_of("picture-hint"), "4 pictures are looked at.")
+    soon("all are looked at", lambda: text_of("picture-hint"), "4 pictures are looked at.")
     settle()
-    listed = run(ALL)
-    count.expect("how many", len(listed), 6)
+    listed = texts_of(ALL)
+    expect("how many", len(listed), 6)
     starts = ["first", "second", "none.png: The picture has only", "broken.png: The file is cut off", "third",
               "Not read."]
-    count.expect("in order", [line.startswith(start) for line, start in zip(listed, starts)], [True] * 6)
+    expect("in order", [line.startswith(start) for line, start in zip(listed, starts)], [True] * 6)
     names = [line.endswith(name) for line, name in zip(listed, ("two.png", "two.png", "", "", "one.png", "one.png"))]
-    count.expect("each with its picture", names, [True] * 6)
-    count.expect("the first is at hand", (shown()["says"], run(VIEW), len(run(OUTLINED))), ("first", [220, 110], 2))
-    run("document.querySelectorAll('#found-are button')[2].click()")
-    count.expect_soon("a symbol of another picture", lambda: (shown()["says"], run(VIEW), len(run(OUTLINED))),
-                      ("third", [300, 140], 2))
+    expect("each with its picture", names, [True] * 6)
+    expect("the first is at hand", (shown()["says"], run(VIEW), len(run(OUTLINED))), ("first", [220, 110], 2))
+    press("#found-are button", 2)
+    soon("a symbol of another picture", lambda: (shown()["says"], run(VIEW), len(run(OUTLINED))),
+         ("third", [300, 140], 2))
     table = list(csv.reader(io.StringIO(saved("found.csv", "found-csv").decode("utf-8-sig"))))
-    count.expect("the CSV", [",".join(row[:3]) for row in table[:4]],
-                 ["picture,number,message", "two.png,1,first", "two.png,2,second", "one.png,3,third"])
+    expect("the CSV", [",".join(row[:3]) for row in table[:4]],
+           ["picture,number,message", "two.png,1,first", "two.png,2,second", "one.png,3,third"])
     told = json.loads(saved("found.json", "found-json"))
-    count.expect("the JSON", [it["picture"] for it in told["symbols"]], ["two.png", "two.png", "one.png", "one.png"])
+    expect("the JSON", [it["picture"] for it in told["symbols"]], ["two.png", "two.png", "one.png", "one.png"])
     find("saved").send_keys(str(on.folder / "found.json"))
-    count.expect_soon("the list opened again", lambda: [it[0] for it in run(LISTED)][:3], ["first", "second", "third"])
+    soon("the list opened again", lambda: [it[0] for it in run(LISTED)][:3], ["first", "second", "third"])
     none = [name for name, _ in files[1:3]]
     find("picture").send_keys("\n".join(str(on.folder / name) for name in none))
-    count.expect_soon("nothing in any", lambda: (shown()["state"], shown()["why"].split(". ")[0], run(
-        "return mitsubadoor.panes.read.modules")), ("Nothing is read", "Nothing was read in 2 pictures", None))
-    count.expect("each is named", [line.split(":")[0] for line in run(ALL)], none)
-    push("tab-make")
+    soon("nothing in any", lambda: (shown()["state"], shown()["why"].split(". ")[0]),
+         ("Nothing is read", "Nothing was read in 2 pictures"))
+    expect("no symbol is left", run("return mitsubadoor.panes.read.modules"), None)
+    expect("each is named", [line.split(":")[0] for line in texts_of(ALL)], none)
 
 
 def beside_others():
@@ -73,12 +73,10 @@ def beside_others():
     drop("body", [("mark.png", "image/png", body), ("sheet.pdf", "application/pdf", b"%PDF-1.4\n"),
                   ("notes.txt", "text/plain", b"notes")])
     pdf = "sheet.pdf is a PDF, which isn’t read here: save its pages as pictures, or take pictures of the screen."
-    count.expect_soon("beside a picture", lambda: (shown()["says"], text_of("picture-hint")),
-                      ("beside", f"mark.png: 14 × 14. Read as it stands. {pdf} notes.txt isn’t looked at."))
+    soon("beside a picture", lambda: (shown()["says"], text_of("picture-hint")),
+         ("beside", f"mark.png: 14 × 14. Read as it stands. {pdf} notes.txt isn’t looked at."))
     drop("body", [("sheet.pdf", "application/pdf", b"%PDF-1.4\n")])
-    count.expect_soon("a PDF alone", lambda: text_of("picture-hint"), pdf)
-    put("grid", "")
-    push("tab-make")
+    soon("a PDF alone", lambda: text_of("picture-hint"), pdf)
 
 
 def of_many_pixels():
@@ -93,17 +91,63 @@ def of_many_pixels():
         line = blank[:4001] + dark + blank[4001 + len(dark):]
         lines[3000 + r * scale : 3000 + (r + 1) * scale] = [line] * scale
     opened("phone.png", chunks(wide, high, b"".join(lines)))
-    count.expect_soon("48 million pixels", lambda: shown()["says"], "of a phone")
+    soon("48 million pixels", lambda: shown()["says"], "of a phone")
     corners = run("const { width, height } = document.getElementById('outlines').dataset; return [+width, +height]")
-    count.expect("its size", [round(it / 100) for it in corners], [80, 60])
+    expect("its size", [round(it / 100) for it in corners], [80, 60])
     wait_for(lambda: run("return localStorage.getItem('mitsubadoor found')"))
     kept = json.loads(run("return localStorage.getItem('mitsubadoor found')"))
-    count.expect("where it stands", [round(it / 50) for it in kept["symbols"][0]["corners"][0]], [80, 60])
+    expect("where it stands", [round(it / 50) for it in kept["symbols"][0]["corners"][0]], [80, 60])
     huge = bytearray(chunks(10, 10, (b"\0" + b"\xff" * 10) * 10))
     huge[16:24] = (20000).to_bytes(4, "big") * 2
     said = "huge.png: The picture has more than 200 million pixels: save it smaller, and open that."
-    count.expect("400 million", (opened("huge.png", bytes(huge)), shown()["state"]), (said, "Nothing is read"))
-    push("tab-make")
+    expect("400 million", (opened("huge.png", bytes(huge)), shown()["state"]), (said, "Nothing is read"))
+
+
+# A JPEG of a symbol in a red field on a blue ground, with green on the right; or a PNG of its dark modules alone.
+IN_COLOURS = """
+    const [rows, width, height, kind] = arguments;
+    const canvas = Object.assign(document.createElement("canvas"), { width, height }), pen = canvas.getContext("2d");
+    const fill = (colour, ...box) => { pen.fillStyle = colour; pen.fillRect(...box); };
+    if (kind === "image/jpeg") {
+        fill("#2040c0", 0, 0, width, height);
+        fill("#20b040", 1100, 0, width, height);
+        fill("#ffd0c0", 100, 100, 600, 600);
+    }
+    rows.forEach((row, r) => [...row].forEach((module, c) => {
+        if (module === "1") fill("#400000", 200 + 20 * c, 200 + 20 * r, 20, 20);
+    }));
+    return canvas.toDataURL(kind, 0.95).split(",")[1];"""
+SEEN = """
+    const view = document.getElementById("view"), { width, height } = view;
+    const canvas = Object.assign(document.createElement("canvas"), { width, height });
+    const pen = canvas.getContext("2d", { willReadFrequently: true });
+    pen.drawImage(view, 0, 0);
+    const at = (x, y) => [...pen.getImageData(x * width, y * height, 1, 1).data].slice(0, 3);
+    return [width > height, ...arguments[0].map(([x, y]) => at(x, y))];"""
+TURNED = b"Exif\0\0MM\0*\0\0\0\x08\0\x01\x01\x12\0\x03\0\0\0\x01\0\x06\0\0\0\0\0\0"  # a quarter to the right
+
+
+def as_it_is_stored():
+    """A large JPEG, of which the browser gives what is stored, is read and shown in its colours; and so is one that is
+    to be turned, upright. What is transparent is white."""
+    push("tab-read")
+    rows = written("in colours").split("\n")
+    body, clear = (base64.b64decode(run(IN_COLOURS, rows, 1400, 1000, f"image/{kind}")) for kind in ("jpeg", "png"))
+    turned = body[:2] + b"\xff\xe1" + (len(TURNED) + 2).to_bytes(2, "big") + TURNED + body[2:]
+    spots = [(0.03, 0.9), (0.95, 0.5), (0.1, 0.15)]  # on the ground, on the right, and in the field
+    for name, file, places, stands in (
+        ("as it is", body, spots, "Read as it stands."),
+        ("turned", turned, [(1 - y, x) for x, y in spots],
+         "The symbol is turned a quarter to the right, and shown upright."),
+    ):
+        said = opened("stored.jpg", file)
+        expect(f"{name}: what is read", (shown()["says"], said.partition(". ")[2]), ("in colours", stands))
+        is_wide, *colours = run(SEEN, places)
+        far = [abs(one - other) for colour, wanted in zip(colours, [(32, 64, 192), (32, 176, 64), (255, 208, 192)])
+               for one, other in zip(colour, wanted)]
+        expect(f"{name}: its colours", (is_wide, [each for each in far if each > 12]), (name == "as it is", []))
+    opened("clear.png", clear)
+    expect("on nothing", shown()["says"], "in colours")
 
 
 LONGER = """
@@ -127,14 +171,13 @@ def longer():
         lines[1300 + y] = line[:1301] + drawn + line[1301 + len(drawn):]
     take_time(1000)
     opened("noise.png", chunks(side, side, b"".join(lines)))
-    count.expect_soon("more time is offered", lambda: find("look-longer").is_displayed(), True)
+    soon("more time is offered", lambda: is_seen("look-longer"), True)
     run(LONGER)
     push("look-longer")
-    count.expect_soon("it is taken", lambda: (run("return asked[0]"), shown()["says"]), (30000, "in noise"))
+    soon("it is taken", lambda: (run("return asked[0]"), shown()["says"]), (30000, "in noise"))
     run("delete mitsubadoor.desks.pictures.ask")
     put("grid", "")
-    count.expect("it isn't offered for a grid", find("look-longer").is_displayed(), False)
-    push("tab-make")
+    expect("it isn't offered for a grid", is_seen("look-longer"), False)
 
 
 def seen_by_camera():
@@ -143,14 +186,10 @@ def seen_by_camera():
     rows = beyond(written("damaged beyond what can be corrected").split("\n"))
     run(CAMERA, [base64.b64encode(png(rows, 12, 3)).decode()], False)
     hold = "Hold symbols before the camera. What is read is listed, until you stop it."
-    count.expect_soon("nothing is seen", lambda: text_of("picture-hint"), hold)
+    soon("nothing is seen", lambda: text_of("picture-hint"), hold)
     run("globalThis.shown = [0]")
-    count.expect_soon("what is seen", lambda: text_of("picture-hint").split(". ")[0],
-                      "A symbol is seen, and isn’t read")
+    soon("what is seen", lambda: text_of("picture-hint").split(". ")[0], "A symbol is seen, and isn’t read")
     run("document.getElementById('camera-off').click(); clearInterval(painter); delete navigator.mediaDevices")
-    settle()
-    push("tab-make")
-    write("123456")
 
 
-PARTS = [in_order, beside_others, of_many_pixels, longer, seen_by_camera]
+PARTS = [in_order, beside_others, of_many_pixels, as_it_is_stored, longer, seen_by_camera]

@@ -4,11 +4,11 @@ import io
 import json
 import random
 
-from tests.page.conduct import linked, started
+from tests.page.conduct import linked
 from tests.page.pictures import LIKEST, QR, chunks, opened, png
-from tests.page.stage import (Keys, acting, choose, click, count, fill, find, fold, grid, head, metrics, on,
-                              processor_time, push, put, run, settle, shown, take_time, task, text_of, unfold, usable,
-                              usual_metrics, wait_for, write, written)
+from tests.page.stage import (Keys, acting, click, expect, fill, find, give, grid, head, is_seen, metrics, on, press,
+                              processor_time, push, put, reload, run, settle, shown, soon, take_time, task, text_of,
+                              texts_of, unfold, usable, usual_metrics, value_of, wait_for, written)
 
 MOST_TIME, OPENING = 3000, 1500  # milliseconds for a picture, and for what is done before and after its search
 LIMIT = 27  # of wrong border modules of a side of 22, if each block leaves a correction unused; usually it is 5
@@ -44,31 +44,28 @@ def handed_on():
         # (with a speck beside it, so that the picture as a whole is no grid)
         speckled = [row + f"00000{int(not k)}" for k, row in enumerate(spoilt_border(rows, wrong))]
         said = opened("border.png", png(speckled, 6, 2, 220, 40))
-        count.expect(f"{wrong} wrong border modules", (shown()["state"], shown()["says"], marks()),
-                     ("Read", message, [LIMIT, None]))
-        count.expect("are told", (shown()["why"].startswith(f"{wrong} modules of the border have the wrong colour"),
-                                  said), (True, "border.png: 22 × 22. Read as it stands."))
-        count.expect("the limit that is shown", run("return document.getElementById('border-limit').value"), str(LIMIT))
+        expect(f"{wrong} wrong border modules", (shown()["state"], shown()["says"], marks()),
+               ("Read", message, [LIMIT, None]))
+        expect("are told", (shown()["why"].startswith(f"{wrong} modules of the border have the wrong colour"), said),
+               (True, "border.png: 22 × 22. Read as it stands."))
+        expect("the limit that is shown", value_of("border-limit"), str(LIMIT))
     linked()
-    on.page.refresh()
-    started()
-    count.expect("after a reload", (shown()["state"], shown()["says"], marks()), ("Read", message, [LIMIT, None]))
+    reload()
+    expect("after a reload", (shown()["state"], shown()["says"], marks()), ("Read", message, [LIMIT, None]))
     opened("whole.png", png(rows, 6, 2, 220, 40))
-    count.expect("the limit of one that has none of its own", marks(), [None, None])
+    expect("the limit of one that has none of its own", marks(), [None, None])
     message = "A corner that was torn off, with a good part of what stood there, in a larger symbol."
     rows = written(message).split("\n")
     opened("torn.png", png(torn(rows, 20), 6, 3, 220, 40))
     limit, doubtful = marks()
-    count.expect("a torn corner", (shown()["state"], shown()["says"], "1" in (doubtful or "")), ("Read", message, True))
-    count.expect("is told", "doubtful codewords were replaced" in shown()["why"], True)
-    count.expect("which modules are doubtful", (len(doubtful), doubtful[len(rows) - 1]), (len(rows) ** 2, "1"))
+    expect("a torn corner", (shown()["state"], shown()["says"], "1" in (doubtful or "")), ("Read", message, True))
+    expect("is told", "doubtful codewords were replaced" in shown()["why"], True)
+    expect("which modules are doubtful", (len(doubtful), doubtful[len(rows) - 1]), (len(rows) ** 2, "1"))
     push("tab-learn")
     click(0, side=len(rows))
-    count.expect("damage to it", usable("undo-all"), True)
+    expect("damage to it", usable("undo-all"), True)
     push("undo-all")
-    count.expect("undoing everything leaves them", (marks(), usable("undo-all")), ([limit, doubtful], False))
-    push("tab-make")
-    write("123456")
+    expect("undoing everything leaves them", (marks(), usable("undo-all")), ([limit, doubtful], False))
 
 
 # ---- All of them
@@ -122,41 +119,38 @@ def all_symbols():
     grids = [written(message).split("\n") for message in messages]
     for name, turn in (("upright", (1.0, 0.0)), ("turned", (0.9848, -0.1736))):
         opened(f"{name}.png", scene(430, 290, list(zip(grids, places)), turn))
-        count.expect_soon(f"{name}: what is said", lambda: text_of("picture-hint"), f"{name}.png: 6 symbols.")
+        soon(f"{name}: what is said", lambda: text_of("picture-hint"), f"{name}.png: 6 symbols.")
         listed = run(LISTED)
-        count.expect(f"{name}: what is listed", [says for says, _, _ in listed], messages)
-        count.expect("how many", (text_of("found-title"), text_of("found-hint")), ("6 symbols are read", ""))
+        expect(f"{name}: what is listed", [says for says, _, _ in listed], messages)
+        expect("how many", (text_of("found-title"), text_of("found-hint")), ("6 symbols are read", ""))
         chosen = [says for says, _, is_chosen in listed if is_chosen == "true"]
-        count.expect("one is at hand", chosen, [shown()["says"]])
+        expect("one is at hand", chosen, [shown()["says"]])
         far = [abs(one - other) for (_, points), (left, top), rows in zip(run(OUTLINED), places, grids) for corner,
                wanted in zip(points, corners_of(left, top, 4 * len(rows), turn)) for one, other in zip(corner, wanted)]
-        count.expect(f"{name}: outlines", (len(far), [each for each in far if each > 2]), (48, []))
+        expect(f"{name}: outlines", (len(far), [each for each in far if each > 2]), (48, []))
         view = run("const { width, height } = document.getElementById('view'); return [width, height]")
-        count.expect("the picture", (find("scene").is_displayed(), view), (True, [430, 290]))
+        expect("the picture", (is_seen("scene"), view), (True, [430, 290]))
         metrics(1200, 757)
         run("scrollTo(0, 0)")
         last = run("return document.getElementById('says').getBoundingClientRect().bottom")
-        count.expect(f"the message on the first screen, {last}", last <= 757, True)
+        expect(f"the message on the first screen, {last}", last <= 757, True)
         usual_metrics()
     for k in (3, 0):
-        run("document.querySelectorAll('#found-are button')[arguments[0]].click()", k)
-        settle()
-        count.expect(f"number {k + 1} is chosen", (shown()["says"], grid(), run(LISTED)[k][2]),
-                     (messages[k], written(messages[k]), "true"))
+        press("#found-are button", k)
+        expect(f"number {k + 1} is chosen", (shown()["says"], grid(), run(LISTED)[k][2]),
+               (messages[k], written(messages[k]), "true"))
     run("document.querySelectorAll('#outlines polygon')[4].dispatchEvent(new MouseEvent('click', { bubbles: true }))")
     settle()
-    count.expect("number 5, on the picture", (shown()["says"], len(run(LISTED))), (messages[4], 6))
-    count.expect("is in sight in the list", run(IN_SIGHT), True)
+    expect("number 5, on the picture", (shown()["says"], len(run(LISTED))), (messages[4], 6))
+    expect("is in sight in the list", run(IN_SIGHT), True)
     run("document.querySelectorAll('#found-are button')[2].focus({ preventScroll: true })")
     acting().send_keys(Keys.ENTER, Keys.TAB, Keys.ENTER).perform()
     settle()
-    count.expect("by keys, one after the other", (shown()["says"], run(IN_SIGHT)), (messages[3], True))
+    expect("by keys, one after the other", (shown()["says"], run(IN_SIGHT)), (messages[3], True))
     given_away(messages)
     put("grid", written("typed"))
-    count.expect("what is typed takes the place of the picture",
-                 (shown()["says"], find("scene").is_displayed(), find("found").is_displayed()), ("typed", False, False))
-    push("tab-make")
-    write("123456")
+    expect("what is typed takes the place of the picture", (shown()["says"], is_seen("scene"), is_seen("found")),
+           ("typed", False, False))
 
 
 def corners_of(left, top, length, turn):
@@ -170,23 +164,22 @@ def corners_of(left, top, length, turn):
 def given_away(messages):
     """All messages are copied, and the list is saved."""
     push("found-copy")
-    count.expect_soon("what is copied", lambda: text_of("toast"), f"Copied: {len(messages)} messages")
-    count.expect("the clipboard", pasted(), "".join(f"{message}\n" for message in messages))
+    soon("what is copied", lambda: text_of("toast"), f"Copied: {len(messages)} messages")
+    expect("the clipboard", pasted(), "".join(f"{message}\n" for message in messages))
     for ending in ("csv", "json"):
         (on.folder / f"found.{ending}").unlink(missing_ok=True)
     push("found-csv", "found-json")
     file = lambda ending: on.folder / f"found.{ending}"
     wait_for(lambda: file("csv").exists() and file("json").exists() and file("json").stat().st_size)
     table = file("csv").read_bytes().decode()
-    count.expect("the CSV's mark, and ends of lines", (table[0], table.count("\r\n"), table.count("\n")),
-                 ("\ufeff", len(messages) + 1, len(messages) + 1))
+    expect("the CSV's mark, and ends of lines", (table[0], table.count("\r\n"), table.count("\n")),
+           ("\ufeff", len(messages) + 1, len(messages) + 1))
     rows = list(csv.reader(io.StringIO(table[1:])))
-    count.expect("the CSV", (rows[0], [row[1] for row in rows[1:]]),
-                 (["number", "message", "modules", "not read"], messages))
+    expect("the CSV", (rows[0], [row[1] for row in rows[1:]]), (["number", "message", "modules", "not read"], messages))
     told = json.loads(file("json").read_text())
-    count.expect("the JSON", (told["complete"], [each["text"] for each in told["symbols"]],
+    expect("the JSON", (told["complete"], [each["text"] for each in told["symbols"]],
                               {each["read"] for each in told["symbols"]}), (True, messages, {True}))
-    count.expect("its items", [each["items"] for each in told["symbols"]], [list(each.encode()) for each in messages])
+    expect("its items", [each["items"] for each in told["symbols"]], [list(each.encode()) for each in messages])
 
 
 def pasted():
@@ -195,13 +188,13 @@ def pasted():
     unfold("sheet")
     push("tab-make")
     find("messages").send_keys(Keys.CONTROL, "v", Keys.NULL)
-    text = find("messages").get_attribute("value")
+    text = value_of("messages")
     put("messages", "")
     push("tab-read")
     return text
 
 
-LABELLED = "return [...document.querySelectorAll('#labels-are p')].map((it) => it.textContent)"
+LABELLED = "#labels-are p"
 
 
 def found_in_tables():
@@ -211,19 +204,17 @@ def found_in_tables():
     places = [(30 + 110 * k, 40) for k in range(4)]
     body = scene(470, 130, [(written(it).split("\n"), place) for it, place in zip(messages, places)])
     opened("formulas.png", body)
-    count.expect_soon("what is listed", lambda: len(run(LISTED)), 4)
+    soon("what is listed", lambda: len(run(LISTED)), 4)
     file = on.folder / "found.csv"
     file.unlink(missing_ok=True)
     push("found-csv")
     wait_for(lambda: file.exists() and file.stat().st_size)
     cells = [row[1] for row in csv.reader(io.StringIO(file.read_bytes().decode("utf-8-sig")))][1:]
-    count.expect("cells", cells, ["'=1+1", "'-5 pieces", "''@x", "plain, and more"])
+    expect("cells", cells, ["'=1+1", "'-5 pieces", "''@x", "plain, and more"])
     push("tab-make")
     unfold("sheet")
     find("lines").send_keys(str(file))
-    count.expect_soon("its messages", lambda: [it.split(": ", 1)[1] for it in run(LABELLED)], messages[:3])
-    choose("lines-as", "messages")
-    put("messages", "")
+    soon("its messages", lambda: [it.split(": ", 1)[1] for it in texts_of(LABELLED)], messages[:3])
 
 
 def compared_in_pictures():
@@ -237,15 +228,14 @@ def compared_in_pictures():
     picture.write_bytes(scene(320, 200, [(written(it).split("\n"), place) for it, place in zip(messages, places)]))
     fill("b", messages[4])
     find("picture-A").send_keys(str(picture))
-    count.expect_soon("six symbols", head, ["No answer", "Symbol A isn’t chosen yet: there are 6 in its picture."])
-    asked = lambda: run("return [...document.querySelectorAll('#reads-A button')].map((it) => it.textContent)")
-    count.expect("which one is asked", asked(), messages)
+    soon("six symbols", head, ["No answer", "Symbol A isn’t chosen yet: there are 6 in its picture."])
+    asked = lambda: texts_of("#reads-A button")
+    expect("which one is asked", asked(), messages)
     for k, answer in ((4, "Yes, they say the same."), (0, "No, they say different things.")):
         find("picture-A").send_keys(str(picture))
         wait_for(asked)
-        run("document.querySelectorAll('#reads-A button')[arguments[0]].click()", k)
-        count.expect_soon(f"number {k + 1} is chosen", lambda: (head()[0], f": {messages[k]}" in text_of("reads-A")),
-                          (answer, True))
+        press("#reads-A button", k)
+        soon(f"number {k + 1} is chosen", lambda: (head()[0], f": {messages[k]}" in text_of("reads-A")), (answer, True))
     likeness = lambda: (head()[0], head()[1].removeprefix("Their normal grids differ").rstrip(":"))
     differ, is_gs1 = "No, they say different things.", "and so is GS1 data"
     for one, other, words in (
@@ -257,9 +247,7 @@ def compared_in_pictures():
     ):
         fill("a", one)
         fill("b", other)
-        count.expect_soon(f"{one[:30]} and {other[:30]}", likeness, (differ, words))
-    fold("comparison")
-    push("tab-make")
+        soon(f"{one[:30]} and {other[:30]}", likeness, (differ, words))
 
 
 def list_opened_again():
@@ -269,37 +257,32 @@ def list_opened_again():
              beyond(written("damaged beyond what can be corrected").split("\n"))]
     places = ((30, 40), (130, 40), (250, 40))
     opened("three.png", scene(380, 190, list(zip(grids, places))))
-    count.expect_soon("what is listed", lambda: len(run(LISTED)), 3)
+    soon("what is listed", lambda: len(run(LISTED)), 3)
     before, saved = run(LISTED), on.folder / "found.json"
     for file in (saved, saved.with_suffix(".csv")):
         file.unlink(missing_ok=True)
     push("found-json", "found-csv")
     wait_for(lambda: saved.exists() and saved.stat().st_size and saved.with_suffix(".csv").exists())
     told = json.loads(saved.read_text())
-    count.expect("the grids in it", [each["modules"] for each in told["symbols"]], grids)
+    expect("the grids in it", [each["modules"] for each in told["symbols"]], grids)
     put("grid", written("meanwhile"))
     push("tab-make")
-    (on.folder / "again.json").write_bytes(saved.read_bytes())
-    find("saved").send_keys(str(on.folder / "again.json"))
-    count.expect_soon("the list again", lambda: text_of("picture-hint"), "The list of again.json.")
+    give("saved", "again.json", saved.read_bytes())
+    soon("the list again", lambda: text_of("picture-hint"), "The list of again.json.")
     settle()
-    count.expect("what is listed again", [row[:2] for row in run(LISTED)], [row[:2] for row in before])
-    count.expect("the first is at hand", (shown()["says"], find("scene").is_displayed()), ("whole", False))
-    run("document.querySelectorAll('#found-are button')[1].click()")
-    settle()
-    count.expect("one at its own limit", (shown()["says"], marks()), ("A border that is damaged", [LIMIT, None]))
+    expect("what is listed again", [row[:2] for row in run(LISTED)], [row[:2] for row in before])
+    expect("the first is at hand", (shown()["says"], is_seen("scene")), ("whole", False))
+    press("#found-are button", 1)
+    expect("one at its own limit", (shown()["says"], marks()), ("A border that is damaged", [LIMIT, None]))
     (on.folder / "odd.json").write_text(saved.read_text().replace('"1', '"none', 1))
     find("saved").send_keys(str(on.folder / "odd.json"))
-    count.expect_soon("a list with what is no grid", task, "make")
+    soon("a list with what is no grid", task, "make")
     push("tab-read")
     find("saved").send_keys(str(saved.with_suffix(".csv")))
-    count.expect_soon("a list in CSV", lambda: (task(), text_of("sheet-hint")), ("make", "The lines of found.csv."))
+    soon("a list in CSV", lambda: (task(), text_of("sheet-hint")), ("make", "The lines of found.csv."))
     labels = ("whole", "A border that is damaged")
-    count.expect_soon("what it gives, without questions", lambda: (find("columns").is_displayed(), run(LABELLED)),
-                      (False, [f"{k}: {says}" for k, says in enumerate(labels, 1)]))
-    put("messages", "")
-    choose("lines-as", "messages")
-    write("123456")
+    soon("what it gives, without questions", lambda: (is_seen("columns"), texts_of(LABELLED)),
+         (False, [f"{k}: {says}" for k, says in enumerate(labels, 1)]))
 
 
 def unread():
@@ -307,21 +290,18 @@ def unread():
     push("tab-read")
     rows, spoilt = written("whole").split("\n"), beyond(written("damaged beyond what can be corrected").split("\n"))
     opened("one.png", scene(330, 190, [(rows, (30, 40)), (spoilt, (150, 40))]))
-    count.expect_soon("what is said of both", lambda: text_of("found-hint"), "1 is seen and not read.")
+    soon("what is said of both", lambda: text_of("found-hint"), "1 is seen and not read.")
     listed = run(LISTED)
     why = "More than 12 codewords are wrong. The 24 check codewords correct no more than that, and nothing is guessed."
-    count.expect("what is listed", [says for says, _, _ in listed], ["whole", f"Not read. {why}"])
-    count.expect("what is outlined", [name for name, _ in run(OUTLINED)], ["chosen", "unread"])
-    run("document.querySelectorAll('#found-are button')[1].click()")
-    settle()
-    count.expect("the one that isn't read", (shown()["state"], grid()), ("Refused", "\n".join(spoilt)))
+    expect("what is listed", [says for says, _, _ in listed], ["whole", f"Not read. {why}"])
+    expect("what is outlined", [name for name, _ in run(OUTLINED)], ["chosen", "unread"])
+    press("#found-are button", 1)
+    expect("the one that isn't read", (shown()["state"], grid()), ("Refused", "\n".join(spoilt)))
     opened("alone.png", scene(230, 190, [(spoilt, (50, 40))], (0.9848, 0.1736)))
     none = f"No symbol that can be read was found in the picture.{LIKEST}"
-    count.expect("alone", (text_of("picture-hint"), shown()["state"], [name for name, _ in run(OUTLINED)][:1],
+    expect("alone", (text_of("picture-hint"), shown()["state"], [name for name, _ in run(OUTLINED)][:1],
                            [says for says, _, _ in run(LISTED)], usable("found-copy")),
                  (f"alone.png: {none}", "Nothing is read", ["unread"], [f"Not read. {why}"], False))
-    push("tab-make")
-    write("123456")
 
 
 def beside_other_codes():
@@ -331,19 +311,17 @@ def beside_other_codes():
     told = "There is a QR code too, which isn’t a Data Matrix symbol."
     for name, turn in (("upright", (1.0, 0.0)), ("turned", (0.9848, 0.1736))):
         opened(f"{name}.png", scene(330, 190, [(rows, (40, 40)), (code, (170, 40))], turn))
-        count.expect_soon(f"{name}: what is said", lambda: text_of("found-hint"), told)
-        count.expect(f"{name}: what is listed", [says for says, _, _ in run(LISTED)], ["beside it"])
+        soon(f"{name}: what is said", lambda: text_of("found-hint"), told)
+        expect(f"{name}: what is listed", [says for says, _, _ in run(LISTED)], ["beside it"])
     opened("alone.png", scene(330, 190, [(rows, (40, 40))]))
-    count.expect("without one", find("found").is_displayed(), False)
-    push("tab-make")
-    write("123456")
+    expect("without one", is_seen("found"), False)
 
 
 def large():
     """In a picture of more pixels than are looked at, outlines stand around its symbols; after it another worker
     begins, so that its memory is given back. A worker waits for each picture."""
     push("tab-read")
-    count.expect("a worker for the first picture", run("return Boolean(mitsubadoor.desks.pictures.worker)"), True)
+    expect("a worker for the first picture", run("return Boolean(mitsubadoor.desks.pictures.worker)"), True)
     run("globalThis.former = mitsubadoor.desks.pictures.worker")
     rows = written("in a large picture").split("\n")
     width, height = 4400, 3900
@@ -359,15 +337,13 @@ def large():
         line[1 + y % 7] = 130  # a third colour, so that it is no grid
         lines.append(bytes(line))
     opened("large.png", chunks(width, height, b"".join(lines)))
-    count.expect("a large picture", (shown()["state"], shown()["says"]), ("Read", "in a large picture"))
+    expect("a large picture", (shown()["state"], shown()["says"]), ("Read", "in a large picture"))
     ((_, (corner, *_)),) = run(OUTLINED)
-    count.expect("its outline", [at for at, wanted in zip(corner, (1200, 900)) if abs(at - wanted) > 3], [])
+    expect("its outline", [at for at, wanted in zip(corner, (1200, 900)) if abs(at - wanted) > 3], [])
     another = "const { worker } = mitsubadoor.desks.pictures; return worker !== null && worker !== globalThis.former"
-    count.expect_soon("another worker waits", lambda: run(another), True)
+    soon("another worker waits", lambda: run(another), True)
     opened("next.png", png(written("the next one").split("\n"), 5, 2))
-    count.expect("the next picture", (shown()["state"], shown()["says"]), ("Read", "the next one"))
-    push("tab-make")
-    write("123456")
+    expect("the next picture", (shown()["state"], shown()["says"]), ("Read", "the next one"))
 
 
 def in_time():
@@ -386,10 +362,8 @@ def in_time():
     opened("noise.png", chunks(side, side, b"".join(lines)))
     took = processor_time() - before
     more = "There may be more: the time for a picture was over."
-    count.expect("a symbol in noise", text_of("found-hint").endswith(more), True)
-    count.expect(f"{took:.0f} ms, the opening included", took < MOST_TIME + OPENING, True)
-    push("tab-make")
-    write("123456")
+    expect("a symbol in noise", text_of("found-hint").endswith(more), True)
+    expect(f"{took:.0f} ms, the opening included", took < MOST_TIME + OPENING, True)
 
 
 PARTS = [handed_on, all_symbols, found_in_tables, compared_in_pictures, list_opened_again, unread,

@@ -2,23 +2,21 @@
 modules that the reader is told to be doubtful, linked, compared, and measured on labels. The page's library judges,
 without the page; the marks that another encoder made in every size stand beside it."""
 import base64
-import io
 import math
 import random
 import re
-import zipfile
 
 from tests import corpus
-from tests.page.conduct import linked, started
+from tests.page.conduct import go, linked
 from tests.page.history import fields
 from tests.page.judge import (SHAPES, asked_to_read, asked_to_write, in_lines, items_of, judged, letter_of, table,
                               written_in)
-from tests.page.labels import pages_of, saved
+from tests.page.labels import archived, begin, in_pdf, pages_of, read_again, saved
 from tests.page.paper import paper_is
 from tests.page.pictures import chunks, opened, png
-from tests.page.stage import (QUIET, acting, cells, changed, choose, click, coloured, count, drawn, fill, find, flat,
-                              grid, head, offset, on, push, put, run, settle, shown, text_of, turned, unfold, write,
-                              written)
+from tests.page.stage import (QUIET, WAYS, acting, attribute, cells, changed, choose, click, coloured, drawn, expect,
+                              fill, find, flat, grid, head, is_seen, offset, on, push, put, reload, run, settle, shown,
+                              text_of, texts_of, turned, unfold, usable, value_of, write, written)
 
 
 def agree_with_judge(name, line=None):
@@ -28,18 +26,18 @@ def agree_with_judge(name, line=None):
     (answer,) = judged([asked_to_read(grid(), doubtful)])
     seen = shown()
     if "fault" in answer:
-        count.expect(name, (seen["state"], seen["says"]), ("Refused", "no message"))
+        expect(name, (seen["state"], seen["says"]), ("Refused", "no message"))
         return answer
     size = table()[name_of(grid())]
     checks = size["check"] // size["blocks"]
     told_of = lambda erased, left: f"{erased} doubtful; {left} of {checks} checks left" if erased else size["limit"]
-    blocks = [f"{wrong} wrong, {told_of(erased, left)}"
-              for wrong, erased, left in zip(answer["corrected"], answer["erased"], answer["left"])]
-    count.expect(f"{name}: meters", seen["meters"][:-1], blocks)
-    count.expect(f"{name}: border", seen["meters"][-1].split(" ")[0], str(answer["border"]))
+    blocks = [f"{wrong} wrong, {told_of(erased, left)}" for wrong, erased,
+              left in zip(answer["corrected"], answer["erased"], answer["left"])]
+    expect(f"{name}: meters", seen["meters"][:-1], blocks)
+    expect(f"{name}: border", seen["meters"][-1].split(" ")[0], str(answer["border"]))
     if line is not None:
         is_that = answer["items"] == items_of(line)
-        count.expect(name, (seen["state"] in ("Read", "Read, as GS1 data"), is_that), (is_that, is_that))
+        expect(name, (seen["state"] in ("Read", "Read, as GS1 data"), is_that), (is_that, is_that))
     return answer
 
 
@@ -79,26 +77,25 @@ def each_is_made():
         rows, columns, limit = size["rows"], size["columns"], size["limit"]
         line = digits(2 * size["data"] - 1)
         write(line, size=name)
-        count.expect(f"{name} as it is written", grid(), written_in(line, name))
-        count.expect(f"{name} by its pixels", drawn(columns, rows, 0.5), grid())
-        facts = run("return [...document.querySelectorAll('#facts dd')].map((it) => it.textContent)")
+        expect(f"{name} as it is written", grid(), written_in(line, name))
+        expect(f"{name} by its pixels", drawn(columns, rows, 0.5), grid())
+        facts = texts_of("#facts dd")
         wanted = [words_of(name), str(size["data"]), str(size["check"]), str(limit), "]d1"]
-        count.expect(f"{name}: facts", facts, wanted)
+        expect(f"{name}: facts", facts, wanted)
         length = lambda modules: f"{round((modules + 4) * 0.5, 2):g}"
         said = f"{length(columns)} × {length(rows)} mm with 2 modules of quiet zone"
-        count.expect(f"{name}: what it prints", text_of("print-size").startswith(said), True)
-        count.expect(f"{name}: sides", text_of("side-now"), words_of(name))
+        expect(f"{name}: what it prints", text_of("print-size").startswith(said), True)
+        expect(f"{name}: sides", text_of("side-now"), words_of(name))
         push("tab-learn", "to-limit")
-        count.expect(f"{name} at the limit", shown()["meters"][:-1], [f"{limit} wrong, {limit}"] * size["blocks"])
+        expect(f"{name} at the limit", shown()["meters"][:-1], [f"{limit} wrong, {limit}"] * size["blocks"])
         agree_with_judge(f"{name} at the limit, as it is read", line)
-        count.expect(f"{name}: codewords that are corrected", kinds("corrected"), limit * size["blocks"])
+        expect(f"{name}: codewords that are corrected", kinds("corrected"), limit * size["blocks"])
         push("one-more")
         answer = agree_with_judge(f"{name} past the limit")
         if "fault" in answer:
-            count.expect(f"{name}: more than can be", f"more than {limit} wrong, {limit}" in shown()["meters"], True)
+            expect(f"{name}: more than can be", f"more than {limit} wrong, {limit}" in shown()["meters"], True)
         push("undo-all")
-        count.expect(f"{name} undone", (grid(), coloured()), (written_in(line, name), []))
-    write("123456")
+        expect(f"{name} undone", (grid(), coloured()), (written_in(line, name), []))
 
 
 def sizes_by_shape():
@@ -117,16 +114,15 @@ def sizes_by_shape():
                 told = [f"{it['rows']} × {it['columns']}" if "text" in it else "doesn’t fit" for it in both]
                 name = f"{line[:12]!r} in {size} under profile {profile}"
                 if "text" in both[profile]:
-                    count.expect(name, grid(), in_lines(both[profile]))
-                    count.expect(f"{name}: sides", [text_of("side-0"), text_of("side-1")], told)
+                    expect(name, grid(), in_lines(both[profile]))
+                    expect(f"{name}: sides", [text_of("side-0"), text_of("side-1")], told)
                 else:
-                    count.expect(f"{name}: refused", (shown()["state"], refusal_in(size)), ("Nothing is read", True))
-    count.expect("one size is listed only where it is chosen", find("size").is_displayed(), True)
+                    expect(f"{name}: refused", (shown()["state"], refusal_in(size)), ("Nothing is read", True))
+    expect("one size is listed only where it is chosen", is_seen("size"), True)
     choose("shape", "any")
-    count.expect("and else isn't", find("size").is_displayed(), False)
+    expect("and else isn't", is_seen("size"), False)
     names = run("return [...document.querySelectorAll('#size option')].map((it) => it.value)")
-    count.expect("all sizes are listed", sorted(names), sorted(table()))
-    write("123456")
+    expect("all sizes are listed", sorted(names), sorted(table()))
 
 
 def refusal_in(size):
@@ -158,26 +154,14 @@ def marks_of_every_size():
     for mark in marks:
         head, text, wanted = mark.name, "\n".join(mark.lines), letter_of(mark.said)
         put("grid", text)
-        count.expect(f"{head}: as it stands", (grid(), shown()["side"]), (text, mark.rows))
+        expect(f"{head}: as it stands", (grid(), shown()["side"]), (text, mark.rows))
         items, numbers = wanted["items"], [it["number"] for it in wanted["marks"]]
         said = {"letter": wanted, "told": items, "marks": numbers, "untold": 0}
-        count.expect(head, (shown()["state"].split(",")[0], run(ANSWERED)), ("Read", said))
+        expect(head, (shown()["state"].split(",")[0], run(ANSWERED)), ("Read", said))
         letters += bool(numbers or wanted["head"])
     sizes = {name_of("\n".join(mark.lines)) for mark in marks}
-    count.expect("every new size is among them", sorted(set(new_sizes()) - sizes), [])
-    count.expect("some have more than items", letters, 18)
-
-
-QUARTERS = ["", "turned a quarter to the right", "turned upside down", "turned a quarter to the left"]
-
-
-def ways():
-    for inverted in (False, True):
-        for mirrored in (False, True):
-            for quarters in range(4):
-                parts = [inverted and "inverted, light for dark", mirrored and "mirrored left to right"]
-                parts.append(QUARTERS[quarters])
-                yield (quarters, mirrored, inverted), ", and ".join(filter(None, parts))
+    expect("every new size is among them", sorted(set(new_sizes()) - sizes), [])
+    expect("some have more than items", letters, 18)
 
 
 def in_all_ways():
@@ -185,26 +169,25 @@ def in_all_ways():
     push("tab-read")
     for name, line in (("8x32", "Rectangle"), ("12x26", "123456"), ("26x40", "A little more of it")):
         text = written_in(line, name)
-        for way, how in ways():
+        for way, how in WAYS.items():
             put("grid", turned(text, *way))
             said = f"The grid is {how}: found by trying, and shown upright." if how else "Read as it stands."
-            count.expect(f"{name} {how}", (text_of("grid-hint"), grid(), shown()["says"]), (said, text, line))
-        for scale, around, (way, how) in zip([2, 3, 4, 6] * 4, [0, 1, 2, 3] * 4, ways()):
+            expect(f"{name} {how}", (text_of("grid-hint"), grid(), shown()["says"]), (said, text, line))
+        for scale, around, (way, how) in zip([2, 3, 4, 6] * 4, [0, 1, 2, 3] * 4, WAYS.items()):
             _, mirrored, inverted = way
             rows = turned(text, *way[:2], False).split("\n")
             light, dark = (40, 210) if inverted else (230, 20)
             said = opened(f"{name}.png", png(rows, scale, around, light, dark))
-            count.expect(f"a picture of {name} {how}, {scale} pixels", (said, grid(), shown()["says"]),
+            expect(f"a picture of {name} {how}, {scale} pixels", (said, grid(), shown()["says"]),
                          (f"{name}.png: {words_of(name)}. "
                           + (f"The symbol is {how}, and shown upright." if how else "Read as it stands."), text, line))
     text = written_in("Rectangle", "8x32")
     beyond = "".join("0" if module == "1" and k % 32 and k < 224 else module for k, module in enumerate(flat(text)))
     lines = "\n".join(beyond[k : k + 32] for k in range(0, 256, 32))
     put("grid", turned(lines, 1, False, False))
-    count.expect("one that can't be read lies on its side", (text_of("grid-hint"), grid()),
+    expect("one that can't be read lies on its side", (text_of("grid-hint"), grid()),
                  ("It can’t be read as it stands, nor turned, mirrored or inverted. It is shown upright, as if it were "
                   "turned a quarter to the right.", lines))
-    push("tab-make")
 
 
 def at_an_angle():
@@ -221,8 +204,7 @@ def at_an_angle():
         side = "left" if degrees < 0 else "right"
         stands = ", and ".join(filter(None, [how, f"turned by {abs(degrees)}° to the {side}"]))
         found = f"{name}.png: {words_of(name)}. The symbol is {stands}, and shown upright."
-        count.expect(f"{name} at {degrees} degrees", (shown()["says"], grid(), said), (line, text, found))
-    push("tab-make")
+        expect(f"{name} at {degrees} degrees", (shown()["says"], grid(), said), (line, text, found))
 
 
 def slanted(rows, scale, degrees, ground):
@@ -263,40 +245,30 @@ def rectangles_are_linked():
             [text(modules), rows, columns, text(doubtful), text(original), limit];
         return Object.values(panes).map(state);"""
     before, had = run(kept), fields()
-    count.expect("the link", (had["size"], had["grid"].startswith("8.32."), "doubtful" in had), ("12x36", True, True))
-    on.page.refresh()
-    started()
-    settle()
-    count.expect("after a reload", (run(kept), shown()["says"]), (before, "Rectangle"))
-    count.expect("its size is chosen", run("return ['shape', 'size'].map((it) => document.getElementById(it).value)"),
-                 ["one", "12x36"])
+    expect("the link", (had["size"], had["grid"].startswith("8.32."), "doubtful" in had), ("12x36", True, True))
+    reload()
+    expect("after a reload", (run(kept), shown()["says"]), (before, "Rectangle"))
+    expect("its size is chosen", run("return ['shape', 'size'].map((it) => document.getElementById(it).value)"),
+           ["one", "12x36"])
     push("undo")
-    count.expect("and its damage undone", grid(), text)
+    expect("and its damage undone", grid(), text)
     for name in ("rectangle", "extended", "any", "square"):
         write("123456", size=name)
         linked()
-        count.expect(f"{name} in the link", fields().get("size", "square"), name)
-        on.page.refresh()
-        started()
-        settle()
-        count.expect(f"{name} after a reload", grid(), written_in("123456", name))
+        expect(f"{name} in the link", fields().get("size", "square"), name)
+        reload()
+        expect(f"{name} after a reload", grid(), written_in("123456", name))
     for first in ("110100", "111101"):
         odd = first + written("123456").replace("\n", "")[6:]
         put_grid("\n".join(odd[k : k + 10] for k in range(0, 100, 10)))
         linked()
-        on.page.refresh()
-        started()
-        settle()
-        count.expect(f"a square that begins {first}", flat(run("return document.getElementById('grid').value")), odd)
+        reload()
+        expect(f"a square that begins {first}", flat(value_of("grid")), odd)
     no_sizes = ("read&grid=8.19.AAAA", "read&grid=0.0.", "read&grid=8.18.A", "read&grid=145.145.AA")
     for fragment in (*no_sizes, "make&size=9x9", "make&size=one", "make&size=toString"):
-        run("location.hash = arguments[0]", f"#{fragment}")
-        linked()
-        settle()
+        go(f"#{fragment}")
         kinds = run("return [document.getElementById('shape').value, document.getElementById('grid').value]")
-        count.expect(fragment, kinds, ["square", ""])
-    push("tab-make")
-    write("123456")
+        expect(fragment, kinds, ["square", ""])
 
 
 def put_grid(text):
@@ -314,10 +286,9 @@ def rectangles_are_compared():
                          (one, written_in("Rectangles", "8x32"), "No, they say different things.")):
         fill("a", a)
         fill("b", b)
-        count.expect(f"{name_of(a)} and {name_of(b)}", head()[0], wanted)
+        expect(f"{name_of(a)} and {name_of(b)}", head()[0], wanted)
     said = run("return document.querySelector('#slot-a svg').getAttribute('aria-label')")
-    count.expect("what is said of the symbol", said, "Symbol A, of 8 × 32 modules")
-    push("tab-make")
+    expect("what is said of the symbol", said, "Symbol A, of 8 × 32 modules")
 
 
 # ---- Doubtful modules
@@ -337,31 +308,31 @@ def doubted():
     clean = grid()
     push("tab-learn", "brush-doubt")
     click(100, side=48, rows=16)
-    count.expect("a click", (doubts(), grid()), ([100], clean))
+    expect("a click", (doubts(), grid()), ([100], clean))
     agree_with_judge("a click, as it is read", line)
     at = lambda cell: offset(cell, 48, 16)
     chain = acting().move_to_element_with_offset(find("symbol"), *at(150)).click_and_hold()
     chain.move_to_element_with_offset(find("symbol"), *at(154)).release().perform()
     settle()
-    count.expect("a drag", doubts(), [100, 150, 151, 152, 153, 154])
+    expect("a drag", doubts(), [100, 150, 151, 152, 153, 154])
     agree_with_judge("a drag, as it is read", line)
-    count.expect("what is marked is in the legend", "doubtful" in text_of("legend"), True)
+    expect("what is marked is in the legend", "doubtful" in text_of("legend"), True)
     chain = acting().move_to_element_with_offset(find("symbol"), *at(151)).click_and_hold()
     chain.move_to_element_with_offset(find("symbol"), *at(153)).release().perform()
     settle()
-    count.expect("a drag from a doubtful one takes doubt away", doubts(), [100, 150, 154])
+    expect("a drag from a doubtful one takes doubt away", doubts(), [100, 150, 154])
     push("undo")
-    count.expect("undone", doubts(), [100, 150, 151, 152, 153, 154])
+    expect("undone", doubts(), [100, 150, 151, 152, 153, 154])
     chain = acting().move_to_element_with_offset(find("symbol"), *at(149)).click_and_hold()
     chain.move_to_element_with_offset(find("symbol"), *at(151)).release().perform()
     settle()
-    count.expect("a drag over doubtful ones leaves them so", doubts(), [100, 149, 150, 151, 152, 153, 154])
+    expect("a drag over doubtful ones leaves them so", doubts(), [100, 149, 150, 151, 152, 153, 154])
     push("undo", "undo", "undo", "undo")
-    count.expect("all undone", (doubts(), grid()), ([], clean))
+    expect("all undone", (doubts(), grid()), ([], clean))
     push("redo")
-    count.expect("done again", doubts(), [100])
+    expect("done again", doubts(), [100])
     push("undo-all")
-    count.expect("undo everything", doubts(), [])
+    expect("undo everything", doubts(), [])
     push("brush-turn")
     size = table()["16x48"]
     for _ in range(size["limit"]):
@@ -369,23 +340,22 @@ def doubted():
     agree_with_judge("at the limit", line)
     push("tell")
     answer = agree_with_judge("told of all that was turned over", line)
-    count.expect("each doubtful codeword takes one check codeword",
-                 (answer["corrected"], answer["erased"], answer["left"]),
-                 ([0], [size["limit"]], [size["check"] - size["limit"]]))
-    count.expect("the cells say so", kinds("corrected erased"), size["limit"])
+    expect("each doubtful codeword takes one check codeword", (answer["corrected"], answer["erased"], answer["left"]),
+           ([0], [size["limit"]], [size["check"] - size["limit"]]))
+    expect("the cells say so", kinds("corrected erased"), size["limit"])
     told_of = changed(clean, grid())
-    count.expect("what is told", doubts(), told_of)
+    expect("what is told", doubts(), told_of)
     for step in range(size["check"]):
         push("one-more", "tell")
         answer = agree_with_judge(f"{step} more, and told")
         if "fault" in answer:
             break
-    count.expect("until all checks are spent", len(doubts()) > size["check"], True)
+    expect("until all checks are spent", len(doubts()) > size["check"], True)
     beyond = f"{size['check'] + 1} codewords are doubtful, and the {size['check']} check codewords replace no more than"
-    count.expect("and then it is said", shown()["why"].startswith(beyond), True)
+    expect("and then it is said", shown()["why"].startswith(beyond), True)
     push("undo", "undo", "undo")
     begin = f"{size['check'] - 1} codewords are doubtful, and of the others some are wrong."
-    count.expect("beside so many doubtful ones none may be wrong", shown()["why"].startswith(begin), True)
+    expect("beside so many doubtful ones none may be wrong", shown()["why"].startswith(begin), True)
     agree_with_judge("beside so many doubtful ones")
     doubted_by_keys()
     doubted_when_read()
@@ -399,10 +369,10 @@ def doubted_by_keys():
         on.page.switch_to.active_element.send_keys(key)
         settle()
     cursor = run("return [mitsubadoor.mark.cursor, mitsubadoor.mark.doubtful?.[mitsubadoor.mark.cursor] ?? 0]")
-    count.expect("by keys", (cursor[1], "doubtful" in text_of("spoken")), (1, True))
+    expect("by keys", (cursor[1], "doubtful" in text_of("spoken")), (1, True))
     on.page.switch_to.active_element.send_keys(" ")
     settle()
-    count.expect("and back", run("return mitsubadoor.mark.doubtful"), None)
+    expect("and back", run("return mitsubadoor.mark.doubtful"), None)
     push("brush-turn")
 
 
@@ -416,12 +386,11 @@ def doubted_when_read():
     for cell in first_bits[: table()[name]["check"]]:
         click(cell, side=10)
     agree_with_judge("all checks spent", None)
-    count.expect("no green verdict",
-                 (shown()["state"], find("verdict").get_attribute("class"),
-                  "No check codeword is left" in shown()["why"]),
-                 ("Read, but nothing shows that it is right", "card verdict other", True))
+    expect("no green verdict",
+           (shown()["state"], attribute("verdict", "class"), "No check codeword is left" in shown()["why"]),
+           ("Read, but nothing shows that it is right", "card verdict other", True))
     push("undo")
-    count.expect("one left", shown()["state"], "Read")
+    expect("one left", shown()["state"], "Read")
     push("brush-turn", "undo-all", "tab-make")
 
 
@@ -450,16 +419,13 @@ def damaged_at_random():
         put("grid", text)
         if grid() != text:
             continue  # it stands in another way
-        run(
-            """const it = mitsubadoor.mark;
+        run("""const it = mitsubadoor.mark;
                it.doubtful = arguments[0].includes("1") ? Uint8Array.from(arguments[0], Number) : null;""",
-            "".join(doubtful),
-        )
+            "".join(doubtful))
         push("usual")  # looks anew
         run("document.getElementById('border-limit').dispatchEvent(new Event('blur'))")
         settle()
         agree_with_judge(f"{name} at random", None)
-    push("tab-make")
 
 
 # ---- Given
@@ -467,59 +433,51 @@ def damaged_at_random():
 
 def labels_of_rectangles():
     """Rectangles on labels and pages, measured in the PDF; their files, with the text below them."""
+    begin("50x30")
     write("Label", size="rectangle")
-    unfold("sheet")
-    paper_is("a4", "0.4")
     lines = ["one", "Rectangle 2", "3333333333", "rectangle"]
     put("messages", "\n".join(lines))
     grids = [written_in(line, "rectangle") for line in lines]
-    choose("stock", "50x30")
-    pages = pages_of(saved("symbols.pdf", "many-pdf"))
+    pages, *_ = in_pdf()
     for line, text, (size, symbols, texts) in zip(lines, grids, pages):
         rows = text.split("\n")
         wide, high = (len(rows[0]) + 2 * QUIET) * 0.4, (len(rows) + 2 * QUIET) * 0.4
         x, y = (50 - wide) / 2 + QUIET * 0.4, (30 - high - 3) / 2 + QUIET * 0.4
         ((left, top, module, drawn_there),) = symbols
-        count.expect(f"a label of {line}: its size and text", (size, texts), ([50, 30], [line]))
-        count.expect(f"a label of {line}: where it stands", [round(it, 2) for it in (left, top, module)],
-                     [round(x, 2), round(y, 2), 0.4])
-        count.expect(f"a label of {line}: its modules", drawn_there, text)
+        expect(f"a label of {line}: its size and text", (size, texts), ([50, 30], [line]))
+        expect(f"a label of {line}: where it stands", [round(it, 2) for it in (left, top, module)],
+               [round(x, 2), round(y, 2), 0.4])
+        expect(f"a label of {line}: its modules", drawn_there, text)
     choose("stock", "none")
     paper_is("label", "0.4")
-    pages = pages_of(saved("symbols.pdf", "many-pdf"))
+    pages, *_ = in_pdf()
     length = lambda modules, more=0: round((modules + 4) * 0.4 + more, 2)
     wanted = [[20, length(text.count("\n") + 1, 3)] for text in grids]
-    count.expect("pages as large as they are", [size for size, _, _ in pages], wanted)
+    expect("pages as large as they are", [size for size, _, _ in pages], wanted)
     in_files(lines, grids)
     ((size, ((*_, rows),), _),) = pages_of(saved("symbol-8x18.pdf", "save-pdf"))
-    count.expect("one in a PDF", (size, rows), ([8.8, 4.8], written_in("Label", "rectangle")))
-    write("123456")
+    expect("one in a PDF", (size, rows), ([8.8, 4.8], written_in("Label", "rectangle")))
 
 
 def in_files(lines, grids):
     for ending in ("svg", "png"):
-        with zipfile.ZipFile(io.BytesIO(saved(f"symbols-{ending}.zip", f"many-{ending}"))) as archive:
-            names = archive.namelist()
-            bodies = [archive.read(name) for name in names]
-        wanted = [f"{k + 1:03}-symbol-{name_of(text)}.{ending}" for k, text in enumerate(grids)]
-        count.expect(f"names of {ending}", names, [*wanted, "labels.json"])
-        for line, text, body in zip(lines, grids, bodies):
+        files = archived(ending)
+        expect(f"names of {ending}", [*files],
+               [f"{k + 1:03}-symbol-{name_of(text)}.{ending}" for k, text in enumerate(grids)])
+        for line, text, body in zip(lines, grids, files.values()):
             rows = text.split("\n")
             high = round((len(rows) + 4) * 0.4 + 3, 2)
             if ending == "svg":
                 size, text_there = f'width="20mm" height="{high:g}mm"', f">{line}</title>"
                 drawing = body.decode()
-                count.expect(f"SVG of {line}", (size in drawing, text_there in drawing), (True, True))
+                expect(f"SVG of {line}", (size in drawing, text_there in drawing), (True, True))
             else:
                 each = 10  # pixels of a module
                 size = [int.from_bytes(body[at : at + 4], "big") for at in (16, 20)]
                 down = (len(rows) + 4) * each
-                count.expect(f"PNG of {line}", size, [500, down + 75])
-                count.expect(f"PNG of {line}: its text", inked_below(body, down), True)
-            push("tab-read")
-            opened(f"label.{ending}", body)
-            count.expect(f"{ending} of {line}, opened again", (grid(), shown()["says"]), (text, line))
-            push("tab-make")
+                expect(f"PNG of {line}", size, [500, down + 75])
+                expect(f"PNG of {line}: its text", inked_below(body, down), True)
+            read_again(f"label.{ending}", body, line, text)
 
 
 def inked_below(body, row):
@@ -546,23 +504,21 @@ def lessons():
         write(line, size=name)
         push("tab-learn")
         size = table()[name]
-        while not run("return document.getElementById('step-back').getAttribute('aria-disabled')") == "true":
+        while usable("step-back"):
             push("step-back")
         push("step-on", "step-on")
         counts = [int(it) for it in re.findall(r"(\d+) data codewords?", text_of("step"))]
         dealt = [len(range(b, size["data"], size["blocks"])) for b in range(size["blocks"])]
-        count.expect(f"{name}: data codewords of the blocks", counts, dealt)
+        expect(f"{name}: data codewords of the blocks", counts, dealt)
         push("step-on")
-        sums = run("return [...document.querySelectorAll('#step .sums')].map((it) => it.textContent)")
-        count.expect(f"{name}: sums", sums, [" ".join(["0"] * (size["check"] // size["blocks"]))] * size["blocks"])
+        sums = texts_of("#step .sums")
+        expect(f"{name}: sums", sums, [" ".join(["0"] * (size["check"] // size["blocks"]))] * size["blocks"])
         push("step-on")
         box = run("return document.getElementById('path').getAttribute('viewBox')")
-        count.expect(f"{name}: the path", box, f"-2 -2 {size['columns'] + 4} {size['rows'] + 4}")
+        expect(f"{name}: the path", box, f"-2 -2 {size['columns'] + 4} {size['rows'] + 4}")
         push("step-on")
         regions = size["down"] * size["across"]
-        count.expect(f"{name}: regions", f"This size has {regions} regions" in text_of("step"), regions > 1)
-    run("document.getElementById('lesson').open = false")
-    write("123456")
+        expect(f"{name}: regions", f"This size has {regions} regions" in text_of("step"), regions > 1)
 
 
 PARTS = [each_is_made, sizes_by_shape, marks_of_every_size, in_all_ways, at_an_angle, rectangles_are_linked,

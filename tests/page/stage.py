@@ -71,6 +71,7 @@ class Count:
 
 
 count = Count()
+expect, soon = count.expect, count.expect_soon
 
 
 # ---- The program
@@ -176,22 +177,16 @@ def as_program(shown):
 
 REFUSALS = [
     (5, r"(\d+) modules? of the border ha(?:s|ve) the wrong colour, and (\d+) may"),
-    (
-        6,
-        r"More than \d+ codewords are wrong(?: in block (\d+) of \d+)?\. "
-        r"(?:Its|The) \d+ check codewords correct no more",
-    ),
+    (6, r"More than \d+ codewords are wrong(?: in block (\d+) of \d+)?\. (?:Its|The) \d+ check "
+        r"codewords correct no more"),
     (7, r"The value of data codeword (\d+), 0 or 242 to 255, is one that the standard reserves\."),
     (8, r"Data codeword (\d+) begins (structured append|reader programming|macro 05|macro 06), which is read only"),
     (9, r"No character follows the Upper Shift that data codeword (\d+), or the pair that begins there, holds\."),
     (10, r"A pair of C40, Text or X12 codewords doesn’t stand for three values: data codeword (\d+)"),
     (11, r"A value in a pair of C40 or Text has no meaning: data codeword (\d+)"),
     (12, r"The length of the Base 256 segment at data codeword (\d+) is missing"),
-    (
-        13,
-        r"The run or the symbol ends before the character that is due after the Upper Shift "
-        r"that data codeword (\d+), or",
-    ),
+    (13, r"The run or the symbol ends before the character that is due after the Upper Shift that data codeword "
+         r"(\d+), or"),
 ]
 
 
@@ -210,12 +205,69 @@ def text_of(name):
     return find(name).get_attribute("textContent").strip()
 
 
+def attribute(name, which):
+    return find(name).get_attribute(which)
+
+
+def value_of(name):
+    return attribute(name, "value")
+
+
+def is_seen(name):
+    return find(name).is_displayed()
+
+
 def run(script, *arguments):
     return on.page.execute_script(script, *arguments)
 
 
+def box(name):
+    """Where an element stands in the window."""
+    return run("return document.getElementById(arguments[0]).getBoundingClientRect().toJSON()", name)
+
+
+def fits_across():
+    return run("return document.documentElement.scrollWidth <= innerWidth")
+
+
+def texts_of(where):
+    """The texts of all elements that a selector names."""
+    return run("return [...document.querySelectorAll(arguments[0])].map((it) => it.textContent)", where)
+
+
+def press(where, number=0):
+    """Clicks one of the elements that a selector names."""
+    do("document.querySelectorAll(given[0])[given[1]].click()", where, number)
+
+
+def focused():
+    """Which element has the focus."""
+    return run("return document.activeElement.id")
+
+
+def send(*some):
+    """Sends keys to the element that has the focus."""
+    on.page.switch_to.active_element.send_keys(*some)
+    settle()
+
+
+def give(field, name, body=None):
+    """Chooses a file of this name in a field, of this body if one is given; and returns where it lies."""
+    file = on.folder / name
+    if body is not None:
+        file.write_bytes(body)
+    find(field).send_keys(str(file))
+    return file
+
+
 def shown():
     return run(SHOWN)
+
+
+def fetched():
+    """What the page has fetched from elsewhere."""
+    return run("""return performance.getEntriesByType('resource').map((it) => it.name)
+               .filter((it) => !/^(data|blob):/.test(it))""")
 
 
 def take_time(milliseconds=None):
@@ -232,39 +284,68 @@ def settle():
     on.page.execute_async_script("mitsubadoor.idle().then(() => arguments[0]())")
 
 
-def put_in(area, text):
+# For scripts of tests: an element by its name or a selector, a value that is put into a field as typing does or chosen
+# in a list, and a tap at a share of the symbol's width and height.
+ACTS = """
+    const at = (it) => (it instanceof Node ? it : document.getElementById(it) ?? document.querySelector(it));
+    const giving = (kind) => (it, value) => {
+        at(it).value = value;
+        at(it).dispatchEvent(new Event(kind, { bubbles: true }));
+    };
+    const put = giving("input"), choose = giving("change");
+    const tap = (across, down) => {
+        const box = at("symbol").getBoundingClientRect();
+        const place = { clientX: box.left + across * box.width, clientY: box.top + down * box.height };
+        at("symbol").dispatchEvent(new PointerEvent("click", { pointerType: "touch", bubbles: true, ...place }));
+    };"""
+
+
+def do(script, *arguments):
+    """Does things in the page, which are `given` these, and waits until all is done."""
+    why = on.page.execute_async_script(f"""{ACTS} const given = [...arguments], done = given.pop();
+        const {{ idle }} = mitsubadoor;
+        (async () => {{ {script}; await idle(); }})().then(() => done(), (why) => done(String(why)));""", *arguments)
+    if why:
+        raise RuntimeError(why)
+
+
+def put(where, text):
     """Gives a field a value as typing does, but all at once."""
-    run("""const [area, text] = arguments, node = area instanceof Node ? area : document.getElementById(area);
-           node.value = text;
-           node.dispatchEvent(new Event('input', { bubbles: true }))""", area, text)
-    settle()
-
-
-def put(name, text):
-    """The same, by the name of the field."""
-    put_in(name, text)
+    do("put(...given)", where, text)
 
 
 def push(*names):
-    for name in names:
-        run("document.getElementById(arguments[0]).click()", name)
-        settle()
+    do("for (const name of given) { at(name).click(); await idle(); }", *names)
 
 
 def choose(name, value):
     """Chooses one of a list, as a person does."""
-    run("""const node = document.getElementById(arguments[0]);
-           node.value = arguments[1];
-           node.dispatchEvent(new Event('change', { bubbles: true }))""", name, value)
+    do("choose(...given)", name, value)
+
+
+def started():
+    if not wait_for(lambda: run("return 'mitsubadoor' in globalThis")):
+        expect("the page starts", text_of("broken"), "")
+    take_time()
     settle()
 
 
-def forget():
-    """Empties the browser's storage, as for who comes for the first time. In WebKit the page does it."""
-    if hasattr(on.page, "execute_cdp_cmd"):
-        on.page.execute_cdp_cmd("Storage.clearDataForOrigin", {"origin": "file://", "storageTypes": "local_storage"})
-    else:
+def reload():
+    on.page.refresh()
+    started()
+
+
+def visit(where="", is_new=True):
+    """Opens the page, or another address, with an empty storage, as for who comes for the first time, or with what is
+    kept. In WebKit the page empties it."""
+    address, has_tools = on.page.current_url.partition("#")[0], hasattr(on.page, "execute_cdp_cmd")
+    if is_new and not has_tools:
         run("if ('mitsubadoor' in globalThis) localStorage.clear()")
+    on.page.get("about:blank")  # else an address that differs in its fragment alone loads nothing
+    if is_new and has_tools:
+        on.page.execute_cdp_cmd("Storage.clearDataForOrigin", {"origin": "file://", "storageTypes": "local_storage"})
+    on.page.get(where if ":" in where else address + where)
+    started()
 
 
 def area_of(slot):
@@ -274,23 +355,22 @@ def area_of(slot):
 
 def fill(slot, text):
     """Enters a text on one side of the comparison."""
-    put_in(area_of(slot), text)
+    put(area_of(slot), text)
 
 
 def head():
     """What the comparison says: its head, and the words below."""
-    return run("return [...document.querySelectorAll('#same strong, #same p')].map((it) => it.textContent)")
+    return texts_of("#same strong, #same p")
 
 
 def write(message, profile=0, size="square"):
     """Writes a message in the smallest size of a shape, or in one size, which is named by rows and columns."""
-    push("tab-make", "kind-message", f"profile-{profile}")
     shape = "one" if size[0].isdigit() else size
-    if run("return document.getElementById('shape').value") != shape:
-        choose("shape", shape)
-    if shape == "one":
-        choose("size", size)
-    put("message", message)
+    do("""const [profile, shape, size, message] = given;
+        for (const name of ["tab-make", "kind-message", `profile-${profile}`]) { at(name).click(); await idle(); }
+        if (at("shape").value !== shape) { choose("shape", shape); await idle(); }
+        if (shape === "one") { choose("size", size); await idle(); }
+        put("message", message);""", profile, shape, size, message)
 
 
 def task():
@@ -304,15 +384,11 @@ def learn():
 
 
 def unfold(*names):
-    for name in names:
-        run("document.getElementById(arguments[0]).open = true", name)
-    settle()
+    do("for (const name of given) at(name).open = true", *names)
 
 
 def fold(*names):
-    for name in names:
-        run("document.getElementById(arguments[0]).open = false", name)
-    settle()
+    do("for (const name of given) at(name).open = false", *names)
 
 
 def usable(name):
@@ -324,7 +400,7 @@ def grid():
 
 
 def agree(name):
-    count.expect(name, as_program(shown()), told([grid()])[0])
+    expect(name, as_program(shown()), told([grid()])[0])
 
 
 def flat(text):
@@ -343,6 +419,13 @@ def turned(text, quarters, mirrored, inverted):
     for _ in range(quarters):
         rows = ["".join(column)[::-1] for column in zip(*rows)]
     return "\n".join(rows).translate(str.maketrans("01", "10") if inverted else {})
+
+
+QUARTERS = ["", "turned a quarter to the right", "turned upside down", "turned a quarter to the left"]
+# The sixteen ways in which a grid may stand, as `turned` takes them, and how the page says so.
+WAYS = {(quarters, mirrored, inverted): ", and ".join(filter(None, [inverted and "inverted, light for dark", mirrored
+        and "mirrored left to right", QUARTERS[quarters]]))
+        for inverted in (False, True) for mirrored in (False, True) for quarters in range(4)}
 
 
 def offset(cell, columns, rows=None):

@@ -1,10 +1,11 @@
 """The three tasks, each with its link: what is shown first, what each begins with, links of earlier pages, text as it
 stands, what GS1 data looks like, and that only where one learns a symbol is damaged."""
-from tests.page.conduct import linked, started, verdict
-from tests.page.history import afresh, fields
+from tests.page.conduct import go, linked, verdict
+from tests.page.history import fields
 from tests.page.judge import line_of_text, written_in
-from tests.page.stage import (COLLECT, acting, agree, changed, click, count, find, forget, grid, learn, offset, on,
-                              push, put, run, settle, shown, spelled, task, text_of, unfold, usable, write, written)
+from tests.page.stage import (COLLECT, acting, agree, box, changed, click, expect, find, grid, is_seen, learn, offset,
+                              on, push, put, reload, run, settle, shown, soon, spelled, task, text_of, texts_of, unfold,
+                              usable, value_of, visit, write, written)
 
 ELEMENTS = "(01)09506000134352(17)271231(10)AB-42"
 LINE = "\\F010950600013435217271231" + "10AB-42"
@@ -12,42 +13,30 @@ TEXT = "Gr\u00f6\u00dfe: 5 \u00b5m"
 
 
 def seen_panes():
-    return [name for name in ("read", "make", "learn") if find(f"pane-{name}").is_displayed()]
-
-
-def go(fragment):
-    run("location.hash = arguments[0]", fragment)
-    linked()
+    return [name for name in ("read", "make", "learn") if is_seen(f"pane-{name}")]
 
 
 def tasks_are_linked():
     """A task has a link, which from elsewhere opens the page at it, and within the page keeps what is entered."""
-    afresh()
-    first = (task(), find("message").get_attribute("value"), verdict(), on.page.title)
+    visit("#make")
+    first = (task(), value_of("message"), verdict(), on.page.title)
     wanted = ("make", "Hello", ("Read", "Hello"), "Read, make and understand Data Matrix codes: Mitsubadoor")
-    count.expect("what is shown first", first, wanted)
+    expect("what is shown first", first, wanted)
     for name in ("read", "make", "learn"):
-        address = on.page.current_url.partition("#")[0]
-        forget()
-        on.page.get("about:blank")
-        on.page.get(f"{address}#{name}")
-        started()
+        visit(f"#{name}")
         says = ("Nothing is entered yet", "") if name == "read" else ("Read", "Hello")
-        count.expect(f"#{name} from elsewhere", (seen_panes(), verdict()), ([name], says))
+        expect(f"#{name} from elsewhere", (seen_panes(), verdict()), ([name], says))
         linked()
-        run("location.hash = '#make'")
-        linked()
+        go("#make")
         height = find("message").rect["height"]
-        count.expect(f"the message after #{name} has the height of a line", 30 < height < 60, True)
+        expect(f"the message after #{name} has the height of a line", 30 < height < 60, True)
         put("message", f"at {name}")
         go(f"#{name}")
-        count.expect(f"#{name} within the page", (seen_panes(), find("message").get_attribute("value")),
-                     ([name], f"at {name}"))
-        count.expect(f"#{name} is what the address says",
-                     (on.page.current_url.partition("#")[2].split("&")[0], fields().get("message")),
-                     (name, f"at {name}"))
+        expect(f"#{name} within the page", (seen_panes(), value_of("message")), ([name], f"at {name}"))
+        expect(f"#{name} is what the address says",
+               (on.page.current_url.partition("#")[2].split("&")[0], fields().get("message")), (name, f"at {name}"))
         selected = run("return [...document.querySelectorAll('[role=tab]')].map((it) => it.ariaSelected)")
-        count.expect(f"#{name}: its tab", selected, [str(each == name).lower() for each in ("read", "make", "learn")])
+        expect(f"#{name}: its tab", selected, [str(each == name).lower() for each in ("read", "make", "learn")])
 
 
 def earlier_links():
@@ -67,13 +56,10 @@ def earlier_links():
         go(f"#{fragment}")
         damage = run("const { modules, original } = mitsubadoor.mark;"
                      "return [...modules.keys()].filter((k) => modules[k] !== original[k])")
-        count.expect(fragment.replace(letters, "..."), (seen_panes(), shown()["says"], damage), ([name], says, turned))
+        expect(fragment.replace(letters, "..."), (seen_panes(), shown()["says"], damage), ([name], says, turned))
     for side in (105, 145, 999):
         go(f"#read&grid={side}{'A' * -(-side * side // 6)}")
-        count.expect(f"a grid of side {side}", (find("grid").get_attribute("value"), verdict()),
-                     ("", ("Nothing is entered yet", "")))
-    push("tab-make")
-    write("123456")
+        expect(f"a grid of side {side}", (value_of("grid"), verdict()), ("", ("Nothing is entered yet", "")))
 
 
 def text_and_gs1():
@@ -85,61 +71,57 @@ def text_and_gs1():
     chips["Text"].click()
     settle()
     line = spelled(TEXT.encode("iso-8859-1"))
-    count.expect("text", (grid(), find("kind-typed").is_selected()), (written(line), True))
+    expect("text", (grid(), find("kind-typed").is_selected()), (written(line), True))
     agree("text, as it is read")
-    count.expect("text is said", (shown()["says"], shown()["why"]), (TEXT, "It is text in ISO-8859-1."))
+    expect("text is said", (shown()["says"], shown()["why"]), (TEXT, "It is text in ISO-8859-1."))
     push("copy-message")
     linked()
-    count.expect("text in the link", (fields()["message"], fields()["as"]), (TEXT, "typed"))
-    on.page.refresh()
-    started()
+    expect("text in the link", (fields()["message"], fields()["as"]), (TEXT, "typed"))
+    reload()
     wanted = written(line), True
-    count.expect("text after a reload", (grid(), find("kind-typed").is_selected()), wanted)
+    expect("text after a reload", (grid(), find("kind-typed").is_selected()), wanted)
     push("kind-text")
     linked()
-    count.expect("text alone in the link", (fields()["message"], fields()["as"]), (TEXT, "text"))
+    expect("text alone in the link", (fields()["message"], fields()["as"]), (TEXT, "text"))
     put("message", "a\\b (01) \\F\n2")
-    count.expect("nothing is spelled in text", (shown()["says"], text_of("message-hint")),
-                 ("a\\\\b (01) \\\\F\\x0A2", ""))
+    expect("nothing is spelled in text", (shown()["says"], text_of("message-hint")), ("a\\\\b (01) \\\\F\\x0A2", ""))
     for text in ("\ufeff\u00e9", "\u00e9\n", "e\u0301", "\u00a0", "\u00c3\u00a0"):
         put("message", text)
         line = line_of_text(text)
         wanted = line, written_in(line, "square")
-        count.expect(f"{text!r} isn't all to be seen", (shown()["says"], grid()), wanted)
+        expect(f"{text!r} isn't all to be seen", (shown()["says"], grid()), wanted)
     for text, told in (("\u00e9\\(01)", "ISO-8859-1"), ("\u20ac\\(01)", "ISO-8859-15, as ECI 17 says")):
         put("message", text)
         said = f"It is text in {told}." in shown()["why"]
         wanted = text, True, written_in(line_of_text(text), "square")
-        count.expect(f"a backslash in {text}", (shown()["says"], said, grid()), wanted)
+        expect(f"a backslash in {text}", (shown()["says"], said, grid()), wanted)
     put("message", "~" * 25001)
-    count.expect("too much text", (verdict(), "25,001 characters" in text_of("message-hint")),
-                 (("Nothing is read", ""), True))
+    expect("too much text", (verdict(), "25,001 characters" in text_of("message-hint")),
+           (("Nothing is read", ""), True))
     run(COLLECT)
     find("pane-make").find_element("css selector", "[data-message^='(01)']").click()
     settle()
     agree("GS1 data, as it is read")
-    count.expect("GS1 data", (grid(), shown()["says"], find("kind-typed").is_selected()),
-                 (written(LINE), ELEMENTS, True))
+    expect("GS1 data", (grid(), shown()["says"], find("kind-typed").is_selected()), (written(LINE), ELEMENTS, True))
     push("copy-message", "print")
     for name in ("read", "make", "learn"):
         push(f"tab-{name}")
         unfold("details", "sheet", "comparison", "lesson")
         said = run("return document.body.innerText")
         words = text_of("words") + text_of("about") + text_of("step")
-        count.expect(f"{name}: FNC1 by its spelling only in codewords", said.count("\\F") <= words.count("\\F"), True)
-    count.expect("what is copied", run("return copied"), [ELEMENTS])
+        expect(f"{name}: FNC1 by its spelling only in codewords", said.count("\\F") <= words.count("\\F"), True)
+    expect("what is copied", run("return copied"), [ELEMENTS])
     push("tab-make")
     write("caf\u00e9")
     buttons = {it.text: it for it in find("message-hint").find_elements("css selector", "button")}
     buttons["Take it as text"].click()
     settle()
-    count.expect("taken as text", (grid(), shown()["state"]), (written("caf\\xE9"), "Read"))
+    expect("taken as text", (grid(), shown()["state"]), (written("caf\\xE9"), "Read"))
     run("delete navigator.clipboard.writeText")
     for line in ("\\F01095060001343521" + "0AB\\F", "\\F0512", "\\F10A\\F\\F21B", "\\F10A\\x1D21B", "\\F10A(B)",
                  "\\F10\\\\(", "\\F", "\\FAB\\x1D", "A\\FB", "\\F9112\\F", "\\F91\\x80", "(01)5\\F"):
         write(line if not line.startswith("(") else "\\x28" + line[1:])
         agree(f"{line} as it is shown")
-    write("123456")
 
 
 TYPED = [
@@ -163,34 +145,31 @@ def typed():
     for text, hint, line, says in TYPED:
         put("message", text)
         wanted = hint, written_in(line, "square"), says
-        count.expect(f"{text!r}", (text_of("message-hint"), grid(), shown()["says"]), wanted)
+        expect(f"{text!r}", (text_of("message-hint"), grid(), shown()["says"]), wanted)
         push("copy-message")
-    count.expect("what is copied", run("return copied"), [says for _, _, _, says in TYPED])
+    expect("what is copied", run("return copied"), [says for _, _, _, says in TYPED])
     put("message", "\\F01 \\x41")
     find("message-hint").find_element("css selector", "button").click()
     settle()
-    count.expect("taken as spelled", (find("kind-message").is_selected(), grid()), (True, written("\\F01 A")))
+    expect("taken as spelled", (find("kind-message").is_selected(), grid()), (True, written("\\F01 A")))
     push("kind-typed")
     for text, why in (("(note) of 5", "Column 1 opens a bracket that holds no identifier, such as (01)."),
                       ("(05)123", "Column 1 begins (05), which is no identifier of GS1’s table.")):
         put("message", text)
         hint = text_of("message-hint")
-        count.expect(f"{text!r} is no GS1 data", (hint.startswith(why), hint.endswith("Take it as text"), verdict()),
-                     (True, True, ("Nothing is read", "")))
+        expect(f"{text!r} is no GS1 data", (hint.startswith(why), hint.endswith("Take it as text"), verdict()),
+               (True, True, ("Nothing is read", "")))
         find("message-hint").find_elements("css selector", "button")[-1].click()
         settle()
-        count.expect(f"{text!r} as text", (find("kind-text").is_selected(), shown()["says"]), (True, text))
+        expect(f"{text!r} as text", (find("kind-text").is_selected(), shown()["says"]), (True, text))
         push("kind-typed")
     unfold("sheet")
     put("messages", "message,text\nGr\u00f6\u00dfe 5,Gr\u00f6\u00dfe\n\u00b5m,")
     run("""const as = document.getElementById('lines-as');
            as.value = 'csv';
            as.dispatchEvent(new Event('change'))""")
-    told = lambda: run("return [...document.querySelectorAll('#labels-are code')].map((it) => it.textContent)")
-    count.expect_soon("text in CSV", told, ["Gr\u00f6\u00dfe 5", "\u00b5m"])
-    put("messages", "")
-    run("document.getElementById('lines-as').value = 'messages'")
-    write("123456")
+    told = lambda: texts_of("#labels-are code")
+    soon("text in CSV", told, ["Gr\u00f6\u00dfe 5", "\u00b5m"])
 
 
 def damaged_only_where_one_learns():
@@ -205,30 +184,23 @@ def damaged_only_where_one_learns():
         on.page.switch_to.active_element.send_keys(" ")
         settle()
         symbol = find("symbol")
-        count.expect(f"{name}: a click and a key", (grid(), usable("undo"), symbol.get_attribute("role")),
-                     (clean, False, "img"))
-        count.expect(f"{name}: no buttons for damage", find("to-limit").is_displayed(), False)
+        expect(f"{name}: a click and a key", (grid(), usable("undo"), symbol.get_attribute("role")),
+               (clean, False, "img"))
+        expect(f"{name}: no buttons for damage", is_seen("to-limit"), False)
     learn()
     where = lambda: [run("return mitsubadoor.store.pane"), find("learn-read").is_selected()]
-    count.expect("what is learnt about", where(), ["read", True])
+    expect("what is learnt about", where(), ["read", True])
     click(33)
     linked()
-    on.page.refresh()
-    started()
-    count.expect("after a reload", (where(), changed(clean, grid())), (["read", True], [33]))
-    find("learn-write").click()
-    settle()
-    count.expect("the other symbol", (where(), grid()), (["write", False], clean))
+    reload()
+    expect("after a reload", (where(), changed(clean, grid())), (["read", True], [33]))
+    push("learn-write")
+    expect("the other symbol", (where(), grid()), (["write", False], clean))
     click(44)
     for name, module in (("learn-read", 33), ("learn-write", 44)):
-        find(name).click()
-        settle()
-        count.expect(f"{name} keeps its damage", changed(clean, grid()), [module])
-    top, bottom = run(
-        """return ['to-limit', 'easel'].map((id) => document.getElementById(id).getBoundingClientRect().top)"""
-    )
-    count.expect("damage is above the symbol", top < bottom, True)
-    push("undo-all", "learn-read", "undo-all", "tab-make")
+        push(name)
+        expect(f"{name} keeps its damage", changed(clean, grid()), [module])
+    expect("damage is above the symbol", box("to-limit")["top"] < box("easel")["top"], True)
 
 
 PARTS = [tasks_are_linked, earlier_links, text_and_gs1, typed, damaged_only_where_one_learns]

@@ -29,11 +29,11 @@ def found(questions, sampler=SAMPLER):
 
 def differing(here, there):
     """In what two symbols differ, if they do."""
-    same = [name for name in ("rows", "columns", "limit", "isInverted", "isMirrored", "modules", "items")
-            if here[name] != there[name]]
+    same = [name for name in ("rows", "columns", "limit", "isInverted", "isMirrored", "modules",
+                              "items") if here[name] != there[name]]
     doubtful = here["doubtful"] or "0" * len(here["modules"])
-    far = [abs(one - other) for (x, y), corner in zip(there["corners"], here["corners"])
-           for one, other in ((x, corner["x"]), (y, corner["y"]))]
+    far = [abs(one - other) for (x, y), corner in zip(there["corners"], here["corners"]) for one,
+           other in ((x, corner["x"]), (y, corner["y"]))]
     return same + ["doubtful"] * (doubtful != there["doubtful"]) + ["corners"] * (max(far) > NEAR)
 
 
@@ -72,9 +72,9 @@ class Sampler(Case):
         here = found([{"file": file, "most": 64} for file in pictures])
         for file, some, other in zip(pictures, here, there):
             others = other["symbols"]
-            self.row(os.path.basename(file), ([differing(*each) for each in zip(some["symbols"], others)],
-                                              len(some["symbols"]), some["isComplete"]),
-                     ([[]] * len(others), len(others), other["isComplete"]))
+            self.row(os.path.basename(file),
+                     ([differing(*each) for each in zip(some["symbols"], others)], len(some["symbols"]),
+                      some["isComplete"]), ([[]] * len(others), len(others), other["isComplete"]))
         symbols = sum(len(other["symbols"]) for other in there)
         self.assertGreaterEqual(symbols, len(pictures) * 3 // 4, "symbols that are compared")
 

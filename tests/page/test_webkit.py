@@ -7,7 +7,7 @@ import subprocess
 from tests.page import browser, conduct, damage, everyone, photographs, sights, sizes, tasks
 from tests.page.parts import load
 from tests.page.pictures import opened, png
-from tests.page.stage import agree, count, grid, on, push, put, write, written
+from tests.page.stage import agree, count, expect, grid, on, push, put, write, written
 from tests.support import commands, needs, places
 from tests.support.case import Case
 
@@ -43,7 +43,7 @@ class WebKit(Case):
     def test_messages_are_written(self):
         for message in MESSAGES:
             write(message)
-            count.expect(message, grid(), written(message))
+            expect(message, grid(), written(message))
             agree(f"{message}, as it is read")
         self.told()
 
@@ -54,7 +54,7 @@ class WebKit(Case):
             turned = "".join(str(int(module) ^ (k in modules)) for k, module in enumerate(sound))
             text = "\n".join(turned[k : k + 10] for k in range(0, 100, 10))
             put("grid", text)
-            count.expect(name, grid(), text)
+            expect(name, grid(), text)
             agree(f"{name}, as it is read")
         self.told()
 
@@ -62,7 +62,7 @@ class WebKit(Case):
         push("tab-read")
         text = written(MESSAGES[1])
         opened("label.png", png(text.split("\n"), 5, 2))
-        count.expect("a picture", grid(), text)
+        expect("a picture", grid(), text)
         agree("a picture, as it is read")
         self.told()
 

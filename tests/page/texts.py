@@ -1,8 +1,9 @@
 """Messages, profiles, grids as text, marks of other encoders, and two symbols compared."""
 from tests import corpus
 from tests.page.pictures import png
-from tests.page.stage import (By, Keys, agree, as_program, count, fill, find, grid, head, is_wide, on, push, put, run,
-                              settle, shown, text_of, told, turned, unfold, unseen, write, written)
+from tests.page.stage import (WAYS, By, Keys, agree, as_program, attribute, expect, fill, find, grid, head, is_wide, on,
+                              push, put, run, settle, shown, text_of, told, turned, unfold, unseen, value_of, write,
+                              written)
 
 
 def spellings():
@@ -13,27 +14,27 @@ def spellings():
         line, words = written(text), text_of("message-hint")
         name = f"spelling {text[:12]!r}"
         if line.startswith("\\no 15 escape "):
-            count.expect(name, words.split(" ")[:2], ["Column", line.split(" ")[3]])
-            count.expect(f"{name} is marked", find("message").get_attribute("aria-invalid"), "true")
+            expect(name, words.split(" ")[:2], ["Column", line.split(" ")[3]])
+            expect(f"{name} is marked", attribute("message", "aria-invalid"), "true")
         elif line.startswith("\\no 14"):
-            count.expect(name, words.startswith("No square up to 144 × 144 modules holds this message"), True)
+            expect(name, words.startswith("No square up to 144 × 144 modules holds this message"), True)
         else:
-            count.expect(name, grid(), line)
+            expect(name, grid(), line)
             agree(f"{name} read")
-            count.expect(f"{name} isn't marked", find("message").get_attribute("aria-invalid"), None)
+            expect(f"{name} isn't marked", attribute("message", "aria-invalid"), None)
     for text, spelt in (("caf\u00e9", {"as Latin-1": "caf\\xE9", "as UTF-8": "caf\\xC3\\xA9"}),
                         ("100 \u20ac", {"as UTF-8": "100 \\xE2\\x82\\xAC"}), ("a\nb", {"as bytes": "a\\x0Ab"})):
         for way, wanted in spelt.items():
             write(text)
             buttons = {button.text: button for button in find("message-hint").find_elements(By.TAG_NAME, "button")}
             offered = sorted(["Take it as text", *(f"Spell it {each}" for each in spelt)])
-            count.expect(f"ways to spell {text!r}", sorted(buttons), offered)
+            expect(f"ways to spell {text!r}", sorted(buttons), offered)
             buttons[f"Spell it {way}"].click()
             settle()
-            count.expect(f"{text!r} {way}", find("message").get_attribute("value"), wanted)
+            expect(f"{text!r} {way}", value_of("message"), wanted)
     write("A" * 10)
     find("message").send_keys(Keys.ENTER)
-    count.expect("Enter is no line break", find("message").get_attribute("value"), "A" * 10)
+    expect("Enter is no line break", value_of("message"), "A" * 10)
 
 
 def profiles():
@@ -48,28 +49,26 @@ def profiles():
             fits = not line.startswith("\\no ")
             sides.append(f"{line.index(chr(10))} × {line.index(chr(10))}" if fits else "doesn’t fit")
             if fits:
-                count.expect(f"profile {profile} of {text[:24]}", grid(), line)
+                expect(f"profile {profile} of {text[:24]}", grid(), line)
                 agree(f"profile {profile} of {text[:24]} read")
                 push("to-limit")
                 agree(f"profile {profile} of {text[:24]} at the limit")
             else:
-                count.expect(f"profile {profile} of {text[:24]}", text_of("message-hint").startswith("No square up to"),
-                             True)
-        count.expect(f"sides told for {text[:24]}", [text_of("side-0"), text_of("side-1")], sides)
-    write("123456")
+                expect(f"profile {profile} of {text[:24]}", text_of("message-hint").startswith("No square up to"), True)
+        expect(f"sides told for {text[:24]}", [text_of("side-0"), text_of("side-1")], sides)
 
 
 def pasted():
     push("tab-read", "example-c40")
-    count.expect("C40", [shown()[it] for it in ("state", "says")], ["Read", "Every answer is proved."])
+    expect("C40", [shown()[it] for it in ("state", "says")], ["Read", "Every answer is proved."])
     push("example-turned")
-    count.expect("turned and inverted", (text_of("grid-hint"), shown()["says"]),
+    expect("turned and inverted", (text_of("grid-hint"), shown()["says"]),
                  ("The grid is inverted, light for dark, and turned a quarter to the right: found by trying, and shown "
                   "upright.", "Every answer is proved."))
     push("example-edifact")
-    count.expect("EDIFACT", (shown()["state"], shown()["says"]), ("Read", "GOODS"))
+    expect("EDIFACT", (shown()["state"], shown()["says"]), ("Read", "GOODS"))
     briefs = run("return mitsubadoor.mark.seen.told.map((it) => it.brief)")
-    count.expect("codewords of EDIFACT", briefs, ["EDI", "GOOD", "↲", "↲", "S"])
+    expect("codewords of EDIFACT", briefs, ["EDI", "GOOD", "↲", "↲", "S"])
     for text, why in [("10\n1x0", "Row 1 has a character other than #, X, . and space."),
                       ("10\n12", "Row 2 has a character other than 0 and 1."),
                       ("111\n11", "Not a rectangle: row 1 has 3 modules, and row 2 has 2 modules."),
@@ -78,8 +77,7 @@ def pasted():
                       ("1" * 145, "More than 144 rows or 144 columns, and no symbol has as many."),
                       ("1\n" * 145, "More than 144 rows or 144 columns, and no symbol has as many.")]:
         put("grid", text)
-        count.expect(f"grid refused: {why}", (text_of("grid-hint"), find("grid").get_attribute("aria-invalid")),
-                     (why, "true"))
+        expect(f"grid refused: {why}", (text_of("grid-hint"), attribute("grid", "aria-invalid")), (why, "true"))
     clean = written("Mitsubadoor")
     spoilt = clean[:30] + "10"[int(clean[30])] + clean[31:]
     for name, text in {
@@ -96,33 +94,25 @@ def pasted():
         write("other")
         push("tab-read")
         put("grid", text)
-        count.expect(f"pasted {name}", grid(), spoilt)
+        expect(f"pasted {name}", grid(), spoilt)
         agree(f"pasted {name}")
-        count.expect(f"pasted {name}: said", text_of("grid-hint"), "Read as it stands.")
-    count.expect("a wrong module that wasn't turned here has a dot",
-                 [len(on.page.find_elements(By.CSS_SELECTOR, f"#symbol .{it}")) for it in ("wrong", "turned")], [1, 0])
+        expect(f"pasted {name}: said", text_of("grid-hint"), "Read as it stands.")
+    expect("a wrong module that wasn't turned here has a dot",
+           [len(on.page.find_elements(By.CSS_SELECTOR, f"#symbol .{it}")) for it in ("wrong", "turned")], [1, 0])
     push("to-limit")
     agree("pasted, to the limit")
-    count.expect("pasted, to the limit: meters", shown()["meters"][0],
-                 "7 wrong, 7" if len(clean.split("\n")) == 18 else "6 wrong, 6")
+    expect("pasted, to the limit: meters", shown()["meters"][0],
+           "7 wrong, 7" if len(clean.split("\n")) == 18 else "6 wrong, 6")
     push("undo")
-    count.expect("pasted, undone", grid(), spoilt)
-    quarter = ["", "turned a quarter to the right", "turned upside down", "turned a quarter to the left"]
-    for inverted in (False, True):
-        for mirrored in (False, True):
-            for quarters in range(4):
-                put("grid", turned(spoilt, quarters, mirrored, inverted))
-                how = ", and ".join(filter(None,
-                                           [inverted and "inverted, light for dark",
-                                            mirrored and "mirrored left to right", quarter[quarters]]))
-                count.expect(f"stands {how or 'upright'}", (text_of("grid-hint"), grid()),
-                             (f"The grid is {how}: found by trying, and shown upright." if how
-                              else "Read as it stands.", spoilt))
+    expect("pasted, undone", grid(), spoilt)
+    for way, how in WAYS.items():
+        put("grid", turned(spoilt, *way))
+        expect(f"stands {how or 'upright'}", (text_of("grid-hint"), grid()),
+               (f"The grid is {how}: found by trying, and shown upright." if how else "Read as it stands.", spoilt))
     put("grid", "\n".join(["1" * 10] * 10))
     agree("all dark")
-    count.expect("all dark: said", text_of("grid-hint"),
-                 "It can’t be read as it stands, nor turned, mirrored or inverted. It is shown as it stands.")
-    push("tab-make")
+    expect("all dark: said", text_of("grid-hint"),
+           "It can’t be read as it stands, nor turned, mirrored or inverted. It is shown as it stands.")
 
 
 def other_encoders():
@@ -134,35 +124,33 @@ def other_encoders():
         for text, answer in [(text, answer) for text, answer in zip(grids, answers) if not is_wide(answer)]:
             put("grid", text)
             name = f"mark of another encoder, {answer[0][:20]}"
-            count.expect(name, as_program(shown()), answer)
+            expect(name, as_program(shown()), answer)
             if shown()["state"] != "Refused":
-                count.expect(f"{name}: its codewords",
-                             run("return mitsubadoor.spelled(mitsubadoor.mark.seen.told.flatMap((it) => it.items))"),
-                             answer[0])
-                count.expect(f"{name}: one for each",
-                             run("const { told, size } = mitsubadoor.mark.seen; return told.length === size.data"),
-                             True)
+                expect(f"{name}: its codewords",
+                       run("return mitsubadoor.spelled(mitsubadoor.mark.seen.told.flatMap((it) => it.items))"),
+                       answer[0])
+                expect(f"{name}: one for each",
+                       run("const { told, size } = mitsubadoor.mark.seen; return told.length === size.data"), True)
         wide_marks()
 
 
 def wide_marks():
     """Marks in EDIFACT and with macros: what is read is what was written, and so is what their codewords stand for."""
     marks = corpus.marks("wide")
-    count.expect("how many", len(marks), 109)
+    expect("how many", len(marks), 109)
     for mark in marks:
         message = mark.said
         put("grid", mark.text)
         stands = run("return mitsubadoor.spelled(mitsubadoor.mark.seen.told.flatMap((it) => it.items))")
-        count.expect(f"wide mark {message[:20]}", (shown()["state"].split(",")[0], as_program(shown())[0], stands),
-                     ("Read", message, message))
+        expect(f"wide mark {message[:20]}", (shown()["state"].split(",")[0], as_program(shown())[0], stands),
+               ("Read", message, message))
 
 
 def compared():
     push("tab-read")
     unfold("comparison")
-    count.expect("same", head(),
-                 ["Yes, they say the same.", "Their modules differ, but both have this one normal grid:"])
-    count.expect("one normal grid", len(find("same").find_elements(By.TAG_NAME, "svg")), 1)
+    expect("same", head(), ["Yes, they say the same.", "Their modules differ, but both have this one normal grid:"])
+    expect("one normal grid", len(find("same").find_elements(By.TAG_NAME, "svg")), 1)
 
     def take(slot):
         run("arguments[0].click()", find(f"slot-{slot}").find_element(By.TAG_NAME, "button"))
@@ -170,50 +158,49 @@ def compared():
 
     write("another")
     take("a")
-    count.expect("different", (head(), len(find("same").find_elements(By.TAG_NAME, "svg"))),
-                 (["No, they say different things.", "Their normal grids differ:"], 2))
+    expect("different", (head(), len(find("same").find_elements(By.TAG_NAME, "svg"))),
+           (["No, they say different things.", "Their normal grids differ:"], 2))
     fill("b", "1" * 10 + "\n" + "0" * 9)
-    count.expect("no grid", head(), ["No answer", "Symbol B isn’t a grid."])
+    expect("no grid", head(), ["No answer", "Symbol B isn’t a grid."])
     fill("b", "another")
-    count.expect("a message", head(), ["Yes, they say the same.", "Both have this one normal grid:"])
+    expect("a message", head(), ["Yes, they say the same.", "Both have this one normal grid:"])
     fill("b", "(05)12")
-    count.expect("no message", (head(), "Column 1 begins (05), which is no identifier" in text_of("slot-b")),
-                 (["No answer", "Symbol B can’t be taken."], True))
+    expect("no message", (head(), "Column 1 begins (05), which is no identifier" in text_of("slot-b")),
+           (["No answer", "Symbol B can’t be taken."], True))
     for slot in "ab":
         fill(slot, "Größe \\F")
-    count.expect("as it is typed", (head()[0], "Größe \\F" in text_of("slot-a")), ("Yes, they say the same.", True))
+    expect("as it is typed", (head()[0], "Größe \\F" in text_of("slot-a")), ("Yes, they say the same.", True))
     take("a")
     take("b")
-    count.expect("alike", head(), ["Yes, they say the same.", "Both have this one normal grid:"])
+    expect("alike", head(), ["Yes, they say the same.", "Both have this one normal grid:"])
     fill("b", turned(written("another"), 1, False, True))
-    count.expect("turned",
-                 (head()[0], "inverted, light for dark, and turned a quarter to the right" in text_of("slot-b")),
-                 ("Yes, they say the same.", True))
+    expect("turned", (head()[0], "inverted, light for dark, and turned a quarter to the right" in text_of("slot-b")),
+           ("Yes, they say the same.", True))
     fill("b", turned(written("Another"), 1, False, True))
-    count.expect("one letter", head()[0], "No, they say different things.")
+    expect("one letter", head()[0], "No, they say different things.")
     message = "".join(f"\\x{128 + k % 128:02X}" for k in range(60))
     write(message, 1)
     take("a")
     write(message, 0)
     push("to-limit")
     take("b")
-    count.expect("two profiles", head(),
-                 ["Yes, they say the same.", "Their modules differ, but both have this one normal grid:"])
+    expect("two profiles", head(),
+           ["Yes, they say the same.", "Their modules differ, but both have this one normal grid:"])
     message = "".join(f"\\x{128 + k % 128:02X}" for k in range(800))
     write(message, 1)
     take("a")
     push("to-limit")
     take("b")
-    count.expect("too long for ASCII", head()[0], "Yes, they say the same.")
+    expect("too long for ASCII", head()[0], "Yes, they say the same.")
     push("one-more")
     take("b")
     if shown()["state"] == "Refused":
-        count.expect("refused", head(), ["No answer", "Symbol B isn’t read."])
+        expect("refused", head(), ["No answer", "Symbol B isn’t read."])
     picture = on.folder / "compared.png"
     picture.write_bytes(png(written("another").split("\n"), 4, 2))
     fill("a", "another")
     find("picture-B").send_keys(str(picture))
     settle()
-    count.expect("a picture", head(), ["Yes, they say the same.", "Both have this one normal grid:"])
+    expect("a picture", head(), ["Yes, they say the same.", "Both have this one normal grid:"])
     push("tab-read")
-    count.expect("large enough to see", find("slot-b").find_element(By.TAG_NAME, "svg").rect["width"] >= 200, True)
+    expect("large enough to see", find("slot-b").find_element(By.TAG_NAME, "svg").rect["width"] >= 200, True)
