@@ -146,7 +146,7 @@ def uses():
     for (line, charset, *text), got in zip(rows, came("charsets of letters")):
         expect(f"the charset of {line}", got, [corpus.characters(text[0]) if text else None, charset])
     expect("charsets of letters", len(came("charsets of letters")), len(rows))
-    others = corpus.marks("letters")
+    others = corpus.marks("contents")
     for mark, got in zip(others, came("letters of others")):
         wanted = letter_of(mark.said), mark.more["identifier"], mark.more.get("text")
         expect(f"letter of another, {mark.encoder}", got_of(got), wanted)
