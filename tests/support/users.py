@@ -3,7 +3,7 @@ import importlib
 
 PYTHON = ("module", "sizes", "texts", "elements", "drawings", "surface", "messages", "comparing", "batches", "labels",
           "pages", "whole", "wanted", "quick")
-SAMPLER = ("options", "usage", "errors", "unread", "early", "formats", "corners", "letters", "torn", "dots",
+SAMPLER = ("options", "usage", "errors", "unread", "early", "formats", "corners", "contents", "torn", "dots",
            "sheets", "every_size", "a_label")
 # Subjects, classes and cases.
 CASES = ["documents", "library.test_callers.Answers.test_c", "library.test_callers.Answers.test_python",
