@@ -29,7 +29,8 @@ async function watch(own) {
     const { videoWidth: width, videoHeight: height } = video();
     const bitmap = width ? await createImageBitmap(video()) : null;
     if (session !== own) return;
-    const sights = bitmap && await askFrame({ bitmap, most: MOST_IN_FRAME, time: MOST_TIME_OF_FRAME }, "camera");
+    const limits = { most: MOST_IN_FRAME, time: MOST_TIME_OF_FRAME };
+    const sights = bitmap && await askFrame({ bitmap, isOpaque: true, ...limits }, "camera");
     if (session !== own) return;
     if (sights?.stopped) { stopCamera("The camera is off."); return; }
     if (sights?.symbols) seeFrame(sights, { width, height });

@@ -16,6 +16,7 @@ import { drawPrintSize } from "./taking.mjs";
 import { borne, refusal, spentBy } from "./words.mjs";
 
 export function drawAll() {
+  document.body.toggleAttribute("data-waiting", mark().stage === WORKING);
   drawStage(); drawFacts(); drawSymbol(); drawVerdict(); drawMeters();
   drawWords(); drawAbout(); drawElements(); drawPrint(); drawGathered(); drawLesson();
 }

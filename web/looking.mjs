@@ -37,7 +37,8 @@ export async function lookAt(file, lane, { kind = "picture", more = null, tell =
   return why ? { why } : desks.pictures.ask(kind, given, lane, { transfer: bitmap ? [bitmap] : [], tell });
 }
 // Asks what stands in a frame of the camera.
-/** @type {(given: { bitmap: ImageBitmap, most: number, time: number }, lane: string) => Promise<any>} */
+/** @type {(given: { bitmap: ImageBitmap, isOpaque: boolean, most: number, time: number }, lane: string) =>
+    Promise<any>} */
 export const askFrame = (given, lane) => desks.pictures.ask("picture", given, lane, { transfer: [given.bitmap] });
 /** @type {{ pictures: number, last: Batch | null }} how many are being looked at, and what was given last */
 export const pending = { pictures: 0, last: null };

@@ -10,6 +10,7 @@ import { unspread } from "./quality.mjs";
 import { ANY_TIME } from "./sampler.mjs";
 
 /** @typedef {import("./ecc200.mjs").Ecc200} Ecc200 */
+/** @typedef {import("./bitmap.mjs").Planes} Planes */
 /** @typedef {import("./sampler.mjs").Point} Point */
 /** @typedef {import("./common.mjs").Grid} Grid */
 /** @typedef {import("./letters.mjs").Letter} Letter */
@@ -33,6 +34,7 @@ const MOST_TIME = 3000, TIME_OF_CODES = 200; // milliseconds for a picture, of w
 const MOST_SYMBOLS = 400, MOST_UNREAD = 8;
 // Of 255: below the first nothing is told apart, below the second greys are spread.
 const NO_CONTRAST = 4, LITTLE_CONTRAST = 32;
+const MANY = 1e6, SOME = 7; // pixels, of which every so many are enough where greys differ by more than a little
 
 // ---- The picture
 
@@ -44,50 +46,71 @@ function sizeAt({ width, height }, share) {
 /** @type {(width: number, height: number) => any} */
 const penOf = (width, height) =>
   new OffscreenCanvas(width, height).getContext("2d", { willReadFrequently: true, alpha: false });
-// A picture drawn at a size, on white paper where it is transparent. It is drawn once: each time takes WebKit as long,
-// however little of it is wanted.
-/** @type {(bitmap: ImageBitmap, size: { width: number, height: number }) => any} */
-function drawn(bitmap, { width, height }) {
+// A picture drawn at a size, on white paper where it may be transparent. It is drawn once: each time takes WebKit as
+// long, however little of it is wanted.
+/** @type {(bitmap: ImageBitmap, size: { width: number, height: number }, isOpaque: boolean) => any} */
+function drawn(bitmap, { width, height }, isOpaque) {
   const pen = penOf(width, height);
   [pen.imageSmoothingQuality, pen.fillStyle] = ["medium", "#fff"];
-  pen.fillRect(0, 0, width, height);
+  if (!isOpaque) pen.fillRect(0, 0, width, height);
   pen.drawImage(bitmap, 0, 0, width, height);
   return pen;
 }
 const EVEN = 0xfefefefe, OPAQUE = 0xff000000; // of four bytes
 /** @type {(one: number, other: number) => number} */
 const mean = (one, other) => ((one & EVEN) >>> 1) + ((other & EVEN) >>> 1);
-// The picture as it is shown: where it is large, of every few pixels each way the mean of four.
-/** @type {(pen: any, pixels: Uint32Array, size: { width: number, height: number }) => ImageBitmap} */
-function viewOf(pen, pixels, { width, height }) {
+/** @typedef {(x: number, y: number, half: number) => number} Colour of four pixels that are half a step apart */
+/** @type {(pixels: Uint32Array, width: number) => Colour} */
+const ofPixels = (pixels, width) => (x, y, half) => {
+  const at = y * width + x, below = at + half * width;
+  return mean(mean(pixels[at], pixels[at + half]), mean(pixels[below], pixels[below + half])) | OPAQUE;
+};
+/** @type {(value: number) => number} */
+const byteOf = (value) => (value < 0 ? 0 : value > 255 ? 255 : value | 0);
+/** @type {(planes: Planes) => Colour} */
+const ofPlanes = ({ data, width, blue, red, across, down }) => (x, y, half) => {
+  const at = y * width + x, below = at + half * width;
+  const grey = (data[at] + data[at + half] + data[below] + data[below + half] + 2) >> 2;
+  const b = data[blue.offset + (y >> down) * blue.stride + (x >> across)] - 128;
+  const r = data[red.offset + (y >> down) * red.stride + (x >> across)] - 128;
+  const green = byteOf(grey - 0.344 * b - 0.714 * r);
+  return byteOf(grey + 1.402 * r) | (green << 8) | (byteOf(grey + 1.772 * b) << 16) | OPAQUE;
+};
+// A large picture as it is shown: of every few pixels each way the mean of four.
+/** @type {(size: { width: number, height: number }, colour: Colour) => ImageBitmap} */
+function viewOf({ width, height }, colour) {
   const step = Math.ceil(Math.max(width, height) / SHOWN_LENGTH), half = step >> 1;
-  if (step === 1) return pen.canvas.transferToImageBitmap();
   const across = Math.max(1, Math.floor(width / step)), down = Math.max(1, Math.floor(height / step));
   const small = penOf(across, down), all = small.createImageData(across, down), to = new Uint32Array(all.data.buffer);
   for (let r = 0, k = 0; r < down; r++)
-    for (let c = 0; c < across; c++, k++) {
-      const at = (r * width + c) * step, below = Math.min(at + half * width, pixels.length - 1 - half);
-      to[k] = mean(mean(pixels[at], pixels[at + half]), mean(pixels[below], pixels[below + half])) | OPAQUE;
-    }
+    for (let c = 0; c < across; c++, k++) to[k] = colour(c * step, r * step, half);
   small.putImageData(all, 0, 0);
   return small.canvas.transferToImageBitmap();
 }
 // Spreads greys that differ little over the whole range; by how much they differed, and between which they are now.
 /** @type {(grey: Uint8Array) => { contrast: number, between: [number, number] }} */
 function spread(grey) {
-  const [least, most] = extent(grey), contrast = most - least;
+  const some = grey.length > MANY ? extent(grey, SOME) : [0, 0], isEnough = some[1] - some[0] >= LITTLE_CONTRAST;
+  const [least, most] = isEnough ? some : extent(grey), contrast = most - least;
   if (contrast < NO_CONTRAST || contrast >= LITTLE_CONTRAST) return { contrast, between: [least, most] };
   for (let k = 0; k < grey.length; k++) grey[k] = ((grey[k] - least) * 255) / contrast;
   return { contrast, between: [0, 255] };
 }
-// The bitmap is of a picture of which `by` pixels each way make one.
-/** @type {(bitmap: ImageBitmap, by: number) => Look} */
-function lookOf(bitmap, by) {
-  const size = sizeAt(bitmap, Math.min(1, Math.sqrt(MOST_SAMPLED / (bitmap.width * bitmap.height))));
-  const pen = drawn(bitmap, size), picture = pen.getImageData(0, 0, size.width, size.height);
-  const pixels = new Uint32Array(picture.data.buffer), grey = luminanceOf(picture);
-  const { contrast, between } = spread(grey);
-  const isOne = contrast === 0 && pixels.every((pixel) => pixel === pixels[0]), view = viewOf(pen, pixels, size);
+// Of a picture that is opened; `by` of its pixels each way make one of the bitmap.
+/** @type {(opened: import("./bitmap.mjs").Opened) => Look} */
+function lookOf({ planes, bitmap, by = 1, isOpaque = false }) {
+  if (planes) {
+    const { width, height } = planes, grey = planes.data.subarray(0, width * height);
+    const view = viewOf(planes, ofPlanes(planes)), { contrast, between } = spread(grey);
+    return { width, height, scale: 1, grey, contrast, between, isOneColour: contrast === 0, view };
+  }
+  const image = there(bitmap), share = Math.sqrt(MOST_SAMPLED / (image.width * image.height));
+  const size = sizeAt(image, Math.min(1, share)), pen = drawn(image, size, isOpaque);
+  const picture = pen.getImageData(0, 0, size.width, size.height), pixels = new Uint32Array(picture.data.buffer);
+  const grey = luminanceOf(picture), { contrast, between } = spread(grey);
+  const isOne = contrast === 0 && pixels.every((pixel) => pixel === pixels[0]);
+  const view = Math.max(size.width, size.height) > SHOWN_LENGTH ? viewOf(size, ofPixels(pixels, size.width))
+    : pen.canvas.transferToImageBitmap();
   return { ...size, scale: size.scale * by, grey, contrast, between, isOneColour: isOne, view };
 }
 /** @type {(look: Look) => string} */
@@ -200,18 +223,19 @@ const nothing = (why) => ({ why, symbols: [], unread: [], isComplete: true, note
 const NONE_FOUND = "No symbol that can be read was found in the picture.";
 
 // The first symbol in a picture, or why there is none; with a small picture to be shown, unless it is of the camera.
-/** @type {(ecc200: Ecc200, given: { file?: Blob, bitmap?: ImageBitmap, by?: number, most?: number, time?: number },
+/** @type {(ecc200: Ecc200, given: import("./bitmap.mjs").Opened & { file?: Blob, most?: number, time?: number },
     tell: any) => Promise<Sights>} */
-export async function firstInPicture(ecc200, { file, bitmap: given, by: own = 1, most = 1, time = MOST_TIME }, tell) {
+export async function firstInPicture(ecc200, { file, most = 1, time = MOST_TIME, ...given }, tell) {
   kept = null;
-  const { bitmap, by = 1, why = "" } = given ? { bitmap: given, by: own } : await bitmapOf(there(file));
-  if (!bitmap) return nothing(why);
-  const look = lookOf(bitmap, by);
+  const opened = file ? await bitmapOf(file) : given;
+  if (opened.why) return nothing(opened.why);
+  const look = lookOf(opened);
   if (look.contrast < NO_CONTRAST) return { ...nothing(alike(look)), view: look.view };
   tell("looking for symbols");
   const end = performance.now() + time;
   const grid = gridSymbol(ecc200, look), isGrid = grid?.isRead;
-  const sights = isGrid ? { ...nothing(""), symbols: [grid], width: bitmap.width * by, height: bitmap.height * by }
+  const size = { width: look.width * look.scale, height: look.height * look.scale };
+  const sights = isGrid ? { ...nothing(""), symbols: [grid], ...size }
     : sampled(ecc200, look, most, end - TIME_OF_CODES);
   if (!isGrid && grid && !sights.symbols.length) sights.unread = [{ ...grid, isExact: true }];
   kept = { look, sights, end };

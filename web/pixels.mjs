@@ -6,11 +6,11 @@ import { MOST_COLUMNS, MOST_ROWS } from "./common.mjs";
 /** @typedef {{ left: number, top: number, width: number, height: number }} Frame in pixels */
 const MOST_SIDE = Math.max(MOST_ROWS, MOST_COLUMNS);
 
-// The least and the most of many greys. A plain loop, since there may be millions.
-/** @type {(grey: Uint8Array) => [number, number]} */
-export function extent(grey) {
+// The least and the most of many greys, or of every few of them. A plain loop, since there may be millions.
+/** @type {(grey: Uint8Array, step?: number) => [number, number]} */
+export function extent(grey, step = 1) {
   let least = 255, most = 0;
-  for (let k = 0; k < grey.length; k++) {
+  for (let k = 0; k < grey.length; k += step) {
     if (grey[k] < least) least = grey[k];
     if (grey[k] > most) most = grey[k];
   }
