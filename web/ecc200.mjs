@@ -51,7 +51,8 @@ export class Refused extends Error {
     this.place = place;
   }
 }
-// The luminance of each pixel, as on white paper where it is transparent.
+// The luminance of each pixel, as on white paper where it is transparent. A product is here what the quotient is, and
+// takes WebKit half as long.
 /** @type {(picture: Picture) => Uint8Array} */
 export function luminanceOf({ data, width, height }) {
   const count = width * height;
@@ -60,7 +61,7 @@ export function luminanceOf({ data, width, height }) {
   const grey = new Uint8Array(count);
   for (let k = 0, p = 0; k < count; k++, p += 4) {
     const alpha = data[p + 3], light = 299 * data[p] + 587 * data[p + 1] + 114 * data[p + 2] + 500;
-    grey[k] = alpha === 255 ? (light / 1000) | 0 : ((light / 1000) * alpha + 255 * (255 - alpha)) / 255;
+    grey[k] = alpha === 255 ? ((light + 0.25) * 0.001) | 0 : ((light / 1000) * alpha + 255 * (255 - alpha)) / 255;
   }
   return grey;
 }

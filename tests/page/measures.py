@@ -1,13 +1,18 @@
 """What the page reads of pictures and how soon it answers, beside native dm_sample in the same run, for docs/PAGE.md:
 pictures of bench/photographs, by seeds of their own; and some of 12 megapixels, as a phone takes them, which are made
-here. Each takes the usual work, so that what is read doesn't depend on what else the machine does; times are by the
-clock, in milliseconds."""
+here. Each takes the usual work, so that what is read doesn't depend on what else the machine does. Times are in
+milliseconds: of a processor, of all that the browser's processes and dm_sample take until the first answer is on the
+screen, and by the clock."""
 import json
+import os
+import pathlib
 import random
+import resource
 import statistics
 import subprocess
 import time
 
+from tests.page import browser
 from tests.page.parts import load
 from tests.page.stage import DEBIANS, Keys, find, on, push, put, run, settle, texts_of, wait_for, written
 from tests.support import places
@@ -19,13 +24,17 @@ PHONES, LENGTHS = 20, (3, 8, 16, 30, 60, 110, 190)  # pictures, and letters of t
 STARTS, KEYS = 12, 30
 SIDES = {16: 12, 52: 200, 104: 810}  # of a symbol, and how many letters make one
 
-# Writes down how long after a picture was chosen the frame came in which something is said of it.
+# Writes down how long after a picture was chosen the frame came in which something is said of it; until then, and until
+# it may go on, no other symbols are looked for.
 WATCH = """
     const hint = document.getElementById('picture-hint');
     globalThis.watched = { first: null };
     document.getElementById('picture').addEventListener('change', () => {
         watched = { begun: performance.now(), first: null, open: null };
+        watched.goes = new Promise((go) => { watched.go = go; });
     }, true);
+    const desk = mitsubadoor.desks.pictures, ask = desk.ask.bind(desk);
+    desk.ask = async (kind, ...given) => { if (kind === "rest") await watched.goes; return ask(kind, ...given); };
     const painted = (then) => requestAnimationFrame(() => setTimeout(() => then(performance.now()), 0));
     new MutationObserver(() => {
         const text = hint.textContent;
@@ -78,25 +87,42 @@ def photograph_set(*kind):
 
 # ---- One picture
 
+def spent():
+    """The milliseconds of a processor that the browser's processes have taken, but for the driver."""
+    leaders, ticks = {service.process.pid for service in browser.started}, 0
+    for stat in pathlib.Path("/proc").glob("[0-9]*/stat"):
+        try:
+            words = stat.read_text().rpartition(")")[2].split()
+        except OSError:
+            continue  # it has ended meanwhile
+        if int(words[3]) in leaders and int(stat.parent.name) not in leaders:
+            ticks += int(words[11]) + int(words[12])
+    return 1000 * ticks / os.sysconf("SC_CLK_TCK")
+
+
 def by_page(file):
-    """What the page says stands in a picture, and when its first answer was on the screen; when the picture was
-    open."""
+    """What the page says stands in a picture; when its first answer was on the screen, by the clock and of a
+    processor; when the picture was open."""
     run("document.getElementById('picture-hint').textContent = ''")
+    before = spent()
     find("picture").send_keys(str(file))
     wait_for(lambda: run("return watched.first"))
+    taken = spent() - before
+    run("watched.go()")
     settle()
     said = texts_of(SAID)
     if not said and run("return document.getElementById('state').textContent") == "Read":
         said = [run("return document.getElementById('says').textContent")]
-    return said, run("return watched.first"), run("return watched.open")
+    return said, run("return watched.first"), taken, run("return watched.open")
 
 
 def natively(file, *more):
-    """What dm_sample says stands in a picture, and how long it took."""
-    words, begun = [SAMPLER, "--json", *more, str(file)], time.perf_counter()
+    """What dm_sample says stands in a picture, and how long it took, by the clock and of a processor."""
+    spent_by = lambda: sum(resource.getrusage(resource.RUSAGE_CHILDREN)[:2])
+    words, begun, before = [SAMPLER, "--json", *more, str(file)], time.perf_counter(), spent_by()
     done = subprocess.run(words, stdout=subprocess.PIPE, stderr=subprocess.DEVNULL, check=False).stdout
-    taken = 1000 * (time.perf_counter() - begun)
-    return [json.loads(line)["message"] for line in done.decode().splitlines()], taken
+    taken = 1000 * (time.perf_counter() - begun), 1000 * (spent_by() - before)
+    return [json.loads(line)["message"] for line in done.decode().splitlines()], *taken
 
 
 def right_and_wrong(said, messages):
@@ -110,26 +136,27 @@ def right_and_wrong(said, messages):
 
 def of_set(name, folder, pictures):
     """Counts and times of a set, by the page and natively, one after the other for each picture."""
-    page, native, first, opening, beside = [0, 0], [0, 0], [], [], []
+    page, native, opening, clock, processor = [0, 0], [0, 0], [], [], []
     for picture in pictures:
         file = folder / picture["file"]
-        said, taken, opened = by_page(file)
-        all_of, _ = natively(file, "--all")
-        _, alone = natively(file)
+        said, first, taken, opened = by_page(file)
+        all_of, *_ = natively(file, "--all")
+        _, alone, beside = natively(file)
         for counts, told in ((page, said), (native, all_of)):
             for k, number in enumerate(right_and_wrong(told, picture["messages"])):
                 counts[k] += number
         if right_and_wrong(said, picture["messages"])[0] < right_and_wrong(all_of, picture["messages"])[0]:
             print(f"  only natively: {picture['file']}", flush=True)
-        first.append(taken)
         opening.append(opened or 0)
-        beside.append(alone)
+        clock.append((first, alone))
+        processor.append((taken, beside))
     symbols = sum(len(picture["messages"]) for picture in pictures)
-    ratios = sorted(one / other for one, other in zip(first, beside))
     print(f"{name}: {len(pictures)} pictures, {symbols} symbols; read (wrong) by the page {page[0]} ({page[1]}), "
-          f"natively {native[0]} ({native[1]}); to the first answer {median(first)}, at most {round(max(first))}, of "
-          f"which to open {median(opening)}; natively {median(beside)}, at most {round(max(beside))}; ratio "
-          f"{statistics.median(ratios):.2f}", flush=True)
+          f"natively {native[0]} ({native[1]})", flush=True)
+    for what, times in (("of a processor", processor), (f"by the clock, {median(opening)} to open", clock)):
+        ratio = statistics.median(one / other for one, other in times)
+        print(f"  to the first answer, {what}: {median([one for one, _ in times])}; natively "
+              f"{median([other for _, other in times])}; ratio {ratio:.2f}", flush=True)
 
 
 # ---- Starts and keys

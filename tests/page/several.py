@@ -114,7 +114,7 @@ IN_COLOURS = """
         fill("#ffd0c0", 100, 100, 600, 600);
     }
     rows.forEach((row, r) => [...row].forEach((module, c) => {
-        if (module === "1") fill("#400000", 200 + 20 * c, 200 + 20 * r, 20, 20);
+        if (module === "1") fill("#000", 200 + 20 * c, 200 + 20 * r, 20, 20);
     }));
     return canvas.toDataURL(kind, 0.95).split(",")[1];"""
 SEEN = """
