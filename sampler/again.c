@@ -4,7 +4,7 @@
 #include "remake.h"
 #include "search.h"
 
-enum { MOST_DOUBLED = 2000000, MOST_JOINED = 160000 }; /* pixels */
+enum { MOST_DOUBLED = 2000000, MOST_JOINED = 160000, NO_GLEAM = 2, GLEAM = 6 }; /* pixels */
 
 static void scale_symbols(ecc200_sample *symbols, size_t count, double scale) {
     for (size_t k = 0; k < count; k++)
@@ -16,7 +16,7 @@ static void scale_symbols(ecc200_sample *symbols, size_t count, double scale) {
  * False if there is no memory. */
 static bool turn_to(struct search *search, const struct plane *picture) {
     struct judge *judge = &search->judge;
-    judge->tried.count = 0, judge->smeared_places.count = 0;
+    judge->tried.count = judge->smeared_places.count = judge->gleaming_places.count = 0;
     memset(search->sights, 0, sizeof search->sights);
     known_free(&search->known);
     bool is_made = known_make(picture->width, picture->height, &search->known);
@@ -28,30 +28,28 @@ static bool turn_to(struct search *search, const struct plane *picture) {
 
 /* Searches what a picture was made into, of which `scale` pixels are one of it, for symbols that weren't found. The
  * plane is freed. */
-static void search_remade(struct search *search, struct plane *remade, int scale, enum depth depth) {
+static void search_remade(struct search *search, struct plane *remade, int scale) {
     struct unread *unread = &search->judge.unread;
     scale_symbols(search->found, search->count, scale);
     scale_symbols(unread->items, unread->count, scale);
     if (turn_to(search, remade))
-        search_picture(search, remade, depth);
+        search_picture(search, remade, true);
     else
         plane_free(remade);
     scale_symbols(search->found, search->count, 1.0 / scale);
     scale_symbols(unread->items, unread->count, 1.0 / scale);
 }
 
-/* The picture as it is. */
-static bool as_it_is(const struct plane *picture, struct limit *limit, struct plane *out) {
-    (void)limit;
-    *out = *picture;
-    return true;
+/* The picture as a share of its ground. */
+static bool compare(const struct plane *picture, struct limit *limit, struct plane *out) {
+    return plane_compare(picture, NO_GLEAM, limit, out);
 }
 
-/* The picture flat, and then twice as large. */
-static bool flat_doubled(const struct plane *picture, struct limit *limit, struct plane *out) {
-    struct plane flat;
-    bool is_made = plane_flatten(picture, limit, &flat) && plane_double(&flat, limit, out);
-    plane_free(&flat);
+/* The picture as a share of its ground without gleams, and then twice as large. */
+static bool compare_doubled(const struct plane *picture, struct limit *limit, struct plane *out) {
+    struct plane compared;
+    bool is_made = plane_compare(picture, GLEAM, limit, &compared) && plane_double(&compared, limit, out);
+    plane_free(&compared);
     return is_made;
 }
 
@@ -68,18 +66,16 @@ static bool is_drawn(const struct plane *picture) {
     return is_of_two;
 }
 
-/* What pictures are made into, how many pixels of that are one of the picture, how it is searched, how much work that
- * is worth, and which pictures are. */
+/* What pictures are made into, how many pixels of that are one of the picture, how much work that is worth, and which
+ * pictures are. */
 static const struct {
     bool (*make)(const struct plane *picture, struct limit *limit, struct plane *out);
     int scale;
-    enum depth depth;
     int percent, most_pixels; /* percent of the usual work */
     bool is_for_drawings, is_for_more; /* of drawings only; also where something has been found */
-} LOOKS[] = {{plane_flatten, 1, BY_SHAPE, 50, INT32_MAX, false, true},
-             {as_it_is, 1, BY_BORDERS, 20, INT32_MAX, false, true},
-             {flat_doubled, 2, BY_SHAPE, 30, MOST_DOUBLED, false, false},
-             {plane_join_dots, JOINED, BY_SHAPE, 50, MOST_JOINED, true, false}};
+} LOOKS[] = {{compare, 1, 50, INT32_MAX, false, true},
+             {compare_doubled, 2, 30, MOST_DOUBLED, false, false},
+             {plane_join_dots, JOINED, 50, MOST_JOINED, true, false}};
 
 /* Looks at a picture in one of these ways, if it is of those. */
 static void look_again(struct search *search, const struct plane *picture, size_t k) {
@@ -93,7 +89,7 @@ static void look_again(struct search *search, const struct plane *picture, size_
     bool is_made = LOOKS[k].make(picture, limit, &remade);
     note_lack(search, is_made);
     if (is_made)
-        search_remade(search, &remade, LOOKS[k].scale, LOOKS[k].depth);
+        search_remade(search, &remade, LOOKS[k].scale);
 }
 
 void search_anew(struct search *search, const struct plane *picture) {

@@ -23,8 +23,6 @@ enum {
     RULE_COUNT = sizeof RULES / sizeof *RULES,
     DOUBT_RULE_COUNT = sizeof DOUBT_RULES / sizeof *DOUBT_RULES
 };
-/* The first of them are enough where gleams lie across modules; all would leave less work for what comes next. */
-enum { RULES_FOR_GLEAMS = 4 };
 enum { CHECKS_OF_A_CORRECTION = 2 };
 /* Checks that tell a symbol with doubtful modules from chance, which meets each of them one time in 256. */
 enum { LEAST_EVIDENCE = 3 };
@@ -265,14 +263,6 @@ static bool try_doubt(struct trials *trials, const struct brightnesses *brightne
 
 /* ---- The samplings of a placement */
 
-/* Tries modules by their darkest quarters, where gleams may lie across them. */
-static void try_gleams(struct trials *trials, struct brightnesses *brightnesses) {
-    if (trials->best_cost >= 0 || !trials->has_border || limit_reached(trials->judge->limit))
-        return;
-    take_darkest(brightnesses);
-    try_rules(trials, brightnesses, RULES_FOR_GLEAMS);
-}
-
 /* Fits each region by its own border. */
 static void try_regions(struct trials *trials, struct lie *lie, struct brightnesses *brightnesses) {
     const struct layout *layout = trials->layout;
@@ -377,13 +367,26 @@ bool judge_placement(struct judge *judge, const struct placement *placement, ecc
     sample_modules(judge->picture, layout, &lie, &brightnesses);
     if (!try_rules(&trials, &brightnesses, RULE_COUNT))
         return false;
-    try_gleams(&trials, &brightnesses);
     try_regions(&trials, &lie, &brightnesses);
     try_bent(&trials, &lie, &brightnesses);
     if (trials.best_cost < 0 && !judge->is_thick)
         try_known_damage(&trials, &lie, &brightnesses);
     if (trials.best_cost < 0)
         keep_for_later(judge, &smeared);
+    if (trials.best_cost < 0 && trials.has_border)
+        keep_smeared(&judge->gleaming_places, &smeared);
+    return trials.best_cost >= 0;
+}
+
+bool judge_gleaming(struct judge *judge, const struct smeared *gleaming, ecc200_sample *out) {
+    const struct layout *layout = layout_of(judge->layouts, gleaming->at.extent);
+    struct trials trials = {judge, layout, &gleaming->warp, out, -1, gleaming->score, false};
+    struct lie lie = {.region = gleaming->at.extent, .warps = {gleaming->warp}};
+    struct brightnesses brightnesses;
+    spend(judge, layout, WORK_OF_SAMPLING);
+    sample_modules(judge->picture, layout, &lie, &brightnesses);
+    take_darkest(&brightnesses);
+    try_rules(&trials, &brightnesses, RULE_COUNT);
     return trials.best_cost >= 0;
 }
 

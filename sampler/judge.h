@@ -25,11 +25,15 @@ struct judge {
     struct smear smear;
     struct unread unread;                   /* those that have a border and aren't read */
     struct tried_places tried;
-    struct smeared_places smeared_places;
+    struct smeared_places smeared_places, gleaming_places; /* the latter show a symbol's border */
 };
 
 /* Whether the placement, or one near it, is read; then `out` is the candidate with the fewest corrections. */
 bool judge_placement(struct judge *judge, const struct placement *placement, ecc200_sample *out);
+
+/* Whether a placement is read by its modules' darkest quarters, as where gleams lie across them; then `out` is what it
+ * says. */
+bool judge_gleaming(struct judge *judge, const struct smeared *gleaming, ecc200_sample *out);
 
 /* Tells the sides of those squares among the smeared placements that are inverted as the picture is, by how evenly
  * their borders turn. */

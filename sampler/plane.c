@@ -212,10 +212,10 @@ struct strip {
     uint8_t *kept, *lines[2];
 };
 
-static bool strip_make(int width, int rim, struct strip *out) {
-    size_t wide = (size_t)width + 2 * (size_t)rim, count = wide * (STRIP + 2 * (size_t)rim);
+static bool strip_make(int width, int rows, int rim, struct strip *out) {
+    size_t wide = (size_t)width + 2 * (size_t)rim, count = wide * ((size_t)rows + 2 * (size_t)rim);
     uint8_t *room = malloc(3 * count);
-    *out = (struct strip){(int)wide, rim, STRIP, count, room, {NULL, NULL}};
+    *out = (struct strip){(int)wide, rim, rows, count, room, {NULL, NULL}};
     if (room != NULL)
         out->lines[0] = room + count, out->lines[1] = room + 2 * count;
     return room != NULL;
@@ -246,16 +246,15 @@ static void deepen(const uint8_t *restrict from, size_t count, size_t away, uint
         to[k] = least_of(from[k], from[k - away]);
 }
 
-/* Closes all lines of so many pixels, each `step` after the one before. Returns where that is. */
-static const uint8_t *close_lines(struct strip *strip, size_t step, size_t pixels) {
-    const uint8_t *from = strip->kept;
-    int next = 0;
-    for (int is_second = 0; is_second < 2; is_second++)
-        for (size_t span = 1; span < pixels; next = 1 - next) {
-            size_t more = span < pixels - span ? span : pixels - span;
-            (is_second ? deepen : lighten)(from, strip->count, more * step, strip->lines[next]);
-            from = strip->lines[next], span += more;
-        }
+/* Takes all lines of so many pixels, each `step` after the one before, to the lightest of them, or to the darkest.
+ * Returns where that is. */
+static const uint8_t *spread(struct strip *strip, const uint8_t *from, bool is_light, size_t step, size_t pixels) {
+    for (size_t span = 1, more; span < pixels; span += more) {
+        uint8_t *to = strip->lines[from == strip->lines[0]];
+        more = span < pixels - span ? span : pixels - span;
+        (is_light ? lighten : deepen)(from, strip->count, more * step, to);
+        from = to;
+    }
     return from;
 }
 
@@ -277,7 +276,9 @@ static void find_dots(struct strip *strip, int reach, int width, int rows, uint8
     for (int y = 0; y < rows; y++)
         memset(to + (size_t)y * stride, 255, (size_t)width);
     for (int k = 0; k < DIRECTIONS; k++) {
-        const uint8_t *closed = close_lines(strip, steps[k], 2 * (size_t)reach + 1);
+        size_t pixels = 2 * (size_t)reach + 1;
+        const uint8_t *lightest = spread(strip, strip->kept, true, steps[k], pixels);
+        const uint8_t *closed = spread(strip, lightest, false, steps[k], pixels);
         for (int y = 0; y < rows; y++)
             take_filled(strip->kept + first + (size_t)y * wide, closed + first + (size_t)y * wide, width,
                         to + (size_t)y * stride);
@@ -290,7 +291,7 @@ bool plane_dots(const struct plane *from, int reach, struct limit *limit, struct
     enum { WORK_OF_A_PIXEL = 4 };
     struct strip strip;
     uint8_t *first = plane_make(from->width, from->height, 1, out);
-    bool has_room = strip_make(from->width, 2 * reach, &strip) && first != NULL;
+    bool has_room = strip_make(from->width, STRIP, 2 * reach, &strip) && first != NULL;
     int y = 0;
     for (; has_room && y < from->height && !limit_reached(limit); y += STRIP) {
         int rows = from->height - y < STRIP ? from->height - y : STRIP;
@@ -305,9 +306,32 @@ bool plane_dots(const struct plane *from, int reach, struct limit *limit, struct
     return is_made(is_whole, out);
 }
 
-/* ---- Darker than the surroundings: than the middle between the lightest and the darkest pixel of the tiles around. */
+/* ---- Without what is small: windows of which a part lies outside don't count, as that is as light as can be */
 
-enum { LEAST_CONTRAST = 24, SHARE_OF_MOST = 10 }; /* levels of 255; one of so many of the contrast near by */
+bool plane_close(const struct plane *from, int least, int most, struct limit *limit, struct plane *out) {
+    enum { WORK_OF_A_PIXEL = 3 };
+    struct strip strip;
+    uint8_t *to = plane_make(from->width, from->height, 0, out);
+    bool has_room = strip_make(from->width, from->height, least + most, &strip) && to != NULL;
+    limit_spend(limit, (int64_t)WORK_OF_A_PIXEL * from->width * from->height);
+    bool is_whole = has_room && !limit_reached(limit);
+    if (is_whole) {
+        size_t wide = (size_t)strip.wide, width = (size_t)from->width, first = (size_t)strip.rim * (wide + 1);
+        memset(strip.kept, 255, strip.count);
+        for (int y = 0; y < from->height; y++)
+            memcpy(strip.kept + first + (size_t)y * wide, pixel_of(from, 0, y), width);
+        const uint8_t *closed = strip.kept;
+        const size_t pixels[] = {(size_t)least, (size_t)(least + most - 1), (size_t)most};
+        for (int k = 0; k < 6; k++)
+            closed = spread(&strip, closed, k / 2 == 1, k % 2 == 0 ? 1 : wide, pixels[k / 2]);
+        for (int y = 0; y < from->height; y++)
+            memcpy(to + (size_t)y * width, closed + first + (size_t)y * wide, width);
+    }
+    free(strip.kept);
+    return is_made(is_whole, out);
+}
+
+/* ---- Darker than the surroundings: than the middle between the lightest and the darkest pixel of the tiles around. */
 
 struct range {
     uint8_t least, most;
@@ -393,33 +417,10 @@ static void join_squares(const struct tiles *tiles) {
     }
 }
 
-static int contrast_of(struct range range) {
-    return range.most - range.least;
-}
-
-/* Of the squares that a tile lies in, and that show enough, the one whose lightest pixel is darkest. */
-static struct range darkest_of(const struct tiles *tiles, int row, int column) {
-    int around = tiles->by.around, first = column < around ? 0 : column - around, contrast = 0;
-    int last = column + around < tiles->across ? column + around : tiles->across - 1;
-    struct range best = {255, 255};
-    for (int round = 0; round < 2; round++)
-        for (int y = row < around ? 0 : row - around; y <= row + around && y < tiles->down; y++) {
-            const struct range *squares = tiles->squares + (size_t)y * (size_t)tiles->across;
-            for (int x = first; x <= last; x++)
-                if (round == 0)
-                    contrast = contrast_of(squares[x]) > contrast ? contrast_of(squares[x]) : contrast;
-                else if (squares[x].most < best.most && contrast_of(squares[x]) >= LEAST_CONTRAST &&
-                         contrast_of(squares[x]) * SHARE_OF_MOST >= contrast)
-                    best = squares[x];
-        }
-    return best;
-}
-
 /* The pixels of a tile below this are dark. */
 static uint8_t limit_of(const struct tiles *tiles, int row, int column) {
-    struct range all = tiles->by.is_darkest ? darkest_of(tiles, row, column)
-                                            : tiles->squares[(size_t)row * (size_t)tiles->across + (size_t)column];
-    return (uint8_t)(contrast_of(all) < LEAST_CONTRAST ? 0 : (all.most + all.least) / 2);
+    struct range all = tiles->squares[(size_t)row * (size_t)tiles->across + (size_t)column];
+    return (uint8_t)(all.most - all.least < tiles->by.least_contrast ? 0 : (all.most + all.least) / 2);
 }
 
 /* Marks what is dark in a row of pixels, by a limit for each. */
@@ -431,10 +432,8 @@ static void mark_row(const uint8_t *restrict row, const uint8_t *restrict limits
 /* Marks what is dark by the limits of the tiles. `limits` has room for those of a row; `to` is light all over. */
 static bool mark_dark(const struct plane *from, struct limit *limit, const struct tiles *tiles, uint8_t *limits,
                       uint8_t *to, size_t stride) {
-    enum { WORK_OF_THE_DARKEST = 4 }; /* for a pixel */
-    int side = tiles->by.tile, width = from->width, work = tiles->by.is_darkest ? WORK_OF_THE_DARKEST * width : width;
-    int y = 0;
-    for (; y < from->height && leaves(limit, y, work); y++, to += stride) {
+    int side = tiles->by.tile, width = from->width, y = 0;
+    for (; y < from->height && leaves(limit, y, width); y++, to += stride) {
         for (int column = 0; y % side == 0 && column < tiles->across; column++)
             memset(limits + column * side, limit_of(tiles, y / side, column), (size_t)side);
         mark_row(pixel_of(from, 0, y), limits, width, to);

@@ -44,15 +44,17 @@ bool plane_thicken(const struct plane *from, struct limit *limit, struct plane *
  * neither streaks nor edges. They are dark on white; framed as the smooth one is. */
 bool plane_dots(const struct plane *from, int reach, struct limit *limit, struct plane *out);
 
+/* Without what is light and thinner than `least` pixels, and then without what is dark and smaller than `most` each
+ * way; neither is larger than the picture. */
+bool plane_close(const struct plane *from, int least, int most, struct limit *limit, struct plane *out);
+
 /* How much each four pixels differ along the diagonals between them; kept as the upper left one's. */
 bool plane_steepen(const struct plane *from, struct limit *limit, struct plane *out);
 
 /* What a pixel is compared with, by squares of tiles of so many pixels each way: the square around its own tile, with
- * so many to each side; or, of all as large that its tile lies in and that show enough, the one whose lightest pixel is
- * darkest: so what stands on a dark ground is seen though a lighter one is near. */
+ * so many to each side; nothing is dark where it shows less contrast than so many levels of 255. */
 struct surroundings {
-    int tile, around;
-    bool is_darkest;
+    int tile, around, least_contrast;
 };
 
 /* 1 where a pixel is darker than its surroundings, else 0, and in the frame. */

@@ -3,139 +3,68 @@
 #include <stdlib.h>
 #include <string.h>
 
-/* ---- Flat: less the mean of what is around, of the picture reduced, by three boxes, which are nearly a Gaussian */
+/* ---- As a share of the ground, which is the picture, halved, without gleams, and without what is dark and smaller
+ * than a window */
 
-enum { BOX = 40, BOXES = 3, FLAT_GAIN = 5, MIDDLE_GREY = 128, FIXED = 16 }; /* a box has so many pixels to both sides */
-enum { MOST_HALVINGS = 3, LEAST_HALVED = 16 };
+enum { WINDOW = 40, WHITE = 240, LEAST_GROUND = 8, LEVELS_OF_GREY = 256, FIXED = 16 }; /* pixels, levels */
+enum { LEAST_HALVED = 16, ENDS = 3 }; /* how many more means a row has at its ends than there are */
 
-/* How much one of so many counts. */
-static uint32_t share_of(int count) {
-    return (uint32_t)((1 << FIXED) / count);
-}
-
-/* The means of the pixels of a row over a box; at the ends, over what of it is there. */
-static void mean_row(const uint8_t *row, int width, int box, uint8_t *to) {
-    int first = 0, last = 0;
-    uint32_t total = 0;
-    for (int x = 0; x < width; x++) {
-        for (; last < width && last <= x + box; last++)
-            total += row[last];
-        for (; first < x - box; first++)
-            total -= row[first];
-        to[x] = (uint8_t)((total * share_of(last - first) + (1 << (FIXED - 1))) >> FIXED);
-    }
-}
-
-/* Likewise down the columns of a plane without a frame, for all rows that there is time for. `totals` has room for a
- * row. */
-static bool mean_columns(const struct plane *from, int box, struct limit *limit, uint32_t *totals, uint8_t *to) {
-    int first = 0, last = 0, width = from->width, y = 0;
-    memset(totals, 0, (size_t)width * sizeof *totals);
-    for (; y < from->height && leaves(limit, y, 2 * width); y++, to += width) {
-        for (; last < from->height && last <= y + box; last++)
-            for (int x = 0; x < width; x++)
-                totals[x] += *pixel_of(from, x, last);
-        for (; first < y - box; first++)
-            for (int x = 0; x < width; x++)
-                totals[x] -= *pixel_of(from, x, first);
-        uint32_t share = share_of(last - first);
-        for (int x = 0; x < width; x++)
-            to[x] = (uint8_t)((totals[x] * share + (1 << (FIXED - 1))) >> FIXED);
-    }
-    return y == from->height;
-}
-
-/* The mean around each pixel: into `one`; `other` is room. */
-static bool mean_around(const struct plane *from, int box, struct limit *limit, uint32_t *totals, struct plane *one,
-                        struct plane *other) {
-    uint8_t *to = one->owned, *room = other->owned;
-    int y = 0;
-    for (; y < from->height && leaves(limit, y, BOXES * 4 * from->width); y++, to += from->width) {
-        mean_row(pixel_of(from, 0, y), from->width, box, to);
-        for (int k = 1; k < BOXES; k++) {
-            memcpy(room, to, (size_t)from->width);
-            mean_row(room, from->width, box, to);
-        }
-    }
-    bool is_whole = y == from->height;
-    for (int k = 0; k < BOXES && is_whole; k++) {
-        is_whole = mean_columns(one, box, limit, totals, other->owned);
-        struct plane swapped = *one;
-        *one = *other, *other = swapped;
-    }
-    return is_whole;
-}
-
-/* The picture, halved up to MOST_HALVINGS times if it is large enough for that, and how often it was. */
-static bool reduce(const struct plane *from, struct limit *limit, struct plane *out, int *halvings) {
-    bool is_made = true;
-    *out = *from, out->owned = NULL;
-    for (*halvings = 0;
-         is_made && *halvings < MOST_HALVINGS && out->width >= LEAST_HALVED && out->height >= LEAST_HALVED;
-         ++*halvings) {
-        struct plane half;
-        is_made = plane_halve(out, limit, &half);
-        plane_free(out);
-        *out = half;
-    }
+/* The ground of a picture without gleams thinner than so many pixels, halved if it isn't tiny: how often. */
+static bool ground_of(const struct plane *from, int gleam, struct limit *limit, struct plane *out, int *halvings) {
+    struct plane half = *from;
+    int shorter = from->width < from->height ? from->width : from->height;
+    half.owned = NULL, *halvings = shorter >= LEAST_HALVED;
+    bool is_made = *halvings == 0 || plane_halve(from, limit, &half);
+    int window = WINDOW >> *halvings;
+    gleam >>= *halvings, shorter >>= *halvings;
+    gleam = gleam < shorter ? gleam : shorter, window = window < shorter ? window : shorter;
+    *out = (struct plane){0};
+    is_made = is_made && plane_close(&half, gleam, window, limit, out);
+    plane_free(&half);
     return is_made;
 }
 
-/* The mean around each pixel of the picture, reduced. */
-static bool reduced_mean(const struct plane *from, struct limit *limit, struct plane *out, int *halvings) {
-    struct plane reduced, other = {0};
-    *out = (struct plane){0};
-    bool is_whole = reduce(from, limit, &reduced, halvings);
-    uint32_t *totals = is_whole ? malloc(sizeof *totals * (size_t)reduced.width) : NULL;
-    is_whole = totals != NULL && plane_make(reduced.width, reduced.height, 0, out) != NULL &&
-               plane_make(reduced.width, reduced.height, 0, &other) != NULL &&
-               mean_around(&reduced, BOX >> *halvings, limit, totals, out, &other);
-    free(totals);
-    plane_free(&other);
-    plane_free(&reduced);
-    return is_made(is_whole, out);
-}
-
-enum { ENDS = 3 }; /* how many more means a row has at its ends than there are */
-
-/* The means of a row of pixels, and at the ends those nearest: between those of two rows of the reduced picture. */
-static void means_at(const struct plane *mean, int y, int halvings, uint16_t *out) {
+/* The ground along a row of pixels, and at the ends the nearest: between two rows of it. */
+static void ground_along(const struct plane *ground, int y, int halvings, uint16_t *out) {
     int unit = 2 << halvings, at = 2 * y + 1 + unit / 2, lower = at % unit;
-    const uint8_t *above = pixel_of(mean, 0, nearest_pixel(at / unit - 1, mean->height, 0)),
-                  *below = pixel_of(mean, 0, nearest_pixel(at / unit, mean->height, 0));
-    for (int x = 0; x < mean->width; x++)
+    const uint8_t *above = pixel_of(ground, 0, nearest_pixel(at / unit - 1, ground->height, 0)),
+                  *below = pixel_of(ground, 0, nearest_pixel(at / unit, ground->height, 0));
+    for (int x = 0; x < ground->width; x++)
         out[x + 1] = (uint16_t)(above[x] * (unit - lower) + below[x] * lower);
-    out[0] = out[1], out[mean->width + 1] = out[mean->width + 2] = out[mean->width];
+    out[0] = out[1], out[ground->width + 1] = out[ground->width + 2] = out[ground->width];
 }
 
-/* The difference of a row and its means, which lie so many halvings apart. */
-static void flatten_row(const uint8_t *row, int width, const uint16_t *means, int halvings, uint8_t *to) {
-    int unit = 2 << halvings, whole = unit * unit;
+/* A row as a share of the ground along it, which lies so many halvings apart, by the shares of a level of each. */
+static void compare_row(const uint8_t *row, int width, const uint16_t *ground, int halvings, const uint32_t *shares,
+                        uint8_t *to) {
+    int unit = 2 << halvings;
     for (int x = 0; x < width; x++) {
         int at = 2 * x + 1 + unit / 2, right = at & (unit - 1);
-        const uint16_t *here = means + (at >> (halvings + 1));
-        int flat =
-            (MIDDLE_GREY + FLAT_GAIN * row[x]) * whole - FLAT_GAIN * (here[0] * (unit - right) + here[1] * right);
-        flat = flat < 0 ? 0 : flat >> 2 * (halvings + 1);
-        to[x] = (uint8_t)(flat > 255 ? 255 : flat);
+        const uint16_t *here = ground + (at >> (halvings + 1));
+        int level = (here[0] * (unit - right) + here[1] * right) >> 2 * (halvings + 1);
+        uint32_t share = (row[x] * shares[level]) >> FIXED;
+        to[x] = (uint8_t)(share > 255 ? 255 : share);
     }
 }
 
-bool plane_flatten(const struct plane *from, struct limit *limit, struct plane *out) {
-    struct plane mean;
+bool plane_compare(const struct plane *from, int gleam, struct limit *limit, struct plane *out) {
+    struct plane ground;
+    uint32_t shares[LEVELS_OF_GREY];
     int halvings, y = 0;
     *out = (struct plane){0};
-    if (!reduced_mean(from, limit, &mean, &halvings))
+    if (!ground_of(from, gleam, limit, &ground, &halvings))
         return false;
+    for (int level = 0; level < LEVELS_OF_GREY; level++)
+        shares[level] = ((uint32_t)WHITE << FIXED) / (uint32_t)(level > LEAST_GROUND ? level : LEAST_GROUND);
     uint8_t *to = plane_make(from->width, from->height, 0, out);
-    uint16_t *means = malloc(sizeof *means * ((size_t)mean.width + ENDS));
-    for (; to != NULL && means != NULL && y < from->height && leaves(limit, y, 3 * from->width);
+    uint16_t *along = malloc(sizeof *along * ((size_t)ground.width + ENDS));
+    for (; to != NULL && along != NULL && y < from->height && leaves(limit, y, 3 * from->width);
          y++, to += out->stride) {
-        means_at(&mean, y, halvings, means);
-        flatten_row(pixel_of(from, 0, y), from->width, means, halvings, to);
+        ground_along(&ground, y, halvings, along);
+        compare_row(pixel_of(from, 0, y), from->width, along, halvings, shares, to);
     }
-    free(means);
-    plane_free(&mean);
+    free(along);
+    plane_free(&ground);
     return is_made(to != NULL && y == out->height, out);
 }
 

@@ -6,9 +6,10 @@
 
 /* Each of these makes a new plane within the limit, as those of plane.h do. */
 
-/* How much lighter or darker each pixel is than what is around it, on a middle grey, and five times as much: shades and
- * faint marks come out alike. What is around it is the mean over about 40 pixels, as by a Gaussian, each way. */
-bool plane_flatten(const struct plane *from, struct limit *limit, struct plane *out);
+/* How bright each pixel is as a share of its ground, which is nearly white then: of what is around it but for gleams
+ * thinner than so many pixels, at least 2, and for dark places smaller than about 40. So shades and edges of labels go,
+ * and faint or dimly lit marks come out alike. */
+bool plane_compare(const struct plane *from, int gleam, struct limit *limit, struct plane *out);
 
 /* Twice as wide and as high, by a cubic between pixels. */
 bool plane_double(const struct plane *from, struct limit *limit, struct plane *out);

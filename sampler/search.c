@@ -5,7 +5,9 @@
 #include <stdlib.h>
 
 enum { CALM_LEVELS = 3, LATTICE_LEVELS = 4, LEAST_LEVEL = 24 };
-static const struct surroundings WIDE = {8, 2, false}, CLOSE = {8, 1, false}, DARKEST = {4, 2, true};
+enum { LEAST_CONTRAST = 24, LEAST_OF_REMADE = 6 }; /* levels */
+static const struct surroundings WIDE = {8, 2, LEAST_CONTRAST}, CLOSE = {8, 1, LEAST_CONTRAST},
+                                 OF_REMADE = {8, 1, LEAST_OF_REMADE};
 static const double LEAST_LINE = 10; /* pixels of a level */
 
 /* At which level dots are looked for that have at most so many pixels to both sides of each of theirs. */
@@ -208,23 +210,33 @@ static void sight_free(struct sight *sight) {
     plane_free(&sight->picture);
 }
 
-/* Tries the likeliest placements that weren't read once more, as where light has run from module to module. That is for
- * pictures in which nothing else has been found. */
+/* Tries placements that weren't read once more, in another way, within a part of the limit. */
+static void search_places(struct search *search, const struct smeared_places *places,
+                          bool (*judge)(struct judge *, const struct smeared *, ecc200_sample *)) {
+    limit_begin_part(search->judge.limit);
+    for (int k = 0; k < places->count && !is_over(search); k++) {
+        const struct smeared *place = &places->items[k];
+        judge_by(search, &search->sights[place->at.is_inverted]);
+        struct point middle = scale_by(sum(place->at.corners[0], place->at.corners[2]), 0.5);
+        if (!is_known_at(&search->known, middle) && judge(&search->judge, place, &search->found[search->count]))
+            add_found(search);
+    }
+    limit_end_part(search->judge.limit);
+}
+
+/* Tries the likeliest as where light has run from module to module. That is for pictures in which nothing else has been
+ * found. */
 static void search_smeared(struct search *search) {
     struct judge *judge = &search->judge;
-    struct smeared_places *places = &judge->smeared_places;
     limit_begin_part(judge->limit);
     for (int k = 0; k < 2 && search->count == 0 && !is_over(search); k++) {
         judge_by(search, &search->sights[k]);
         size_up_smeared(judge);
     }
-    sort_smeared(places);
-    for (int k = 0; k < places->count && search->count == 0 && !is_over(search); k++) {
-        judge_by(search, &search->sights[places->items[k].at.is_inverted]);
-        if (judge_smeared(judge, &places->items[k], &search->found[search->count]))
-            add_found(search);
-    }
     limit_end_part(judge->limit);
+    sort_smeared(&judge->smeared_places);
+    if (search->count == 0)
+        search_places(search, &judge->smeared_places, judge_smeared);
 }
 
 /* ---- By dots */
@@ -267,14 +279,14 @@ static void search_dots(struct search *search, const struct sight *sight) {
     }
 }
 
-/* What shows a symbol as it is: first by solid borders beside which it looks like one, dark on light; and then, but for
- * a search by these alone, light on dark, and by lattices, which show both. */
-static void search_clearly(struct search *search, enum depth depth) {
+/* What shows a symbol as it is: first by solid borders beside which it looks like one, dark on light; and then light on
+ * dark, and by lattices, which show both. */
+static void search_clearly(struct search *search) {
     struct sight *plain = &search->sights[0], *inverted = &search->sights[1];
     search_levels(search, plain, search_lively);
     search_levels(search, plain, search_joined);
     search_rows(search);
-    if (is_over(search) || depth == BY_BORDERS)
+    if (is_over(search))
         return;
     note_lack(search, plane_invert(&plain->picture, search->judge.limit, &inverted->picture) &&
                           make_levels(inverted, search->judge.limit));
@@ -282,6 +294,7 @@ static void search_clearly(struct search *search, enum depth depth) {
     search_levels(search, inverted, search_joined);
     search_rows(search);
     search_levels(search, plain, search_woven);
+    search_places(search, &search->judge.gleaming_places, judge_gleaming);
 }
 
 /* By the solid borders of a calm picture, and then by other solid borders. What is left of the limit is for smears, and
@@ -297,13 +310,13 @@ static void search_deeply(struct search *search) {
     search_dots(search, inverted);
 }
 
-void search_picture(struct search *search, const struct plane *picture, enum depth depth) {
+void search_picture(struct search *search, const struct plane *picture, bool is_remade) {
     struct sight *plain = &search->sights[0], *inverted = &search->sights[1];
     plain->picture = *picture, inverted->is_inverted = true;
-    search->by = depth == BY_ALL ? WIDE : depth == BY_SHAPE ? CLOSE : DARKEST;
+    search->by = is_remade ? OF_REMADE : WIDE;
     note_lack(search, make_levels(plain, search->judge.limit));
-    search_clearly(search, depth);
-    if (depth == BY_ALL && !is_over(search))
+    search_clearly(search);
+    if (!is_remade && !is_over(search))
         search_deeply(search);
     sight_free(plain);
     sight_free(inverted);

@@ -47,12 +47,9 @@ bool judge_all(struct search *search, const struct sight *sight, struct placemen
  * than they are, which is searched at fewer places. */
 void search_lattices(struct search *search, const struct sight *sight, const struct sight *inverted, int level);
 
-/* How a picture is searched: for solid borders on dark grounds; for all that it shows clearly; or for all that can be
- * made out as well. */
-enum depth { BY_BORDERS, BY_SHAPE, BY_ALL };
-
-/* Searches a picture, and frees it if it is owned. */
-void search_picture(struct search *search, const struct plane *picture, enum depth depth);
+/* Searches a picture, and frees it if it is owned: for all that it shows clearly, and, unless it is what a picture was
+ * made into, for all that can be made out as well. */
+void search_picture(struct search *search, const struct plane *picture, bool is_remade);
 
 /* Searches once more what the picture can be made into that shows more than it does itself. Why the search ended is
  * told of the picture as it is. */

@@ -1,6 +1,7 @@
 """What only a second look at a picture shows: faint symbols, those on dark labels, with gleams across them, small dots,
 and drawings with a pixel or two a module."""
 import json
+import random
 
 from tests.sampler.pictures import grid_of, pgm, pixels_of, run
 
@@ -24,11 +25,13 @@ def faint(message, pixels):
 
 
 def on_dark(message, pixels):
-    """A symbol on a dark label that ends two modules beside it, on a light ground."""
-    rows = pixels_of(grid_of(message), pixels, 2, DARK, 80)
+    """A symbol on a dark label that ends two modules beside it, on a light ground, in little light."""
+    chance = random.Random(pixels)
+    rows = pixels_of(grid_of(message), pixels, 2, 8, 32)
     beyond, wide = 10 * pixels, len(rows[0])
-    edge = [[240] * (wide + 2 * beyond)] * beyond
-    return edge + [[240] * beyond + list(row) + [240] * beyond for row in rows] + edge
+    edge = [[110] * (wide + 2 * beyond)] * beyond
+    rows = edge + [[110] * beyond + list(row) + [110] * beyond for row in rows] + edge
+    return [[min(255, max(0, round(chance.gauss(level, level ** 0.5)))) for level in row] for row in rows]
 
 
 def gleaming(message, pixels, apart, thick):
@@ -59,13 +62,13 @@ class Again:
 
     def test_on_dark(self):
         """What stands on a dark label is read though a lighter ground is near."""
-        for pixels in (4, 5, 6):
+        for pixels in (3, 4, 5):
             self.row(f"{pixels} pixels a module", messages(self.sampler, on_dark("DARK LABEL", pixels)),
                      (["DARK LABEL"], 0))
 
     def test_gleaming(self):
         """Thin gleams across modules leave these as they are."""
-        for pixels, apart, thick in ((5, 5, 4), (5, 7, 5), (6, 5, 4), (6, 7, 5)):
+        for pixels, apart, thick in ((5, 5, 4), (5, 7, 5), (6, 5, 4), (6, 7, 5), (12, 7, 14), (12, 9, 12), (14, 7, 12)):
             said = messages(self.sampler, gleaming("GLEAMING", pixels, apart, thick))
             self.row(f"{thick / 2} pixels, {apart} modules apart, of {pixels} pixels", said, (["GLEAMING"], 0))
 
