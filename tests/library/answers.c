@@ -43,11 +43,10 @@ static uint8_t *place_of(area whole, size_t size) {
     return whole.end - size;
 }
 
-static int is_untouched(area whole, size_t size) {
+static void check_before(area whole, size_t size) {
     for (uint8_t *at = whole.end - size - BEFORE; at < whole.end - size; at++)
         if (*at != 0xEE)
-            return 0;
-    return 1;
+            die(" written before the room");
 }
 
 /* ---- Arguments: words of the line */
@@ -75,12 +74,18 @@ static const uint8_t *bytes_of(area whole, size_t *count) {
     return bytes;
 }
 
+/* a word of parts with commas between them, or none as -, and how many they are */
+static char *listed(size_t *count) {
+    char *text = word();
+    *count = *text != '-';
+    for (const char *at = text; *at; at++)
+        *count += *at == ',';
+    return text;
+}
+
 /* items that are written as numbers with commas between them, or none as - */
 static const uint16_t *items_of(size_t *count) {
-    char *text = word(), *at;
-    *count = *text != '-';
-    for (at = text; *at; at++)
-        *count += *at == ',';
+    char *text = listed(count);
     uint16_t *items = (uint16_t *)(void *)place_of(items_area, 2 * *count);
     for (size_t i = 0; i < *count; i++, text++)
         items[i] = (uint16_t)strtoul(text, &text, 10);
@@ -89,10 +94,7 @@ static const uint16_t *items_of(size_t *count) {
 
 /* marks that are written as a number, @ and a place, with commas between them, or none as -; none is given as NULL */
 static const ecc200_mark *marks_of(size_t *count) {
-    char *text = word(), *at;
-    *count = *text != '-';
-    for (at = text; *at; at++)
-        *count += *at == ',';
+    char *text = listed(count);
     ecc200_mark *marks = (ecc200_mark *)(void *)place_of(marks_area, sizeof *marks * *count);
     for (size_t i = 0; i < *count; i++, text++) {
         marks[i].number = (uint32_t)strtoul(text, &text, 10);
@@ -116,19 +118,13 @@ static ecc200_head head_given(void) {
 
 /* ---- Answers */
 
-static void print_bytes(const uint8_t *bytes, size_t count) {
-    for (size_t i = 0; i < count; i++)
-        printf("%s%d", i ? "," : "", bytes[i]);
-    if (!count)
-        printf("-");
-}
-
-static void print_items(const uint16_t *items, size_t count) {
-    for (size_t i = 0; i < count; i++)
-        printf("%s%d", i ? "," : "", items[i]);
-    if (!count)
-        printf("-");
-}
+/* numbers of one or two bytes with commas between them, or none as - */
+#define PRINT_NUMBERS(numbers, count)                                                                                  \
+    do {                                                                                                               \
+        for (size_t i = 0; i < (size_t)(count); i++)                                                                   \
+            printf("%s%d", i ? "," : "", (numbers)[i]);                                                                \
+        printf("%s", (count) ? "" : "-");                                                                              \
+    } while (0)
 
 static void print_counts(const uint8_t *counts, size_t count) {
     for (size_t i = 0; i < count; i++)
@@ -214,7 +210,7 @@ static void print_marks(const ecc200_mark *marks, int count) {
 /* items, marks and head */
 static void print_said(const ecc200_reading *said) {
     printf("items ");
-    print_items(said->items, said->item_count);
+    PRINT_NUMBERS(said->items, said->item_count);
     printf(" marks ");
     print_marks(said->marks, said->mark_count);
     printf(" head %d:%d:%d:%d:%d", said->head.kind, said->head.part, said->head.parts, said->head.file[0],
@@ -321,9 +317,9 @@ static void answer_inspect(void) {
     printf("rows %d columns %d border %d blocks %d ", out->rows, out->columns, out->border_faults, out->block_count);
     print_blocks(out->corrected, out->erased, out->left, out->block_count);
     printf("held ");
-    print_bytes(out->held, out->codeword_count);
+    PRINT_NUMBERS(out->held, out->codeword_count);
     printf(" mended ");
-    print_bytes(out->mended, out->codeword_count);
+    PRINT_NUMBERS(out->mended, out->codeword_count);
     printf(" designators ");
     print_marks(out->designators, out->designator_count);
     check_rest(out->designators + out->designator_count, out->designators + ECC200_MOST_MARKS);
@@ -366,12 +362,11 @@ static void answer_text(void) {
     uint8_t *bytes = place_of(bytes_area, room);
     size_t said = ecc200_text(reading, room ? bytes : NULL, room, asked ? &gs1 : NULL);
     printf("%zu gs1 %d bytes ", said, gs1);
-    print_bytes(bytes, said < room ? said : room);
+    PRINT_NUMBERS(bytes, said < room ? said : room);
     for (size_t i = said; i < room; i++)
         if (bytes[i] != 0xEE)
             die(" written behind the text");
-    if (!is_untouched(bytes_area, room))
-        die(" written before the room");
+    check_before(bytes_area, room);
 }
 
 static void answer_items(void) {
@@ -381,12 +376,11 @@ static void answer_items(void) {
     uint16_t *items = (uint16_t *)(void *)place_of(items_area, 2 * room);
     size_t said = ecc200_items(count ? bytes : NULL, count, gs1, room ? items : NULL, room);
     printf("%zu items ", said);
-    print_items(items, said < room ? said : room);
+    PRINT_NUMBERS(items, said < room ? said : room);
     for (size_t i = said; i < room; i++)
         if (items[i] != 0xEEEE)
             die(" written behind the items");
-    if (!is_untouched(items_area, 2 * room))
-        die(" written before the room");
+    check_before(items_area, 2 * room);
 }
 
 /* the numbers, and where each member of a struct stands and how many bytes it has: of those that listed.h names, which

@@ -5,7 +5,7 @@ import os
 import platform
 import subprocess
 
-from tests.support import commands, needs
+from tests.support import commands, needs, places
 
 PROGRAMS = ("debootstrap", "dpkg-deb", "qemu-aarch64")
 # The command, by which Python calls itself as well.
@@ -33,8 +33,7 @@ def python(folder):
             for archive in glob.glob(f"{glob.escape(root)}/var/cache/apt/archives/{name}_*.deb"):
                 unpack(archive, root)
     made = os.path.join(folder, "python3")
-    with open(made, "w", encoding="utf-8") as file:
-        file.write(COMMAND.format(root=root))
+    places.wrote(COMMAND.format(root=root), made)
     os.chmod(made, 0o755)
     return made, None
 

@@ -37,8 +37,7 @@ class Callers:
 
     def answered(self, name, program, requests):
         """The answers of a program, each compared with what is wanted."""
-        asked = "".join(f"{request}\n" for request, _ in requests)
-        status, output = self.system.said([program], given=asked.encode())
+        status, output = self.system.said([program], given="".join(f"{request}\n" for request, _ in requests).encode())
         got = output.split("\n")
         yield f"{name}: status", None if status == 0 else f"{status}: {output[-3000:]}"
         for i, (request, wanted) in enumerate(requests):
@@ -64,8 +63,7 @@ class Callers:
 
     def by_header(self, name, compiler):
         """All requests, by the header and these words of a compiler."""
-        with open(self.made("listed.h"), "w", encoding="ascii") as file:
-            file.write(self.interface.listed())
+        places.wrote(self.interface.listed(), self.made("listed.h"))
         words = [*compiler, *WARNINGS, *self.system.flags, f"-I{self.library}", f"-I{self.work}",
                  os.path.join(HERE, "answers.c"), "-x", "none", self.archive]
         program, problem = self.compiled(f"answers{len(compiler)}", words)
@@ -122,8 +120,7 @@ class Callers:
 def has_sanitisers(work):
     """Whether the C compiler has them; works in a folder."""
     source = os.path.join(work, "empty.c")
-    with open(source, "w", encoding="utf-8") as file:
-        file.write("int main(void) { return 0; }\n")
+    places.wrote("int main(void) { return 0; }\n", source)
     return said(["cc", *SANITISED, source, "-o", os.path.join(work, "empty")])[0] == 0
 
 

@@ -339,8 +339,7 @@ def messages():
 def choices():
     """The smallest symbol of each shape at each length where another size begins; and each size by itself."""
     for shape in (SQUARE, RECTANGLE, EXTENDED, ANY):
-        lengths = {size.data + more for size in SIZES for more in (0, 1)}
-        for length in sorted(lengths):
+        for length in sorted({size.data + more for size in SIZES for more in (0, 1)}):
             items = [65 + k % 26 for k in range(length)]
             yield write(items, 0, shape), symbol(items, 0, shape)
     for size in SIZES:
@@ -377,8 +376,7 @@ def sizes():
         yield from sure(grid, items, usual, extent)
         yield read(with_bad_border(grid, 1), 0, extent), no(5, 1)
         yield normal(with_bad_border(grid, 2), 1, 1, extent), no(5, 2)
-        counts = [(size.limit + b) % (size.limit + 1) for b in range(size.blocks)]
-        yield from damage(grid, items, counts, extent)
+        yield from damage(grid, items, [(size.limit + b) % (size.limit + 1) for b in range(size.blocks)], extent)
         yield from damage(grid, items, [size.limit] * size.blocks, extent)
         yield from doubt(grid, items, extent)
 
@@ -442,8 +440,7 @@ def doubt(grid, items, extent):
     yield read(with_bad_border(grid, 7), 0, extent, doubt=marks), reading(named, items)
     yield read(with_bad_border(grid, 8), 0, extent, doubt=marks), no(5, 1)
     yield inspect(with_bad_border(grid, 9), doubt=marks), inspection(named, words, words, None, 2)
-    whole = [1] * len(grid)
-    yield read(grid, 0, extent, doubt=whole), no(6, 0, 0)
+    yield read(grid, 0, extent, doubt=[1] * len(grid)), no(6, 0, 0)
     yield read(grid, 0, extent, doubt=[0] * len(grid)), reading(named, items)
 
 

@@ -98,8 +98,7 @@ def worked():
     """What stands above, in squares."""
     for data, items, marks, head, identifier in WORKED:
         named, content = smallest_named(data), Content(tuple(items), tuple(marks), head)
-        grid = grid_of(named, *data)
-        yield read(grid, 0, WIDE), reading(named, content, identifier=identifier)
+        yield read(grid_of(named, *data), 0, WIDE), reading(named, content, identifier=identifier)
         yield from readings_of(named, data)
     for data, code, value, place in REFUSED:
         named = smallest_named(data)

@@ -11,7 +11,7 @@ from tests.library import exchanged
 from tests.library.callers import Callers, copied
 from tests.library.library import interface
 from tests.support.commands import said
-from tests.support.places import BUILT, LIBRARY, TOP, text_of
+from tests.support.places import BUILT, LIBRARY, TOP, text_of, wrote
 from tools import crates
 
 __all__ = ["AT_ONCE", "bugs", "found_by", "ready", "sources"]
@@ -78,8 +78,7 @@ def found_by(bug, folder):
     copied(LIBRARY, copy)
     if is_of_crate:
         shutil.copytree(os.path.join(TOP, SOURCES), os.path.join(folder, SOURCES), symlinks=True)
-    with open(os.path.join(folder if is_of_crate else copy, bug.where), "w", encoding="utf-8") as file:
-        file.write(bug.planted(sources(bug))[bug.where])
+    wrote(bug.planted(sources(bug))[bug.where], folder if is_of_crate else copy, bug.where)
     callers = Callers(copy, BUILT, own, interface())
     if is_of_crate:
         found = over_crate(folder, callers)

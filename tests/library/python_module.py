@@ -303,8 +303,7 @@ def doubts():
     """Doubtful modules in rows, which have to be as many and as long as the symbol's."""
     oblong = Symbol(symbol_of(b"0123456789", 0, ONE, (8, 32))[1], (8, 32))
     bad, marks = rows(hurt(oblong, 0, 11)), [bytes([1]) * 32] * 8
-    wanted = said_by(lambda: ecc200.read(bad, doubtful=marks))
-    yield "all are doubtful", wanted, refused("BLOCK", 0, 0)
+    yield "all are doubtful", said_by(lambda: ecc200.read(bad, doubtful=marks)), refused("BLOCK", 0, 0)
     for call in (ecc200.read, ecc200.normal, ecc200.inspect):
         for name, given in (("rows of another number", [bytes(16)] * 16), ("columns and rows", [bytes(8)] * 32),
                             ("a row less", [bytes(32)] * 7), ("no rows", []), ("no bytes", b""),

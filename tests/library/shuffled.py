@@ -61,8 +61,7 @@ def wrong(system, folder):
     run = lambda words: subprocess.run(words, cwd=folder, check=True)
     texts.make(CODE, system.target.triple, [f"{crates.kit()}/toolchain/bin/clang", "-O3"], system.target.flags, "",
                os.path.join(folder, "look_up.s"), run)
-    with open(os.path.join(folder, "caller.c"), "w", encoding="ascii") as file:
-        file.write(CALLER)
+    places.wrote(CALLER, folder, "caller.c")
     made = os.path.join(folder, f"caller{system.ending}")
     run([system.cc, *system.flags, "caller.c", "look_up.s", "-o", made])
     got = system.said([made])

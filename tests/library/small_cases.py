@@ -54,8 +54,7 @@ def with_marks(step=1):
         for place in range(len(items) + 1):
             for extent, shape in ((USUAL, ANY), (WIDE, ANY), (WIDE, SQUARE)):
                 yield from searched(Content(items, ((26, place),)), extent, shape)
-            framed = Content((*MACRO, *items, *TRAILER), ((16383, 7 + place),))
-            yield from searched(framed, WIDE, EXTENDED)
+            yield from searched(Content((*MACRO, *items, *TRAILER), ((16383, 7 + place),)), WIDE, EXTENDED)
         for head in ("programming", (2, 5, 1, 2)):
             for extent in (USUAL, WIDE):
                 yield from searched(Content(items, (), head), extent, RECTANGLE)

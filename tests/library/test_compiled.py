@@ -15,8 +15,7 @@ def texts_in(folder):
     """The text of each system in a folder, by its triple, as bytes."""
     found = {}
     for triple in TRIPLES:
-        with open(os.path.join(folder, f"{triple}.s"), "rb") as file:
-            found[triple] = file.read()
+        found[triple] = places.read(folder, f"{triple}.s")
     return found
 
 
@@ -36,8 +35,7 @@ class Compiled(Case):
         for triple, text in texts_in(COMPILED).items():
             first = text.partition(b"\n")[0].decode()
             self.assertRegex(first, rf"^/\* The library ecc200 {version}, .* with rattle-kit-\w+ logic \w+\.", triple)
-            told = re.findall(rb"\n\t\.(?:file|ident)\b|/(?:home|root|tmp|work)/", text)
-            self.row(triple, told, [])
+            self.row(triple, re.findall(rb"\n\t\.(?:file|ident)\b|/(?:home|root|tmp|work)/", text), [])
 
     def test_a_byte_is_enough(self):
         made = os.path.join(self.folder(), "made")
@@ -47,8 +45,7 @@ class Compiled(Case):
             middle = len(text) // 2
             for other in (text[:middle] + bytes([text[middle] ^ 1]) + text[middle + 1:], text[:-1],
                           text.replace(b"\n", b"\r\n", 1)):
-                with open(os.path.join(made, f"{triple}.s"), "wb") as file:
-                    file.write(other)
+                places.wrote(other, made, f"{triple}.s")
                 self.row(triple, unlike(COMPILED, made), [triple])
             shutil.copy(os.path.join(COMPILED, f"{triple}.s"), made)
 

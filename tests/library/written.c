@@ -19,17 +19,18 @@ static const ecc200_how smallest = {.form = 2, .head = {1, 2, 5, {1, 2}}};
 static const ecc200_how no_extent = {.form = 2, .extent = 2}, no_head = {.head = {.kind = 3}};
 static const ecc200_mark marks[] = {{26, 0}, {999999, 1}}, wrong_marks[] = {{26, 1}, {26, 0}};
 
+static uint8_t *outs[FILLS];
+static void *out; /* the result of the call that is made */
+
+static void fill(int i, size_t size) {
+    if (!(outs[i] = (uint8_t *)malloc(size)))
+        exit(2);
+    out = memset(outs[i], fills[i], size);
+}
+
 /* the numbers stand in front of the arrays, the fault in front of the other numbers */
-static void tell(const char *name, uint16_t (*call)(void *), size_t size, size_t numbers) {
-    uint8_t *outs[FILLS];
-    uint16_t code = 0;
+static void tell(const char *name, uint16_t code, size_t size, size_t numbers) {
     size_t written = 0, wrong = 0;
-    for (int i = 0; i < FILLS; i++) {
-        if (!(outs[i] = (uint8_t *)malloc(size)))
-            exit(2);
-        memset(outs[i], fills[i], size);
-        code = call(outs[i]);
-    }
     for (size_t at = numbers; at < size; at++) {
         int is_written = outs[0][at] == outs[1][at];
         written += (size_t)is_written, wrong += !is_written && outs[0][at] != fills[0];
@@ -48,77 +49,53 @@ static void tell(const char *name, uint16_t (*call)(void *), size_t size, size_t
         free(outs[i]);
 }
 
+/* Makes a call with each fill of its result, a struct whose first array is named. */
+#define TELL(name, type, array, call)                                                                                  \
+    for (int i = 0; i < FILLS; i++)                                                                                    \
+        fill(i, sizeof(ecc200_##type)), code = (call);                                                                 \
+    tell(name, code, sizeof(ecc200_##type), offsetof(ecc200_##type, array))
+#define READING(name, call) TELL(name, reading, corrected, call)
+#define SYMBOL(name, call) TELL(name, symbol, modules, call)
+#define INSPECTION(name, count)                                                                                        \
+    TELL(name, inspection, designators, ecc200_inspect(grid, count, NULL, 0, SIDE, SIDE, out))
+#define PLACES(name, rows, columns) TELL(name, place_table, places, ecc200_places(rows, columns, out))
+
 static const ecc200_scan scan = {.rows = SIDE, .columns = SIDE}, usual_scan = {SIDE, SIDE, 0, 0, 1};
 static const ecc200_scan scan_no_extent = {SIDE, SIDE, 4, 0, 7}, scan_no_limit = {SIDE, SIDE, 4, 0, 0};
-static uint16_t do_read(void *out) { return ecc200_read(grid, ALL, NULL, 0, &scan, out); }
-static uint16_t read_light(void *out) { return ecc200_read(light, ALL, NULL, 0, &usual_scan, out); }
-static uint16_t read_no_limit(void *out) { return ecc200_read(grid, ALL, NULL, 0, &scan_no_limit, out); }
-static uint16_t do_inspect(void *out) { return ecc200_inspect(grid, ALL, NULL, 0, SIDE, SIDE, out); }
-static uint16_t inspect_less(void *out) { return ecc200_inspect(grid, ALL - 1, NULL, 0, SIDE, SIDE, out); }
-static uint8_t letter[ECC200_MOST_MODULES];
-static uint16_t letter_rows, letter_columns;
-static uint16_t read_letter_in(uint16_t extent, void *out) {
-    const ecc200_scan how = {letter_rows, letter_columns, 3, 0, extent};
-    return ecc200_read(letter, (size_t)letter_rows * letter_columns, NULL, 0, &how, out);
-}
-static uint16_t read_letter(void *out) { return read_letter_in(0, out); }
-static uint16_t read_letter_usual(void *out) { return read_letter_in(1, out); }
-static uint16_t normal_letter(void *out) {
-    const ecc200_scan how = {letter_rows, letter_columns, 3, 0, 0};
-    return ecc200_normal(letter, (size_t)letter_rows * letter_columns, NULL, 0, &how, 1, out);
-}
-static uint16_t do_write(void *out) { return ecc200_write(usual_items, 1, NULL, 0, &usual, out); }
-static uint16_t write_wrong(void *out) { return ecc200_write(wrong_items, 2, NULL, 0, &small, out); }
-static uint16_t write_marks(void *out) { return ecc200_write(usual_items, 1, marks, 2, &usual, out); }
-static uint16_t write_smallest(void *out) { return ecc200_write(usual_items, 1, marks, 2, &smallest, out); }
-static uint16_t write_wrong_marks(void *out) { return ecc200_write(usual_items, 1, wrong_marks, 2, &usual, out); }
-static uint16_t write_no_extent(void *out) { return ecc200_write(usual_items, 1, marks, 2, &no_extent, out); }
-static uint16_t write_no_head(void *out) { return ecc200_write(usual_items, 1, marks, 2, &no_head, out); }
-static uint16_t write_bytes_no_head(void *out) { return ecc200_write_bytes((const uint8_t *)"AB", 2, &no_head, out); }
-static uint16_t do_write_bytes(void *out) { return ecc200_write_bytes((const uint8_t *)"AB", 2, &small, out); }
-static uint16_t write_bytes_no_profile(void *out) { return ecc200_write_bytes((const uint8_t *)"AB", 2, &none, out); }
-static uint16_t do_normal(void *out) { return ecc200_normal(grid, ALL, NULL, 0, &usual_scan, 1, out); }
-static uint16_t normal_no_extent(void *out) { return ecc200_normal(grid, ALL, NULL, 0, &scan_no_extent, 1, out); }
-static uint16_t normal_no_limit(void *out) { return ecc200_normal(grid, ALL, NULL, 0, &scan_no_limit, 9, out); }
-static uint16_t do_places(void *out) { return ecc200_places(8, 32, out); }
-static uint16_t places_no_size(void *out) { return ecc200_places(32, 8, out); }
-static uint16_t do_sizes(void *out) { return ecc200_sizes(out), 0; }
 
 int main(void) {
-    const size_t reading = sizeof(ecc200_reading), arrays = offsetof(ecc200_reading, corrected);
-    const size_t inspection = sizeof(ecc200_inspection), counts = offsetof(ecc200_inspection, designators);
-    const size_t symbol = sizeof(ecc200_symbol), modules = offsetof(ecc200_symbol, modules);
-    const size_t table = sizeof(ecc200_place_table), places = offsetof(ecc200_place_table, places);
+    const uint8_t *text = (const uint8_t *)"AB";
+    uint16_t code = 0;
     for (int i = 0; i < ALL; i++)
         grid[i] = (uint8_t)(worked[i] - '0');
-    tell("read", do_read, reading, arrays);
-    tell("read, refused", read_light, reading, arrays);
-    tell("read, no limit", read_no_limit, reading, arrays);
-    ecc200_symbol *made = (ecc200_symbol *)malloc(symbol);
-    if (!made || ecc200_write(usual_items, 1, marks, 2, &smallest, made))
+    READING("read", ecc200_read(grid, ALL, NULL, 0, &scan, out));
+    READING("read, refused", ecc200_read(light, ALL, NULL, 0, &usual_scan, out));
+    READING("read, no limit", ecc200_read(grid, ALL, NULL, 0, &scan_no_limit, out));
+    static ecc200_symbol made;
+    if (ecc200_write(usual_items, 1, marks, 2, &smallest, &made))
         exit(2);
-    letter_rows = made->rows, letter_columns = made->columns;
-    memcpy(letter, made->modules, (size_t)made->rows * made->columns);
-    tell("read, marks and a head", read_letter, reading, arrays);
-    tell("read, marks and a head, refused", read_letter_usual, reading, arrays);
-    tell("normal, marks and a head", normal_letter, symbol, modules);
-    tell("write, marks", write_marks, symbol, modules);
-    tell("write, smallest", write_smallest, symbol, modules);
-    tell("write, wrong marks", write_wrong_marks, symbol, modules);
-    tell("write, no extent", write_no_extent, symbol, modules);
-    tell("write, no head", write_no_head, symbol, modules);
-    tell("write_bytes, no head", write_bytes_no_head, symbol, modules);
-    tell("inspect", do_inspect, inspection, counts);
-    tell("inspect, refused", inspect_less, inspection, counts);
-    tell("write", do_write, symbol, modules);
-    tell("write, refused", write_wrong, symbol, modules);
-    tell("write_bytes", do_write_bytes, symbol, modules);
-    tell("write_bytes, refused", write_bytes_no_profile, symbol, modules);
-    tell("normal", do_normal, symbol, modules);
-    tell("normal, refused", normal_no_extent, symbol, modules);
-    tell("normal, no limit", normal_no_limit, symbol, modules);
-    tell("places", do_places, table, places);
-    tell("places, refused", places_no_size, table, places);
-    tell("sizes", do_sizes, sizeof(ecc200_size_table), 0);
+    const size_t count = (size_t)made.rows * made.columns;
+    const ecc200_scan whole = {made.rows, made.columns, 3, 0, 0}, usual_whole = {made.rows, made.columns, 3, 0, 1};
+    READING("read, marks and a head", ecc200_read(made.modules, count, NULL, 0, &whole, out));
+    READING("read, marks and a head, refused", ecc200_read(made.modules, count, NULL, 0, &usual_whole, out));
+    SYMBOL("normal, marks and a head", ecc200_normal(made.modules, count, NULL, 0, &whole, 1, out));
+    SYMBOL("write, marks", ecc200_write(usual_items, 1, marks, 2, &usual, out));
+    SYMBOL("write, smallest", ecc200_write(usual_items, 1, marks, 2, &smallest, out));
+    SYMBOL("write, wrong marks", ecc200_write(usual_items, 1, wrong_marks, 2, &usual, out));
+    SYMBOL("write, no extent", ecc200_write(usual_items, 1, marks, 2, &no_extent, out));
+    SYMBOL("write, no head", ecc200_write(usual_items, 1, marks, 2, &no_head, out));
+    SYMBOL("write_bytes, no head", ecc200_write_bytes(text, 2, &no_head, out));
+    INSPECTION("inspect", ALL);
+    INSPECTION("inspect, refused", ALL - 1);
+    SYMBOL("write", ecc200_write(usual_items, 1, NULL, 0, &usual, out));
+    SYMBOL("write, refused", ecc200_write(wrong_items, 2, NULL, 0, &small, out));
+    SYMBOL("write_bytes", ecc200_write_bytes(text, 2, &small, out));
+    SYMBOL("write_bytes, refused", ecc200_write_bytes(text, 2, &none, out));
+    SYMBOL("normal", ecc200_normal(grid, ALL, NULL, 0, &usual_scan, 1, out));
+    SYMBOL("normal, refused", ecc200_normal(grid, ALL, NULL, 0, &scan_no_extent, 1, out));
+    SYMBOL("normal, no limit", ecc200_normal(grid, ALL, NULL, 0, &scan_no_limit, 9, out));
+    PLACES("places", 8, 32);
+    PLACES("places, refused", 32, 8);
+    TELL("sizes", size_table, sizes, (ecc200_sizes(out), 0));
     return 0;
 }

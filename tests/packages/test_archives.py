@@ -68,10 +68,9 @@ class Archives(Packed):
             needed = needed_packages([self.at("bin", "dm_sample"), *libraries])
             self.row("packages that its README doesn't name", [it for it in needed if it not in told], [])
             self.holds("packages that are needed", "libjpeg62-turbo" in needed, f"{needed}")
-        shared = self.at("share", "ecc200")
         self.row("the page, and the module for JavaScript", {"mitsubadoor.html", "mitsubadoor.webmanifest",
                                                              "offline.js", "ecc200.mjs", "ecc200.d.mts"}
-                 - set(os.listdir(shared)), set())
+                 - set(os.listdir(self.at("share", "ecc200"))), set())
 
     def test_its_programs_wherever_they_lie(self):
         image = wrote(picture(), self.folder_here, "picture.pgm")

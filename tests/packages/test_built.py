@@ -61,8 +61,7 @@ class Built(Packed):
         for compiler, more in {"gcc": ["-std=c11"], "clang": ["-std=c11"], "g++": [*in_cpp, "-Wuseless-cast"],
                                "clang++": in_cpp}.items():
             if self.has(compiler, f"the header by {compiler}"):
-                words = [compiler, *careful, *more, os.path.join(PARTS, "careful.c")]
-                self.works(f"the header by {compiler}", words)
+                self.works(f"the header by {compiler}", [compiler, *careful, *more, os.path.join(PARTS, "careful.c")])
 
     def test_versions(self):
         """The version is the same wherever it stands."""

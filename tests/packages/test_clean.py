@@ -72,6 +72,5 @@ class Clean(Case):
         self.sound("the work to check", None if took.pieces < MOST_TO_CHECK else str(took))
         status, told, _ = self.done("make -C m install PREFIX=$HOME/.local")
         self.row("installed in a home", (status, told.count("\n    export ")), (0, 3))
-        lines = re.findall(r"^    (export .*)$", told, re.M)
-        status, told, _ = self.done("\n".join(["set -e", *lines, *USES]))
+        status, told, _ = self.done("\n".join(["set -e", *re.findall(r"^    (export .*)$", told, re.M), *USES]))
         self.row("what is installed there is used", (status, told), (0, f"{LABEL}{re.sub('[()]', '', LABEL)}{SYMBOL}"))

@@ -58,8 +58,7 @@ class Crate(Clone):
         self.assertIn(OWN, example)
         os.makedirs(os.path.join(self.room, "user", "src"))
         for name, text in (("Cargo.toml", MANIFEST), ("src/main.rs", example.replace(OWN, ""))):
-            with open(os.path.join(self.room, "user", name), "w", encoding="utf-8") as file:
-                file.write(text)
+            places.wrote(text, self.room, "user", name)
         status, told = self.said(["cargo", "run", "--quiet"], "user")
         self.row("the example over the crate", (status, "Mitsubadoor: 2 codewords corrected" in told), (0, True))
 
@@ -68,8 +67,7 @@ class Crate(Clone):
         self.row("packed, and built of that", (status, "warning: unused" in told), (0, False))
 
     def test_its_version(self):
-        told = re.search(r'^version = "(.*)"$', places.text_of("Cargo.toml"), re.M)[1]
-        self.assertEqual(told, VERSION)
+        self.assertEqual(re.search(r'^version = "(.*)"$', places.text_of("Cargo.toml"), re.M)[1], VERSION)
 
 
 @needs.programs("git", "cc")
@@ -108,8 +106,7 @@ class Node(Clone):
         self.assertEqual((status, told), (0, f"ecc200-{VERSION}.tgz\n"))
         with open(os.path.join(self.user, "package.json"), "w", encoding="ascii") as file:
             json.dump({"name": "user", "version": "1.0.0"}, file)
-        words = ["npm", "install", "--silent", f"../ecc200-{VERSION}.tgz"]
-        self.assertEqual(self.said(words, "user"), (0, ""))
+        self.assertEqual(self.said(["npm", "install", "--silent", f"../ecc200-{VERSION}.tgz"], "user"), (0, ""))
 
     def test_it_is_imported(self):
         asked = 'import { readGrid, write } from "ecc200"; console.log(readGrid(write("123456")).text)'
@@ -125,8 +122,7 @@ class Node(Clone):
     def test_its_types_are_found(self):
         lines = {"right": 'const rows: number = write("a").rows;', "wrong": 'const rows: string = write("a").rows;'}
         for name, line in lines.items():
-            with open(os.path.join(self.user, f"{name}.mts"), "w", encoding="ascii") as file:
-                file.write(f'import {{ write }} from "ecc200";\n{line}\nvoid rows;\n')
+            places.wrote(f'import {{ write }} from "ecc200";\n{line}\nvoid rows;\n', self.user, f"{name}.mts")
             words = ["tsc", "--strict", "--noEmit", "--target", "es2022", "--module", "node16", "--moduleResolution",
                      "node16", f"{name}.mts"]
             self.row(name, self.said(words, "user")[0] == 0, name == "right")

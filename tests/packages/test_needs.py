@@ -25,8 +25,7 @@ class Needs(Case):
         settings = {"PATH": self.path, "PYTHON": "no-python", **more}
         status, output = run(["env", "-i", *(f"{name}={value}" for name, value in settings.items()),
                               "make", "-C", TOP, target])
-        named = [(it[1], f"{it[2]} {it[3]}") for it in LINE.finditer(output)]
-        return status, named, output
+        return status, [(it[1], f"{it[2]} {it[3]}") for it in LINE.finditer(output)], output
 
     def test_each_is_named_before_anything_is_begun(self):
         for target, wanted in WANTED.items():
@@ -61,8 +60,7 @@ class Needs(Case):
         status, named, output = self.made("all")
         wanted = ["cc gcc", "ar binutils", "stdio.h libc6-dev", *SAMPLER[1:], "PIL python3-pil"]
         self.row("make", (status != 0, named), (True, [("all", it) for it in wanted]))
-        install = f"    apt install {' '.join(it.split()[1] for it in wanted)}\n"
-        self.row("what installs them", install in output, True)
+        self.row("what installs them", f"    apt install {' '.join(it.split()[1] for it in wanted)}\n" in output, True)
 
     def test_the_documents_name_them(self):
         """README and CONTRIBUTING have the Debian package of each."""

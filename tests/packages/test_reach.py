@@ -59,5 +59,4 @@ class Reach(Case):
         status, told = done(f"/usr/bin/python3 {examples}/example.py")
         self.row("the example in py", (status, "Mitsubadoor: " in told), (0, True))
         self.row("uninstalled", commands.said([INSTALL, "--uninstall", *PACKAGES], env=self.env)[0], 0)
-        left = [name for _, _, names in os.walk(self.prefix) for name in names]
-        self.row("what is left", left, [])
+        self.row("what is left", [name for _, _, names in os.walk(self.prefix) for name in names], [])

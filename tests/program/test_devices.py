@@ -125,8 +125,7 @@ class RefusedMemory(Case):
         """Runs the program once with ample memory, and then with each of its growths refused."""
         ample, want = (0, output, b""), (3, b"", NO_MEMORY)
         self.row("with ample memory", ran(words, given, env=self.hook), ample)
-        with open(self.counts, encoding="ascii") as file:
-            asked = int(file.read())
+        asked = int(places.text_of(self.counts))
         ends = [ran(words, given, env={**self.hook, "REFUSED_GROWTH": str(n)}) for n in range(1, asked + 1)]
         self.row(f"with each of {asked} growths refused", [end for end in ends if end not in (ample, want)][:1], [])
         self.row("with the first growth refused", ends[0], want)

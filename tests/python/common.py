@@ -1,19 +1,24 @@
 """What the tests of the Python package have in common."""
 import contextlib
+import fcntl
 import os
+import pty
+import struct
 import subprocess
+import termios
 from unittest import mock
 
 from tests import corpus
 from tests.support import needs, package, places
 from tests.support.case import Rows
 
-package.imported()
+ecc200 = package.imported()
 TOP, SHARED = places.TOP, places.SHARED
 SAMPLER = os.environ.get("ECC200_SAMPLE_LIBRARY") or places.path("sampler", "out", "libecc200_sample.so")
 PACKAGE = package.tree()
 if not os.path.isfile(SAMPLER) and not places.OTHER_LIBRARY:
     needs.made("sampler")
+VERSION = places.text_of("packaging", "version").strip()
 PYTHON = "/usr/bin/python3"  # Debian's, for which numpy, Pillow and mypy are installed
 WORDS = [PYTHON, "-m", "ecc200"]
 
@@ -35,6 +40,35 @@ def run(words, given=b"", **more):
 def clean(**more):
     """An environment with the least in it."""
     return {"PATH": "/usr/bin:/bin", "PYTHONDONTWRITEBYTECODE": "1", "LC_ALL": "C.UTF-8", **more}
+
+
+def saved(folder, name, data):
+    """Writes a file of a folder, and gives its path."""
+    return places.wrote(data, os.fsdecode(folder), os.fsdecode(name))
+
+
+def outcome(call, *given, **more):
+    """What a call gives, or the numbers of its refusal."""
+    try:
+        return call(*given, **more)
+    except ecc200.Refused as why:
+        return why.code, why.value, why.place
+
+
+def at_terminal(stream, words, given=b"", columns=80):
+    """Runs the command with a terminal for one of its streams: its status, what is seen there, and what it says on the
+    others."""
+    leader, follower = pty.openpty()
+    fcntl.ioctl(follower, termios.TIOCSWINSZ, struct.pack("4H", 25, columns, 0, 0))
+    streams = {"stdout": subprocess.PIPE, "stderr": subprocess.PIPE, stream: follower}
+    done = subprocess.run([*WORDS, *words], input=given, env=environment(), timeout=300, **streams)
+    os.close(follower)
+    seen = b""
+    with contextlib.suppress(OSError):  # the end, as Linux tells it
+        while True:
+            seen += os.read(leader, 65536)
+    os.close(leader)
+    return done.returncode, seen, done.stdout, done.stderr
 
 
 def environment():
@@ -84,6 +118,14 @@ class PackageCase(Rows):
             return __import__(name)
         except ImportError:
             return self.leave_out(f"{what} ({package} isn't installed)")
+
+    def needed(self, name, package, what):
+        """A module that needn't be installed; the rest of the case is left out where it isn't."""
+        return self.wanted_module(name, package, what) or self.skipTest(what)
+
+    def needs_search(self, what):
+        """Pillow, where the sampler is built too; else the rest of the case, which searches pictures, is left out."""
+        return self.has_sampler(what) and self.wanted_module("PIL.Image", "Pillow", what) or self.skipTest(what)
 
     def has_sampler(self, what):
         """Whether the sampler's library is built; if it isn't, what needs it is left out."""

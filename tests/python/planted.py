@@ -31,8 +31,7 @@ def found_by(bug, folder):
     copy = os.path.join(folder, "python")
     shutil.copytree(places.PACKAGE, copy, ignore=shutil.ignore_patterns("out", "__pycache__"))
     for file, text in bug.planted(sources(bug)).items():
-        with open(os.path.join(copy, "ecc200", file), "w", encoding="utf-8") as planted:
-            planted.write(text)
+        places.wrote(text, copy, "ecc200", file)
     python = DEBIAN if os.path.exists(DEBIAN) else sys.executable
     done = subprocess.run([python, "-m", HERE, copy, bug.where.split()[1]], cwd=places.TOP, stdout=subprocess.PIPE,
                           stderr=subprocess.STDOUT, text=True)
@@ -46,8 +45,7 @@ def main():
     places.PACKAGE = sys.argv[1]
     module, case = sys.argv[2].split(".")
     result = unittest.TestResult()
-    name = f"tests.python.test_{module}.{module.title()}.test_{case}"
-    unittest.defaultTestLoader.loadTestsFromName(name).run(result)
+    unittest.defaultTestLoader.loadTestsFromName(f"tests.python.test_{module}.{module.title()}.test_{case}").run(result)
     wrong = [told.strip().splitlines()[-1] for _, told in (*result.failures, *result.errors)]
     print("\n".join([*(LEFT_OUT + why for _, why in result.skipped), *wrong]))
     return 1 if wrong else 0

@@ -8,7 +8,7 @@ import subprocess
 import threading
 from unittest import mock
 
-from tests.python.common import PACKAGE, PYTHON, SAMPLER, WORDS, PackageCase, ecc, environment, run
+from tests.python.common import PACKAGE, PYTHON, WORDS, PackageCase, ecc, environment, run, saved
 from tests.python.test_surface import hurt, smallest, text
 from tests.support import needs
 
@@ -29,13 +29,6 @@ def shell(line, folder=None, **more):
 def made(folder, name):
     path = os.path.join(folder, name)
     os.mkdir(path)
-    return path
-
-
-def saved(folder, name, data):
-    path = os.path.join(folder, name)
-    with open(path, "wb") as file:
-        file.write(data if isinstance(data, bytes) else data.encode())
     return path
 
 
@@ -63,8 +56,7 @@ class Batches(PackageCase):
 
     def test_bad_lines(self):
         """A bad line is named, and the others are written."""
-        given = b"\xef\xbb\xbfA\r\nB\rC\r\n\xff\xe9\nD\r\n" + b"7" * 4000 + b"\nE"
-        got = ecc("write", given=given)
+        got = ecc("write", given=b"\xef\xbb\xbfA\r\nB\rC\r\n\xff\xe9\nD\r\n" + b"7" * 4000 + b"\nE")
         self.says("lines as Excel writes them", got, 1, symbols(b"A", b"D", b"E"),
                   ["line 2: it has a CR inside", "line 3: it isn't UTF-8", "byte FF", "line 5: the message is longer"])
         self.row("each is named once", got[2].count("\n"), 3)
@@ -137,9 +129,7 @@ class Batches(PackageCase):
 
     def test_side_by_side(self):
         """Pictures that are searched at a time are answered in order, with what stands between them."""
-        if not self.wanted_module("PIL.Image", "Pillow", "--jobs") or not self.has_sampler("--jobs"):
-            return
-        from PIL import Image
+        Image = self.needs_search("--jobs").Image
         here = self.made("jobs")
         os.makedirs(os.path.join(here, "scans"))
         for number in range(12):
@@ -182,8 +172,8 @@ class Batches(PackageCase):
         self.says("an svg with a declaration", self.ecc("read declared.svg"), 2, "", ["it is an SVG"])
         saved(here, "archive.zip", b"PK\3\4" + bytes(40))
         self.says("something else", self.ecc("read archive.zip"), 2, "", ["neither a picture"])
-        pillow = self.wanted_module("PIL.Image", "Pillow", "pictures of other codes")
-        if not pillow or not os.path.isfile(SAMPLER) or not self.has("zint", "pictures of other codes"):
+        pillow = self.needs_search("pictures of other codes")
+        if not self.has("zint", "pictures of other codes"):
             return
         run(["zint", "-o", "qr.png", "--scale", "3", "--quietzones", "-b", "58", "-d", "A QR code"], cwd=here)
         got = self.ecc("read qr.png")

@@ -3,12 +3,12 @@ terminal, completion."""
 import io
 import json
 import os
-import pty
 import re
 import subprocess
 import tempfile
 
-from tests.python.common import PACKAGE, PYTHON, SAMPLER, TOP, WORDS, PackageCase, ecc, environment, marks, run
+from tests.python.common import (PACKAGE, PYTHON, SAMPLER, TOP, WORDS, PackageCase, at_terminal, ecc, environment,
+                                 marks, run, saved)
 from tests.python.test_surface import edifact, hurt, text
 from tests.support import needs
 
@@ -21,9 +21,7 @@ from ecc200.spelling import Misspelled, of_spelling, shown, spelled
 class Comparing(PackageCase):
     def test_pages(self):
         """Pages behind the first are read, also without the sampler, and a turned photograph is read either way."""
-        pillow = self.wanted_module("PIL.Image", "Pillow", "pages of pictures")
-        if not pillow:
-            return
+        pillow = self.needed("PIL.Image", "Pillow", "pages of pictures")
         for name, module in (("small", 25.4 / 300), ("large", 0.5)):
             drawn = [ecc200.encode(message, module=module).png() for message in (b"first", b"third")]
             first, third = (pillow.Image.open(io.BytesIO(data)).convert("L") for data in drawn)
@@ -44,19 +42,16 @@ class Comparing(PackageCase):
         self.says("a turned picture without the sampler", run([*WORDS, "read", path], env=without), output="first\n")
 
     def test_comparing(self):
-        def saved(name, grid):
-            path = os.path.join(self.room, name)
-            with open(path, "w") as file:
-                file.write(grid)
-            return path
-        ascii_ = saved("ascii", text(ecc200.write(b"\x80" * 3)))
-        shorter = saved("shorter", text(ecc200.write(b"\x80" * 3, profile=1)))
-        other = saved("other", text(ecc200.write(b"\x80" * 4)))
-        lost = saved("lost", text([bytes(10)] * 10))
-        gs, fnc1 = saved("gs", text(ecc200.write([256, 65, 0x1D,
-                                                  66]))), saved("fnc1", text(ecc200.write([256, 65, 256, 66])))
-        plain = saved("plain", text(ecc200.write(b"A")))
-        marked = saved("marked", text(ecc200.write(b"A", gs1=True)))
+        def kept(name, grid):
+            return saved(self.room, name, grid)
+        ascii_ = kept("ascii", text(ecc200.write(b"\x80" * 3)))
+        shorter = kept("shorter", text(ecc200.write(b"\x80" * 3, profile=1)))
+        other = kept("other", text(ecc200.write(b"\x80" * 4)))
+        lost = kept("lost", text([bytes(10)] * 10))
+        gs, fnc1 = kept("gs", text(ecc200.write([256, 65, 0x1D,
+                                                  66]))), kept("fnc1", text(ecc200.write([256, 65, 256, 66])))
+        plain = kept("plain", text(ecc200.write(b"A")))
+        marked = kept("marked", text(ecc200.write(b"A", gs1=True)))
         for name, pair, status, end in [("the same", (ascii_, shorter), 0, "the same\n"),
                                         ("different", (ascii_, other), 1, "different: they differ from item 4 on\n"),
                                         ("separators", (gs, fnc1), 1, "has the byte 0x1D\n"),
@@ -65,8 +60,8 @@ class Comparing(PackageCase):
             self.holds(name, got[0] == status and got[1].endswith(end) and not got[2], str(got))
         for name, pair, part in [("one isn't read", (ascii_, lost), "27 of the 36"),
                                  ("one isn't there", (ascii_, lost + "x"), "No such file"),
-                                 ("two in one", (ascii_, saved("two", text(ecc200.write(b"A")) * 2)), "there are 2"),
-                                 ("none in one", (saved("empty", ""), ascii_), "there are no grids")]:
+                                 ("two in one", (ascii_, kept("two", text(ecc200.write(b"A")) * 2)), "there are 2"),
+                                 ("none in one", (kept("empty", ""), ascii_), "there are no grids")]:
             got = ecc("compare", *pair)
             self.holds(name, got[0] >= 2 and part in got[2], str(got))
 
@@ -110,19 +105,9 @@ class Comparing(PackageCase):
     def test_at_a_terminal(self):
         """Long work tells on a terminal how far it is, and only there."""
         given = text(ecc200.write(b"123456")).encode() * 60_000
-        leader, follower = pty.openpty()
-        process = subprocess.Popen([*WORDS, "check"], stdin=subprocess.PIPE, stdout=subprocess.PIPE, stderr=follower,
-                                   env=environment())
-        output, _ = process.communicate(given, timeout=300)
-        os.close(follower)
-        said = b""
-        try:
-            while True:
-                said += os.read(leader, 65536)
-        except OSError:  # the end, as Linux tells it
-            os.close(leader)
+        status, said, output, _ = at_terminal("stderr", ["check"], given)
         self.holds("progress", re.search(rb"[\d,]+ symbols read, [\d,]+ a second", said) is not None
-                   and process.returncode == 0, repr(said[-200:]))
+                   and status == 0, repr(said[-200:]))
         self.row("its answers", output.count(b"\n"), 60_000)
         first = subprocess.Popen([*WORDS, "read"], stdin=subprocess.PIPE, stdout=subprocess.PIPE,
                                  stderr=subprocess.PIPE, env=environment())
@@ -139,8 +124,7 @@ class Comparing(PackageCase):
     def test_completion(self):
         words = [PYTHON, os.path.join(TOP, "tools", "completions"), "--check"]
         self.row("what is packaged for shells", run(words, env=environment()), (0, "", ""))
-        if not self.wanted_module("argcomplete", "python3-argcomplete", "completion by the shell"):
-            return
+        self.needed("argcomplete", "python3-argcomplete", "completion by the shell")
         for line, wanted in (("co", ["compare"]), ("j", ["join"]), ("s", ["sizes"]), ("write --shape r", ["rectangle"]),
                              ("write --form s", ["shorter", "smallest"]),
                              ("write --size 8x1", ["8x120", "8x144", "8x18"])):

@@ -32,6 +32,17 @@ def pixels(data):
     return width, height, rows, int.from_bytes(chunks[b"pHYs"][:4], "big")
 
 
+def laid(page):
+    """Whether all on a page lies within its margins, and whether no quiet zone or line of text is overlapped."""
+    boxes = [(cell.left - 1, cell.top - 1, cell.left + len(cell.rows[0]) / 2 + 1, cell.top + len(cell.rows) / 2 + 1)
+             for cell in page.cells]
+    boxes += [(line.left, line.top, line.left + (len(line.text) * 6 - 1) * 0.25, line.top + 2.5) for line in page.lines]
+    inside = all(left >= 10 - 1e-6 and top >= 10 - 1e-6 and right <= 200 + 1e-6 and bottom <= 287 + 1e-6
+                 for left, top, right, bottom in boxes)
+    return inside, all(a[2] <= b[0] + 1e-6 or b[2] <= a[0] + 1e-6 or a[3] <= b[1] + 1e-6 or b[3] <= a[1] + 1e-6
+                       for at, a in enumerate(boxes) for b in boxes[:at])
+
+
 def texts(given, **more):
     return [reading.text for reading in ecc200.decode(given, **more)]
 
@@ -97,9 +108,7 @@ class Drawings(PackageCase):
 
     def test_rendered(self):
         """SVG and PDF, as others draw them, say what was written."""
-        pillow = self.wanted_module("PIL.Image", "Pillow", "pictures as others draw them")
-        if not pillow:
-            return
+        pillow = self.needed("PIL.Image", "Pillow", "pictures as others draw them")
         rows = ecc200.write(b"Mitsubadoor")
         page = drawing.alone(rows, 0.5, 2)
         tools = {"pdf": (drawing.pdf([page]), "pdftoppm", ["pdftoppm", "-r", "508", "-png", "-singlefile", "FILE",
@@ -110,13 +119,11 @@ class Drawings(PackageCase):
             if not self.has(program, f"{kind} as {program} draws it"):
                 continue
             path, drawn = os.path.join(self.room, f"drawn.{kind}"), os.path.join(self.room, f"{kind}.png")
-            with open(path, "wb") as file:
-                file.write(data)
+            places.wrote(data, path)
             status, _, errors = run([{"FILE": path, "PNG": drawn, "STEM": drawn[:-4]}.get(word, word) for word in
                                      words])
             self.holds(f"{program} draws {kind}", status == 0, errors)
-            picture = pillow.Image.open(drawn).convert("L")
-            small = picture.resize((len(rows) + 4, len(rows) + 4), pillow.Image.BOX)
+            small = pillow.Image.open(drawn).convert("L").resize((len(rows) + 4, len(rows) + 4), pillow.Image.BOX)
             self.row(f"{kind} as {program} draws it", ecc200.read(small).data, b"Mitsubadoor")
 
     def test_sheets(self):
@@ -125,13 +132,7 @@ class Drawings(PackageCase):
         cells = [cell for page in pages for cell in page.cells]
         self.row("each symbol is on a sheet", [cell.rows for cell in cells], symbols)
         for page in pages:
-            boxes = [(cell.left - 1, cell.top - 1, cell.left + len(cell.rows) / 2 + 1, cell.top + len(cell.rows) / 2 +
-                      1) for cell in page.cells]
-            self.holds("on the page", all(left >= 10 - 1e-6 and top >= 10 - 1e-6 and right <= 200 + 1e-6
-                                          and bottom <= 287 + 1e-6 for left, top, right, bottom in boxes))
-            apart = all(a[2] <= b[0] + 1e-6 or b[2] <= a[0] + 1e-6 or a[3] <= b[1] + 1e-6 or b[3] <= a[1] + 1e-6 for i,
-                        a in enumerate(boxes) for b in boxes[:i])
-            self.holds("no quiet zone is overlapped", apart)
+            self.row("on the page, and no quiet zone is overlapped", laid(page), (True, True))
         self.raises("a symbol larger than the sheet", ValueError, "doesn't fit", lambda: drawing.sheets(symbols, 10.0,
                                                                                                         2))
         self.row("pages of the PDF", drawing.pdf(pages).count(b"/Type /Page "), len(pages))
@@ -153,8 +154,7 @@ class Drawings(PackageCase):
                      ((14, 14), numpy.uint8, 0, 255))
         pillow = self.wanted_module("PIL.Image", "Pillow", "symbols in Pillow's pictures")
         if pillow and numpy:
-            picture = pillow.Image.fromarray(numpy.asarray(symbol))
-            self.row("read from a picture", ecc200.read(picture).data, b"123456")
+            self.row("read from a picture", ecc200.read(pillow.Image.fromarray(numpy.asarray(symbol))).data, b"123456")
 
     def test_unloadable(self):
         """A sampler's library that is there, and lacks another that it needs, isn't said to be missing."""
@@ -182,8 +182,7 @@ class Drawings(PackageCase):
         """Grids and symbols, in memory and in files; what is none of these is no empty list."""
         symbol, other = ecc200.encode(b"123456"), ecc200.encode("Mitsubadoor", charset="ascii")
         path = os.path.join(self.room, "two.txt")
-        with open(path, "w", encoding="ascii") as file:
-            file.write(f"{symbol}\n{other}\n")
+        places.wrote(f"{symbol}\n{other}\n", path)
         with open(path, "rb") as file:
             two = {"an open file": file, "bytes": file.read(), "a path": path, "a Path": pathlib.Path(path)}
             file.seek(0)
@@ -225,12 +224,9 @@ class Drawings(PackageCase):
 
     def test_in_files(self):
         """Pictures as the bytes of a file, as an open file, as a path; also without the sampler."""
-        image = self.wanted_module("PIL.Image", "Pillow", "files of pictures")
-        if not image:
-            return
+        image = self.needed("PIL.Image", "Pillow", "files of pictures")
         path, picture = os.path.join(self.room, "label.png"), ecc200.encode(b"123456", quiet=4).png()
-        with open(path, "wb") as file:
-            file.write(picture)
+        places.wrote(picture, path)
         given = {"bytes": picture, "a bytearray": bytearray(picture), "a memoryview": memoryview(picture), "a path":
                  path, "a Path": pathlib.Path(path), "bytes in memory": io.BytesIO(picture)}
         lone = "import ecc200; print([found.text for found in ecc200.decode({!r})])"
@@ -248,8 +244,7 @@ class Drawings(PackageCase):
             self.row(f"a picture as {name}", texts(some), ["123456"])
         with image.Image.open(path) as opened:
             pixels, width, height = ecc200.luminance(opened)
-        view = memoryview(pixels).cast("B", (height, width))
-        self.row("a picture as a view of its rows", texts(view), ["123456"])
+        self.row("a picture as a view of its rows", texts(memoryview(pixels).cast("B", (height, width))), ["123456"])
         grid = memoryview(b"".join(ecc200.write(b"123456"))).cast("B", (10, 10))
         self.row("a grid as a view of its rows", texts(grid), ["123456"])
         corners = ecc200.decode(path)[0].corners
@@ -260,9 +255,7 @@ class Drawings(PackageCase):
 
     def test_paged(self):
         """Each page of a TIFF and of a GIF is looked at, and a picture stands at its first page afterwards."""
-        pillow = self.wanted_module("PIL.Image", "Pillow", "pages of pictures")
-        if not pillow or not self.has_sampler("pages of pictures"):
-            return
+        pillow = self.needs_search("pages of pictures")
         image = pillow.Image
         pages, quickly = leaves(image), {"milliseconds": 300}
         for kind in ("tiff", "gif"):
@@ -277,25 +270,21 @@ class Drawings(PackageCase):
                 picture.seek(2)
                 self.row(f"a later page of Pillow's {kind}", (texts(picture, **quickly), picture.tell()), (["third"],
                                                                                                            2))
-        with open(os.path.join(self.room, "pages.tiff"), "rb") as file:
-            whole = file.read()
+        whole = places.read(self.room, "pages.tiff")
         with warnings.catch_warnings(record=True) as told:
             warnings.simplefilter("always")
             got = texts(whole[:-200], **quickly), [symbol.page for symbol in pictures.find(whole[:-200], **quickly)]
         self.row("pages before one that is cut off", got, (["first", "first"], [1, 1]))
         self.row("a page that is cut off", ["page 3" in str(each.message) for each in told], [True, True])
         pages[1].save(path, format="tiff", save_all=True, append_images=pages[:1])
-        with open(path, "rb") as file:
-            whole = file.read()
+        whole = places.read(path)
         for call in (ecc200.decode, pictures.find):
             self.raises("a page that is cut off behind one with nothing", ValueError, "page 2",
                         lambda call=call: call(whole[:-200], **quickly))
 
     def test_oriented(self):
         """A picture is read as it is stored and as EXIF says that it is turned; corners are among the stored pixels."""
-        pillow = self.wanted_module("PIL.Image", "Pillow", "pictures with an orientation")
-        if not pillow:
-            return
+        pillow = self.needed("PIL.Image", "Pillow", "pictures with an orientation")
         rows = ecc200.write(b"Mitsubadoor")
         large = [bytes(module for module in row for _ in range(4)).ljust(100, b"\0") for row in rows for _ in range(4)]
         wide = [bytes(120)] * 10 + [bytes(20) + row for row in large] + [bytes(120)] * 30
@@ -320,11 +309,9 @@ class Drawings(PackageCase):
                 self.raises("pictures without the sampler", pictures.Missing, "ecc200_sample",
                             lambda: pictures.find(memoryview(bytes(100)).cast("B", (10, 10))))
             return
-        pillow, numpy = self.wanted_module("PIL.Image", "Pillow",
-                                      "symbols in pictures"), self.wanted_module("numpy", "numpy", "symbols in arrays")
+        pillow = self.needed("PIL.Image", "Pillow", "symbols in pictures")
+        numpy = self.needed("numpy", "numpy", "symbols in arrays")
         self.holds("the sampler's library can be loaded", pictures.is_there())
-        if not pillow or not numpy or not pictures.is_there():
-            return
         picture = pillow.Image.open(io.BytesIO(ecc200.encode(b"Mitsubadoor", quiet=4, module=1).png(dpi=203)))
         array = numpy.asarray(picture.convert("L"))
         for name, given in {"Pillow's": picture, "grey": picture.convert("L"), "colours": picture.convert("RGB"),
@@ -337,8 +324,7 @@ class Drawings(PackageCase):
                             "a quarter": picture.convert("L").rotate(90),
                             "light on dark": pillow.Image.fromarray(255 - array),
                             "mirrored": pillow.Image.fromarray(array[:, ::-1].copy())}.items():
-            found = pictures.find(given, most=1)
-            self.row(f"in a picture, {name}", [symbol.answer.data for symbol in found
+            self.row(f"in a picture, {name}", [symbol.answer.data for symbol in pictures.find(given, most=1)
                                                if isinstance(symbol.answer, ecc200.Reading)], [b"Mitsubadoor"])
             self.row(f"decoded, {name}", [reading.data for reading in ecc200.decode(given, most=1)], [b"Mitsubadoor"])
         corners = pictures.find(picture, most=1)[0].corners

@@ -1,16 +1,12 @@
 """What the command puts out: captions, names of files, standard output, a terminal; sizes that a picture can't have."""
-import fcntl
 import os
-import pty
 import re
-import struct
 import subprocess
-import termios
 
-from tests.python.common import SAMPLER, WORDS, PackageCase, ecc, environment, run
+from tests.python.common import SAMPLER, WORDS, PackageCase, at_terminal, ecc, environment, run
 from tests.python.test_batches import symbols
-from tests.python.test_drawings import pixels
-from tests.support import needs, work
+from tests.python.test_drawings import laid, pixels
+from tests.support import needs, places, work
 
 import ecc200
 from ecc200 import drawing, font
@@ -42,8 +38,7 @@ class Labels(PackageCase):
         for kind in ("svg", "pdf", "png"):
             self.says(f"GS1 in {kind}", self.ecc("write --gs1", GS1, "--caption", "-o", f"gs1.{kind}"), output="")
             self.says(f"text in {kind}", self.ecc("write --caption -o", f"text.{kind}", "a<b & \"c\" (d\\"), output="")
-        drawn = open(os.path.join(here, "gs1.svg")).read()
-        self.row("its lines, elements whole", re.findall(">([^<]+)</text>", drawn),
+        self.row("its lines, elements whole", re.findall(">([^<]+)</text>", open(os.path.join(here, "gs1.svg")).read()),
                  ["(01)09521234543213", "(17)251231(10)ABC123"])
         drawn = open(os.path.join(here, "text.svg")).read()
         self.row("letters of XML", re.findall(">([^<]+)</text>", drawn), ['a&lt;b &amp; "c" (d\\'])
@@ -75,8 +70,7 @@ class Labels(PackageCase):
         width, height, found, _ = pixels(drawing.png(page, 300))
         side = (len(rows) + 2 * quiet) * dots
         below = [bytes(1 - pixel for pixel in row) for row in found[side:]]
-        stroke = [row.strip(b"\0") for row in below if any(row)]
-        self.row("an L", stroke, [b"\1\1"] * 12 + [b"\1" * 10] * 2)
+        self.row("an L", [row.strip(b"\0") for row in below if any(row)], [b"\1\1"] * 12 + [b"\1" * 10] * 2)
         for plain, accented in ("e", "\u00e9"), ("U", "\u00dc"), ("c", "\u0107"):
             rows_of = [[sum(column >> row & 1 for column in font.glyph(letter)) for row in range(font.HEIGHT)]
                        for letter in (plain, accented)]
@@ -108,15 +102,7 @@ class Labels(PackageCase):
         rows = [ecc200.write(message.encode()) for message in messages]
         for caption in (lambda message: [message], lambda message: [message * 4]):
             for page in drawing.sheets(rows, 0.5, 2, captions=[caption(message) for message in messages]):
-                boxes = [(cell.left - 1, cell.top - 1, cell.left + len(cell.rows) / 2 + 1,
-                          cell.top + len(cell.rows) / 2 + 1) for cell in page.cells]
-                boxes += [(line.left, line.top, line.left + (len(line.text) * 6 - 1) * 0.25, line.top + 2.5)
-                          for line in page.lines]
-                apart = all(a[2] <= b[0] + 1e-6 or b[2] <= a[0] + 1e-6 or a[3] <= b[1] + 1e-6 or b[3] <= a[1] + 1e-6
-                            for at, a in enumerate(boxes) for b in boxes[:at])
-                self.holds(
-                   "nothing overlaps", apart
-                   and all(box[0] >= 10 - 1e-6 and box[2] <= 200 + 1e-6 and box[3] <= 287 + 1e-6 for box in boxes))
+                self.row("nothing overlaps", laid(page), (True, True))
         if self.wanted_module("PIL.Image", "Pillow", "sheets with captions that are read") and os.path.isfile(SAMPLER):
             self.ecc("write --sheet 100x60 --caption -o sheet.png", given="\n".join(messages[:12]))
             status, output, _ = self.ecc("read --all --time 20000 sheet.png")
@@ -166,8 +152,7 @@ class Labels(PackageCase):
 
         for kind in ("png", "svg", "pdf"):
             self.ecc("write A -o", f"a.{kind}")
-            with open(os.path.join(here, f"a.{kind}"), "rb") as file:
-                data = file.read()
+            data = places.read(here, f"a.{kind}")
             self.row(f"--format {kind}",
                      [out("A", "--format", kind), out("A", "-o", "-", "--format", kind)], [(0, data)] * 2)
         self.row("-o -", out("A", "-o", "-"), (0, symbols(b"A").encode()))
@@ -184,32 +169,17 @@ class Labels(PackageCase):
     def test_terminal(self):
         """A symbol on a terminal, as the terminal's user sees it; a terminal that is too narrow is told of."""
         for words, width in ((["A"], 80), (["7" * 100], 20)):
-            leader, follower = pty.openpty()
-            fcntl.ioctl(follower, termios.TIOCSWINSZ, struct.pack("4H", 25, width, 0, 0))
-            process = subprocess.Popen([*WORDS, "write", *words], stdin=subprocess.DEVNULL, stdout=follower,
-                                       stderr=subprocess.PIPE, env=environment())
-            errors = process.communicate(timeout=60)[1].decode()
-            os.close(follower)
-            seen = b""
-            try:
-                while True:
-                    seen += os.read(leader, 65536)
-            except OSError:  # the end, as Linux tells it
-                os.close(leader)
+            _, seen, _, errors = at_terminal("stdout", ["write", *words], columns=width)
             lines = seen.decode().replace("\r\n", "\n").split("\n")
             bare = [re.sub("\x1b\\[[0-9;]*m", "", line) for line in lines if line]
             self.row(f"on a terminal, {width}", of_blocks(bare, 2), symbols(words[0].encode()))
             self.holds("white on black, and then as before",
                        all(re.fullmatch("\x1b\\[97;40m[^\x1b]*\x1b\\[0m", line) for line in lines if line), repr(lines))
-            self.row("too narrow", "20 columns" in errors, width == 20)
+            self.row("too narrow", b"20 columns" in errors, width == 20)
 
     def test_no_picture_on_a_terminal(self):
-        leader, follower = pty.openpty()
-        done = subprocess.run([*WORDS, "write", "A", "--format", "png"], stdout=follower, stderr=subprocess.PIPE,
-                              env=environment(), timeout=60)
-        os.close(follower)
-        os.close(leader)
-        self.holds("a picture isn't put onto a terminal", done.returncode == 2 and b"-o" in done.stderr, str(done))
+        status, _, _, errors = at_terminal("stdout", ["write", "A", "--format", "png"])
+        self.holds("a picture isn't put onto a terminal", status == 2 and b"-o" in errors, f"{status}, {errors}")
 
     def test_sizes(self):
         """A module that a PNG can't have is said in dots; what can't be drawn is refused."""
@@ -234,9 +204,7 @@ class Labels(PackageCase):
 
     def test_first_symbols(self):
         """Many pictures of one symbol each take a time far below the second that a search for all takes."""
-        what = "the time of many pictures"
-        if not self.wanted_module("PIL.Image", "Pillow", what) or not self.has_sampler(what):
-            return
+        self.needs_search("the time of many pictures")
         self.made("first")
         self.ecc("write -o label.png", given="\n".join(f"number {count}" for count in range(100)))
         pieces = {}

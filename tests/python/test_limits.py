@@ -11,7 +11,7 @@ from unittest import mock
 from tests.python.common import PackageCase, ecc
 from tests.python.test_batches import saved, shell, symbols
 from tests.python.test_surface import text
-from tests.support import needs
+from tests.support import needs, places
 
 import ecc200
 from ecc200 import core, drawing, gs1
@@ -27,8 +27,7 @@ def picture_of(message):
 
 def with_empty_directory(path):
     """Gives a TIFF a second directory, which is empty."""
-    with open(path, "rb") as file:
-        data = bytearray(file.read())
+    data = bytearray(places.read(path))
     start = struct.unpack_from("<I", data, 4)[0]
     struct.pack_into("<I", data, start + 2 + 12 * struct.unpack_from("<H", data, start)[0], len(data))
     saved("", path, bytes(data) + bytes(6))
@@ -61,13 +60,9 @@ class Short:
 
 @needs.library
 class Limits(PackageCase):
-    def is_possible(self, what):
-        return bool(self.wanted_module("PIL.Image", "Pillow", what)) and self.has_sampler(what)
-
     def test_damaged(self):
         """Each file is answered or named, whatever the others are, and each page that can be opened."""
-        if not self.is_possible("damaged pictures"):
-            return
+        self.needs_search("damaged pictures")
         here = self.made("damaged")
         names = ["first.png", "next.tif", "three.tif", "last.png"]
         for name, message in (("first.png", b"1"), ("next.tif", b"2"), ("last.png", b"4")):
@@ -89,9 +84,7 @@ class Limits(PackageCase):
 
     def test_little_memory(self):
         """A file for which there is no room is named, and the others are read, at each limit and with several jobs."""
-        if not self.is_possible("little memory"):
-            return
-        from PIL import Image
+        Image = self.needs_search("little memory").Image
         here = self.made("memory")
         picture_of(b"small").save(os.path.join(here, "a.png"))
         Image.new("RGBA", (5000, 5000)).save(os.path.join(here, "large.png"), compress_level=1)
@@ -111,8 +104,7 @@ class Limits(PackageCase):
 
     def test_exhausted(self):
         """Wherever memory ends, or no thread can be started, the other files are read."""
-        if not self.is_possible("files for which there is no memory"):
-            return
+        self.needs_search("files for which there is no memory")
         from concurrent.futures import ThreadPoolExecutor
         from ecc200 import reporting, sources
         here = self.made("exhausted")
@@ -159,16 +151,14 @@ class Limits(PackageCase):
 
     def test_long_lines(self):
         """A line that is longer than any message is one that is refused."""
-        long = b"A\n" + b"7" * 70_000 + b"\nB\n"
-        got = ecc("write", given=long)
+        got = ecc("write", given=b"A\n" + b"7" * 70_000 + b"\nB\n")
         self.says("a long line", got, 1, symbols(b"A", b"B"), ["line 2: it has more than 65,536"])
         self.row("it is named once", got[2].count("\n"), 1)
 
     def test_many(self):
         """A grid with a foreign character is one that is refused."""
         good = core.write(b"A")
-        grids = [good, ["10", "1x"], "10\n\u00e9\n", text(good)]
-        got = core.read_many(grids)
+        got = core.read_many([good, ["10", "1x"], "10\n\u00e9\n", text(good)])
         self.row("each has an answer", [getattr(answer, "code", answer) for answer in got],
                  [core.read(good), core.Code.SHAPE, core.Code.SHAPE, core.read(good)])
         self.holds("it says why", "'1x'" in str(got[1]), str(got[1]))
@@ -207,8 +197,7 @@ class Limits(PackageCase):
         for call in (core.places, core.usual_limit):
             self.raises(f"{call.__name__} of half a row", TypeError, "rows and columns are whole", lambda: call(10.5))
             self.raises(f"{call.__name__} of fewer than none", core.Refused, "SIZE, value -5", lambda: call(-5))
-        characters = [list("".join(map(str, row))) for row in grid]
-        self.row("characters in lists", core.read(characters), core.read(grid))
+        self.row("characters in lists", core.read([list("".join(map(str, row))) for row in grid]), core.read(grid))
         self.raises("other characters in lists", core.Refused, "unlike '2", lambda: core.read([["2"], ["1"]]))
         self.raises("half a module of quiet zone", TypeError, "quiet zone", lambda: ecc200.encode(b"A", quiet=1.5))
         for words in (("--sheet", "9" * 400 + "x5"), ("--sheet", "0x5"), ("--module", "9" * 400)):
@@ -222,9 +211,7 @@ class Limits(PackageCase):
         """Arrays in which pixels are modules, and of any numbers, are read."""
         if self.has_sampler("pictures that are too short"):
             self.raises("a picture that is too short", ValueError, "has 99 luminances", lambda: ecc200.find(Short()))
-        numpy = self.wanted_module("numpy", "numpy", "arrays of modules")
-        if not numpy:
-            return
+        numpy = self.needed("numpy", "numpy", "arrays of modules")
         ten, one = numpy.int64(10), numpy.int64(1)
         rows = core.write(b"A")
         self.row("numbers of numpy", (core.places(ten), core.usual_limit(ten), core.read(rows, one, extent=one),

@@ -1,14 +1,12 @@
 """The command ecc200: text, ECI, structured append, reader programming and forms, written, read, joined, compared and
 explained."""
 import json
-import os
 import random
 import re
 
 from tests import corpus
 from tests.library import model
-from tests.python.common import PackageCase, ecc, run
-from tests.python.test_sizes import outcome
+from tests.python.common import PackageCase, ecc, outcome, run, saved
 from tests.python.test_surface import text
 from tests.support import needs
 
@@ -23,13 +21,6 @@ FORMS = {(): Form.SMALLEST, ("--form", "smallest"): Form.SMALLEST, ("--form", "a
 def grids(output):
     """The grids of an output, as rows."""
     return [record.split() for record in output.split("\n\n") if record]
-
-
-def put(folder, name, content):
-    path = os.path.join(folder, name)
-    with open(path, "w", encoding="utf-8") as file:
-        file.write(content)
-    return path
 
 
 def escapes(*words, given=b""):
@@ -72,7 +63,7 @@ class Messages(PackageCase):
     def test_vectors(self):
         """All marks of zint are read, told in JSON, normalised, checked, explained and written again."""
         records = corpus.marks("sizes")
-        file = put(self.room, "sizes.txt", corpus.grids(records))
+        file = saved(self.room, "sizes.txt", corpus.grids(records))
         lines = [mark.said for mark in records]
         self.row("there are 99", len(records), 99)
         status, output, errors = ecc("read --escapes", file)
@@ -130,10 +121,9 @@ class Messages(PackageCase):
         self.holds("the smallest of all shapes", all(map(int.__le__, areas["--shape", "any"], areas[()]))
                    and areas["--shape", "any"] != areas[()])
 
+    @needs.programs("ZXingReader")
     def test_texts_by_others(self):
         """zxing-cpp reads texts as they were written, and heads, and GS1 data behind an ECI."""
-        if not self.has("ZXingReader", "texts read by zxing-cpp"):
-            return
         some = all_texts()
         ecc("write -o text.png --module 5", given="\n".join(some), folder=self.room)
         for number, one in enumerate(some, 1):
@@ -238,8 +228,7 @@ class Messages(PackageCase):
         self.row("--shorter is --form shorter", ecc("write --shorter --hex", "80" * 9),
                  ecc("write --form shorter --hex", "80" * 9))
         largest = max(ecc200.sizes(), key=lambda size: size.data_codewords)
-        fits = [b"7" * 3116, b"A" * 2335, b"\xff" * 1556]
-        for message in fits:
+        for message in [b"7" * 3116, b"A" * 2335, b"\xff" * 1556]:
             longer = message + message[:1]
             self.says(f"{len(message)} of {message[:1]}", ecc("write --bytes -", given=message)[:1] + ("", ""))
             self.says(f"{len(longer)} of {message[:1]}", ecc("write --bytes -", given=longer), 1, "",
@@ -248,14 +237,13 @@ class Messages(PackageCase):
 
     def test_heads(self):
         """Parts of what several symbols say, and reader programming, are written, and told by each subcommand."""
-        made = ecc("write --append 2/4:001002 one two three")[1]
-        self.says("parts that follow one another", ecc("read", given=made),
+        self.says("parts that follow one another", ecc("read", given=ecc("write --append 2/4:001002 one two three")[1]),
                   output="\\A{2/4:001002}one\n\\A{3/4:001002}two\n\\A{4/4:001002}three\n")
         self.says("more messages than parts", ecc("write --append 4/4 one two"), 1,
                   text(ecc200.write(b"one", head=(4, 4, 1, 1), form=Form.SMALLEST)),
                   ["message 2: it would be part 5, and there are 4"])
-        part = put(self.room, "part", text(ecc200.write(b"0109521234543213", True, head=(2, 4, 1, 2))))
-        setup = put(self.room, "setup", text(ecc200.write(b"A\xe9", head="programming")))
+        part = saved(self.room, "part", text(ecc200.write(b"0109521234543213", True, head=(2, 4, 1, 2))))
+        setup = saved(self.room, "setup", text(ecc200.write(b"A\xe9", head="programming")))
         self.says("read", ecc("read --no-filename", part, setup),
                   output="\\A{2/4:001002}(01)09521234543213\n\\PA\u00e9\n")
         self.says("read --escapes", ecc("read --escapes --no-filename", part, setup),
@@ -267,7 +255,7 @@ class Messages(PackageCase):
         first, second = (json.loads(line) for line in ecc("read --json", part, setup)[1].splitlines())
         self.row("read --json", (first["head"], first["identifier"], first["elements"][0]["title"], second["head"]),
                  ([2, 4, 1, 2], "]d2", "GTIN", "programming"))
-        whole = put(self.room, "whole", text(ecc200.write(b"A\xe9")))
+        whole = saved(self.room, "whole", text(ecc200.write(b"A\xe9")))
         self.row("a whole message in JSON", json.loads(ecc("read --json", whole)[1])["head"], None)
         got = ecc("compare", whole, setup)
         self.row("compare", (got[0], got[1].splitlines()[1:]),
@@ -289,7 +277,7 @@ class Messages(PackageCase):
         """Parts are put together, wherever they are found; what is missing, twice there or of another file is said."""
         some = "20 \u00b0C, ", "\u65e5\u672c\u8a9e, ", "caf\u00e9"
         for number, grid in enumerate(grids(ecc("write --append 1/3:001002", *some)[1]), 1):
-            put(self.room, str(number), text(grid))
+            saved(self.room, str(number), text(grid))
         whole = "".join(some) + "\n"
         self.says("parts in order", ecc("join 1 2 3", folder=self.room), output=whole)
         self.says("in another order, one twice", ecc("join 3 1 2 1", folder=self.room), output=whole)
@@ -304,15 +292,15 @@ class Messages(PackageCase):
         told = json.loads(ecc("join --json 3", folder=self.room)[1])
         self.row("missing in JSON", (told["missing"], told["doubled"], told["strange"], "2 of 3" in told["refused"]),
                  ([1, 2], [], [], True))
-        put(self.room, "other 2", ecc("write --append 2/3:001002 other")[1])
+        saved(self.room, "other 2", ecc("write --append 2/3:001002 other")[1])
         self.says("two contents", ecc("join 1 2 3", "other 2", folder=self.room), 1, "",
                   ["part 2 of 3 of the file 001002 is there more than once", ": 2, symbol 1; other 2, symbol 1\n"])
-        put(self.room, "other file", ecc("write --append 2/3:009009 other")[1])
+        saved(self.room, "other file", ecc("write --append 2/3:009009 other")[1])
         got = ecc("join 1 2 3", "other 2", "other file", folder=self.room)
         self.says("two contents beside another file", got, 1, "", [": 2, symbol 1; other 2, symbol 1\n", "file 009009"])
         self.row("two contents in JSON",
                  json.loads(ecc("join --json 1 2 3", "other 2", folder=self.room)[1])["doubled"], [2])
-        put(self.room, "none", ecc("write none")[1])
+        saved(self.room, "none", ecc("write none")[1])
         got = ecc("join 1", "other file", "none", "2", "3", folder=self.room)
         self.says("parts of another file, and no parts", got, 1, whole,
                   ["other file, symbol 1: it is part 2 of 3 of the file 009009",
@@ -325,7 +313,7 @@ class Messages(PackageCase):
         self.says("--charset", ecc("join --charset cp437 1 3", "other 2", folder=self.room),
                   output="20 \u2591C, othercaf\u0398\n")
         self.says("no such charset", ecc("join --charset x 1", folder=self.room), 2, "", ["no charset 'x'"])
-        lost = put(self.room, "lost", text([bytes(10)] * 10))
+        lost = saved(self.room, "lost", text([bytes(10)] * 10))
         self.says("one isn't read", ecc("join", lost, "1", "2", "3", folder=self.room), 1, whole,
                   ["lost, symbol 1: 27 of"])
         self.says("--usual", ecc("join --usual 1 2 3", folder=self.room), 1, "", ["leave out --usual"])
@@ -339,7 +327,7 @@ class Messages(PackageCase):
     def test_compared(self):
         """What is the same, and what differs in marks, bytes and identifiers."""
         def kept(name, items, **more):
-            return put(self.room, name, text(ecc200.write(items, **more)))
+            return saved(self.room, name, text(ecc200.write(items, **more)))
         plain, marked = kept("plain", b"\xe9"), kept("marked", b"\xe9", marks=[(0, 3)])
         coded, other = kept("coded", "\u00e9".encode(), marks=[(0, 26)]), kept("other", b"\xe8")
         for pair, status, end in [
@@ -353,7 +341,7 @@ class Messages(PackageCase):
         self.holds("texts are shown", f"{coded}: \u00e9 (" in ecc("compare", plain, coded)[1])
         size = model.SIZE_OF[10, 10]
         modules = model.modules_of(size, model.codewords(size, (236, 232, 66)))  # a macro, and FNC1 as second codeword
-        framed = put(self.room, "a macro", text(bytes(modules[k:k + 10]) for k in range(0, 100, 10)))
+        framed = saved(self.room, "a macro", text(bytes(modules[k:k + 10]) for k in range(0, 100, 10)))
         got = ecc("compare", kept("in ASCII", [*b"[)>\x1e05\x1d", 256, *b"A\x1e\x04"]), framed)
         self.row("symbology identifiers", (got[0], got[1].splitlines()[2:], got[2]),
                  (0, ["their symbology identifiers differ, ]d1 and ]d3, which scanners tell beside what is said",
@@ -394,8 +382,7 @@ class Messages(PackageCase):
             self.row(f"letter {number}, spelled", of_spelling(spelled(items, marks, head), "ascii"), (items, marks,
                                                                                                       head))
             for form in Form:
-                rows = ecc200.write(items, marks=marks, head=head, form=form)
-                reading = explaining.explain(rows).reading
+                reading = explaining.explain(ecc200.write(items, marks=marks, head=head, form=form)).reading
                 self.row(f"letter {number}, {form.name}", reading and (list(reading.items), list(reading.marks),
                                                                        reading.head), (items, marks, head))
 

@@ -10,7 +10,7 @@ import threading
 import time
 
 from tests import corpus
-from tests.python.common import SHARED, TOP, PackageCase, marks, setting
+from tests.python.common import SHARED, VERSION, PackageCase, marks, outcome, saved, setting
 from tests.support import needs
 
 import ecc200
@@ -20,10 +20,7 @@ from ecc200.spelling import spelled
 
 def answer(grid, **more):
     """What a grid says, or the numbers of its refusal."""
-    try:
-        return ecc200.read(grid, **more)
-    except ecc200.Refused as why:
-        return why.code, why.value, why.place
+    return outcome(ecc200.read, grid, **more)
 
 
 def plain_forms(lines):
@@ -112,14 +109,6 @@ class Module(PackageCase):
                            f"{usual}, and not {program[number]}")
 
     def test_strange_grids(self):
-        def refusal(call, grid):
-            try:
-                return call(grid)
-            except ecc200.Refused as why:
-                return why.code, why.value, why.place
-
-        def code(grid):
-            return refusal(ecc200.read, grid)
         shape, size = ecc200.Code.SHAPE, ecc200.Code.SIZE
         rows = ecc200.write(b"123456")
         for name, grid in [("a short row", [*rows[:-1], rows[-1][:-1]]),
@@ -127,7 +116,7 @@ class Module(PackageCase):
                            ("a row of text too short", ["1" * 10, "1" * 9] * 5),
                            ("a line too short", "11\n1\n"), ("99 bytes", bytes(99)), ("three bytes", bytes(3)),
                            ("flat bytes of a rectangle", bytes(12 * 26))]:
-            self.row(name, code(grid), (shape, 0, 0))
+            self.row(name, answer(grid), (shape, 0, 0))
         for name, grid, given in [("no rows", [], (0, 0)), ("no bytes", b"", (0, 0)), ("no text", "", (0, 0)),
                                   ("an empty row", [b""], (1, 0)), ("many empty rows", [b""] * 70_000, (70_000, 0)),
                                   ("one module", [b"\1"], (1, 1)), ("one row", [bytes(65_535)], (1, 65_535)),
@@ -140,9 +129,9 @@ class Module(PackageCase):
                                   ("rows of another size", [bytes(18)] * 10, (10, 18)),
                                   ("a larger square", [bytes(146)] * 146, (146, 146))]:
             for call in (ecc200.read, ecc200.normal, ecc200.inspect):
-                self.row(f"{call.__name__} of {name}", refusal(call, grid), (size, *given))
+                self.row(f"{call.__name__} of {name}", outcome(call, grid), (size, *given))
         if os.sysconf("SC_PHYS_PAGES") > 1 << 22:
-            self.row("rows and columns too many for the library", code([bytes(65_536)] * 65_536),
+            self.row("rows and columns too many for the library", answer([bytes(65_536)] * 65_536),
                      (size, 65_536, 65_536))
         self.raises("other characters", ValueError, "'10x0'", lambda: ecc200.read(["10x0"] * 4))
         self.raises("no grid", TypeError, "", lambda: ecc200.read(7))
@@ -285,9 +274,7 @@ class Module(PackageCase):
         for name, text, lacking in [("has all", good, []), ("has no SSE4.2", good.replace("sse4_2 ", ""), ["sse4_2"]),
                                     ("says nothing", "processor\t: 0\n", []),
                                     ("has none", "flags\t\t: fpu\n", sorted(core._INSTRUCTIONS))]:
-            path = os.path.join(self.room, "cpuinfo")
-            with open(path, "w") as file:
-                file.write(text)
+            path = saved(self.room, "cpuinfo", text)
             self.row(f"a processor that {name}", core._lacking(path), lacking)
             if lacking:
                 self.raises(f"the module on one that {name}", ImportError, "x86-64-v2; this one lacks " + lacking[0],
@@ -298,5 +285,4 @@ class Module(PackageCase):
         with setting(ECC200_SAMPLE_LIBRARY=SHARED):
             self.raises("a library in place of another", core.SamplerMissing,
                         f"{SHARED} is a library, but not ecc200_sample", core._sampler.__wrapped__)
-        with open(os.path.join(TOP, "packaging", "version"), encoding="ascii") as file:
-            self.row("the version", core.version(), file.read().strip())
+        self.row("the version", core.version(), VERSION)

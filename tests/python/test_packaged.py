@@ -6,7 +6,7 @@ import shutil
 import zipfile
 
 from tests import corpus
-from tests.python.common import PACKAGE, PYTHON, SAMPLER, SHARED, TOP, PackageCase, clean, libraries, run
+from tests.python.common import PACKAGE, PYTHON, SAMPLER, SHARED, TOP, VERSION, PackageCase, clean, libraries, run
 from tests.support import needs, places
 from tests.support.glibc import many_linux
 
@@ -77,11 +77,6 @@ print(readings.complete, ended is End.WHOLE, [answer.reading for answer in answe
 """
 
 
-def version():
-    with open(os.path.join(TOP, "packaging", "version"), encoding="ascii") as file:
-        return file.read().strip()
-
-
 def built(folder):
     """The wheel, built from a copy of what is needed, so that nothing of this tree changes."""
     copy = os.path.join(folder, "tree")
@@ -106,8 +101,7 @@ class Packaged(PackageCase):
             status, output, errors = run(words, cwd=PACKAGE)
             self.holds("mypy --strict", status == 0, output + errors)
             path = os.path.join(self.room, "program.py")
-            with open(path, "w", encoding="ascii") as file:
-                file.write(f"from ecc200 import {', '.join(ecc200.__all__)}\n{PROGRAM}")
+            places.wrote(f"from ecc200 import {', '.join(ecc200.__all__)}\n{PROGRAM}", path)
             words += ["--strict", "--follow-imports", "silent", path]  # as of a package that is installed
             status, output, errors = run(words, cwd=self.room, env=clean(MYPYPATH=PACKAGE))
             self.holds("mypy --strict of a program", status == 0, output + errors)
@@ -118,12 +112,10 @@ class Packaged(PackageCase):
             names = archive.namelist()
             for name in ("ecc200/core.py", "ecc200/py.typed", "ecc200/data/gs1_identifiers.txt", "ecc200/command.py"):
                 self.holds(f"the wheel has {name}", name in names, str(names))
-            with open(SHARED, "rb") as file:
-                self.row("its library", archive.read("ecc200/libecc200.so"), file.read())
-            with open(places.MODULE, "rb") as file:
-                self.row("its core is that of the sources", archive.read("ecc200/core.py"), file.read())
-            described = archive.read(f"ecc200-{version()}.dist-info/METADATA").decode()
-        for line in (f"Version: {version()}", "License: MIT OR Apache-2.0"):
+            self.row("its library", archive.read("ecc200/libecc200.so"), places.read(SHARED))
+            self.row("its core is that of the sources", archive.read("ecc200/core.py"), places.read(places.MODULE))
+            described = archive.read(f"ecc200-{VERSION}.dist-info/METADATA").decode()
+        for line in (f"Version: {VERSION}", "License: MIT OR Apache-2.0"):
             self.holds(f"the wheel says {line}", line + "\n" in described, described)
         if os.path.isfile(SAMPLER) and self.has("readelf", "what the sampler needs"):
             needed = re.findall(r"\(NEEDED\).*\[(.*)\]", run(["readelf", "-d", SAMPLER])[1])
@@ -133,10 +125,9 @@ class Packaged(PackageCase):
             self.row("packages that the wheel needs and doesn't name", [it for it in owners if it not in described], [])
             self.holds("they are known", any("libecc200" in name for name in needed), str(needed))
         if self.has("readelf", "what the wheel needs of glibc"):
-            libraries = [it for it in (SHARED, SAMPLER) if os.path.isfile(it)]
-            wanted, foreign = many_linux(libraries, "x86_64")
+            wanted, foreign = many_linux([it for it in (SHARED, SAMPLER) if os.path.isfile(it)], "x86_64")
             self.row("what its libraries need beside glibc", foreign, set())
-            self.row("its name", os.path.basename(wheel), f"ecc200-{version()}-py3-none-{wanted}.whl")
+            self.row("its name", os.path.basename(wheel), f"ecc200-{VERSION}-py3-none-{wanted}.whl")
 
     def installed(self, folder, wheel):
         """An environment without the system's packages, into which the wheel is installed without network."""
@@ -174,7 +165,7 @@ class Packaged(PackageCase):
         status, output, errors = run([*words, python, "-c", USED], env=env, cwd="/")
         self.holds(f"the module {name}", status == 0 and output.strip().startswith(place), output + errors)
         status, output, errors = run([*words, command, "--version"], env=env, cwd="/")
-        self.row(f"the command's version {name}", (status, output, errors), (0, f"ecc200 {version()}\n", ""))
+        self.row(f"the command's version {name}", (status, output, errors), (0, f"ecc200 {VERSION}\n", ""))
         status, grid, errors = run([*words, command, "write", "--gs1", GS1], env=env, cwd="/")
         self.holds(f"the command writes {name}", status == 0 and len(grid.split()) == 20, errors)
         status, output, errors = run([*words, command, "read"], grid.encode(), env=env, cwd="/")

@@ -13,8 +13,7 @@ import ecc200
 class Pages(PackageCase):
     def test_margins(self):
         """A symbol that leaves fewer corrections than are asked for isn't read, however it is found."""
-        if not self.wanted_module("PIL.Image", "Pillow", "margins of corrections"):
-            return
+        self.needed("PIL.Image", "Pillow", "margins of corrections")
         path = os.path.join(self.room, "margin.png")
         ecc200.Symbol(hurt(1)).save(path)
         for name in ("none.so", SAMPLER):
@@ -26,9 +25,7 @@ class Pages(PackageCase):
 
     def test_unlike(self):
         """Each page is read in its own way, and one that can't be keeps none before it from being read."""
-        pillow = self.wanted_module("PIL.Image", "Pillow", "pages that are unlike")
-        if not pillow or not self.has_sampler("pages that are unlike"):
-            return
+        pillow = self.needs_search("pages that are unlike")
         symbols = ecc200.encode(b"large"), ecc200.encode(b"small", module=25.4 / 300), ecc200.Symbol(hurt(5))
         drawn = [pillow.Image.open(io.BytesIO(symbol.png())).convert("L") for symbol in symbols]
         path = os.path.join(self.room, "unlike.tiff")

@@ -25,9 +25,7 @@ LINES = """    print, of this picture, uncalibrated: no verifier's report
 class Quality(PackageCase):
     def marked(self):
         """A picture of a symbol, if all that this needs is there."""
-        is_there = self.wanted_module("PIL.Image", "Pillow", "the quality of print")
-        if not is_there or not self.has_sampler("the quality of print"):
-            self.skipTest("the quality of print")
+        self.needs_search("the quality of print")
         path = os.path.join(self.room, "mark.png")
         ecc200.encode(b"123456").save(path)
         return path

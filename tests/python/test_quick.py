@@ -69,9 +69,7 @@ class Quick(PackageCase):
 
     def test_within_time(self):
         """A picture of 12 million pixels that has no symbol takes its time, and what opening it takes."""
-        pillow = self.wanted_module("PIL.Image", "Pillow", "the time of a large picture")
-        if not pillow:
-            return
+        pillow = self.needed("PIL.Image", "Pillow", "the time of a large picture")
         path = os.path.join(self.room, "noise.bmp")
         pillow.Image.effect_noise((4000, 3000), 90).save(path)
         for name, more in (("", {}), (" without the sampler", {"ECC200_SAMPLE_LIBRARY": "/none"})):

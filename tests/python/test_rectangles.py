@@ -7,10 +7,10 @@ import re
 
 from tests.python.common import PYTHON, WORDS, PackageCase, ecc, environment, run
 from tests.python.test_batches import saved
-from tests.python.test_drawings import pixels
+from tests.python.test_drawings import laid, pixels
 from tests.python.test_labels import of_blocks
 from tests.python.test_sizes import KINDS, SIZES, changed, filling, marked
-from tests.python.test_surface import text, turned
+from tests.python.test_surface import otherwise, text, turned
 from tests.support import needs
 
 import ecc200
@@ -135,18 +135,9 @@ class Rectangles(PackageCase):
         for size in ((8, 18), (12, 36), (26, 64), (144, 144)):
             message = b"Rect" if size == (8, 18) else b"Mitsubadoor"
             rows = ecc200.write(message, size=size)
-            left, over = turned(rows), turned(turned(rows))
             for name, grid, part in [
-                ("left", left, "is turned to the left by a quarter"), ("over", over, "is upside down"),
-                ("right", turned(over), "is turned to the right by a quarter"),
-                ("mirrored", [row[::-1] for row in rows], "is mirrored"),
+                *otherwise(rows), ("high", [row for row in rows for _ in "abc"], "has 1 by 3 characters"),
                 ("mirrored and turned", turned([row[::-1] for row in rows]), "is mirrored and is turned"),
-                ("inverted", [bytes(1 - module for module in row) for row in rows], "is light on dark"),
-                ("twice as large", [bytes(module for module in row for _ in "ab") for row in rows for _ in "ab"],
-                 "has 2 by 2 characters"),
-                ("high", [row for row in rows for _ in "abc"], "has 1 by 3 characters"),
-                ("a margin", [bytes(size[1] + 3), *(b"\0" + row + b"\0\0" for row in rows), bytes(size[1] + 3)],
-                 "has a light margin"),
             ]:
                 self.says(f"{name}, {size}", ecc("read", given=text(grid)), 1, "\\no\n", [part, "--any-way"])
                 self.says(f"{name}, {size}, --any-way", ecc("read --any-way", given=text(grid)),
@@ -208,8 +199,7 @@ class Rectangles(PackageCase):
         for size in ((8, 18), (8, 144), (26, 40), (144, 144)):
             rows = ecc200.write(b"Rect", size=size)
             for dots, quiet in ((1, 0), (3, 1), (4, 2)):
-                page = drawing.alone(rows, dots * 25.4 / 300, quiet)
-                width, height, found, _ = pixels(drawing.png(page, 300))
+                width, height, found, _ = pixels(drawing.png(drawing.alone(rows, dots * 25.4 / 300, quiet), 300))
                 self.row(f"a PNG of {size} at {dots}", (height, width), tuple((count + 2 * quiet) * dots
                                                                                for count in size))
                 modules = [bytes(1 - row[x * dots + dots // 2] for x in range(quiet, quiet + size[1]))
@@ -251,25 +241,15 @@ class Rectangles(PackageCase):
                    if 4 < ecc200.sizes()[number].data_codewords]
         for caption in ([], ["SN-0001"], ["W" * 50]):
             for page in drawing.sheets(symbols, 0.5, 2, captions=[caption] * len(symbols)):
-                boxes = [(cell.left - 1, cell.top - 1, cell.left + len(cell.rows[0]) / 2 + 1,
-                          cell.top + len(cell.rows) / 2 + 1) for cell in page.cells]
-                boxes += [(line.left, line.top, line.left + (len(line.text) * 6 - 1) * 0.25, line.top + 2.5)
-                          for line in page.lines]
-                apart = all(a[2] <= b[0] + 1e-6 or b[2] <= a[0] + 1e-6 or a[3] <= b[1] + 1e-6 or b[3] <= a[1] + 1e-6
-                            for at, a in enumerate(boxes) for b in boxes[:at])
-                inside = all(box[0] >= 10 - 1e-6 and box[2] <= 200 + 1e-6 and box[3] <= 287 + 1e-6 for box in boxes)
-                self.holds(f"nothing overlaps, {caption}", apart and inside, str(boxes))
+                self.row(f"nothing overlaps, {caption}", laid(page), (True, True))
         self.raises("a rectangle wider than a sheet", ValueError, "74.0 by 6.0 mm doesn't fit",
                     lambda: drawing.sheets([ecc200.write(b"A", size=(8, 144))], 0.5, 2, (90.0, 90.0)))
-        lines = "".join(f"lot {number}\n" for number in range(12))
         self.says("a sheet", self.ecc("write --shape rectangle --sheet 100x60 --caption -o sheet.png",
-                                 given=lines), output="")
+                                 given="".join(f"lot {number}\n" for number in range(12))), output="")
 
     def test_found(self):
         """Rectangles and large squares in pictures, where the sampler finds them: by the package and by the command."""
-        what = "rectangles in pictures"
-        if not self.wanted_module("PIL.Image", "Pillow", what) or not self.has_sampler(what):
-            return
+        self.needs_search("rectangles in pictures")
         here = self.made("found")
         for size in SIZES:
             path, data = os.path.join(here, f"{named(size)}.png"), filling(size)
@@ -287,10 +267,7 @@ class Rectangles(PackageCase):
 
     def test_found_in_doubt(self):
         """A symbol in a picture that is read without the modules below a blot, by each subcommand."""
-        what = "a blot in a picture"
-        image = self.wanted_module("PIL.Image", "Pillow", what)
-        if not image or not self.has_sampler(what):
-            return
+        image = self.needs_search("a blot in a picture")
         here, size, message, dots = self.made("blot"), (16, 48), b"Mitsubadoor-0123456789-ABCDEFGH", 6
         picture = image.Image.open(io.BytesIO(ecc200.encode(message, size=size, quiet=4).png())).convert("L")
         for column in range(31 * dots, 43 * dots):  # twelve by twelve modules, the corners left out
@@ -320,8 +297,7 @@ class Rectangles(PackageCase):
 
     def test_without_sampler(self):
         """Pictures of rectangles with a whole number of pixels a module are read without the sampler."""
-        if not self.wanted_module("PIL.Image", "Pillow", "pictures of rectangles"):
-            return
+        self.needed("PIL.Image", "Pillow", "pictures of rectangles")
         here = self.made("without")
         env = {**environment(), "ECC200_SAMPLE_LIBRARY": os.path.join(here, "none.so")}
         for size, dots in (((8, 18), 1), ((8, 120), 2), ((26, 48), 5), ((144, 144), 3)):

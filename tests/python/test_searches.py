@@ -9,7 +9,7 @@ import re
 
 from tests.python.common import PackageCase, ecc
 from tests.python.test_surface import hurt, text
-from tests.support import needs
+from tests.support import needs, places
 
 import ecc200
 from ecc200 import core
@@ -28,8 +28,7 @@ def sheet(folder, count, *more):
 def gap(folder, *more):
     """How many modules stand between two symbols on a sheet."""
     ecc("write --sheet -o two.svg", *more, "A", "B", folder=folder)
-    with open(os.path.join(folder, "two.svg"), encoding="ascii") as file:
-        lefts = [float(left) for left in re.findall(r"translate\(([0-9.]+) ", file.read())]
+    lefts = [float(left) for left in re.findall(r"translate\(([0-9.]+) ", places.text_of(folder, "two.svg"))]
     return (lefts[1] - lefts[0]) / 0.5 - len(ecc200.write(b"A"))
 
 
@@ -43,8 +42,7 @@ def pixels(rows, scale, dark=30, light=200, quiet=3):
 def of_rows(folder, name, rows):
     """A picture of these luminances, as a file."""
     from PIL import Image
-    picture = Image.frombytes("L", (len(rows[0]), len(rows)), b"".join(map(bytes, rows)))
-    picture.save(os.path.join(folder, name))
+    Image.frombytes("L", (len(rows[0]), len(rows)), b"".join(map(bytes, rows))).save(os.path.join(folder, name))
     return name
 
 
@@ -72,14 +70,9 @@ def beside_one_another(folder, name, symbols):
 
 @needs.library
 class Searches(PackageCase):
-    def is_possible(self, what):
-        """Whether pictures can be searched here."""
-        return bool(self.wanted_module("PIL.Image", "Pillow", what)) and self.has_sampler(what)
-
     def test_early(self):
         """A search that ends early says so, by a status of its own, a line and JSON; and no other does."""
-        if not self.is_possible("searches that end early"):
-            return
+        self.needs_search("searches that end early")
         here = self.made("early")
         name, messages = sheet(here, 12)
         rows = [("all", ("--all", ), 0, 12, None), ("more than there are", ("--most", "13"), 0, 12, None),
@@ -108,9 +101,7 @@ class Searches(PackageCase):
 
     def test_out_of_time(self):
         """The end of the time is said, whether something was found or not, and on which page."""
-        if not self.is_possible("searches whose time is over"):
-            return
-        from PIL import Image
+        Image = self.needs_search("searches whose time is over").Image
         here = self.made("time")
         noise = Image.effect_noise((3000, 3000), 90)
         noise.save(os.path.join(here, "noise.png"))
@@ -126,8 +117,7 @@ class Searches(PackageCase):
         self.row("the usual work in Python", (ecc200.decode(noise), ecc200.decode(noise).ended), ([], core.End.WORK))
         Image.new("L", (60, 60), 255).save(os.path.join(here, "white.png"))
         self.says("nothing in all of a picture", self.ecc("read white.png"), 1, "", ["no Data Matrix symbol"])
-        told = json.loads(self.ecc("read --json white.png")[1])
-        self.row("it is complete in JSON", told.get("complete", True), True)
+        self.row("it is complete in JSON", json.loads(self.ecc("read --json white.png")[1]).get("complete", True), True)
         ecc200.encode(b"one", quiet=4).save(os.path.join(here, "one.png"))
         with Image.open(os.path.join(here, "one.png")) as one:
             one.convert("L").save(os.path.join(here, "pages.tif"), save_all=True, append_images=[noise.copy()])
@@ -145,8 +135,7 @@ class Searches(PackageCase):
         """The lists of decode and find say why the search ended."""
         self.row("a grid is complete", (ecc200.decode(ecc200.write(b"A")).complete, ecc200.decode([b"\1"]).complete),
                  (True, True))
-        if not self.is_possible("searches by Python that end early"):
-            return
+        self.needs_search("searches by Python that end early")
         here = self.made("python")
         path, messages = sheet(here, 70)
         path = os.path.join(here, path)
@@ -182,8 +171,7 @@ class Searches(PackageCase):
         here = self.made("sheets")
         gaps = [gap(here, *words) for words in ((), ("--quiet-zone", "1"), ("--quiet-zone", "2"))]
         self.row("modules between symbols", gaps, [8, 2, 4])
-        if not self.is_possible("sheets of labels"):
-            return
+        self.needs_search("sheets of labels")
         for count in (10, 50, 100, 200, 400):
             name, messages = sheet(here, count)
             status, read, errors = self.ecc("read --all --time", str(LONG), name)
@@ -193,12 +181,10 @@ class Searches(PackageCase):
     def test_handed_on(self):
         """What the sampler read is what is said, with the border limit and the doubtful modules by which it was
         read."""
-        if not self.is_possible("readings of pictures"):
-            return
+        self.needs_search("readings of pictures")
         here, message = self.made("handed"), b"M" * 62
         border = of_rows(here, "border.png", pixels(frayed(message, 16), 6))
-        glare = of_rows(here, "glare.png", in_glare(message))
-        for name in (border, glare):
+        for name in (border, of_rows(here, "glare.png", in_glare(message))):
             found, = ecc200.find(os.path.join(here, name), most=1, milliseconds=20_000)
             self.row(f"found, {name}", found.answer.data, message)
             usual = found.answer.border_faults <= ecc200.usual_limit(*found.answer.size) and not found.doubtful
@@ -239,8 +225,7 @@ class Searches(PackageCase):
         grids = text(ecc200.write(b"A")) + text(damaged)
         self.row("of two grids", [isinstance(each, ecc200.Reading) for each in ecc200.decode(grids, unread=True)],
                  [True, False])
-        if not self.is_possible("symbols that are found and not read"):
-            return
+        self.needs_search("symbols that are found and not read")
         here = self.made("unread")
         name = beside_one_another(here, "three.png", [ecc200.write(b"123456"), damaged, ecc200.write(b"A")])
         path, words = os.path.join(here, name), ("--time", "20000", name)
@@ -262,8 +247,7 @@ class Searches(PackageCase):
         several = beside_one_another(here, "several.png", [damaged, ecc200.write(b"123456"), damaged, damaged])
         got = self.ecc("read --all --unread --time 20000", several)
         self.row("several that aren't read", (got[:2], got[2].count("block 1")), ((1, "123456\n"), 3))
-        got = self.ecc("read --all --time 20000", several)
-        self.says("without --unread", got, output="123456\n")
+        self.says("without --unread", self.ecc("read --all --time 20000", several), output="123456\n")
         alone = beside_one_another(here, "alone.png", [damaged])
         self.row("decode says why nothing is read",
                  [each.code for each in ecc200.decode(os.path.join(here, alone), unread=True)], [ecc200.Code.BLOCK])
@@ -271,8 +255,7 @@ class Searches(PackageCase):
 
     def test_unsure(self):
         """What leaves too few corrections isn't read, and says what it may be."""
-        if not self.is_possible("symbols that leave few corrections"):
-            return
+        self.needs_search("symbols that leave few corrections")
         here = self.made("unsure")
         name = beside_one_another(here, "one.png", [hurt(1)])
         found = ecc200.find(os.path.join(here, name), milliseconds=20_000, margin=2, unread=True)

@@ -6,7 +6,7 @@ import pickle
 import subprocess
 
 from tests import corpus
-from tests.python.common import PackageCase, run
+from tests.python.common import PackageCase, outcome, run
 from tests.support import needs, places as files
 
 import ecc200
@@ -20,14 +20,6 @@ KINDS = {Shape.SQUARE: lambda size: size.rows == size.columns,
          Shape.RECTANGLE: lambda size: size.rows != size.columns and not size.extension,
          Shape.EXTENDED: lambda size: size.rows != size.columns, Shape.ANY: lambda size: True}
 ZXING = "/usr/share/java/core.jar"
-
-
-def outcome(call, *given, **more):
-    """What a call gives, or the numbers of its refusal."""
-    try:
-        return call(*given, **more)
-    except ecc200.Refused as why:
-        return why.code, why.value, why.place
 
 
 def answer(grid, **more):
@@ -299,9 +291,8 @@ class Sizes(PackageCase):
                  "booleans": [list(map(bool, row)) for row in marks],
                  "255": [row.replace(b"\1", b"\xff") for row in marks], "a tuple": tuple(marks),
                  "a view": memoryview(flat).cast("B", size), "a symbol": ecc200.Symbol(marks)}
-        numpy, image = self.wanted_module("numpy", "numpy", "doubt in arrays"), self.wanted_module("PIL.Image",
-                                                                                                   "Pillow",
-                                                                                                   "doubt in pictures")
+        numpy = self.wanted_module("numpy", "numpy", "doubt in arrays")
+        image = self.wanted_module("PIL.Image", "Pillow", "doubt in pictures")
         if numpy:
             table = numpy.array([list(row) for row in marks])
             given.update({"an array": table, "booleans of an array": table > 0, "floats": table * 0.25,
@@ -345,13 +336,10 @@ class Sizes(PackageCase):
 
     def test_from_others(self):
         """What zint makes by its own choice, and what it and libdmtx make in a size that is asked for, is read."""
-        image = self.wanted_module("PIL.Image", "Pillow", "symbols of others")
-        if not image:
-            return
+        image = self.needed("PIL.Image", "Pillow", "symbols of others")
         path = os.path.join(self.room, "other.png")
         for number, size in enumerate(SIZES):
-            with_zint = self.has("zint", "symbols of zint in each size")
-            if with_zint:
+            if self.has("zint", "symbols of zint in each size"):
                 versions = [size for size in SIZES if size[0] == size[1]], [size for size in SIZES if size[0] != size[1]
                                                                             and size not in EXTENSION]
                 order = [*versions[0], *versions[1]]

@@ -3,8 +3,8 @@ import json
 import os
 
 from tests import corpus
-from tests.python.common import SAMPLER, TOP, WORDS, PackageCase, ecc, environment, marks, run
-from tests.support import needs
+from tests.python.common import SAMPLER, VERSION, WORDS, PackageCase, ecc, environment, marks, run
+from tests.support import needs, places
 
 import ecc200
 from ecc200 import advice
@@ -17,13 +17,6 @@ def text(rows):
 def smallest(message, gs1=False):
     """The grid of the smallest symbol of a message, as `ecc200 write` writes it."""
     return text(ecc200.write(message, gs1, form=ecc200.Form.SMALLEST))
-
-
-def says(name, got, status=0, output=None, errors=None):
-    """That a run has this status, this output, and errors that have each of these parts."""
-    has_output = output is None or got[1] == output
-    has_errors = not got[2] if errors is None else all(part in got[2] for part in errors)
-    return name, None if got[0] == status and has_output and has_errors else f"{got!r}"
 
 
 def edifact():
@@ -51,14 +44,25 @@ def turned(rows):
     return [bytes(column) for column in zip(*rows)][::-1]
 
 
+def otherwise(rows):
+    """Ways in which a grid may stand, each with its name, that grid, and words by which it is named."""
+    left, over, margin = turned(rows), turned(turned(rows)), bytes(len(rows[0]) + 3)
+    return [("left", left, "is turned to the left by a quarter"), ("over", over, "is upside down"),
+            ("right", turned(over), "is turned to the right by a quarter"),
+            ("mirrored", [row[::-1] for row in rows], "is mirrored"),
+            ("inverted", [bytes(1 - module for module in row) for row in rows], "is light on dark"),
+            ("twice as large", [bytes(module for module in row for _ in "ab") for row in rows for _ in "ab"],
+             "has 2 by 2 characters"),
+            ("a margin", [margin, *(b"\0" + row + b"\0\0" for row in rows), margin], "has a light margin")]
+
+
 @needs.library
 class Surface(PackageCase):
     def test_usage(self):
         status, output, _ = ecc("--help")
         commands = ("read", "write", "join", "check", "normal", "compare", "explain", "sizes")
         self.holds("--help", status == 0 and all(command in output for command in commands), output)
-        with open(os.path.join(TOP, "packaging", "version"), encoding="ascii") as file:
-            self.says("--version", ecc("--version"), output=f"ecc200 {file.read().strip()}\n")
+        self.says("--version", ecc("--version"), output=f"ecc200 {VERSION}\n")
         for command in commands:
             status, output, _ = ecc(command, "--help")
             self.holds(f"{command} --help", status == 0 and "Status: 0" in output, output)
@@ -104,8 +108,7 @@ class Surface(PackageCase):
                   output="10x10, 0 border modules wrong, codewords corrected in each block: 0 (at most 2)\n")
         self.row("check --json", json.loads(ecc("check --json", given=good)[1])["corrected"], [0])
         self.says("normal", ecc("normal", given=good + other), output=good + other)
-        binary = text(ecc200.write(b"\x80" * 3))
-        self.says("normal --shorter", ecc("normal --shorter", given=binary),
+        self.says("normal --shorter", ecc("normal --shorter", given=text(ecc200.write(b"\x80" * 3))),
                   output=text(ecc200.write(b"\x80" * 3, profile=1)))
         squares = corpus.marks("squares")
         status, output, _ = ecc("read --escapes --usual", given=corpus.grids(squares))
@@ -170,17 +173,9 @@ class Surface(PackageCase):
         for message in (b"123456", b"Mitsubadoor" * 9):
             rows = ecc200.write(message)
             side = len(rows)
-            left, over = turned(rows), turned(turned(rows))
             for name, grid, part in [
-                ("left", left, "is turned to the left by a quarter"), ("over", over, "is upside down"),
-                ("right", turned(over), "is turned to the right by a quarter"),
-                ("mirrored", [row[::-1] for row in rows], "is mirrored"),
-                ("inverted", [bytes(1 - module for module in row) for row in rows], "is light on dark"),
-                ("twice as large", [bytes(module for module in row for _ in "ab") for row in rows for _ in "ab"],
-                 "has 2 by 2 characters"),
+                *otherwise(rows),
                 ("wide", [bytes(module for module in row for _ in "abc") for row in rows], "has 3 by 1 characters"),
-                ("a margin", [bytes(side + 3), *(b"\0" + row + b"\0\0" for row in rows), bytes(side + 3)],
-                 "has a light margin"),
                 ("large, with a margin, mirrored",
                  [bytes(2 * side + 2)] + [b"\0" + bytes(module for module in row[::-1] for _ in "ab") + b"\0"
                                           for row in rows for _ in "ab"],
@@ -257,8 +252,7 @@ class Surface(PackageCase):
         for kind, start in (("svg", b"<svg "), ("pdf", b"%PDF-"), ("txt", b"1010")):
             path = os.path.join(self.room, f"label.{kind}")
             self.says(f"-o label.{kind}", ecc("write 123456 -o", path), output="")
-            with open(path, "rb") as file:
-                self.row(f"label.{kind}", file.read(len(start)), start)
+            self.row(f"label.{kind}", places.read(path)[:len(start)], start)
         lines = "".join(f"line {number}\n" for number in range(12))
         self.says("numbered files", ecc("write -o", os.path.join(self.room, "many.png"), given=lines), output="")
         names = [os.path.join(self.room, f"many-{number:02}.png") for number in range(1, 13)]
@@ -291,8 +285,7 @@ class Surface(PackageCase):
                 run(["zint", "-b", "71", "--square", "-o", path, *words])
                 self.says(f"zint's {part}", ecc("read", path), output=said + "\n")
                 self.says(f"zint's {part}, --usual", ecc("read --usual", path), 1, "", [part])
-        with open(os.path.join(self.room, "broken.png"), "wb") as file:
-            file.write(b"\x89PNG\r\n\x1a\nrubbish")
+        places.wrote(b"\x89PNG\r\n\x1a\nrubbish", self.room, "broken.png")
         self.says("a broken picture", ecc("read", os.path.join(self.room, "broken.png")), 2, "",
                   ["broken.png", "can't be opened" if pillow else "Pillow"])
         self.says("a folder that isn't there", ecc("write A -o", os.path.join(self.room, "none", "a.png")), 2, "",
@@ -300,9 +293,7 @@ class Surface(PackageCase):
 
     def test_named_alike(self):
         """The sampler's program and the command have the same names for the same things, in options and in JSON."""
-        what = "one name for one thing"
-        if not self.has_sampler(what) or not self.wanted_module("PIL.Image", "Pillow", what):
-            return
+        self.needs_search("one name for one thing")
         path, rows = os.path.join(self.room, "alike.png"), [bytearray(row) for row in hurt(1)]
         rows[0][1] ^= 1  # a module of the border
         ecc200.Symbol(rows, quiet=4).save(path)

@@ -136,9 +136,7 @@ class Tables(PackageCase):
         for words in (("--elements", "01"), ("--bom", )):
             self.says(f"{words} alone", ecc("read", *words), 2, "", ["it needs --csv"])
         self.says("no identifiers", ecc("read --csv --elements 01,colour"), 2, "", ["unlike 'colour'"])
-        what = "corners in a table"
-        if not self.wanted_module("PIL.Image", "Pillow", what) or not self.has_sampler(what):
-            return
+        self.needs_search("corners in a table")
         self.ecc("write --sheet 100x60 -o sheet.png", given="A\nB\nC\n")
         rows = parsed(self.ecc("read --csv --all sheet.png")[1])
         self.row("in reading order", [row[1:3] for row in rows[1:]], [["1", "A"], ["2", "B"], ["3", "C"]])

@@ -10,7 +10,7 @@ import re
 
 from tests import corpus
 from tests.python.common import PYTHON, TOP, PackageCase, run
-from tests.support import needs
+from tests.support import needs, places
 
 import ecc200
 from ecc200 import Code, Extent, Form, Profile, Shape, charsets, core, gs1
@@ -210,10 +210,9 @@ class Texts(PackageCase):
             for text, got in zip(wanted, said_by_zxing(symbols, self.room)):
                 self.row(f"zxing-cpp, {text!r}", got, text)
 
+    @needs.programs("ZXingReader")
     def test_alike(self):
         """zxing-cpp reads each character of each charset in which text that ISO/IEC 8859-1 hasn't is written."""
-        if not self.has("ZXingReader", "characters that zxing-cpp reads"):
-            return
         letters = [chr(code) for code in (*range(32, 127), *range(160, 0xD800), *range(0xE000, 0x10000))]
         symbols, wanted = [], []
         for number in sorted(core._ALIKE):
@@ -243,8 +242,7 @@ class Texts(PackageCase):
         if self.has("zint", "texts that zint writes"):
             path = os.path.join(self.room, "text")
             for text in beyond:
-                with open(path, "w", encoding="utf-8") as file:
-                    file.write(text)
+                places.wrote(text, path)
                 rows = run(["zint", "-b", "71", "--square", "--dump", "-i", path])[1].splitlines()
                 side = ecc200.encode(text).side
                 self.holds(f"no larger than zint's, {text!r}", side <= len(rows) > 9, f"{side} and {len(rows)}")
@@ -273,8 +271,7 @@ class Texts(PackageCase):
 
     def test_pictured(self):
         """Texts in pictures."""
-        if not self.has_sampler("texts in pictures"):
-            return
+        self.needs_search("texts in pictures")
         path = os.path.join(self.room, "text.png")
         for script, text in dict(corpus.texts()).items():
             ecc200.encode(text, quiet=4).save(path)
@@ -347,8 +344,7 @@ class Texts(PackageCase):
         got = ecc200.join(cut)
         self.row("letters that are cut", (got.text, got.charset, got.marks, got.data),
                  ("\u041f\u65e5\u672c\u041f", "utf-8, windows-1251", ((0, 26), (8, 22)), data + b"\xcf"))
-        elements = [part(1, 2, [256, *b"10A"]), part(2, 2, [256, *b"21B"])]
-        got = ecc200.join(elements)
+        got = ecc200.join([part(1, 2, [256, *b"10A"]), part(2, 2, [256, *b"21B"])])
         self.row("GS1 data", (got.gs1, got.data, got.items[0], gs1.text(gs1.split(got.data))),
                  (True, b"10A\x1d21B", 256, "(10)A(21)B"))
         binary = ecc200.join([part(1, 2, b"A", marks=[(0, 899)]), part(2, 2, b"B")])

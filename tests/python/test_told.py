@@ -139,9 +139,7 @@ class Told(PackageCase):
 
     def test_others(self):
         """Of a sheet the first symbol is read, and that there are more is said."""
-        what = "sheets of which one symbol is read"
-        if not self.has_sampler(what) or not self.wanted_module("PIL.Image", "Pillow", what):
-            return
+        self.needs_search("sheets of which one symbol is read")
         self.made("others")
         for count in (1, 6):
             self.ecc("write --sheet 100x60 -o", f"{count}.png", given="".join(f"SN-{it}\n" for it in range(count)))
@@ -192,8 +190,7 @@ class Told(PackageCase):
         saved(here, "b.txt", symbols(b"B"))
         got = self.ecc("read a.txt b.txt")
         self.row("with names", got[1].splitlines()[1::5], ["a.txt:\\no", "b.txt:B"][:1] + ["b.txt:B"])
-        normal = ecc("normal", given=given)
-        self.row("normal, and read", ecc("read", given=normal[1])[1], ecc("read", given=given)[1])
+        self.row("normal, and read", ecc("read", given=ecc("normal", given=given)[1])[1], ecc("read", given=given)[1])
         self.says("none of it in a file", self.ecc("normal -o none.txt", given=text(hurt(5))), 1, "", ["symbol 1"])
         self.holds("there is none", not os.path.exists(os.path.join(here, "none.txt")))
 

@@ -49,9 +49,7 @@ class Wanted(PackageCase):
 
     def test_rows_of_numbers(self):
         """numpy makes numbers of the rows of symbols, all of them."""
-        numpy = self.wanted_module("numpy", "numpy", "rows as numbers of numpy")
-        if not numpy:
-            return
+        numpy = self.needed("numpy", "numpy", "rows as numbers of numpy")
         symbol = ecc200.encode(b"LOT 7", size=(8, 32))
         for name, rows in {"encode": symbol.rows, "write": ecc200.write(b"A"), "normal": ecc200.normal(symbol.rows),
                            "a symbol of rows": ecc200.Symbol([b"\1\0", b"\0\0"]).rows}.items():
@@ -65,10 +63,8 @@ class Wanted(PackageCase):
 
     def test_depths(self):
         """Pictures of 16 and 32 bits and of floats are read as those of 8 bits are."""
-        pillow, numpy = (self.wanted_module(*names, "pictures of other depths") for names in (("PIL.Image", "Pillow"),
-                                                                                       ("numpy", "numpy")))
-        if not pillow or not numpy:
-            return
+        pillow = self.needed("PIL.Image", "Pillow", "pictures of other depths")
+        numpy = self.needed("numpy", "numpy", "pictures of other depths")
         grey = numpy.array(ecc200.encode(b"16 bits"))
         grey = grey.repeat(5, 0).repeat(5, 1)
         full, camera = grey.astype(numpy.uint16) * 257, grey.astype(numpy.uint16) * 16  # 12 bits of a camera's

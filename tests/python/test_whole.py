@@ -6,7 +6,7 @@ import stat
 
 from tests.python.common import PYTHON, PackageCase, ecc, environment, run
 from tests.python.test_batches import saved, shell, symbols
-from tests.support import needs
+from tests.support import needs, places
 
 import ecc200
 from ecc200 import drawing
@@ -17,8 +17,7 @@ DEEP = "gjpqy"
 def rendered(folder, kind, page):
     """How many dark pixels another program draws of a page."""
     path = os.path.join(folder, f"page.{kind}")
-    with open(path, "wb") as file:
-        file.write(drawing.svg(page) if kind == "svg" else drawing.pdf([page]))
+    places.wrote(drawing.svg(page) if kind == "svg" else drawing.pdf([page]), path)
     words = {"svg": ["rsvg-convert", "-d", "300", "-p", "300", "-o", f"{path}.png", path],
              "pdf": ["pdftoppm", "-r", "300", "-gray", "-png", "-singlefile", path, path]}[kind]
     run(words)
@@ -118,8 +117,7 @@ class Whole(PackageCase):
     def test_blank_lines(self):
         """Blank lines of a batch are named, and are symbols of nothing only where that is asked for."""
         here = self.made("blank")
-        lines = "A\n\n \t\r\nB\n"
-        got = self.ecc("write -o lot.svg", given=lines)
+        got = self.ecc("write -o lot.svg", given="A\n\n \t\r\nB\n")
         self.says("blank lines", got, 1, "", ["line 2: it is blank", "line 3: it is blank", "--blank"])
         self.row("files by line", sorted(os.listdir(here)), ["lot-1.svg", "lot-4.svg"])
         self.says("as grids", ecc("write", given="\nA\n"), 1, symbols(b"A"), ["line 1: it is blank"])

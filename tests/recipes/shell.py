@@ -92,8 +92,7 @@ class Shell(Case):
 
     def put(self, name, content):
         """Writes a file of the folder."""
-        with open(os.path.join(self.room, name), "wb") as file:
-            file.write(content)
+        places.wrote(content, self.room, name)
 
     def needs_of(self, command):
         """Skips the row or the case where something that a command needs isn't installed."""

@@ -2,7 +2,7 @@
 import os
 
 from tests.recipes.shell import Shell
-from tests.support import needs
+from tests.support import needs, places
 
 # What dm_same is called with, and its status: of files that hold the grids named, and hostile ones.
 SAME = [("g g", 0), ("g h", 1), ("h g", 1), ("g gs", 0), ("high shorter", 0), ("damaged g", 0), ("g damaged", 0),
@@ -61,8 +61,7 @@ class Comparing(Shell):
     def test_programs_that_stand_for_dm_tool_and_fail(self):
         fake = os.path.join(self.folder(), "dm_tool")
         for body, status in FAKES.items():
-            with open(fake, "w", encoding="utf-8") as file:
-                file.write(f"#!/bin/sh\n{body}\n")
+            places.wrote(f"#!/bin/sh\n{body}\n", fake)
             os.chmod(fake, 0o755)
             self.row(body, self.run_here(f'PATH="{os.path.dirname(fake)}:$PATH"; dm_same g g')[0], status)
 

@@ -28,8 +28,7 @@ class Recipes(Shell):
                     self.skipTest(reason)
                 return
             if told and not line.startswith(" "):
-                shown = self.run_here(f"{{ :{before}\n}} > before.txt 2>&1; {command}")[1]
-                self.row(command, shown, told.strip())
+                self.row(command, self.run_here(f"{{ :{before}\n}} > before.txt 2>&1; {command}")[1], told.strip())
             before += "\n" + command
         self.row(f"the end of {name}", self.run_here(before)[0], 0)
 

@@ -75,8 +75,7 @@ class Again:
     def test_bound_dots(self):
         """Dots as zint draws them at its smallest, with binding bars: of three pixels and of one."""
         cross = [[LIGHT, DARK, LIGHT], [DARK, DARK + 9, DARK], [LIGHT, DARK, LIGHT]]
-        point = [[LIGHT, LIGHT], [LIGHT, DARK]]
-        for name, module in (("three pixels", cross), ("a pixel", point)):
+        for name, module in (("three pixels", cross), ("a pixel", [[LIGHT, LIGHT], [LIGHT, DARK]])):
             for message in ("AB", "12345678", "Hello world 123"):
                 said = messages(self.sampler, bound(grid_of(message), module, 1))
                 self.row(f"dots of {name}: {message}", said, ([message], 0))

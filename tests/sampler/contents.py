@@ -135,8 +135,7 @@ class Contents:
             self.row(f"{content} is no record", (done.returncode, done.stdout, done.stderr.decode()), (1, b"", named))
             above, below = pixels_of(modules), pixels_of(square)
             wide = max(len(above[0]), len(below[0]))
-            both = [row + [230] * (wide - len(row)) for row in above + below]
-            done = run([self.sampler, "--all"], pgm(both))
+            done = run([self.sampler, "--all"], pgm([row + [230] * (wide - len(row)) for row in above + below]))
             self.row(f"{content} above a message", (done.returncode, done.stdout.decode(), done.stderr.decode()),
                      (1, record(square), named))
 

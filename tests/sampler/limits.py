@@ -35,8 +35,7 @@ class Limits:
         chance = random.Random(5)
         seeds = sorted(name for name in os.listdir(self.room) if name.endswith((".png", ".jpg", ".pgm")))
         for round_of in range(2 * len(seeds)):
-            with open(os.path.join(self.room, seeds[round_of % len(seeds)]), "rb") as file:
-                text = bytearray(file.read())
+            text = bytearray(places.read(self.room, seeds[round_of % len(seeds)]))
             if round_of % 3 == 0:
                 del text[chance.randrange(len(text)):]
             for _ in range(chance.randint(1, 6)):

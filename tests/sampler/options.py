@@ -28,8 +28,7 @@ def spoilt_jpegs(folder):
     path = os.path.join(folder, "progressive.jpg")
     if not os.path.isfile(path):
         return []
-    with open(path, "rb") as file:
-        text = file.read()
+    text = places.read(path)
     frame = text.index(b"\xff\xc2")
     means = re.search(rb"\xff\xda.{8,10}?\x00\x00\x10(?:[^\xff]|\xff\x00)*", text,
                       re.DOTALL)  # the scan with the last bits of means
@@ -46,8 +45,7 @@ class Options:
         other = grid_of("SECOND")
         pair = [a + b for a, b in zip(pixels_of(grid) + [[230] * 64] * 8, pixels_of(other))]
         for name, rows in ((path, pixels_of(grid)), (two, pair)):
-            with open(name, "wb") as file:
-                file.write(pgm(rows))
+            places.wrote(pgm(rows), name)
         self.row("--all", sorted(run([self.sampler, "--all", two]).stdout.decode().split("\n\n")[:-1]),
                  sorted([record(grid)[:-2], record(other)[:-2]]))
         self.row("without --all", run([self.sampler, two]).stdout.decode() in (record(grid), record(other)), True)
@@ -100,8 +98,7 @@ class Options:
 
     def test_early(self):
         """A search that ends early says so, once, and one that doesn't, doesn't."""
-        grid = grid_of("123456")
-        picture = pgm(pixels_of(grid))
+        picture = pgm(pixels_of(grid_of("123456")))
         ended = b"dm_sample: -: the search ended early, after 0 milliseconds: there may be a symbol\n"
         for words, status, said in ((["--all", "--time=30000"], 0, b""), (["--time=30000"], 0, b""),
                                     (["--time=0"], 4, ended)):
@@ -146,8 +143,7 @@ class Options:
         """Each bad file is named with what is wrong, and the next goes on."""
         good = os.path.join(self.room, "good.pgm")
         grid = grid_of("GOOD")
-        with open(good, "wb") as file:
-            file.write(pgm(pixels_of(grid)))
+        places.wrote(pgm(pixels_of(grid)), good)
         cases = {b"": "an empty file", b"hello": "neither PNG, JPEG nor PNM", b"P7\n": "neither", b"P5": "neither",
                  b"P5 ": "a faulty header", b"P5 x 2 255\n": "a faulty header", b"P5 2 2 0\n....": "a faulty header",
                  b"P5 2 2 70000\n....": "a faulty header", b"P5 2 2 255\n...": "cut short",
@@ -159,8 +155,7 @@ class Options:
                  b"\xff\xd8\xff\xe0" + b"junk" * 9: "JPEG: "}
         for text, wanted in cases.items():
             bad = os.path.join(self.room, "bad")
-            with open(bad, "wb") as file:
-                file.write(text)
+            places.wrote(text, bad)
             done = run([self.sampler, bad, good])
             said = done.stderr.decode()
             is_named = said.startswith(f"dm_sample: {bad}: ") and wanted in said
@@ -202,12 +197,10 @@ class Options:
                                       ("held back", [],
                                        "dm_sample: {}: the symbol of 8 by 18 modules at 12.0,12.0 is no "
                                        "square: --json has it")):
-                with open(os.path.join(os.fsencode(self.room), name), "wb") as file:
-                    file.write(picture[kind])
+                places.wrote(picture[kind], self.room, os.fsdecode(name))
                 done = run([self.sampler, *words, name], cwd=self.room)
                 self.row(f"{kind} {name}", done.stderr.decode(errors="replace"), said.format(shown) + "\n")
-            with open(os.path.join(os.fsencode(self.room), name), "wb") as file:
-                file.write(picture["read"])
+            places.wrote(picture["read"], self.room, os.fsdecode(name))
             line = run([self.sampler, "--json", name], cwd=self.room).stdout.decode(errors="replace")
             self.row(f"--json {name}", (json.loads(line)["file"], line[:-1].isprintable(), line.count("\n")),
                      (told, True, 1))

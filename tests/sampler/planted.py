@@ -37,8 +37,7 @@ def found_by(bug, folder):
     shutil.copytree(places.path("sampler"), sampler, ignore=shutil.ignore_patterns("out"))
     for name in ("library", "packaging", "tools"):
         os.symlink(places.path(name), os.path.join(folder, name))
-    with open(os.path.join(sampler, file), "w", encoding="utf-8") as out:
-        out.write(bug.planted(sources(bug))[file])
+    places.wrote(bug.planted(sources(bug))[file], sampler, file)
     Spoilt.sources, Spoilt.plain = sampler, os.path.join(sampler, "out")
     Spoilt.sampler = Spoilt.careful = os.path.join(Spoilt.plain, "dm_sample")
     env = commands.environment(ECC200_FOLDER=places.BUILT)

@@ -183,8 +183,7 @@ class Quality:
             self.row(f"its words, {count}", quality["weakest"].split(",")[0],
                      "the left border" if count else "nothing is weak")
             border.append(quality["border"][3])
-            spots = [(x, -1) for x in range(4, 4 + count)]
-            quality = measured(self.sampler, drawn(grid, scale=6, spots=spots))
+            quality = measured(self.sampler, drawn(grid, scale=6, spots=[(x, -1) for x in range(4, 4 + count)]))
             self.row(f"the quiet zone above, {count}", quality["quiet"], [round(count / side, 4), 0, 0, 0])
             quiet.append(quality["quiet"][0])
         self.rises("damage of the border", border)
@@ -238,8 +237,7 @@ class Quality:
                   "print(json.dumps(rounded(found[0].quality)))")
         env = {**os.environ, **package.settings(),
                "ECC200_SAMPLE_LIBRARY": os.path.join(self.plain, "libecc200_sample.so")}
-        pixels = json.dumps([value for row in rows for value in row]).encode()
-        done = run([PYTHON, "-c", script], pixels, env=env)
+        done = run([PYTHON, "-c", script], json.dumps([value for row in rows for value in row]).encode(), env=env)
         self.row("by Python", json.loads(done.stdout or b"{}") or done.stderr[-300:], wanted)
         self.row("what has numbers", sorted(wanted), sorted(ecc200.Quality._fields))
 

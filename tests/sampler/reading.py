@@ -25,8 +25,7 @@ def the_set(case, folder, words):
         case.leave_out("fifty photographs (the program that makes their symbols isn't built)")
         return
     made = os.path.join(folder, "set")
-    done = run([PYTHON, places.path("bench", "photographs"), "--program", PROGRAM, "--share", "13", made])
-    if done.returncode:
+    if run([PYTHON, places.path("bench", "photographs"), "--program", PROGRAM, "--share", "13", made]).returncode:
         case.leave_out("fifty photographs (python3-opencv and python3-numpy aren't installed)")
         return
     with open(os.path.join(made, "index.json"), encoding="utf-8") as file:
@@ -129,8 +128,7 @@ class Reading:
         for name, text in made.items():
             done = run([self.sampler], text)
             self.row(name, (done.returncode, done.stdout.decode()), (0, record(grid)))
-        with open(os.path.join(self.room, "formats.pgm"), "wb") as file:
-            file.write(pgm(rows))
+        places.wrote(pgm(rows), self.room, "formats.pgm")
         for file in self.coloured_formats(self.room):
             done = run([self.sampler, file])
             self.row(os.path.basename(file), (done.returncode, done.stdout.decode()), (0, record(grid)))

@@ -52,8 +52,7 @@ def tilted(rows, angle):
         right, down = across - column, along - row
         above, below = rows[row], rows[row + 1]
         upper = above[column] + right * (above[column + 1] - above[column])
-        lower = below[column] + right * (below[column + 1] - below[column])
-        return round(upper + down * (lower - upper))
+        return round(upper + down * (below[column] + right * (below[column + 1] - below[column]) - upper))
     return [[pixel(x + 0.5, y + 0.5) for x in range(reach)] for y in range(reach)]
 
 

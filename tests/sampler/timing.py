@@ -126,8 +126,7 @@ class Timing:
     def test_deadline(self):
         """The time binds also what is computed before the search."""
         path = os.path.join(self.room, "fifty.pgm")
-        with open(path, "wb") as file:
-            file.write(b"P5 8192 6200 255\n" + random.Random(2).randbytes(8192 * 6200))
+        places.wrote(b"P5 8192 6200 255\n" + random.Random(2).randbytes(8192 * 6200), path)
         for milliseconds in (0, 100):
             with work.measured() as took:
                 done = run([self.sampler, f"--time={milliseconds}", path], env=self.by_processor(self.room))

@@ -11,7 +11,7 @@ import tempfile
 import time
 
 from tests.scale.runs import PATH, Scale, STANDARD_INPUT, environment, left_in, put, ran
-from tests.support import commands
+from tests.support import commands, places
 from tests.support.places import PROGRAM
 
 # What stands for dm_tool in the job that is hit. REAL is the program; `above` are the processes above it that belong to
@@ -102,8 +102,7 @@ def hit(block, given, wanted, *, path=PATH, env=None, sure=True, lies=False, ssh
                               stderr=subprocess.PIPE, timeout=300, start_new_session=True, **options)
         answers = b""
         if os.path.isfile(os.path.join(folder, "answers.txt")):
-            with open(os.path.join(folder, "answers.txt"), "rb") as file:
-                answers = file.read()
+            answers = places.read(folder, "answers.txt")
         left = left_in(folder) + [name for name in os.listdir(folder) if name not in (*given, "scratch", "answers.txt")]
         if "--output" in block and done.returncode > 1 and os.path.lexists(os.path.join(folder, "answers.txt")):
             left.append("answers.txt")
@@ -115,8 +114,7 @@ def made_fake(folder, body, words):
     hit."""
     fake = os.path.join(folder, "fake")
     os.makedirs(fake, exist_ok=True)
-    with open(os.path.join(folder, "made"), "w") as file:
-        file.write(FAKE.replace("FAULT", body).replace("REAL", f'{PROGRAM} "$@"'))
+    places.wrote(FAKE.replace("FAULT", body).replace("REAL", f'{PROGRAM} "$@"'), folder, "made")
     os.chmod(os.path.join(folder, "made"), 0o755)
     os.replace(os.path.join(folder, "made"), os.path.join(fake, "dm_tool"))
     return fake, {"LINES_OF_LAST": "1" if words[0] in ("read", "check") else "2"}
@@ -171,8 +169,7 @@ def machines(folder):
     """Paths on which a program is missing, or another one is called parallel."""
     paths = {name: without(os.path.join(folder, name), name) for name in ("dm_tool", "parallel", "perl")}
     other = os.path.join(without(os.path.join(folder, "other"), "parallel"), "parallel")
-    with open(other, "w") as file:
-        file.write("#!/bin/sh\nexit 0\n")
+    places.wrote("#!/bin/sh\nexit 0\n", other)
     os.chmod(other, 0o755)
     return {**paths, "GNU parallel": os.path.dirname(other)}
 

@@ -70,8 +70,7 @@ def environment(folder, path=PATH, ssh=None, is_first=False):
 
 def put(folder, texts):
     for name, text in texts.items():
-        with open(os.path.join(folder, name), "wb") as file:
-            file.write(text)
+        places.wrote(text, folder, name)
 
 
 def left_in(folder):
@@ -86,8 +85,7 @@ def recipe(block, folder, texts, ssh=None, is_first=False):
     done = subprocess.run(["bash", "-c", block], cwd=folder, env=env, stdin=subprocess.DEVNULL, stderr=subprocess.PIPE,
                           timeout=300)
     answers = os.path.join(folder, "answers.txt")
-    with open(answers, "rb") as file:
-        return done.returncode, file.read()
+    return done.returncode, places.read(answers)
 
 
 def free_port():

@@ -42,8 +42,7 @@ class Dask(Case):
         cls.ecc200, cls.space, cls.text = package.imported(), recipe(), grids()
         cls.room = cls.folder_of_class()
         cls.path = os.path.join(cls.room, "grids.txt")
-        with open(cls.path, "w", encoding="ascii") as file:
-            file.write(cls.text)
+        places.wrote(cls.text, cls.path)
         with open(cls.path, encoding="ascii") as rows:
             cls.records = [grid for part in cls.space["parts"](rows, 50) for grid in part]
         cls.done = commands.run([places.PROGRAM, "read"], cls.text.encode())

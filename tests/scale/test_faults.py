@@ -9,7 +9,7 @@ import tempfile
 from tests.scale.faults import (ALONE, AROUND, FAULTS, WORDS, Faults, hit, in_parts, limited, machines, made_fake,
                                 missing_text, planted, to_output, without)
 from tests.scale.runs import MESSAGES, PATH, Scale, environment, put, ran
-from tests.support import commands, needs
+from tests.support import commands, needs, places
 
 FILE = "a file of grids on all processors"
 
@@ -153,8 +153,7 @@ class SameFolder(Faults):
         statuses = [run.wait() for run in runs]
         statuses.append(subprocess.run(["bash", "-c", block], cwd=folder, env=env, check=False).returncode)
         for answers in ("answers.txt", "others.txt"):
-            with open(os.path.join(folder, answers), "rb") as file:
-                self.row(answers, (statuses, file.read()), ([wanted[0]] * 3, wanted[1]))
+            self.row(answers, (statuses, places.read(folder, answers)), ([wanted[0]] * 3, wanted[1]))
         left = sorted([*names, "answers.txt", "others.txt", "grids.txt", "scratch"])
         self.row("files in that folder", sorted(os.listdir(folder)), left)
 

@@ -4,7 +4,7 @@ import os
 import subprocess
 
 from tests.scale.runs import MESSAGES, Scale, environment, grids, left_in, put, ran, recipe, two_hosts
-from tests.support import commands, needs
+from tests.support import commands, needs, places
 
 # How a text reaches dm_parts: as a file under several names, and by pipes.
 WAYS = ["TEXT", "-- TEXT", "< TEXT", "/dev/stdin < TEXT", "./link", "'a b'\\''$HOME\"'",
@@ -103,8 +103,7 @@ class Outputs(Scale):
             put(folder, {"text": text, "none": b"", "old": b"old\n"})
             os.symlink("old", os.path.join(folder, "link"))
             done = commands.run(["bash", "-c", f"umask 027; dm_parts {words}"], cwd=folder, env=environment(folder))
-            with open(os.path.join(folder, "old"), "rb") as file:
-                got = done.status, done.output, file.read()
+            got = done.status, done.output, places.read(folder, "old")
             self.row(f"dm_parts {words}", got, (status, b"", kinds[kind]))
             left = set(os.listdir(folder)) - {"text"}, left_in(folder)
             self.row(f"dm_parts {words}, what is left", left, ({"none", "old", "link", "scratch"}, []))

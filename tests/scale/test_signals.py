@@ -6,7 +6,7 @@ import signal
 
 from tests.scale.faults import ALONE, Faults, hit, in_parts, signalled, to_output
 from tests.scale.runs import PATH
-from tests.support import needs
+from tests.support import needs, places
 
 # Stands for mktemp, whose file or folder is there when all processes of the run get a signal, and is told afterwards.
 MAKES = """#!/bin/sh
@@ -54,8 +54,7 @@ class Starts(Faults):
     def test_a_signal_as_something_is_made(self):
         for what, which in (("its folder", "-d*"), ("the file of its answers", "answers.txt.*")):
             made = os.path.join(self.folder(), "mktemp")
-            with open(made, "w", encoding="utf-8") as file:
-                file.write(MAKES.replace("REAL", shutil.which("mktemp")).replace("WHICH", which))
+            places.wrote(MAKES.replace("REAL", shutil.which("mktemp")).replace("WHICH", which), made)
             os.chmod(made, 0o755)
             self.sound(what, self.beside(os.path.dirname(made)))
 

@@ -6,7 +6,7 @@ import sys
 from unittest import mock
 
 from tests.scale.runs import MESSAGES, PATH, Scale, environment, grids, ran, recipe
-from tests.support import commands, needs
+from tests.support import commands, needs, places
 
 # What is done to the text before its symbols are put on lines, the last for good.
 SYMBOLS = [("symbols of a text", ":"), ("symbols on a full disk", ":"), ("symbols of no text", "rm grids.txt"),
@@ -63,8 +63,7 @@ class SymbolsOnLines(Scale):
         super().setUpClass()
         cls.text, cls.room = grids(), cls.folder_of_class()
         recipe(cls.recipes["a symbol a line"] + ": > answers.txt", cls.room, {"grids.txt": cls.text})
-        with open(os.path.join(cls.room, "symbols.txt"), "rb") as file:
-            cls.symbols = file.read()
+        cls.symbols = places.read(cls.room, "symbols.txt")
 
     def partition(self, words, given):
         """Status and output of the program for a partition."""
@@ -80,8 +79,7 @@ class SymbolsOnLines(Scale):
             target = "/dev/full" if "full" in name else "symbols.txt"
             block = self.recipes["a symbol a line"].replace("symbols.txt", target)
             done = commands.run(["bash", "-c", block], cwd=self.room, env=environment(self.room))
-            wanted = (0, False) if name == "symbols of a text" else (3, True)
-            self.row(name, (done.status, done.errors != b""), wanted)
+            self.row(name, (done.status, done.errors != b""), (0, False) if name == "symbols of a text" else (3, True))
 
     def test_a_partition_with_each_of_its_words(self):
         for words in ([], ["check"], ["read", "--border", "10"]):

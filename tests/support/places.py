@@ -7,7 +7,7 @@ OTHER_LIBRARY = os.environ.get("ECC200_FOLDER")
 
 
 def path(*parts):
-    """Gives a path below the top of the repository."""
+    """Gives a path below the top of the repository, unless it begins elsewhere."""
     return os.path.join(TOP, *parts)
 
 
@@ -22,6 +22,19 @@ SHARED = os.path.join(BUILT, "libecc200.so")
 
 
 def text_of(*parts):
-    """Gives what stands in a file of the repository."""
+    """Gives the text of a file."""
     with open(path(*parts), encoding="utf-8") as file:
         return file.read()
+
+
+def read(*parts):
+    """Gives the bytes of a file."""
+    with open(path(*parts), "rb") as file:
+        return file.read()
+
+
+def wrote(content, *parts):
+    """Writes a file, and gives its path."""
+    with open(path(*parts), "wb") as file:
+        file.write(content.encode() if isinstance(content, str) else content)
+    return path(*parts)
