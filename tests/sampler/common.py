@@ -1,7 +1,8 @@
 """What the cases of the sampler share: it is built once as it is, and once with the sanitisers."""
+import json
 import os
 
-from tests.sampler.pictures import CAREFUL, run
+from tests.sampler.pictures import CAREFUL, pgm, record, run
 from tests.support import commands, needs, places
 from tests.support.case import Rows
 
@@ -43,6 +44,23 @@ class SamplerCase(Rows):
         kind = type(self)
         kind.sanitised = kind.sanitised or kind.built(os.path.join(kind.room, "careful"), "-g1", "-O1", *CAREFUL)
         return kind.sanitised
+
+    def reads(self, name, picture, grid, *words):
+        """That the sampler reads this symbol in a picture, which is rows of levels, or what a file has."""
+        done = run([self.sampler, *words], picture if isinstance(picture, bytes) else pgm(picture))
+        self.row(name, (done.returncode, done.stdout.decode()), (0, record(grid)))
+
+    def says(self, name, picture, message, *words):
+        """That the first symbol in a picture, if there is one, has this message."""
+        done = run([self.sampler, "--json", *words], picture if isinstance(picture, bytes) else pgm(picture))
+        self.row(name, json.loads(done.stdout or b"{}").get("message"), message)
+
+    def compiles(self, source, made, *words, compiler=("cc", "-std=c11")):
+        """That a C file of these tests compiles without a warning."""
+        headers = [f"-I{self.sources}", f"-I{places.LIBRARY}"]
+        done = run([*compiler, "-Wall", "-Wextra", "-Werror", *headers, places.path("tests", "sampler", source),
+                    "-o", made, *words])
+        self.row(f"{source} compiles", done.stderr.decode(), "")
 
     def setUp(self):
         super().setUp()

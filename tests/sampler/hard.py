@@ -3,7 +3,7 @@ import json
 import math
 import random
 
-from tests.sampler.pictures import grid_of, message_of, pgm, pixels_of, record, run, sizes
+from tests.sampler.pictures import grid_of, message_of, pgm, pixels_of, run, sizes
 
 
 def crowded(grid, chance, among=(0, 1), around=5):
@@ -36,8 +36,7 @@ class Hard:
                 rows = pixels_of(crowded(grid, chance, among), 4 if side < 50 else 3)
                 if side % 4:
                     rows = [[250 - level for level in row] for row in rows]
-                done = run([self.sampler, "--time=30000"], pgm(rows))
-                self.row(f"side {side} among {name}", (done.returncode, done.stdout.decode()), (0, record(grid)))
+                self.reads(f"side {side} among {name}", rows, grid, "--time=30000")
 
     def test_torn(self):
         """Symbols without a corner, of which each is read though more of the border is wrong than usual."""
@@ -83,14 +82,14 @@ class Hard:
     def test_dots(self):
         """Dots of three fifths of a module, which don't touch, turned a little, with some so faint that they are
         lost."""
-        self.of_dots(self.sampler, sizes()[:9], (6,), 0.3, 200)
+        self.of_dots(sizes()[:9], (6,), 0.3, 200)
 
     def test_small_dots(self):
         """The same with dots of two fifths of a module, dark and light ones."""
         for ground in (200, 50):
-            self.of_dots(self.sampler, sizes()[1:9], (4, 7, 11), 0.2, ground)
+            self.of_dots(sizes()[1:9], (4, 7, 11), 0.2, ground)
 
-    def of_dots(self, sampler, of_sizes, scales, radius, ground):
+    def of_dots(self, of_sizes, scales, radius, ground):
         chance = random.Random(13)
         for at, (side, count, _) in enumerate(of_sizes):
             grid, message, scale = grid_of(message_of(count)), message_of(count), scales[at % len(scales)]
@@ -107,9 +106,8 @@ class Hard:
                 away = math.hypot(across - column - 0.5, along - row - 0.5) - radius
                 depth = (30 if (row, column) in faint else 150) * (1 if ground > 127 else -1)
                 return ground - depth * min(1, max(0, 0.5 - away * scale))
-            done = run([sampler, "--json", "--time=30000"], pgm(drawn(wide, wide, level)))
-            self.row(f"dots of side {side}, a radius of {radius} and {scale} pixels a module on {ground}",
-                     json.loads(done.stdout or b"{}").get("message"), message)
+            self.says(f"dots of side {side}, a radius of {radius} and {scale} pixels a module on {ground}",
+                      drawn(wide, wide, level), message, "--time=30000")
 
     def test_bent(self):
         """Symbols around a cylinder, up to forty degrees each way, upright and on their sides."""
@@ -127,9 +125,7 @@ class Hard:
                                math.floor((along - wide / 2) / scale + side / 2))
                 inside = 0 <= row < side and 0 <= column < side
                 return 30 if inside and grid[row][column] else 230
-            done = run([self.sampler, "--json", "--time=30000"], pgm(drawn(wide, wide, level)))
-            self.row(f"side {side} around a cylinder", json.loads(done.stdout or b"{}").get("message"),
-                     message_of(count))
+            self.says(f"side {side} around a cylinder", drawn(wide, wide, level), message_of(count), "--time=30000")
 
     def test_bands(self):
         """In the light of a lamp that flickers while the rows are read one by one."""
@@ -139,9 +135,7 @@ class Hard:
             period, depth = 5 * (5 + at), 0.4 + 0.03 * at
             lit = [[int(level * (1 - depth * (0.5 + 0.5 * math.sin(2 * math.pi * y / period)))) for level in row]
                    for y, row in enumerate(rows)]
-            done = run([self.sampler, "--time=30000"], pgm(lit))
-            self.row(f"side {side} in bands of {period} pixels", (done.returncode, done.stdout.decode()),
-                     (0, record(grid)))
+            self.reads(f"side {side} in bands of {period} pixels", lit, grid, "--time=30000")
 
     def test_motion(self):
         """A camera that moves by 2.4 modules while it takes a picture, so that no threshold tells the modules apart."""
@@ -149,10 +143,9 @@ class Hard:
         path = [(round(math.cos(turn) * (step - reach / 2)), round(math.sin(turn) * (step - reach / 2)))
                 for step in range(reach + 1)]
         for side, count, _ in (sizes()[at] for at in (3, 4, 6, 7, 8)):
-            done = run([self.sampler, "--json"],
-                       pgm(moved_along(pixels_of(grid_of(message_of(count)), scale, 4), path)))
-            self.row(f"side {side} by a camera that moves", json.loads(done.stdout or b"{}").get("message"),
-                     message_of(count))
+            message = message_of(count)
+            self.says(f"side {side} by a camera that moves", moved_along(pixels_of(grid_of(message), scale, 4), path),
+                      message)
 
     def test_craters(self):
         """Craters in streaked metal that is lit from one side, so that one half of each is dark."""
@@ -173,5 +166,4 @@ class Hard:
                     inside = min(1, max(0, 0.5 - (math.hypot(beside, below) - 0.32) * scale))
                     shade = 90 * inside * min(1, max(-0.3, 0.5 + 3 * beside))
                 return max(0, min(255, 140 + streaks[int(y)] - shade))
-            done = run([self.sampler, "--json"], pgm(drawn(wide, wide, level)))
-            self.row(f"craters of side {side}", json.loads(done.stdout or b"{}").get("message"), message)
+            self.says(f"craters of side {side}", drawn(wide, wide, level), message)

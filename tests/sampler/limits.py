@@ -3,7 +3,7 @@ import os
 import random
 import shutil
 
-from tests.sampler.pictures import CAREFUL, grid_of, pgm, pixels_of, record, run
+from tests.sampler.pictures import CAREFUL, grid_of, pgm, pixels_of, run
 from tests.support import places, work
 
 EXPORTS = ["ecc200_sample_abi", "ecc200_sample_find", "ecc200_sample_measure", "ecc200_sample_picture",
@@ -51,11 +51,8 @@ class Limits:
     def test_nothing(self):
         """In small pictures of any form with nothing to be read the sanitisers find nothing, and nothing is read."""
         made, careful = os.path.join(self.room, "nothing.out"), os.path.dirname(self.careful)
-        words = ["cc", "-std=c11", "-O1", "-Wall", "-Wextra", "-Werror", *CAREFUL, f"-I{places.path('sampler')}",
-                 f"-I{places.path('library')}", places.path("tests", "sampler", "nothing.c"), "-o", made]
-        done = run([*words, os.path.join(careful, "libecc200_sample.so"), os.path.join(places.BUILT, "libecc200.so"),
-                    "-lm"])
-        self.row("nothing.c compiles", done.stderr.decode(), "")
+        self.compiles("nothing.c", made, os.path.join(careful, "libecc200_sample.so"), places.SHARED, "-lm",
+                      compiler=("cc", "-std=c11", "-O1", *CAREFUL))
         done = run([made, "0", "64", "1"], env=paths_for(self.folder(), careful, places.BUILT))
         self.row("64 pictures", (done.returncode, done.stdout, done.stderr.decode()[:1500]), (0, b"", ""))
 
@@ -74,8 +71,7 @@ class Limits:
                  True)
         for y, row in enumerate(pixels_of(grid, 12)):
             light[(3000 + y) * wide + 4000:(3000 + y) * wide + 4000 + len(row)] = bytes(row)
-        done = run([self.sampler, "--time=20000"], header + light)
-        self.row("a symbol in 50 megapixels", (done.returncode, done.stdout.decode()), (0, record(grid)))
+        self.reads("a symbol in 50 megapixels", header + light, grid, "--time=20000")
         for most in (60000, 150000):  # kilobytes: too few to read the picture, and to search it
             done = run(["sh", "-c", f'ulimit -v {most} && exec "$@"', "sh", self.sampler, "--time=20000"],
                        header + light)
@@ -90,16 +86,13 @@ class Limits:
     def test_library(self):
         """From C and C++, and what the library exports."""
         picture = pgm(pixels_of(grid_of("FROM C")))
-        for name, words in (("calls.c", ["cc", "-std=c11"]), ("calls.cpp", ["c++", "-std=c++17"])):
+        for name, words in (("calls by C", ["cc", "-std=c11"]), ("calls by C++", ["c++", "-std=c++17", "-x", "c++"])):
             if not shutil.which(words[0]):
                 self.leave_out(f"{name} ({words[0]} isn't installed)")
                 continue
-            shutil.copy(places.path("tests", "sampler", "calls.c"), os.path.join(self.room, name))
-            made = os.path.join(self.room, name + ".out")
-            paths = [f"-I{places.path('sampler')}", f"-I{places.path('library')}", "-Wall", "-Wextra", "-Werror"]
-            with_these = [os.path.join(self.plain, "libecc200_sample.so"), os.path.join(places.BUILT, "libecc200.so")]
-            done = run([*words, *paths, os.path.join(self.room, name), "-o", made, *with_these])
-            self.row(f"{name} compiles", done.stderr.decode(), "")
+            made = os.path.join(self.room, name)
+            self.compiles("calls.c", made, "-x", "none", os.path.join(self.plain, "libecc200_sample.so"), places.SHARED,
+                          compiler=words)
             done = run([made, "x"], picture, env=paths_for(self.room, self.plain, places.BUILT))
             self.row(name, (done.returncode, done.stdout), (0, b"14 14 FROM C 12.0"))
         names = run(["nm", "-D", "--defined-only",

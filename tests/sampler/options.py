@@ -209,8 +209,7 @@ class Options:
     def test_memory(self):
         """Whichever allocation fails, it is said, or the symbol is found all the same."""
         made = os.path.join(self.room, "memory.so")
-        done = run(["cc", "-shared", "-fPIC", "-o", made, places.path("tests", "sampler", "memory.c")])
-        self.row("memory.c compiles", done.stderr.decode(), "")
+        self.compiles("memory.c", made, compiler=("cc", "-shared", "-fPIC"))
         grid = grid_of("MEMORY")
         told = 0
         for number in range(1, 60):
@@ -224,29 +223,24 @@ class Options:
                      is_told or (done.returncode, done.stdout.decode(), said) == (0, record(grid), ""), True)
         self.row("allocations that fail are told", told > 12, True)
 
-    def part(self, folder, sampler, name, files):
-        """Runs a C file of this folder over some of the sampler's, which stand in that folder. It prints what is
-        wrong."""
-        made = os.path.join(folder, f"{name}.out")
-        words = ["cc", "-std=c17", "-Wall", "-Wextra", "-Werror", *CAREFUL]
-        headers = [f"-I{sampler}", f"-I{places.path('library')}"]
-        sources = [places.path("tests", "sampler", f"{name}.c"),
-                   *(os.path.join(sampler, f"{file}.c") for file in files)]
-        done = run([*words, *headers, "-D_POSIX_C_SOURCE=200809L", *sources, "-o", made, places.ARCHIVE, "-lm"])
-        self.row(f"{name}.c compiles", done.stderr.decode(), "")
+    def part(self, name, files):
+        """Runs a C file of this folder over some of the sampler's. It prints what is wrong."""
+        made = os.path.join(self.room, f"{name}.out")
+        sources = [os.path.join(self.sources, f"{file}.c") for file in files]
+        self.compiles(f"{name}.c", made, *sources, places.ARCHIVE, "-lm",
+                      compiler=("cc", "-std=c17", "-D_POSIX_C_SOURCE=200809L", *CAREFUL))
         done = run([made])
         self.row(name, (done.returncode, done.stdout, done.stderr.decode()[:600]), (0, b"", ""))
 
     def test_parts(self):
         """Points far outside of a picture, the usual work, and straight pieces that are joined."""
-        self.part(self.room, self.sources, "parts", ("geometry", "limit", "outline"))
+        self.part("parts", ("geometry", "limit", "outline"))
 
     def test_judged(self):
         """Readings that say the same, and others; margins; and known damage that is read in two ways."""
         files = [name.removesuffix(".c") for name in sorted(os.listdir(self.sources)) if name.endswith(".c")]
-        self.part(self.room, self.sources, "judged", [name for name in files if name != "judge"])
+        self.part("judged", [name for name in files if name != "judge"])
 
     def test_tracks(self):
         """Alternating borders of which a part doesn't show."""
-        self.part(self.room, self.sources, "tracks",
-                  ("finder", "found", "geometry", "layout", "limit", "outline", "plane", "track"))
+        self.part("tracks", ("finder", "found", "geometry", "layout", "limit", "outline", "plane", "track"))

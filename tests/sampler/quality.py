@@ -224,7 +224,7 @@ class Quality:
 
     def test_quality_graded(self):
         """The tables of grades, and the worked case of modulations."""
-        self.part(self.room, self.sources, "graded", ["grades"])
+        self.part("graded", ["grades"])
 
     def test_quality_in_python(self):
         """What the module for Python and the command say is what dm_sample does."""

@@ -55,8 +55,7 @@ class Reading:
             for times in range(at % 3 + 1):
                 ways[f"turned {times + 1}"] = turned(list(ways.values())[-1])
             for way, picture in ways.items():
-                self.row(f"side {side}, {way}", run([self.sampler, "--time=30000", "-"], pgm(picture)).stdout.decode(),
-                         record(grid))
+                self.reads(f"side {side}, {way}", picture, grid, "--time=30000", "-")
 
     def test_without_quiet_zone(self):
         """A symbol that fills its picture, on all sides or on some, is found, with its corners where it stands: each
@@ -88,9 +87,7 @@ class Reading:
             middle = len(rows) * (slope + 1) / 2
             rows = [[int(level * left) if slope * x + y < middle else level for x, level in enumerate(row)]
                     for y, row in enumerate(rows)]
-            done = run([self.sampler, "--time=30000"], pgm(rows))
-            self.row(f"{count} codewords in a shadow of {left}, slope {slope}", (done.returncode, done.stdout.decode()),
-                     (0, record(grid)))
+            self.reads(f"{count} codewords in a shadow of {left}, slope {slope}", rows, grid, "--time=30000")
 
     def test_glare(self):
         """A symbol on a dim ground with a bright spot on it, in which dark modules are lighter than light ones
@@ -103,9 +100,7 @@ class Reading:
                 away = lambda x, y: (x - across * len(rows)) ** 2 + (y - down * len(rows)) ** 2
                 lit = [[min(255, int(level + 140 * math.exp(-away(x, y) / reach))) for x, level in enumerate(row)]
                        for y, row in enumerate(rows)]
-                done = run([self.sampler, "--time=30000"], pgm(lit))
-                self.row(f"{count} codewords with glare at {across}, {down}", (done.returncode, done.stdout.decode()),
-                         (0, record(grid)))
+                self.reads(f"{count} codewords with glare at {across}, {down}", lit, grid, "--time=30000")
 
     def test_formats(self):
         """The same picture in every format that is read."""
@@ -126,12 +121,10 @@ class Reading:
                 + b"".join((level * 1000 // 255).to_bytes(2, "big") for level in flat),
                 "P6": f"P6 {wide} {high} 255\n".encode() + b"".join(bytes([level, level, level]) for level in flat)}
         for name, text in made.items():
-            done = run([self.sampler], text)
-            self.row(name, (done.returncode, done.stdout.decode()), (0, record(grid)))
+            self.reads(name, text, grid)
         places.wrote(pgm(rows), self.room, "formats.pgm")
         for file in self.coloured_formats(self.room):
-            done = run([self.sampler, file])
-            self.row(os.path.basename(file), (done.returncode, done.stdout.decode()), (0, record(grid)))
+            self.reads(os.path.basename(file), b"", grid, file)
 
     def coloured_formats(self, folder):
         """The picture as PNG and JPEG in several forms, by Pillow."""
@@ -165,10 +158,7 @@ for name, image, more in (
         see."""
         made = os.path.join(self.room, "luminance.out")
         sources = [places.path("sampler", "program", f"{name}.c") for name in ("picture", "png", "jpeg", "pnm")]
-        words = ["cc", "-std=c17", "-Wall", "-Wextra", "-Werror", *CAREFUL,
-                 *(f"-I{places.path(name)}" for name in ("sampler", "library"))]
-        done = run([*words, places.path("tests", "sampler", "luminance.c"), *sources, "-o", made, "-lpng", "-ljpeg"])
-        self.row("luminance.c compiles", done.stderr.decode(), "")
+        self.compiles("luminance.c", made, *sources, "-lpng", "-ljpeg", compiler=("cc", "-std=c17", *CAREFUL))
         forms = run([PYTHON, places.path("tests", "sampler", "pngs.py"), self.room])
         if forms.returncode:
             self.leave_out("PNG of every form (python3-pil isn't installed)")

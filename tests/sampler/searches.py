@@ -12,11 +12,7 @@ class Searches:
     def __init__(self, case):
         self.case, self.made = case, os.path.join(case.room, "searched.out")
         self.env = paths_for(case.room, case.plain, places.BUILT)
-        libraries = [os.path.join(case.plain, "libecc200_sample.so"), os.path.join(places.BUILT, "libecc200.so")]
-        done = run(["cc", "-std=c11", "-Wall", "-Wextra", "-Werror", f"-I{places.path('sampler')}",
-                    f"-I{places.path('library')}", places.path("tests", "sampler", "searched.c"), "-o", self.made,
-                    *libraries])
-        self.case.row("searched.c compiles", done.stderr.decode(), "")
+        case.compiles("searched.c", self.made, os.path.join(case.plain, "libecc200_sample.so"), places.SHARED)
 
     def of(self, rows, room, percent=100):
         """What the symbols of a picture say, at most so many, found with so many percent of the usual work, and how the

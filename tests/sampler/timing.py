@@ -44,9 +44,7 @@ class Timing:
         """The environment in which the clock is one of these."""
         made = os.path.join(folder, f"{name}.so")
         if not os.path.exists(made):
-            words = ["cc", "-shared", "-fPIC", "-Wall", "-Wextra", "-Werror", "-o", made]
-            self.row(f"{name}.c compiles", run([*words, places.path("tests", "sampler", f"{name}.c")]).stderr.decode(),
-                     "")
+            self.compiles(f"{name}.c", made, compiler=("cc", "-shared", "-fPIC"))
         return {**os.environ, "LD_PRELOAD": made}
 
     def by_processor(self, folder):
@@ -110,8 +108,7 @@ class Timing:
             if message:
                 draw(rows, pixels_of(grid_of(message), 7), 1900, 2300)
             with work.measured() as took:
-                done = run([self.sampler, "--json"], f"P5 {wide} {high} 255\n".encode() + b"".join(rows))
-            self.row(f"twelve megapixels: {message}", json.loads(done.stdout or b"{}").get("message"), message)
+                self.says(f"twelve megapixels: {message}", rows, message)
             self.row(f"twelve megapixels: the work, {message}", took.pieces < 10 or str(took), True)
 
     def test_shares(self):
@@ -120,8 +117,7 @@ class Timing:
         wide, high = 3000, 2000
         rows = cluttered(wide, high, random.Random(8), 525)
         draw(rows, pixels_of(grid_of("LIGHT"), 12, 2, 230, 20), 300, 500)
-        done = run([self.sampler, "--json"], f"P5 {wide} {high} 255\n".encode() + b"".join(rows))
-        self.row("light on dark among many rectangles", json.loads(done.stdout or b"{}").get("message"), "LIGHT")
+        self.says("light on dark among many rectangles", rows, "LIGHT")
 
     def test_deadline(self):
         """The time binds also what is computed before the search."""
