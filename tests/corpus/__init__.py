@@ -1,6 +1,6 @@
 """The marks of other encoders, for all fronts. `squares.txt` has those in seven ways to encode, `wide.txt` those that
 the usual extent refuses, `contents.txt` those with texts, ECIs and heads, `sizes.txt` those in the sizes beyond the
-squares to 104, and `shifts.txt` those with characters of each shift set; `damaged.txt` has symbols of each size with
+squares to 104, and `shifts.txt` those with characters of each shift set; `damaged` are symbols of each size with
 damage, which damage.py makes. A line is a mark, with tabs between:
 
 - its name;
@@ -126,7 +126,10 @@ def mark_of(line):
 
 
 def lines_of(name):
-    """Gives the lines of a file."""
+    """Gives the lines of a file, or those that damage.py makes."""
+    if name == "damaged":
+        from tests.corpus import damage  # which stands on what reads the other marks
+        return damage.lines()
     return places.text_of("tests", "corpus", f"{name}.txt").splitlines()
 
 

@@ -1,7 +1,10 @@
 // Reads the marks of other encoders, as __init__.py says them.
+import { execFileSync } from "node:child_process";
 import { readFileSync } from "node:fs";
 
-const linesOf = (name) => readFileSync(new URL(`${name}.txt`, import.meta.url), "utf8").split("\n").filter(Boolean);
+const made = () => execFileSync("python3", ["-m", "tests.corpus.damage"], { cwd: new URL("../..", import.meta.url) });
+const textOf = (name) => name === "damaged" ? made() : readFileSync(new URL(`${name}.txt`, import.meta.url));
+const linesOf = (name) => String(textOf(name)).split("\n").filter(Boolean);
 const bitsOf = (digits) =>
   Uint8Array.from([...digits].flatMap((it) => [...parseInt(it, 16).toString(2).padStart(4, "0")]), Number);
 

@@ -1,6 +1,6 @@
-"""Makes `damaged.txt` anew, by the model of tests/library, which doesn't stand on the library: `python3 -m
-tests.corpus.damage | cmp - tests/corpus/damaged.txt`. Each size is damaged as much as can be corrected, and by one
-codeword or one border module more, where nothing is known of the damage and where it is."""
+"""Makes the marks `damaged`, by the model of tests/library, which doesn't stand on the library; `python3 -m
+tests.corpus.damage` prints them. Each size is damaged as much as can be corrected, and by one codeword or one border
+module more, where nothing is known of the damage and where it is."""
 from tests.library.cases import border_of, doubt_of, grid_of, hurt, words_of
 from tests.library.model import SIZES
 
@@ -49,7 +49,9 @@ def line_of(size, name, wrong, known, border, refused):
                       digits(doubt) if any(known) else "-", refused or said, "model", *counts])
 
 
+def lines():
+    return [line_of(size, *case) for size in SIZES for case in cases_of(size)]
+
+
 if __name__ == "__main__":
-    for each in SIZES:
-        for case in cases_of(each):
-            print(line_of(each, *case))
+    print(*lines(), sep="\n")
