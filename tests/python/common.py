@@ -121,11 +121,19 @@ class PackageCase(Rows):
 
     def needed(self, name, package, what):
         """A module that needn't be installed; the rest of the case is left out where it isn't."""
-        return self.wanted_module(name, package, what) or self.skipTest(what)
+        try:
+            return __import__(name)
+        except ImportError:
+            return self.leave_rest(f"{what} ({package} isn't installed)")
 
     def needs_search(self, what):
         """Pillow, where the sampler is built too; else the rest of the case, which searches pictures, is left out."""
-        return self.has_sampler(what) and self.wanted_module("PIL.Image", "Pillow", what) or self.skipTest(what)
+        pillow = self.needed("PIL.Image", "Pillow", what)
+        return pillow if os.path.isfile(SAMPLER) else self.leave_rest(f"{what} (the library ecc200_sample isn't built)")
+
+    def leave_rest(self, reason):
+        self.counted += 1
+        self.skipTest(reason)
 
     def has_sampler(self, what):
         """Whether the sampler's library is built; if it isn't, what needs it is left out."""

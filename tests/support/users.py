@@ -2,7 +2,7 @@
 import importlib
 
 PYTHON = ("module", "sizes", "texts", "elements", "drawings", "surface", "messages", "comparing", "batches", "labels",
-          "pages", "whole", "wanted", "quick")
+          "whole", "wanted", "quick")
 SAMPLER = ("options", "usage", "errors", "unread", "early", "formats", "corners", "contents", "torn", "dots",
            "sheets", "every_size", "a_label")
 # Subjects, classes and cases.
