@@ -143,15 +143,3 @@ class PackageCase(Rows):
 def marks():
     """The marks of other encoders: rows of characters."""
     return [mark.lines for mark in corpus.marks("squares")]
-
-
-@contextlib.contextmanager
-def setting(**names):
-    """These environment variables, for a while."""
-    before = {name: os.environ.get(name) for name in names}
-    os.environ.update(names)
-    try:
-        yield
-    finally:
-        for name, value in before.items():
-            os.environ.pop(name, None) if value is None else os.environ.update({name: value})

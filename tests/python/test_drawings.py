@@ -132,7 +132,9 @@ class Drawings(PackageCase):
         cells = [cell for page in pages for cell in page.cells]
         self.row("each symbol is on a sheet", [cell.rows for cell in cells], symbols)
         for page in pages:
-            self.row("on the page, and no quiet zone is overlapped", laid(page), (True, True))
+            inside, apart = laid(page)
+            self.holds("on the page", inside)
+            self.holds("no quiet zone is overlapped", apart)
         self.raises("a symbol larger than the sheet", ValueError, "doesn't fit", lambda: drawing.sheets(symbols, 10.0,
                                                                                                         2))
         self.row("pages of the PDF", drawing.pdf(pages).count(b"/Type /Page "), len(pages))

@@ -8,9 +8,10 @@ import pickle
 import signal
 import threading
 import time
+from unittest import mock
 
 from tests import corpus
-from tests.python.common import SHARED, VERSION, PackageCase, marks, outcome, saved, setting
+from tests.python.common import SHARED, VERSION, PackageCase, marks, outcome, saved
 from tests.support import needs
 
 import ecc200
@@ -280,9 +281,9 @@ class Module(PackageCase):
                 self.raises(f"the module on one that {name}", ImportError, "x86-64-v2; this one lacks " + lacking[0],
                             lambda path=path: core._load(path))
         self.row("a processor that isn't described", core._lacking(os.path.join(self.room, "none")), [])
-        with setting(ECC200_LIBRARY=os.path.join(self.room, "none.so")):
+        with mock.patch.dict(os.environ, ECC200_LIBRARY=os.path.join(self.room, "none.so")):
             self.raises("no library", ImportError, "ECC200_LIBRARY", core._load)
-        with setting(ECC200_SAMPLE_LIBRARY=SHARED):
+        with mock.patch.dict(os.environ, ECC200_SAMPLE_LIBRARY=SHARED):
             self.raises("a library in place of another", core.SamplerMissing,
                         f"{SHARED} is a library, but not ecc200_sample", core._sampler.__wrapped__)
         self.row("the version", core.version(), VERSION)

@@ -100,17 +100,12 @@ def hosts_of(folder, port, path):
     sshd starts would read what the user's own shells begin with."""
     for key in ("host", "login"):
         subprocess.run(["ssh-keygen", "-q", "-t", "ed25519", "-N", "", "-f", os.path.join(folder, key)], check=True)
-    server, client = os.path.join(folder, "sshd_config"), os.path.join(folder, "ssh_config")
-    with open(server, "w") as file:
-        file.write(f"ListenAddress 127.0.0.1:{port}\nHostKey {folder}/host\nAuthorizedKeysFile {folder}/login.pub\n"
-                   f"StrictModes no\nPidFile none\nPasswordAuthentication no\nMaxStartups 100\n"
-                   f"SetEnv PATH={path} SHLVL=1\n")
-    with open(client, "w") as file:
-        file.write(f"Host nowhere\nPort {free_port()}\nHost one two\nPort {port}\nHost *\nHostName 127.0.0.1\n"
-                   f"IdentityFile {folder}/login\nIdentitiesOnly yes\nBatchMode yes\nStrictHostKeyChecking no\n"
-                   f"UserKnownHostsFile {folder}/known\nLogLevel ERROR\n"
-                   f"KexAlgorithms curve25519-sha256\n")
-    return server, client
+    server = (f"ListenAddress 127.0.0.1:{port}\nHostKey {folder}/host\nAuthorizedKeysFile {folder}/login.pub\n"
+              f"StrictModes no\nPidFile none\nPasswordAuthentication no\nMaxStartups 100\nSetEnv PATH={path} SHLVL=1\n")
+    client = (f"Host nowhere\nPort {free_port()}\nHost one two\nPort {port}\nHost *\nHostName 127.0.0.1\n"
+              f"IdentityFile {folder}/login\nIdentitiesOnly yes\nBatchMode yes\nStrictHostKeyChecking no\n"
+              f"UserKnownHostsFile {folder}/known\nLogLevel ERROR\nKexAlgorithms curve25519-sha256\n")
+    return places.wrote(server, folder, "sshd_config"), places.wrote(client, folder, "ssh_config")
 
 
 @contextlib.contextmanager
