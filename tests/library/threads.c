@@ -13,19 +13,21 @@
 enum { THREADS = 8, CASES = 64, STACK = 1 << 19 };
 
 typedef struct {
-    uint8_t modules[ECC200_MOST_MODULES], doubtful[ECC200_MOST_MODULES];
-    uint16_t rows, columns;
     ecc200_reading reading;
     ecc200_symbol normal;
     ecc200_inspection inspection;
+} answers;
+
+typedef struct {
+    uint8_t modules[ECC200_MOST_MODULES], doubtful[ECC200_MOST_MODULES];
+    uint16_t rows, columns;
+    answers said;
 } example;
 
 typedef struct {
     unsigned first;
     int wrong;
-    ecc200_reading reading;
-    ecc200_symbol normal;
-    ecc200_inspection inspection;
+    answers said;
 } job;
 
 static example examples[CASES], largest, marked; /* the largest symbols, of bytes and of marks */
@@ -35,24 +37,22 @@ static uint8_t many[ECC200_MOST_ITEMS];
 static size_t most_data; /* codewords of the largest size */
 
 /* what the calls say of an example, with nothing from before in the elements that don't count */
-static void answer(const example *e, ecc200_reading *reading, ecc200_symbol *normal, ecc200_inspection *inspection) {
+static void answer(const example *e, answers *said) {
     size_t count = (size_t)e->rows * e->columns, marked = e->rows % 4 ? count : 0;
     const ecc200_scan scan = {e->rows, e->columns, (uint16_t)(e->columns % 4), 2,
                               (uint16_t)(e->rows % 3 ? ECC200_WIDE : ECC200_USUAL)};
-    memset(reading, 0, sizeof *reading), memset(normal, 0, sizeof *normal), memset(inspection, 0, sizeof *inspection);
-    ecc200_read(e->modules, count, e->doubtful, marked, &scan, reading);
-    ecc200_normal(e->modules, count, e->doubtful, marked, &scan, e->rows % 4 == 0, normal);
-    ecc200_inspect(e->modules, count, e->doubtful, marked, e->rows, e->columns, inspection);
+    memset(said, 0, sizeof *said);
+    ecc200_read(e->modules, count, e->doubtful, marked, &scan, &said->reading);
+    ecc200_normal(e->modules, count, e->doubtful, marked, &scan, e->rows % 4 == 0, &said->normal);
+    ecc200_inspect(e->modules, count, e->doubtful, marked, e->rows, e->columns, &said->inspection);
 }
 
 static void *work(void *at) {
     job *j = at;
     for (unsigned i = 0; i < rounds; i++) {
         example *e = &examples[(i * 7 + j->first) % CASES];
-        answer(e, &j->reading, &j->normal, &j->inspection);
-        j->wrong += memcmp(&j->reading, &e->reading, sizeof j->reading) ||
-                    memcmp(&j->normal, &e->normal, sizeof j->normal) ||
-                    memcmp(&j->inspection, &e->inspection, sizeof j->inspection);
+        answer(e, &j->said);
+        j->wrong += memcmp(&j->said, &e->said, sizeof j->said) != 0;
     }
     return 0;
 }
@@ -81,7 +81,7 @@ static void make(example *e, size_t count, int turns) {
         int at = rand() % (e->rows * e->columns);
         e->modules[at] ^= 1, e->doubtful[at] = turns % 2;
     }
-    answer(e, &e->reading, &e->normal, &e->inspection);
+    answer(e, &e->said);
 }
 
 static int threads_agree(size_t kib) {
@@ -111,14 +111,14 @@ static ecc200_scan scan = {ECC200_MOST_ROWS, ECC200_MOST_COLUMNS, ECC200_ANY_LIM
 
 static void read_of(example *e, size_t doubtful, uint16_t limit) {
     scan.limit = limit;
-    ecc200_read(e->modules, ECC200_MOST_MODULES, e->doubtful, doubtful, &scan, &e->reading);
+    ecc200_read(e->modules, ECC200_MOST_MODULES, e->doubtful, doubtful, &scan, &e->said.reading);
 }
 static void inspect(example *e) {
     ecc200_inspect(e->modules, ECC200_MOST_MODULES, e->doubtful, ECC200_MOST_MODULES, ECC200_MOST_ROWS,
-                   ECC200_MOST_COLUMNS, &e->inspection);
+                   ECC200_MOST_COLUMNS, &e->said.inspection);
 }
 static void normal_of(example *e, uint16_t profile) {
-    ecc200_normal(e->modules, ECC200_MOST_MODULES, e->doubtful, ECC200_MOST_MODULES, &scan, profile, &e->normal);
+    ecc200_normal(e->modules, ECC200_MOST_MODULES, e->doubtful, ECC200_MOST_MODULES, &scan, profile, &e->said.normal);
 }
 
 /* makes the call with a number, or none, and gives its name, or NULL if there is no such call; in the first two the
@@ -126,7 +126,7 @@ static void normal_of(example *e, uint16_t profile) {
 static NOT_INLINE const char *make_call(int number) {
     static ecc200_place_table places;
     static ecc200_size_table sizes;
-    ecc200_symbol *out = &largest.normal;
+    ecc200_symbol *out = &largest.said.normal;
     size_t few = most_data - 3, most = ECC200_MOST_MARKS;
     switch (number) {
     case -1: return "";
@@ -181,14 +181,14 @@ int main(int argc, char **argv) {
     most_data = sizes.sizes[ECC200_SIZE_COUNT - 1].data_codewords;
     for (size_t i = 0; i < most_data; i++)
         items[i] = 255;
-    if (ecc200_write(items, most_data - 3, NULL, 0, &shorter, &largest.normal) ||
-        largest.normal.rows != ECC200_MOST_ROWS)
+    if (ecc200_write(items, most_data - 3, NULL, 0, &shorter, &largest.said.normal) ||
+        largest.said.normal.rows != ECC200_MOST_ROWS)
         return puts("no symbol of the largest side"), 1;
-    memcpy(largest.modules, largest.normal.modules, sizeof largest.modules);
-    if (ecc200_write(items, 0, marks, ECC200_MOST_MARKS, &in_ascii, &marked.normal) ||
-        marked.normal.rows != ECC200_MOST_ROWS)
+    memcpy(largest.modules, largest.said.normal.modules, sizeof largest.modules);
+    if (ecc200_write(items, 0, marks, ECC200_MOST_MARKS, &in_ascii, &marked.said.normal) ||
+        marked.said.normal.rows != ECC200_MOST_ROWS)
         return puts("no symbol of as many marks as there can be"), 1;
-    memcpy(marked.modules, marked.normal.modules, sizeof marked.modules);
+    memcpy(marked.modules, marked.said.normal.modules, sizeof marked.modules);
     for (int turns = 60; turns > 0; turns--) {
         int at = rand() % ECC200_MOST_MODULES;
         largest.modules[at] ^= 1, largest.doubtful[at] = turns % 2;

@@ -9,6 +9,7 @@ import sys
 from tests.support import commands, needs, places
 from tests.support.case import Rows
 from tests.support.commands import said as run
+from tests.support.places import read, wrote  # noqa: F401, which others import from here
 
 sys.path.insert(0, places.path("packaging"))
 import package
@@ -41,18 +42,6 @@ def bare_path(folder):
         if found := shutil.which(name, path="/usr/bin:/bin"):
             os.symlink(found, os.path.join(path, name))
     return path
-
-
-def read(*path):
-    with open(os.path.join(*path), "rb") as file:
-        return file.read()
-
-
-def wrote(content, *path):
-    """Writes a file, and gives its path."""
-    with open(os.path.join(*path), "wb") as file:
-        file.write(content.encode() if isinstance(content, str) else content)
-    return os.path.join(*path)
 
 
 def bytecode(folder):
