@@ -34,7 +34,8 @@ class Wanted(PackageCase):
                         "unlike 'rectangle'", call)
         self.raises("profile", TypeError, "Profile.SHORTER is wanted, unlike 'short'",
                     lambda: ecc200.write(b"A", profile="short"))
-        self.raises("extent", TypeError, "Extent.WIDE is wanted, unlike 'all'", lambda: ecc200.read(rows, extent="all"))
+        self.raises("extent", TypeError, "Extent.USUAL is wanted, unlike 'all'",
+                    lambda: ecc200.read(rows, extent="all"))
         for name, call in {"decode": ecc200.decode, "find": ecc200.find}.items():
             self.raises(f"{name}(None)", TypeError, "unlike None, which OpenCV's imread gives",
                         lambda call=call: call(None))
