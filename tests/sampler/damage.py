@@ -56,6 +56,17 @@ class Damage:
                 self.row(f"{name} {step}: nothing is erased", max(last["erased"]), 0)
         return known
 
+    def covered(self, name, message, rows, is_covered, level, steps):
+        """A picture a part of which, by rows and columns of modules, shows a level in the place of a symbol, more and
+        more. Gives how often it is read by doubtful modules."""
+        spoil = lambda step: [[level if is_covered(step, y / SCALE - QUIET, x / SCALE - QUIET) else own
+                               for x, own in enumerate(row)] for y, row in enumerate(rows)]
+        known = self.grows(self.sampler, name, message, spoil, steps)
+        for step, said in known:
+            self.row(f"{name} {step}: where",
+                     is_known(said, lambda row, column: is_covered(step, row + 0.5, column + 0.5)), True)
+        return len(known)
+
     def test_outside(self):
         """A symbol on its corner, of which the picture cuts a corner off, more and more."""
         count = 0
@@ -81,15 +92,8 @@ class Damage:
                 across, along = (column, wide - 1 - column)[turn % 2], (row, high - 1 - row)[turn // 2]
                 return across / wide + along / high < 0.04 * step
 
-            def spoil(step):
-                rows = pixels_of(grid, SCALE, QUIET)
-                return [[behind if is_off(step, y / SCALE - QUIET, x / SCALE - QUIET) else level
-                         for x, level in enumerate(row)] for y, row in enumerate(rows)]
-            name = f"{high} by {wide} without corner {turn}, of"
-            for step, said in self.grows(self.sampler, name, message, spoil, range(11, 18, 2)):
-                self.row(f"{name} {step}: where",
-                         is_known(said, lambda row, column: is_off(step, row + 0.5, column + 0.5)), True)
-                count += 1
+            count += self.covered(f"{high} by {wide} without corner {turn}, of", message, pixels_of(grid, SCALE, QUIET),
+                                  is_off, behind, range(11, 18, 2))
         self.row("some are read by what is torn off", count > 1, True)
 
     def test_known_glare(self):
@@ -100,15 +104,8 @@ class Damage:
 
             def is_lit(step, row, column):
                 return math.hypot(row - high / 2, column - wide / 2) < 0.035 * step * math.sqrt(high * wide)
-
-            def spoil(step):
-                rows = pixels_of(grid, SCALE, QUIET, 30, 200)
-                return [[255 if is_lit(step, y / SCALE - QUIET, x / SCALE - QUIET) else level
-                         for x, level in enumerate(row)] for y, row in enumerate(rows)]
-            for step, said in self.grows(self.sampler, f"{high} by {wide} in a glare of", message, spoil, range(6, 9)):
-                self.row(f"{high} by {wide} in a glare of {step}: where",
-                         is_known(said, lambda row, column: is_lit(step, row + 0.5, column + 0.5)), True)
-                count += 1
+            count += self.covered(f"{high} by {wide} in a glare of", message, pixels_of(grid, SCALE, QUIET, 30, 200),
+                                  is_lit, 255, range(6, 9))
         self.row("some are read by what glares", count > 1, True)
 
     def test_weak(self):
