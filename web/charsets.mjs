@@ -1,11 +1,11 @@
-// Text and the bytes of a letter: which charset an ECI assignment means, in which one a text is written, and what bytes
-// say in each. The browser's decoders do most of the work.
+// Text and the bytes of a content: which charset an ECI assignment means, in which one a text is written, and what
+// bytes say in each. The browser's decoders do most of the work.
 import { FNC1, there } from "./common.mjs";
-import { ECI_UTF_8, letterOf } from "./letters.mjs";
+import { ECI_UTF_8, contentOf } from "./contents.mjs";
 
-/** @typedef {import("./letters.mjs").Letter} Letter */
-/** @typedef {{ text: string | null, charset: string }} Text of a letter, null where some of it is none, and the charset
-    by whose name it should be; of several the names stand with commas between, in the order in which they come */
+/** @typedef {import("./contents.mjs").Content} Content */
+/** @typedef {{ text: string | null, charset: string }} Text of a content, null where some of it is none, and the
+    charset by whose name it should be; of several the names stand with commas between, in the order in which they come */
 const LATIN_1 = "iso-8859-1", UTF_8 = "utf-8", ASCII_TEXT = "us-ascii", IBM_437 = "ibm437";
 const PART_16 = "iso-8859-16", WINDOWS_1252 = "windows-1252";
 const ECI_LATIN_1 = 3, ECI_BINARY = 899;
@@ -93,9 +93,9 @@ const isUtf8 = (bytes) => textBy(bytes, UTF_8) !== null;
 
 /** @type {(items: number[]) => Uint8Array} */
 export const bytesOf = (items) => Uint8Array.from(items, (item) => (item === FNC1 ? GROUP_SEPARATOR : item));
-// The charsets of a letter, each with its items, but for an FNC1 in front: without a mark UTF-8 where the bytes are
+// The charsets of a content, each with its items, but for an FNC1 in front: without a mark UTF-8 where the bytes are
 // that, else ISO 8859-1.
-/** @type {(letter: Letter) => { charset: string, items: number[] }[]} */
+/** @type {(content: Content) => { charset: string, items: number[] }[]} */
 function stretchesOf({ items, marks }) {
   /** @type {{ charset: string, items: number[] }[]} */
   const stretches = [], front = items[0] === FNC1 ? 1 : 0;
@@ -109,9 +109,9 @@ function stretchesOf({ items, marks }) {
   });
   return stretches;
 }
-/** @type {(letter: Letter) => Text} */
-export function textOf(letter) {
-  const stretches = stretchesOf(letter), names = [...new Set(stretches.map(({ charset }) => charset))];
+/** @type {(content: Content) => Text} */
+export function textOf(content) {
+  const stretches = stretchesOf(content), names = [...new Set(stretches.map(({ charset }) => charset))];
   const texts = stretches.map(({ charset, items }) => textBy(bytesOf(items), charset));
   return { text: texts.includes(null) ? null : texts.join(""), charset: names.join(", ") || UTF_8 };
 }
@@ -194,24 +194,24 @@ function codesOf(number) {
   codesKnown.set(number, table);
   return table;
 }
-// The letters by which a text is written. Text that ISO 8859-1 has is that, with a mark where readers would take the
+// The contents by which a text is written. Text that ISO 8859-1 has is that, with a mark where readers would take the
 // bytes for another text. Other text is in UTF-8 or, behind its mark too, in any charset that all have alike: the first
 // of those whose symbol is smallest is taken.
-/** @type {(text: string) => Letter[]} */
+/** @type {(text: string) => Content[]} */
 export function waysOfText(text) {
   const units = Array.from({ length: text.length }, (_, k) => text.charCodeAt(k)), characters = Array.from(text);
   const marked = (/** @type {number} */ number) => [{ place: 0, number }];
   if (units.every((unit) => unit <= MOST_OF_LATIN_1))
-    return [letterOf(units, isClear(text) ? [] : marked(ECI_LATIN_1))];
+    return [contentOf(units, isClear(text) ? [] : marked(ECI_LATIN_1))];
   const hasAll = (/** @type {number} */ number) => characters.every((it) => codesOf(number).has(it));
   const bytesIn = (/** @type {number} */ number) =>
     characters.flatMap((it) => bytesOfCode(there(codesOf(number).get(it))));
-  return [letterOf([...new TextEncoder().encode(text)], marked(ECI_UTF_8)),
-    ...Object.keys(ALIKE).map(Number).filter(hasAll).map((number) => letterOf(bytesIn(number), marked(number)))];
+  return [contentOf([...new TextEncoder().encode(text)], marked(ECI_UTF_8)),
+    ...Object.keys(ALIKE).map(Number).filter(hasAll).map((number) => contentOf(bytesIn(number), marked(number)))];
 }
-// The letter of a text that is to be taken apart. A part of it is clear by itself: it has a mark, unless all is ASCII.
-/** @type {(letter: Letter) => Letter} */
-export function markedThroughout(letter) {
-  const isPlain = letter.marks.length > 0 || letter.items.every((item) => item <= MOST_OF_ASCII);
-  return isPlain ? letter : { ...letter, marks: [{ place: 0, number: ECI_LATIN_1 }] };
+// The content of a text that is to be taken apart. A part of it is clear by itself: it has a mark, unless all is ASCII.
+/** @type {(content: Content) => Content} */
+export function markedThroughout(content) {
+  const isPlain = content.marks.length > 0 || content.items.every((item) => item <= MOST_OF_ASCII);
+  return isPlain ? content : { ...content, marks: [{ place: 0, number: ECI_LATIN_1 }] };
 }

@@ -34,7 +34,7 @@ const macroFront = (number) => [...codes("[)>"), 30, ...codes(number), 29];
     number of the ECI that begins there */
 /** @typedef {{ data: Uint8Array, told: Meaning[], say: (text: string, brief?: string, items?: number[], mark?: number)
     => void }} Reading */
-// For codewords that spell a letter what each stands for.
+// For codewords that say a content what each stands for.
 /** @type {(data: Uint8Array) => Meaning[]} */
 export function meanings(data) {
   /** @type {Meaning[]} */

@@ -7,18 +7,18 @@ import { C40, DAMAGED_GRID } from "./examples.mjs";
 import { desks } from "./flow.mjs";
 import { gridText, isGrid } from "./grids.mjs";
 import { readable, takenAsTyped, whyNot } from "./gs1.mjs";
-import { isSameLetter, letterOf, partOf } from "./letters.mjs";
+import { isSameContent, contentOf, partOf } from "./contents.mjs";
 import { tooMuch } from "./messages.mjs";
 import { brokenWords, isBroken, settled } from "./order.mjs";
 import { lookAt } from "./looking.mjs";
 import { waysTaken } from "./parts.mjs";
 import { VALID, mark, stamp } from "./state.mjs";
 import { drawSmall } from "./symbol.mjs";
-import { letterRead } from "./taking.mjs";
+import { contentRead } from "./taking.mjs";
 import { borne, refusal } from "./words.mjs";
 
 /** @typedef {import("./common.mjs").Grid} Grid */
-/** @typedef {import("./letters.mjs").Letter} Letter */
+/** @typedef {import("./contents.mjs").Content} Content */
 /** @typedef {{ why?: string, words?: string, note?: string, isWaiting?: boolean, how?: string,
     seen?: import("./examine.mjs").Seen, normals?: (Grid | null)[] }} Judged */
 const MOST_ASKED = 40; // symbols of a picture, of which one is chosen
@@ -119,7 +119,7 @@ class Slot {
     }
     if (!text.trim()) { this.settle({ why: "is empty" }); return; }
     const isRows = isGrid(text), read = isRows ? null : takenAsTyped(text.replace(/\n+$/, ""));
-    if (read && !read.letter) { this.settle({ why: "can’t be taken", words: whyNot(read) }); return; }
+    if (read && !read.content) { this.settle({ why: "can’t be taken", words: whyNot(read) }); return; }
     const question = isRows ? { grid: text } : { ways: waysTaken(there(read), 1) };
     const judged = await desks.quick.ask("judge", question, `judge ${this.name}`);
     if (!judged || this.asked !== own) return;
@@ -164,8 +164,8 @@ class Slot {
     if (!seen || seen.answer.fault) return;
     const { answer } = seen, stands = how ? `, ${how}` : "";
     const mended = borne(answer) || "nothing had to be corrected";
-    const letter = there(letterRead(seen)), text = readable(letter) || "the empty message";
-    const found = `${shapeWords(seen)}${stands}; ${mended}${headWords(letter)}: `;
+    const content = there(contentRead(seen)), text = readable(content) || "the empty message";
+    const found = `${shapeWords(seen)}${stands}; ${mended}${headWords(content)}: `;
     this.reads.append(found, made("b", { textContent: text }));
   }
 }
@@ -179,7 +179,7 @@ function judgedOf(answer, why) {
   return { ...answer, why: "isn’t read", words: `Refused. ${refusal(fault, answer.seen)}` };
 }
 
-/** @type {(letter: import("./letters.mjs").Letter) => string} */
+/** @type {(content: import("./contents.mjs").Content) => string} */
 function headWords({ head }) {
   const part = partOf({ head });
   if (part) return `; part ${part.part} of ${part.parts} of the file ${part.file.join(" ")}`;
@@ -219,25 +219,25 @@ function compare(slots) {
   const isEqual = (one, other) => isSameShape(one, other) && isSame(one.modules, other.modules);
   const [a, b] = under.map(there), seen = judged.map((each) => there(each.seen)), isOne = isEqual(seen[0], seen[1]);
   const both = isOne ? "Both" : "Their modules differ, but both";
-  const words = `Their normal grids differ${likenessOf(seen.map((each) => there(letterRead(each))))}:`;
+  const words = `Their normal grids differ${likenessOf(seen.map((each) => there(contentRead(each))))}:`;
   if (!isEqual(a, b)) sayOnBoth("differ", "No, they say different things.", words, [a, b]);
   else sayOnBoth("", "Yes, they say the same.", `${both} have this one normal grid${unlike(judged)}:`, [a]);
 }
-// What two letters have in common that aren't the same, in words, or "".
-/** @type {(letters: Letter[]) => string} */
-function likenessOf(letters) {
-  const [one, other] = letters.map(textOf), isAlike = one.text !== null && one.text === other.text;
-  const [head, otherHead] = letters.map((letter) => letterOf([], [], letter.head));
-  if (!isSameLetter(head, otherHead)) return "";
-  return fnc1Words(letters) || (isAlike ? ", though both are the same text, with other bytes or ECIs" : "");
+// What two contents have in common that aren't the same, in words, or "".
+/** @type {(contents: Content[]) => string} */
+function likenessOf(contents) {
+  const [one, other] = contents.map(textOf), isAlike = one.text !== null && one.text === other.text;
+  const [head, otherHead] = contents.map((content) => contentOf([], [], content.head));
+  if (!isSameContent(head, otherHead)) return "";
+  return fnc1Words(contents) || (isAlike ? ", though both are the same text, with other bytes or ECIs" : "");
 }
-// That letters look alike, and that FNC1 is the difference, in words, or "".
-/** @type {(letters: Letter[]) => string} */
-function fnc1Words(letters) {
-  const [one, other] = letters.map(({ items, ...more }) => ({ ...more, items: items.filter((it) => it !== FNC1) }));
-  const isSameReading = readable(letters[0]) === readable(letters[1]);
-  if (!isSameReading && !isSameLetter(one, other)) return "";
-  const areGs1 = letters.map(({ items }) => items[0] === FNC1);
+// That contents look alike, and that FNC1 is the difference, in words, or "".
+/** @type {(contents: Content[]) => string} */
+function fnc1Words(contents) {
+  const [one, other] = contents.map(({ items, ...more }) => ({ ...more, items: items.filter((it) => it !== FNC1) }));
+  const isSameReading = readable(contents[0]) === readable(contents[1]);
+  if (!isSameReading && !isSameContent(one, other)) return "";
+  const areGs1 = contents.map(({ items }) => items[0] === FNC1);
   const what = isSameReading ? "they look alike" : "only FNC1 is the difference";
   if (areGs1[0] === areGs1[1]) return isSameReading ? "" : `, though ${what}`;
   const [gs1, plain] = areGs1[0] ? ["A", "B"] : ["B", "A"];

@@ -7,9 +7,9 @@ import { drawElements, elementsOf, faultsOf } from "./elements.mjs";
 import { drawGathered, missingWords } from "./gathered.mjs";
 import { drawPrint } from "./print.mjs";
 import { elementString } from "./gs1.mjs";
-import { PROGRAMMING, isSameLetter, partOf } from "./letters.mjs";
+import { PROGRAMMING, isSameContent, partOf } from "./contents.mjs";
 import { drawLesson } from "./lesson.mjs";
-import { spelled, spelledLetter, visibleTextOf } from "./messages.mjs";
+import { spelled, spelledContent, visibleTextOf } from "./messages.mjs";
 import { BAD, EMPTY, VALID, WORKING, isChanged, isDamaged, mark, store } from "./state.mjs";
 import { drawSymbol } from "./symbol.mjs";
 import { drawPrintSize } from "./taking.mjs";
@@ -37,7 +37,7 @@ export function drawStage() {
   const wasHidden = $("which").hidden;
   $("which").hidden = !(it.modules && isDamaged(it));
   if ($("which").hidden && !wasHidden) field("which-undamaged").checked = true;
-  $("which-first").textContent = it.letter ? "take the undamaged symbol" : "take the symbol as it was opened";
+  $("which-first").textContent = it.content ? "take the undamaged symbol" : "take the symbol as it was opened";
 }
 /** @type {(number: string | number, what: string) => Node} */
 const fact = (number, what) =>
@@ -67,26 +67,26 @@ const iconOf = ([around, sign]) => shape("svg", { viewBox: "0 0 24 24", "aria-hi
   shape("path", { d: around, fill: "currentColor" }),
   shape("path", { d: sign, fill: "none", stroke: "var(--card)", "stroke-width": 2.6 }));
 
-/** @typedef {import("./letters.mjs").Letter} Letter */
+/** @typedef {import("./contents.mjs").Content} Content */
 /** @type {(textContent: string) => Node} */
 const emphasised = (textContent) => made("i", { textContent });
-// A letter as people read it: GS1 data by its identifiers in brackets, text as it is, all else as it is spelled.
-/** @type {(letter: Letter) => (Node | string)[]} */
-function shownLetter(letter) {
-  const { items, marks } = letter, text = visibleTextOf(letter), elements = elementString(letter);
+// A content as people read it: GS1 data by its identifiers in brackets, text as it is, all else as it is spelled.
+/** @type {(content: Content) => (Node | string)[]} */
+function shownContent(content) {
+  const { items, marks } = content, text = visibleTextOf(content), elements = elementString(content);
   if (text) return [text];
   if (elements) return elements.split(/(\(\d+\))/).map((part, k) => (k % 2 ? emphasised(part) : part));
   if (!items.length && !marks.length) return [made("span", { className: "none", textContent: "the empty message" })];
-  const parts = spelledLetter(letter).split(/(\\\\|\\F|\\x..|\\E\{\d+\})/);
+  const parts = spelledContent(content).split(/(\\\\|\\F|\\x..|\\E\{\d+\})/);
   return parts.map((part, k) => (k % 2 ? emphasised(part) : part));
 }
-/** @type {(kind: string, state: string, why: string, letter?: Letter | null) => void} */
-function say(kind, state, why, letter = null) {
+/** @type {(kind: string, state: string, why: string, content?: Content | null) => void} */
+function say(kind, state, why, content = null) {
   const none = kind === "refused" ? [made("span", { className: "none", textContent: "no message" })] : [];
   if ($("verdict").className !== `card verdict ${kind}`) $("verdict").className = `card verdict ${kind}`;
   $("state").replaceChildren(iconOf(ICONS[kind]), made("span", { textContent: state }));
-  $("says").replaceChildren(...(letter ? shownLetter(letter) : none));
-  if (letter && visibleTextOf(letter)) $("says").dataset.text = textOf(letter).charset;
+  $("says").replaceChildren(...(content ? shownContent(content) : none));
+  if (content && visibleTextOf(content)) $("says").dataset.text = textOf(content).charset;
   else delete $("says").dataset.text;
   $("why").textContent = why;
   $("says").tabIndex = $("says").textContent ? 0 : -1; // it scrolls, where there is something
@@ -104,18 +104,18 @@ function drawVerdict() {
   else sayRead(it, there(it.seen));
 }
 // Of text in which charset it is, and of which bytes.
-/** @type {(letter: Letter, hasBytes: boolean) => string} */
-function charsetWords(letter, hasBytes) {
-  const { items, marks } = letter, isOdd = marks.length > 0 || items.some((item) => item > 127);
-  if (!isOdd || !visibleTextOf(letter)) return "";
+/** @type {(content: Content, hasBytes: boolean) => string} */
+function charsetWords(content, hasBytes) {
+  const { items, marks } = content, isOdd = marks.length > 0 || items.some((item) => item > 127);
+  if (!isOdd || !visibleTextOf(content)) return "";
   const by = marks.length ? `, as ${marks.length > 1 ? "ECIs say" : `ECI ${marks[0].number} says`}` : "";
   const bytes = hasBytes ? `, of these bytes: ${spelled(items)}` : ".";
-  return ` It is text in ${textOf(letter).charset.toUpperCase()}${by}${bytes}`;
+  return ` It is text in ${textOf(content).charset.toUpperCase()}${by}${bytes}`;
 }
 const TORN = "; more are taken here, since each block keeps a correction unused.";
 const INSTRUCTION = "It is an instruction to the reader that scans it, and no message.";
 // As what it is read.
-/** @type {(letter: Letter, word: string) => string} */
+/** @type {(content: Content, word: string) => string} */
 function readAs({ items, head }, word) {
   const part = partOf({ head });
   if (part) return `${word}, as part ${part.part} of ${part.parts}`;
@@ -123,33 +123,33 @@ function readAs({ items, head }, word) {
   return items[0] === FNC1 ? `${word}, as GS1 data` : word;
 }
 // Where a symbol is one part of what several say, which parts of it aren't read yet.
-/** @type {(it: import("./state.mjs").Mark, letter: Letter) => string} */
-function missing(it, letter) {
-  const part = partOf(letter);
+/** @type {(it: import("./state.mjs").Mark, content: Content) => string} */
+function missing(it, content) {
+  const part = partOf(content);
   return part && it.name === "read" ? ` ${missingWords(part)}` : "";
 }
 // How many elements of a whole GS1 message are wrong. A part may have some that are cut.
-/** @type {(letter: Letter) => number} */
+/** @type {(content: Content) => number} */
 const wrongElements = ({ items, head }) => (items[0] === FNC1 && !head ? faultsOf(elementsOf(items)) : 0);
 /** @type {(it: import("./state.mjs").Mark, seen: import("./examine.mjs").Seen) => void} */
 function sayRead(it, { usual, answer }) {
   const { items = [], marks = [], head = null, corrected = [], erased = [], left = [], border = 0 } = answer;
-  const letter = { items, marks, head }, faults = wrongElements(letter);
+  const content = { items, marks, head }, faults = wrongElements(content);
   const words = borne({ corrected, erased, border }), isSpent = spentBy(erased, left);
   const torn = it.limit === AUTO && border > usual ? ` Usually ${usual} may${TORN}` : "";
-  if (it.letter && !isSameLetter(it.letter, letter)) {
-    say("other", "Read as another message", OTHER, letter);
+  if (it.content && !isSameContent(it.content, content)) {
+    say("other", "Read as another message", OTHER, content);
     return;
   }
-  const within = isSpent || !it.letter ? isSpent : " Damage within the limits never changes the message.";
-  const isMade = store.task === "make" && it.letter !== null && !isDamaged(it), word = isMade ? "Made" : "Read";
+  const within = isSpent || !it.content ? isSpent : " Damage within the limits never changes the message.";
+  const isMade = store.task === "make" && it.content !== null && !isDamaged(it), word = isMade ? "Made" : "Read";
   const mended = words ? `${words}.${torn}${within}` : isMade ? "" : "Nothing had to be corrected.";
-  const why = `${mended}${missing(it, letter)}${charsetWords(letter, !isMade)}`.trimStart();
+  const why = `${mended}${missing(it, content)}${charsetWords(content, !isMade)}`.trimStart();
   const wrong = `${plural(faults, "element is", "elements are")} wrong, as the table says.`;
-  if (isSpent && !it.letter) say("other", "Read, but nothing shows that it is right", why, letter);
-  else if (faults) say("other", `${word}, but it isn’t right as GS1 data`, `${wrong} ${why}`, letter);
-  else if (head === PROGRAMMING) say("other", readAs(letter, word), `${INSTRUCTION} ${why}`, letter);
-  else say("good", readAs(letter, word), why, letter);
+  if (isSpent && !it.content) say("other", "Read, but nothing shows that it is right", why, content);
+  else if (faults) say("other", `${word}, but it isn’t right as GS1 data`, `${wrong} ${why}`, content);
+  else if (head === PROGRAMMING) say("other", readAs(content, word), `${INSTRUCTION} ${why}`, content);
+  else say("good", readAs(content, word), why, content);
 }
 
 // ---- Meters

@@ -2,9 +2,9 @@
 // the proved library and the sampler in WebAssembly. docs/JAVASCRIPT.md tells how it is used. The page stands on it.
 import { bytesOf, textOf, waysOfText } from "./charsets.mjs";
 import { ANY, ASCII, EXTENDED, FNC1, ONE, RECTANGLE, SHORTER, SMALLEST, SQUARE, there } from "./common.mjs";
-import { elementsOfLetter, letterOfElements } from "./gs1.mjs";
+import { elementsOfContent, contentOfElements } from "./gs1.mjs";
 import { CODE_WORDS, SAMPLER } from "./layouts.mjs";
-import { isSameLetter, letterOf, nameOfFile, partOf, together } from "./letters.mjs";
+import { isSameContent, contentOf, nameOfFile, partOf, together } from "./contents.mjs";
 import { Library } from "./library.mjs";
 import { demandKnown } from "./options.mjs";
 import { Sampler } from "./sampler.mjs";
@@ -14,15 +14,15 @@ import { Sampler } from "./sampler.mjs";
 /** @typedef {import("./sampler.mjs").Found} Found */
 /** @typedef {{ data: ArrayLike<number>, width: number, height: number }} Picture as an ImageData has it: red, green,
     blue and opacity of each pixel; or its luminance alone, 0 black and 255 white */
-/** @typedef {import("./letters.mjs").Letter} Letter */
+/** @typedef {import("./contents.mjs").Content} Content */
 /** @typedef {import("./common.mjs").Limit} Limit */
 /** @typedef {{ isGs1: boolean, bytes: Uint8Array, text: string | null, charset: string,
-    elements: { identifier: string, value: string }[] | null }} Sense of a letter: whether FNC1 is the first item; its
+    elements: { identifier: string, value: string }[] | null }} Sense of a content: whether FNC1 is the first item; its
     bytes without that, others as the byte 29; these as text, by the charsets of the marks, if they are that; and its
     identifiers with their values, if it is GS1 data as the rules have it */
-/** @typedef {Letter & Sense} Message its items, 0 to 255, and 256 for FNC1, its marks and its head, and their sense */
+/** @typedef {Content & Sense} Message its items, 0 to 255, and 256 for FNC1, its marks and its head, and their sense */
 /** @typedef {Found & Message} Symbol */
-/** @typedef {string | ArrayLike<number> | Partial<Letter>} Given to be written: a text, bytes or items, or a letter */
+/** @typedef {string | ArrayLike<number> | Partial<Content>} Given to be written: text, bytes or items, or a content */
 /** @typedef {{ symbols: Symbol[], unread: Found[], isComplete: boolean }} Finding in reading order */
 /** @typedef {{ form?: string, shape?: string, rows?: number, columns?: number, gs1?: boolean }} Form in which a message
     is written: `smallest`, in the encodations that take the smallest size; `ascii`, or `shorter` for bytes where that
@@ -65,34 +65,34 @@ export function luminanceOf({ data, width, height }) {
   }
   return grey;
 }
-/** @type {(letter: Letter) => Message} */
+/** @type {(content: Content) => Message} */
 function messageIn({ items, marks, head }) {
-  const isGs1 = items[0] === FNC1, letter = { items, marks, head };
+  const isGs1 = items[0] === FNC1, content = { items, marks, head };
   const bytes = bytesOf(isGs1 ? items.slice(1) : items);
-  return { ...letter, isGs1, bytes, ...textOf(letter), elements: elementsOfLetter(letter) };
+  return { ...content, isGs1, bytes, ...textOf(content), elements: elementsOfContent(content) };
 }
-// The letters by which what is given may be written.
-/** @type {(given: Given, isElements: boolean) => Letter[]} */
+// The contents by which what is given may be written.
+/** @type {(given: Given, isElements: boolean) => Content[]} */
 function waysGiven(given, isElements) {
   if (isElements) {
     if (typeof given !== "string") throw new TypeError("with gs1 a text is written, with its identifiers in brackets");
-    return [letterOfElements(given)];
+    return [contentOfElements(given)];
   }
   if (typeof given === "string") return waysOfText(given);
-  if ("length" in given) return [letterOf(Array.from(given))];
+  if ("length" in given) return [contentOf(Array.from(given))];
   const { items, marks, head } = given;
-  return [letterOf(Array.from(items ?? []), marks ?? [], head ?? null)];
+  return [contentOf(Array.from(items ?? []), marks ?? [], head ?? null)];
 }
 // What readings say together that are the parts of one message, in any order, each of them there.
-/** @type {(readings: Letter[]) => Message} */
+/** @type {(readings: Content[]) => Message} */
 export function joined(readings) {
   const parts = readings.map(partOf), names = new Set(parts.map((part) => part && nameOfFile(part)));
-  const byPart = new Map(readings.map((letter, k) => [parts[k]?.part, letter]));
-  const letters = Array.from({ length: parts[0]?.parts ?? 0 }, (_, k) => byPart.get(k + 1));
-  const areAll = names.size === 1 && letters.length > 0 && letters.every(Boolean);
-  if (!areAll || !readings.every((letter, k) => isSameLetter(letter, there(byPart.get(parts[k]?.part)))))
+  const byPart = new Map(readings.map((content, k) => [parts[k]?.part, content]));
+  const contents = Array.from({ length: parts[0]?.parts ?? 0 }, (_, k) => byPart.get(k + 1));
+  const areAll = names.size === 1 && contents.length > 0 && contents.every(Boolean);
+  if (!areAll || !readings.every((content, k) => isSameContent(content, there(byPart.get(parts[k]?.part)))))
     throw new RangeError("these aren't the parts of one message, each of them there");
-  return messageIn(together(letters.map(there)));
+  return messageIn(together(contents.map(there)));
 }
 
 export class Ecc200 {
@@ -120,7 +120,7 @@ export class Ecc200 {
     return { symbols: symbols.map((it) => ({ ...it, ...messageIn(it) })), unread,
       isComplete: ended === SAMPLER.WHOLE };
   }
-  // The symbol of a message: of text, of bytes or items, or of a letter.
+  // The symbol of a message: of text, of bytes or items, or of a content.
   /** @type {(message: Given, form?: Form) => Grid} */
   write(message, given = {}) {
     demandKnown(given, OPTIONS.write);
@@ -139,7 +139,7 @@ export class Ecc200 {
     const { limit = null, doubtful = null } = more, { library } = this, most = library.limitOf(grid, limit, doubtful);
     const { fault, ...answer } = library.read(grid, most, doubtful);
     if (fault) throw new Refused(fault);
-    return { ...answer, ...messageIn(/** @type {Letter} */ (answer)) };
+    return { ...answer, ...messageIn(/** @type {Content} */ (answer)) };
   }
   // The normal symbol of what an upright grid says.
   /** @type {(grid: Grid, more?: { limit?: Limit, doubtful?: Uint8Array | null, form?: string }) => Grid} */

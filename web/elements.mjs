@@ -8,10 +8,10 @@ import { VALID, mark } from "./state.mjs";
 /** @type {(items: number[]) => import("./gs1.mjs").Element[]} */
 export const elementsOf = (items) => elementsIn(items.slice(1));
 // What is wrong with GS1 data, in words, or "".
-/** @type {(letter: import("./letters.mjs").Letter | null) => string} */
-export function wrongGs1(letter) {
-  const isGs1 = letter?.items[0] === FNC1 && !letter.head;
-  const wrong = isGs1 ? elementsOf(letter.items).find(({ fault }) => fault) : null;
+/** @type {(content: import("./contents.mjs").Content | null) => string} */
+export function wrongGs1(content) {
+  const isGs1 = content?.items[0] === FNC1 && !content.head;
+  const wrong = isGs1 ? elementsOf(content.items).find(({ fault }) => fault) : null;
   if (!wrong) return "";
   const identifier = wrong.identifier && `(${wrong.identifier}) `;
   return `It isn’t right as GS1 data: ${identifier}${wrong.name}, ${wrong.fault}.`;

@@ -3,7 +3,7 @@ import { plural, there } from "./common.mjs";
 import { field } from "./dom.mjs";
 import { wrongGs1 } from "./elements.mjs";
 import { desks } from "./flow.mjs";
-import { letterOf } from "./letters.mjs";
+import { contentOf } from "./contents.mjs";
 import { isCsv, linesNow, whyNotYet } from "./lines.mjs";
 import { brokenWords, isBroken } from "./order.mjs";
 import { partsNow, waysTaken } from "./parts.mjs";
@@ -11,8 +11,8 @@ import { howIn } from "./sizes.mjs";
 import { formNow, takenNow } from "./source.mjs";
 import { tooLong } from "./words.mjs";
 
-/** @typedef {import("./letters.mjs").Letter} Letter */
-/** @typedef {{ number: number, text: string, copies: number, letter: Letter, grid?: import("./common.mjs").Grid,
+/** @typedef {import("./contents.mjs").Content} Content */
+/** @typedef {{ number: number, text: string, copies: number, content: Content, grid?: import("./common.mjs").Grid,
     why?: string }} Entry of the list, by its number there: the symbol with its text and what it says, or why there is
     none */
 /** @typedef {import("./csv.mjs").Line} Line */
@@ -24,8 +24,8 @@ const MOST_ON_SHEET = 10000; // labels
 function readLine({ message, why }) {
   if (why) return { why: `${why}.` };
   if (!message.trim()) return { why: "its row has no message." };
-  const taken = takenNow(message), { letter, column, why: fault } = taken;
-  return letter ? { taken, why: wrongGs1(letter) } : { why: column ? `column ${column} ${fault}` : fault ?? "" };
+  const taken = takenNow(message), { content, column, why: fault } = taken;
+  return content ? { taken, why: wrongGs1(content) } : { why: column ? `column ${column} ${fault}` : fault ?? "" };
 }
 // Why the list as a whole isn't taken, or "".
 /** @type {(lines: Line[]) => string} */
@@ -46,11 +46,11 @@ export function faultIn(lines) {
   const faults = lines.map((line) => readLine(line).why), bad = faults.findIndex(Boolean);
   return bad < 0 ? "" : ofMessage(bad + 1, faults[bad]);
 }
-// A line that is to be written: its letters, one for each part, in each way, and the entries, without their symbols.
-/** @type {(line: Line, number: number) => { ways: Letter[][], entries: Omit<Entry, "letter" | "grid">[] }} */
+// A line that is to be written: its contents, one for each part, in each way, and the entries, without their symbols.
+/** @type {(line: Line, number: number) => { ways: Content[][], entries: Omit<Entry, "content" | "grid">[] }} */
 function askedOf(line, number) {
   const { taken, why } = readLine(line), { message, text, copies } = line;
-  const ways = why ? [[letterOf([])]] : waysTaken(there(taken), partsNow()), [{ length }] = ways;
+  const ways = why ? [[contentOf([])]] : waysTaken(there(taken), partsNow()), [{ length }] = ways;
   const below = field("label-text").checked ? text ?? message : "";
   const textOfPart = (/** @type {number} */ k) => (below && length > 1 ? `${below} (${k + 1}/${length})` : below);
   return { ways, entries: Array.from({ length }, (_, k) => ({ number, text: textOfPart(k), copies, why })) };
@@ -63,7 +63,7 @@ export async function entriesOf(lines, first, lane) {
   if (!written || isBroken(written)) return { why: brokenWords(written ?? { stopped: true }) };
   return { entries: asked.flatMap(({ ways, entries }, k) => entries.map((entry, part) => {
     const { way, symbols } = written[k], grid = symbols[part];
-    return { ...entry, letter: ways[way][part], grid, why: entry.why || (grid ? "" : tooLong(how)) };
+    return { ...entry, content: ways[way][part], grid, why: entry.why || (grid ? "" : tooLong(how)) };
   })) };
 }
 // The symbols of all lines; or why there are none.

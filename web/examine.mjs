@@ -100,8 +100,8 @@ export function damaged(lib, act, grid, original, doubtful) {
   return spoiling.grid;
 }
 
-// How many of the items of a letter fit a symbol that is written so.
-/** @type {(lib: Library, letter: import("./letters.mjs").Letter, how: import("./library.mjs").How) => number} */
+// How many of the items of a content fit a symbol that is written so.
+/** @type {(lib: Library, content: import("./contents.mjs").Content, how: import("./library.mjs").How) => number} */
 export function mostThatFit(lib, { items, marks, head }, how) {
   const beginning = (/** @type {number} */ count) =>
     ({ items: items.slice(0, count), marks: marks.filter(({ place }) => place <= count), head });

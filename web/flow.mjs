@@ -24,11 +24,11 @@ export function openDesks(script, code) {
 }
 
 // Another symbol was written or opened; where it was found, it has doubtful modules and a limit of its own.
-/** @type {(it: Mark, symbol: import("./common.mjs").Grid & { letter?: import("./letters.mjs").Letter | null,
+/** @type {(it: Mark, symbol: import("./common.mjs").Grid & { content?: import("./contents.mjs").Content | null,
     doubtful?: Uint8Array | null, limit?: Limit, seen: any,
     quality?: import("./quality.mjs").Quality | null }) => void} */
-export function take(it, { letter = null, doubtful = null, limit, seen, quality = null, ...grid }) {
-  it.hold(grid, letter, doubtful, quality);
+export function take(it, { content = null, doubtful = null, limit, seen, quality = null, ...grid }) {
+  it.hold(grid, content, doubtful, quality);
   keepMap(seen, seen.map);
   if (limit !== undefined) [it.limit, it.limitWhy] = [limit, ""];
   else if (it.limit !== null) { it.seen = seen; look(it); return; }
@@ -99,7 +99,7 @@ export const damage = (what) => inTurn(mark(), (it) => damageNow(it, what));
 /** @type {(it: Mark, what: string) => Promise<void>} */
 async function damageNow(it, what) {
   work(it);
-  const { entered } = it, original = it.letter ? it.original : null;
+  const { entered } = it, original = it.content ? it.original : null;
   const seen = await desks.quick.ask("damage", { act: what, original, ...asked(it) }, `damage ${it.name}`);
   if (it.entered !== entered) return;
   if (isBroken(seen)) { refuse(it, brokenWords(seen)); return; }

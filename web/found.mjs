@@ -5,7 +5,7 @@ import { $, hint, made, setUsable, shape, whenUsed } from "./dom.mjs";
 import { desks, take } from "./flow.mjs";
 import { gatherAll } from "./gathered.mjs";
 import { keepSoon, kept } from "./kept.mjs";
-import { keyOfLetter } from "./letters.mjs";
+import { keyOfContent } from "./contents.mjs";
 import { copiedLines, csvOf, jsonOf, listIn, remarksOn, saidBy, whyUnread } from "./listed.mjs";
 import { brokenWords, enter, isBroken, refuse, whenEntered } from "./order.mjs";
 import { panes } from "./state.mjs";
@@ -98,8 +98,8 @@ export function showSights({ symbols, unread, isComplete, hasQrCode = false, wid
 // Adds to the list what the camera sees for the first time; returns that.
 /** @type {(symbols: Sighted[]) => Sighted[]} */
 export function addSights(symbols) {
-  const known = new Set(scene.list.map(keyOfLetter));
-  const fresh = symbols.filter((symbol) => !known.has(keyOfLetter(symbol)));
+  const known = new Set(scene.list.map(keyOfContent));
+  const fresh = symbols.filter((symbol) => !known.has(keyOfContent(symbol)));
   if (!fresh.length) return fresh;
   gatherAll(fresh);
   scene.list.push(...fresh);

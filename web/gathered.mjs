@@ -4,12 +4,12 @@ import { $, made, setUsable, whenUsed } from "./dom.mjs";
 import { redraw } from "./redraw.mjs";
 import { readable, typed } from "./gs1.mjs";
 import { keepSoon, kept } from "./kept.mjs";
-import { isSameLetter, nameOfFile, partOf, together } from "./letters.mjs";
+import { isSameContent, nameOfFile, partOf, together } from "./contents.mjs";
 import { VALID, mark, store } from "./state.mjs";
-import { copyText, letterRead } from "./taking.mjs";
+import { copyText, contentRead } from "./taking.mjs";
 
-/** @typedef {import("./letters.mjs").Letter} Letter */
-/** @type {Map<string, Map<number, Letter>>} the parts of each file, by their numbers */
+/** @typedef {import("./contents.mjs").Content} Content */
+/** @type {Map<string, Map<number, Content>>} the parts of each file, by their numbers */
 const files = new Map();
 const KEPT = "parts";
 const keepParts = () => keepSoon(KEPT, () => (files.size
@@ -22,48 +22,48 @@ export function bringParts() {
 }
 
 // Keeps what is read, if it is a part. One with another content than before is of another file, which begins with it.
-/** @type {(letter: Letter) => void} */
-export function gather(letter) {
-  const part = partOf(letter);
+/** @type {(content: Content) => void} */
+export function gather(content) {
+  const part = partOf(content);
   if (!part) return;
   const name = nameOfFile(part), known = files.get(name), before = known?.get(part.part);
-  const own = known && (!before || isSameLetter(before, letter)) ? known : new Map();
-  const { items, marks, head } = letter;
+  const own = known && (!before || isSameContent(before, content)) ? known : new Map();
+  const { items, marks, head } = content;
   files.set(name, own.set(part.part, { items, marks, head }));
   keepParts();
 }
 // Keeps what is read of several symbols, and shows what that changes.
-/** @type {(letters: Letter[]) => void} */
-export function gatherAll(letters) {
-  for (const letter of letters) gather(letter);
-  if (letters.some(partOf)) redraw();
+/** @type {(contents: Content[]) => void} */
+export function gatherAll(contents) {
+  for (const content of contents) gather(content);
+  if (contents.some(partOf)) redraw();
 }
 // Which parts of a message are missing, in words.
-/** @type {(part: import("./letters.mjs").Part) => string} */
+/** @type {(part: import("./contents.mjs").Part) => string} */
 export function missingWords(part) {
   const own = files.get(nameOfFile(part)) ?? new Map(), all = Array.from({ length: part.parts }, (_, k) => k + 1);
   const missing = all.filter((number) => !own.has(number)), { length } = missing;
   return length ? `Not read yet: ${length > 1 ? "parts" : "part"} ${missing.join(", ")}.` : "All parts are read.";
 }
 // What all parts of a file say together, or null while one is missing.
-/** @type {(part: import("./letters.mjs").Part) => Letter | null} */
+/** @type {(part: import("./contents.mjs").Part) => Content | null} */
 function wholeOf(part) {
   const own = files.get(nameOfFile(part)) ?? new Map();
-  const letters = Array.from({ length: part.parts }, (_, k) => own.get(k + 1));
-  return letters.every(Boolean) ? together(letters) : null;
+  const contents = Array.from({ length: part.parts }, (_, k) => own.get(k + 1));
+  return contents.every(Boolean) ? together(contents) : null;
 }
 // The part that is at hand where symbols are read, or null.
 function partAtHand() {
-  const { seen, stage } = mark(), letter = seen && stage === VALID && store.task === "read" ? letterRead(seen) : null;
-  return letter && partOf(letter);
+  const { seen, stage } = mark(), content = seen && stage === VALID && store.task === "read" ? contentRead(seen) : null;
+  return content && partOf(content);
 }
-/** @type {(part: import("./letters.mjs").Part) => Node[]} */
+/** @type {(part: import("./contents.mjs").Part) => Node[]} */
 function partsShown(part) {
   const own = files.get(nameOfFile(part)) ?? new Map();
   return Array.from({ length: part.parts }, (_, k) => {
-    const letter = own.get(k + 1), text = letter ? readable(letter) || "empty" : "not read yet";
-    const words = made(letter ? "code" : "span", { textContent: text });
-    const item = made("li", { className: letter ? "" : "missing" }, words);
+    const content = own.get(k + 1), text = content ? readable(content) || "empty" : "not read yet";
+    const words = made(content ? "code" : "span", { textContent: text });
+    const item = made("li", { className: content ? "" : "missing" }, words);
     if (k + 1 === part.part) item.setAttribute("aria-current", "true");
     return item;
   });
@@ -83,9 +83,9 @@ export function drawGathered() {
 export function wireGathered() {
   whenUsed("copy-whole", () => copyText(typed(there(wholeOf(there(partAtHand())))), "Copied: the whole message"));
   $("forget-parts").addEventListener("click", () => {
-    const part = there(partAtHand()), letter = there(letterRead(there(mark().seen)));
+    const part = there(partAtHand()), content = there(contentRead(there(mark().seen)));
     files.delete(nameOfFile(part));
     keepParts();
-    gatherAll([letter]);
+    gatherAll([content]);
   });
 }

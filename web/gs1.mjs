@@ -1,14 +1,14 @@
 // GS1 messages: element strings as people write them, with identifiers in parentheses, and as a symbol holds them. The
 // identifiers are those of the library's table, which is packed into the page.
 import { FNC1, isSame, plural, there } from "./common.mjs";
-import { letterOf } from "./letters.mjs";
-import { parse, spelledItem, spelledLetter, takenAsText, tooMuch, unspelled, visibleTextOf } from "./messages.mjs";
+import { contentOf } from "./contents.mjs";
+import { parse, spelledItem, spelledContent, takenAsText, tooMuch, unspelled, visibleTextOf } from "./messages.mjs";
 
 /** @typedef {{ charset: string, least: number, most: number, check?: string, mayLack: boolean }} Part of a value */
 /** @typedef {{ isFixed: boolean, hasDecimals: boolean, parts: Part[], name: string }} Entry of the table */
 /** @typedef {{ identifier: string, name: string, items: number[], note?: string, fault?: string }} Element */
 /** @typedef {{ identifier: string, items: number[] }} Written element */
-/** @typedef {import("./letters.mjs").Letter} Letter */
+/** @typedef {import("./contents.mjs").Content} Content */
 /** @typedef {import("./messages.mjs").Taken} Taken */
 /** @typedef {import("./messages.mjs").Fault} Fault */
 const SEPARATOR = 29; // GS, which may stand in place of an FNC1 between elements
@@ -198,9 +198,9 @@ export function elementsIn(items) {
   return [{ identifier: "", name: "no element follows the FNC1", items: [], fault: "empty" }];
 }
 
-// The elements of a letter that is GS1 data as its rules have it, or null.
-/** @type {(letter: Letter) => { identifier: string, value: string }[] | null} */
-export function elementsOfLetter({ items, head }) {
+// The elements of a content that is GS1 data as its rules have it, or null.
+/** @type {(content: Content) => { identifier: string, value: string }[] | null} */
+export function elementsOfContent({ items, head }) {
   if (items[0] !== FNC1 || head) return null;
   const elements = elementsIn(items.slice(1));
   if (elements.some(({ fault }) => fault)) return null;
@@ -233,20 +233,20 @@ function elementAt(text, at) {
   const [all, identifier, closed, spelledValue] = there(element.exec(text)), begin = at + identifier.length + 2;
   const end = at + all.length;
   if (!closed) return { ...noElement(text, at, "opens a bracket that holds no identifier, such as (01)"), end };
-  const entry = known.get(identifier), { letter, ...fault } = parse(spelledValue, true);
+  const entry = known.get(identifier), { content, ...fault } = parse(spelledValue, true);
   if (!entry) return { ...noElement(text, at, `begins (${identifier}), which is no identifier of GS1’s table`), end };
   if (/\s/.test(spelledValue)) {
     const ways = [{ name: "without spaces", text: text.replace(/\s/g, "") }];
     return { why: `(${identifier}) ${entry.name} has a space in its value, and GS1 has none.`, ways, end };
   }
-  if (!letter) {
+  if (!content) {
     const [before, after] = [text.slice(0, begin), text.slice(begin + spelledValue.length)];
     const ways = fault.ways?.map((way) => ({ ...way, text: before + way.text + after }));
     return { ...fault, column: begin + (fault.column ?? 0), ways, end };
   }
-  if (letter.items.some((item) => item === FNC1 || item === SEPARATOR))
+  if (content.items.some((item) => item === FNC1 || item === SEPARATOR))
     return { why: `(${identifier}) ${entry.name} has a separator in its value: FNC1 is put in where one is due.`, end };
-  return { element: { identifier, items: letter.items }, end };
+  return { element: { identifier, items: content.items }, end };
 }
 // The items of elements: FNC1 in front, and at the end of each value of variable length that another element follows.
 /** @type {(elements: Written[]) => number[]} */
@@ -258,8 +258,8 @@ function joinedItems(elements) {
   });
   return items;
 }
-// A letter as an element string, or "" if it isn't what that would stand for.
-/** @type {(letter: Letter) => string} */
+// A content as an element string, or "" if it isn't what that would stand for.
+/** @type {(content: Content) => string} */
 export function elementString({ items, marks }) {
   if (items[0] !== FNC1 || marks.length) return "";
   const elements = elementsIn(items.slice(1));
@@ -267,12 +267,12 @@ export function elementString({ items, marks }) {
   const spell = (/** @type {number} */ item) => (item === 40 ? "\\(" : spelledItem(item));
   return elements.map(({ identifier, items: value }) => `(${identifier})${value.map(spell).join("")}`).join("");
 }
-// A letter as people read it: as an element string, as text, or as it is spelled.
-/** @type {(letter: Letter) => string} */
-export const readable = (letter) => elementString(letter) || visibleTextOf(letter) || spelledLetter(letter);
+// A content as people read it: as an element string, as text, or as it is spelled.
+/** @type {(content: Content) => string} */
+export const readable = (content) => elementString(content) || visibleTextOf(content) || spelledContent(content);
 // The same as people would type it.
-/** @type {(letter: Letter) => string} */
-export const typed = (letter) => elementString(letter) || unspelled(letter) || spelledLetter(letter);
+/** @type {(content: Content) => string} */
+export const typed = (content) => elementString(content) || unspelled(content) || spelledContent(content);
 // What a reader would take apart otherwise than it was written, in words, or "": a value of fixed length runs into what
 // follows it if it has another.
 /** @type {(elements: Written[], items: number[]) => string} */
@@ -296,22 +296,22 @@ function elementsOfText(text) {
     at = end;
   }
   const items = joinedItems(elements), why = misread(elements, items);
-  return why ? { why } : { letter: letterOf(items), isElements: true };
+  return why ? { why } : { content: contentOf(items), isElements: true };
 }
 
-// The letter of an element string, of which each value is right. Throws a RangeError, which says what is wrong.
-/** @type {(text: string) => Letter} */
-export function letterOfElements(text) {
+// The content of an element string, of which each value is right. Throws a RangeError, which says what is wrong.
+/** @type {(text: string) => Content} */
+export function contentOfElements(text) {
   const none = { why: "An identifier in brackets, such as (01), is wanted." };
   /** @type {Taken} */
   const taken = isElements(text) ? elementsOfText(text) : none;
-  if (!taken.letter) throw new RangeError(whyNot(taken));
-  const wrong = elementsIn(taken.letter.items.slice(1)).find(({ fault }) => fault);
+  if (!taken.content) throw new RangeError(whyNot(taken));
+  const wrong = elementsIn(taken.content.items.slice(1)).find(({ fault }) => fault);
   if (wrong) throw new RangeError(`(${wrong.identifier}) ${wrong.name}: ${wrong.fault}`);
-  return taken.letter;
+  return taken.content;
 }
 
-// What a text stands for that is an element string, or a letter that is spelled.
+// What a text stands for that is an element string, or a content that is spelled.
 /** @type {(text: string) => Taken} */
 export function takenAsSpelled(text) {
   const much = tooMuch(text);

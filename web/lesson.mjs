@@ -4,7 +4,7 @@ import { bitsOf, bold } from "./cells.mjs";
 import { nameOfEci } from "./charsets.mjs";
 import { BEYOND, blockOf, plural, shapeWords, there } from "./common.mjs";
 import { $, fieldOf, folded, made, one, setUsable, shape, whenUsed } from "./dom.mjs";
-import { partOf } from "./letters.mjs";
+import { partOf } from "./contents.mjs";
 import { isPlain, spelledItem } from "./messages.mjs";
 import { VALID, mapOf, mark } from "./state.mjs";
 import { numbersDrawn, runs, viewBox } from "./symbol.mjs";

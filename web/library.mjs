@@ -5,21 +5,21 @@ import {
   ABI, AUTO, BIT, BORDER_FAULT, GIVEN_LIMIT, MOST_COLUMNS, MOST_ITEMS, MOST_MARKS, MOST_ROWS, SIZE_COUNT, WIDE, there,
 } from "./common.mjs";
 import { LAYOUT } from "./layouts.mjs";
-import { headOf, kindOfHead, partOf } from "./letters.mjs";
+import { headOf, kindOfHead, partOf } from "./contents.mjs";
 
 /** @typedef {import("./common.mjs").Shape} Shape */
 /** @typedef {import("./common.mjs").Grid} Grid */
 /** @typedef {import("./common.mjs").Limit} Limit */
-/** @typedef {import("./letters.mjs").Letter} Letter */
-/** @typedef {import("./letters.mjs").Head} Head */
-/** @typedef {import("./letters.mjs").Mark} Mark */
+/** @typedef {import("./contents.mjs").Content} Content */
+/** @typedef {import("./contents.mjs").Head} Head */
+/** @typedef {import("./contents.mjs").Mark} Mark */
 /** @typedef {{ code: number, value: number, place: number }} Fault */
 /** @typedef {Shape & { regionRows: number, regionColumns: number, down: number, across: number, data: number,
     check: number, blocks: number, limit: number, isExtension: boolean }} Size */
 /** @typedef {{ form: number, shape: number } & Shape} How a message is written: its form, and the sizes that may be
     taken; rows and columns are those of one size */
 /** @typedef {{ fault?: Fault, border?: number, corrected?: number[], erased?: number[], left?: number[],
-    symbology?: string, dealing?: number } & Partial<Letter>} Answer to a symbol: of each block how many codewords were
+    symbology?: string, dealing?: number } & Partial<Content>} Answer to a symbol: of each block how many codewords were
     corrected, how many are erased, and how many of its check codewords neither have used; what it says, with its
     symbology identifier; and 1 where 144 x 144 is dealt by the other dealing, else 0 */
 /** @typedef {{ border: number, dealing: number, corrected: number[], erased: number[], left: number[],
@@ -154,7 +154,7 @@ export class Library {
     const [kind, part, parts] = this.numbers(at, 3), [a, b] = this.bytes(at + LAYOUT.head.file, 2);
     return headOf(kind, part, parts, [a, b]);
   }
-  /** @type {(letter: Letter, how: How) => Partial<Grid> & { fault?: Fault }} */
+  /** @type {(content: Content, how: How) => Partial<Grid> & { fault?: Fault }} */
   write({ items, marks, head }, { form, shape, rows, columns }) {
     // (one too many has the same effect as all of them)
     const some = items.slice(0, MOST_ITEMS + 1), few = marks.slice(0, MOST_MARKS + 1);
@@ -167,15 +167,15 @@ export class Library {
     const given = [this.itemsAt, some.length, this.marksAt, few.length, this.howAt, this.outAt].map(BigInt);
     return this.c.ecc200_write(...given) ? this.fault() : this.symbol();
   }
-  // Writes letters in each of several ways to say the same, and takes the one whose symbols have the fewest modules, of
-  // equals the first; where none is written, the one of the fewest items.
-  /** @type {(ways: Letter[][], how: How) => { way: number, symbols: (Partial<Grid> & { fault?: Fault })[] }} */
+  // Writes contents in each of several ways to say the same, and takes the one whose symbols have the fewest modules,
+  // of equals the first; where none is written, the one of the fewest items.
+  /** @type {(ways: Content[][], how: How) => { way: number, symbols: (Partial<Grid> & { fault?: Fault })[] }} */
   writeSmallest(ways, how) {
-    const written = ways.map((letters, way) => {
-      const symbols = letters.map((letter) => this.write(letter, how));
+    const written = ways.map((contents, way) => {
+      const symbols = contents.map((content) => this.write(content, how));
       const sum = (/** @type {number} */ one, /** @type {number} */ other) => one + other;
       const area = symbols.map(({ rows = Infinity, columns = 1 }) => rows * columns).reduce(sum);
-      return { way, symbols, area, length: letters.map(({ items }) => items.length).reduce(sum) };
+      return { way, symbols, area, length: contents.map(({ items }) => items.length).reduce(sum) };
     });
     /** @type {(one: { area: number, length: number }, other: { area: number, length: number }) => boolean} */
     const isLess = (one, other) => (one.area === Infinity && other.area === Infinity

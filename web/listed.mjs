@@ -5,7 +5,7 @@ import { limitIn, shapeWords, there } from "./common.mjs";
 import { FOUND, PICTURE } from "./csv.mjs";
 import { gridText } from "./grids.mjs";
 import { typed } from "./gs1.mjs";
-import { partOf } from "./letters.mjs";
+import { partOf } from "./contents.mjs";
 import { borne, refusal } from "./words.mjs";
 
 /** @typedef {import("./pictures.mjs").Sighted & { seen?: import("./examine.mjs").Seen, picture?: string }} Sighted

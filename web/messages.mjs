@@ -1,19 +1,20 @@
-// How letters are spelled: \\ is the backslash, \F FNC1, \xHH a byte, \E{N} the ECI assignment N, and any other
+// How contents are spelled: \\ is the backslash, \F FNC1, \xHH a byte, \E{N} the ECI assignment N, and any other
 // character of 32 to 126 itself; in front of them \A{2/5:001002} a part of what several symbols say, with the numbers
 // of its file, and \P reader programming. The values of element strings have no ECI and no head, but \( a bracket.
 import { textOf, waysOfText } from "./charsets.mjs";
 import { FNC1, MOST_LINES, MOST_LINES_OF_SHEET, MOST_TEXT, codeOf, there } from "./common.mjs";
-import { PROGRAMMING, letterOf } from "./letters.mjs";
+import { PROGRAMMING, contentOf } from "./contents.mjs";
 
-/** @typedef {import("./letters.mjs").Letter} Letter */
+/** @typedef {import("./contents.mjs").Content} Content */
 /** @typedef {{ column?: number, why?: string, ways?: { name: string, text: string }[], isTooMuch?: boolean,
     isElements?: boolean, isText?: boolean }} Fault of a text: why it isn't taken, and where; and how else it may be
     spelled */
-/** @typedef {Fault & { letter?: Letter, letters?: Letter[] }} Taken what a text stands for, and all letters by which it
-    may be written, if there are several; or why it isn't taken */
+/** @typedef {Fault & { content?: Content, contents?: Content[] }} Taken what a text stands for, and all contents by which
+    it may be written, if there are several; or why it isn't taken */
 /** @type {(text: string, isValue?: boolean) => Taken} */
 export function parse(text, isValue = false) {
-  const { head, length } = isValue ? NO_HEAD : headIn(text), letter = letterOf([], [], head), { items, marks } = letter;
+  const { head, length } = isValue ? NO_HEAD : headIn(text);
+  const content = contentOf([], [], head), { items, marks } = content;
   for (let at = length; at < text.length;) {
     const code = there(text.codePointAt(at)), rest = text.slice(at, at + LONGEST_SPELLING);
     const [hex] = /^\\x[0-9A-Fa-f]{2}/.exec(rest) ?? [], [eci, number] = (!isValue && ECI_SPELLED.exec(rest)) || [];
@@ -26,12 +27,12 @@ export function parse(text, isValue = false) {
     else if (code >= 32 && code <= 126) { items.push(code); at += 1; }
     else return { column: at + 1, why: `is ${named(code)}, which has no spelling of its own`, ways: respelled(text) };
   }
-  return { letter };
+  return { content };
 }
 const HEAD_SPELLED = /^\\(?:P|A\{(\d{1,2})\/(\d{1,2}):(\d{3})(\d{3})\})/;
 const NO_HEAD = { head: null, length: 0 };
 // The head that a text begins with, if it does, and how many characters that has.
-/** @type {(text: string) => { head: import("./letters.mjs").Head | null, length: number }} */
+/** @type {(text: string) => { head: import("./contents.mjs").Head | null, length: number }} */
 function headIn(text) {
   const [all, ...numbers] = HEAD_SPELLED.exec(text) ?? [], [part, parts, ...file] = numbers.map(Number);
   if (!all) return NO_HEAD;
@@ -43,19 +44,19 @@ const TWICE = "with the backslash doubled";
 // A text that is taken as it stands.
 /** @type {(text: string) => Taken} */
 export function takenAsText(text) {
-  const much = tooMuch(text), letters = much ? [] : waysOfText(text);
-  return much ? { why: much, isTooMuch: true } : { letter: letters[0], letters, isText: true };
+  const much = tooMuch(text), contents = much ? [] : waysOfText(text);
+  return much ? { why: much, isTooMuch: true } : { content: contents[0], contents, isText: true };
 }
-// What a letter is as text, if it is that and otherwise spelled than it stands; else "".
-/** @type {(letter: Letter) => string} */
-export function unspelled(letter) {
-  const { items, marks } = letter, isOdd = marks.length || items.some((item) => item > 127 || item === BACKSLASH);
-  return isOdd && !items.includes(FNC1) ? textOf(letter).text ?? "" : "";
+// What a content is as text, if it is that and otherwise spelled than it stands; else "".
+/** @type {(content: Content) => string} */
+export function unspelled(content) {
+  const { items, marks } = content, isOdd = marks.length || items.some((item) => item > 127 || item === BACKSLASH);
+  return isOdd && !items.includes(FNC1) ? textOf(content).text ?? "" : "";
 }
 // The same, if each of its characters can be seen.
-/** @type {(letter: Letter) => string} */
-export function visibleTextOf(letter) {
-  const text = unspelled(letter), isComposed = text === text.normalize("NFC") && !LONE_MARK.test(text);
+/** @type {(content: Content) => string} */
+export function visibleTextOf(content) {
+  const text = unspelled(content), isComposed = text === text.normalize("NFC") && !LONE_MARK.test(text);
   return isComposed && Array.from(text).every((character) => character === " " || !UNSEEN.test(character)) ? text : "";
 }
 // Why a text is more than a field takes, or "".
@@ -109,6 +110,6 @@ export const spelledItem = (item) =>
   (isPlain(item) ? String.fromCharCode(item) : item === 92 ? "\\\\" : item === FNC1 ? "\\F" : hexed(item));
 /** @type {(items: number[]) => string} */
 export const spelled = (items) => items.map(spelledItem).join("");
-/** @type {(letter: Letter) => string} */
-export const spelledLetter = ({ items, marks }) => spelled(items.slice(0, marks[0]?.place)) + marks
+/** @type {(content: Content) => string} */
+export const spelledContent = ({ items, marks }) => spelled(items.slice(0, marks[0]?.place)) + marks
   .map(({ place, number }, k) => `\\E{${number}}${spelled(items.slice(place, marks[k + 1]?.place))}`).join("");

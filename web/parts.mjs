@@ -2,7 +2,7 @@
 import { markedThroughout } from "./charsets.mjs";
 import { there } from "./common.mjs";
 import { $, field, made, setUsable, whenUsed } from "./dom.mjs";
-import { takenApart } from "./letters.mjs";
+import { takenApart } from "./contents.mjs";
 
 export const MOST_PARTS = 16;
 let part = 1; // that is shown
@@ -10,9 +10,9 @@ let part = 1; // that is shown
 /** @type {() => number} */
 export const partsNow = () => Number(field("parts").value);
 export const partNow = () => Math.min(part, partsNow());
-// The letters of what is taken, in so many parts, in each way to write it; of what has a head of its own, that alone.
-/** @type {(taken: import("./messages.mjs").Taken, parts: number) => import("./letters.mjs").Letter[][]} */
-export const waysTaken = ({ letter, letters = [there(letter)], isText }, parts) => letters.map((way) =>
+// The contents of what is taken, in so many parts, in each way to write it; of what has a head of its own, that alone.
+/** @type {(taken: import("./messages.mjs").Taken, parts: number) => import("./contents.mjs").Content[][]} */
+export const waysTaken = ({ content, contents = [there(content)], isText }, parts) => contents.map((way) =>
   (way.head ? [way] : takenApart(isText && parts > 1 ? markedThroughout(way) : way, parts)));
 // Chooses what a link has; one symbol, if that is no number of parts.
 /** @type {(parts: number, shown: number) => void} */

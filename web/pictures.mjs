@@ -13,9 +13,9 @@ import { ANY_TIME } from "./sampler.mjs";
 /** @typedef {import("./bitmap.mjs").Planes} Planes */
 /** @typedef {import("./sampler.mjs").Point} Point */
 /** @typedef {import("./common.mjs").Grid} Grid */
-/** @typedef {import("./letters.mjs").Letter} Letter */
+/** @typedef {import("./contents.mjs").Content} Content */
 /** @typedef {import("./common.mjs").Limit} Limit */
-/** @typedef {Grid & Letter & { corners: import("./sampler.mjs").Point[], isRead: boolean, how: string,
+/** @typedef {Grid & Content & { corners: import("./sampler.mjs").Point[], isRead: boolean, how: string,
     symbology: string, border: number, corrected: number[], erased: number[], doubtful: Uint8Array | null, limit: Limit,
     fault: any, isExact?: boolean, quality?: import("./quality.mjs").Quality | null }} Sighted a symbol in a picture,
     with what it says; its limit is null where that is the usual one; it is exact if the picture is its grid; and how

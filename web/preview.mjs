@@ -16,11 +16,11 @@ let timerOfLabels = 0;
 
 /** @type {(entry: import("./entries.mjs").Entry) => Node} */
 function labelShown(entry) {
-  const { number, letter, copies } = entry;
+  const { number, content, copies } = entry;
   const told = `${number}${copies === 1 ? "" : `, ${plural(copies, "copy", "copies")}`}: `;
   const { why, page } = entry.why ? { why: `${told}${entry.why}`, page: null } : labelOf(entry, millimetres());
   if (why) return made("figure", {}, made("p", { className: "hint bad", textContent: why }));
-  const said = made("p", {}, told, made("code", { textContent: readable(letter) }));
+  const said = made("p", {}, told, made("code", { textContent: readable(content) }));
   return made("figure", {}, pageDrawn(there(page)), said);
 }
 /** @type {(lines: import("./csv.mjs").Line[]) => void} */

@@ -5,7 +5,7 @@ import { $, field, hint, made } from "./dom.mjs";
 import { wrongGs1 } from "./elements.mjs";
 import { copied, entriesNow } from "./entries.mjs";
 import { readable } from "./gs1.mjs";
-import { partOf } from "./letters.mjs";
+import { partOf } from "./contents.mjs";
 import { labelsFile, labelsText } from "./labelfile.mjs";
 import { labelOf, pageOf, pagesOf, quietNow } from "./labels.mjs";
 import { versionNow } from "./lines.mjs";
@@ -59,11 +59,11 @@ function fillPaper() {
   if (isSheet) return;
   const why = whyNotPrinted();
   if (why) { layOut("one", [noteOf(why)], 100, 100); return; }
-  const { grid, isDamagedOne, letter } = given(), { width, height } = sizeNow(grid);
-  const damage = isDamagedOne ? "; damaged" : "", wrong = wrongGs1(letter);
-  const part = letter && partOf(letter), which = part ? `Part ${part.part} of ${part.parts}. ` : "";
+  const { grid, isDamagedOne, content } = given(), { width, height } = sizeNow(grid);
+  const damage = isDamagedOne ? "; damaged" : "", wrong = wrongGs1(content);
+  const part = content && partOf(content), which = part ? `Part ${part.part} of ${part.parts}. ` : "";
   const size = `${which}${shapeWords(grid)} modules of ${millimetres()} mm, ${quietNow()} of quiet zone${damage}`;
-  const text = letter ? fitted(readable(letter), height) || "the empty message" : "not read";
+  const text = content ? fitted(readable(content), height) || "the empty message" : "not read";
   const texts = [captionOf(text), noteOf(size), ...(wrong ? [noteOf(wrong)] : [])];
   layOut("one", [figure(grid, texts)], width, height);
 }
@@ -110,8 +110,8 @@ async function printSheet() {
   window.print();
 }
 /** @type {(entry: Entry, ending: string, copy: number) => string} */
-const fileName = ({ number, letter, grid, copies }, ending, copy) => `${String(number).padStart(3, "0")}`
-  + `${partInName(letter)}-symbol-${shapeName(there(grid))}${copies > 1 ? `-copy-${copy}` : ""}.${ending}`;
+const fileName = ({ number, content, grid, copies }, ending, copy) => `${String(number).padStart(3, "0")}`
+  + `${partInName(content)}-symbol-${shapeName(there(grid))}${copies > 1 ? `-copy-${copy}` : ""}.${ending}`;
 // Saves a file for each label, in one archive.
 /** @type {(ending: string, bytesOf: (page: Page) => Uint8Array | Promise<Uint8Array>) => any} */
 const zipping = (ending, bytesOf) => withAll(async (entries) => {

@@ -1,14 +1,14 @@
 // The sampler, which finds symbols in pictures: sampler/*.c, compiled for WebAssembly. It has a memory of its own, in
 // which its stack comes first, so that a stack that runs over traps; and it asks the proved library as natively.
 import { LAYOUT, SAMPLER } from "./layouts.mjs";
-import { headOf, letterOf } from "./letters.mjs";
+import { headOf, contentOf } from "./contents.mjs";
 import { qualityAt } from "./quality.mjs";
 
 /** @typedef {import("./library.mjs").Library} Library */
 /** @typedef {import("./library.mjs").Fault} Fault */
 /** @typedef {import("./common.mjs").Grid} Grid */
 /** @typedef {{ x: number, y: number }} Point in pixels from the left and from the top of the picture */
-/** @typedef {Grid & import("./letters.mjs").Letter & { doubtful: Uint8Array | null, corners: Point[],
+/** @typedef {Grid & import("./contents.mjs").Content & { doubtful: Uint8Array | null, corners: Point[],
     isInverted: boolean, isMirrored: boolean, limit: number, symbology: string, border: number, corrected: number[],
     erased: number[], left: number[], fault: Fault | null, hasMargin: boolean,
     quality?: import("./quality.mjs").Quality }} Found a symbol, upright: which of its
@@ -162,20 +162,20 @@ export class Sampler {
       corners: [0, 1, 2, 3].map((k) => ({ x: coordinate(k, POINT.x), y: coordinate(k, POINT.y) })),
       isInverted: view.getUint8(at + SAMPLE.inverted) === 1, isMirrored: view.getUint8(at + SAMPLE.mirrored) === 1,
       limit: number(SAMPLE.border_limit), hasMargin: why === READ || why === REFUSED,
-      ...this.letterAt(view, at + SAMPLE.reading, isRefused),
+      ...this.contentAt(view, at + SAMPLE.reading, isRefused),
       border: ofReading(READING.border_faults), corrected: inBlocks(READING.corrected),
       erased: inBlocks(READING.erased), left: inBlocks(READING.left),
       fault: isRefused ? { code: of(FAULT.code), value: of(FAULT.value), place: of(FAULT.place) } : null,
     };
   }
   // What a reading says, with its symbology identifier; nothing, where it is refused.
-  /** @type {(view: DataView, at: number, isRefused: boolean) => import("./letters.mjs").Letter &
+  /** @type {(view: DataView, at: number, isRefused: boolean) => import("./contents.mjs").Content &
       { symbology: string }} */
-  letterAt(view, at, isRefused) {
-    if (isRefused) return { ...letterOf([]), symbology: "" };
+  contentAt(view, at, isRefused) {
+    if (isRefused) return { ...contentOf([]), symbology: "" };
     const number = (/** @type {number} */ place) => view.getUint16(at + place, true);
     const long = (/** @type {number} */ place) => view.getUint32(at + place, true);
-    /** @type {(place: number) => import("./letters.mjs").Mark} */
+    /** @type {(place: number) => import("./contents.mjs").Mark} */
     const markAt = (place) => ({ place: long(place + MARK_AT.place), number: long(place + MARK_AT.number) });
     /** @type {(count: number, of: (k: number) => any) => any[]} */
     const list = (count, of) => Array.from({ length: number(count) }, (_, k) => of(k));

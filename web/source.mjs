@@ -87,21 +87,21 @@ function offerOthers(text, { isElements }) {
 }
 
 // What isn't written, and by how much it is too long; and what could be written instead.
-/** @type {(written: any, letters: import("./letters.mjs").Letter[], how: import("./library.mjs").How) => void} */
-function refuseWritten({ fault, at, fits }, letters, how) {
-  const { length } = letters[at].items, which = letters.length > 1 ? `Part ${at + 1} of ${letters.length}: ` : "";
+/** @type {(written: any, contents: import("./contents.mjs").Content[], how: import("./library.mjs").How) => void} */
+function refuseWritten({ fault, at, fits }, contents, how) {
+  const { length } = contents[at].items, which = contents.length > 1 ? `Part ${at + 1} of ${contents.length}: ` : "";
   const over = plural(length - fits, "character", "characters");
   const why = fault.code === TOO_LONG ? `${tooLong(how)} It is ${over} too long.` : refusal(fault);
   refuseMessage(`${which}${why}`);
-  const all = letters.reduce((sum, { items }) => sum + items.length, 0);
-  const parts = fits ? Math.max(letters.length + 1, Math.ceil(all / fits)) : Infinity;
+  const all = contents.reduce((sum, { items }) => sum + items.length, 0);
+  const parts = fits ? Math.max(contents.length + 1, Math.ceil(all / fits)) : Infinity;
   if (parts <= MOST_PARTS) offerOne(`Make ${parts} symbols of it`, () => chooseParts(parts, 1));
 }
 // Writes the message that is entered.
 export function writeMessage() {
   const it = panes.write, text = field("message").value, read = takenNow(text);
   fitHeight(field("message"));
-  if (!read.letter) {
+  if (!read.content) {
     const mayBeText = kindNow() === "typed" ? !read.isTooMuch : undefined;
     refuseMessage(`${whyNot(read)}${read.isTooMuch ? " The link doesn’t keep them." : ""}`, read.ways, mayBeText);
     return;
@@ -111,13 +111,13 @@ export function writeMessage() {
   showPart(parts);
   enter(it, () => desks.quick.ask("write", { ways, at, how }, "write"), (written) => {
     if (isBroken(written)) { refuseMessage(brokenWords(written)); return; }
-    const letters = ways[written.way];
-    if (written.fault) refuseWritten(written, letters, how);
+    const contents = ways[written.way];
+    if (written.fault) refuseWritten(written, contents, how);
     else {
       const { modules, rows, columns, seen } = written;
       hint("message-hint", withCode(hintOn(text, read)), false, "message");
       offerOthers(text, read);
-      take(it, { modules, rows, columns, letter: letters[at], seen });
+      take(it, { modules, rows, columns, content: contents[at], seen });
     }
     showShapes(written.shapes);
   });

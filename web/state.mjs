@@ -30,8 +30,8 @@ export class Mark {
   doubtful = null;
   /** @type {Uint8Array | null} which modules were doubtful as it was opened, if some were */
   doubted = null;
-  /** @type {import("./letters.mjs").Letter | null} what was written, if something was */
-  letter = null;
+  /** @type {import("./contents.mjs").Content | null} what was written, if something was */
+  content = null;
   /** @type {import("./common.mjs").Limit} how many border modules may be wrong */
   limit = null;
   /** @type {import("./quality.mjs").Quality | null} how good the print was, where it was found in a picture */
@@ -54,7 +54,7 @@ export class Mark {
   constructor(name) { this.name = name; }
   // The symbol goes, with all that was done to it.
   empty() {
-    [this.modules, this.original, this.doubtful, this.doubted, this.letter, this.seen] = Array(6).fill(null);
+    [this.modules, this.original, this.doubtful, this.doubted, this.content, this.seen] = Array(6).fill(null);
     this.quality = null;
     [this.rows, this.columns] = [0, 0];
     [this.limit, this.limitWhy, this.past, this.future] = [null, "", [], []];
@@ -62,13 +62,13 @@ export class Mark {
     [this.stage, this.why] = [EMPTY, ""];
   }
   // Another symbol takes its place.
-  /** @type {(grid: Grid, letter: import("./letters.mjs").Letter | null, doubtful: Uint8Array | null,
+  /** @type {(grid: Grid, content: import("./contents.mjs").Content | null, doubtful: Uint8Array | null,
       quality?: import("./quality.mjs").Quality | null) => void} */
-  hold({ modules, rows, columns }, letter, doubtful, quality = null) {
+  hold({ modules, rows, columns }, content, doubtful, quality = null) {
     this.quality = quality;
     if (!isSameShape(this, { rows, columns })) [this.limit, this.limitWhy, this.cursor] = [null, "", 0];
     [this.rows, this.columns, this.modules, this.original] = [rows, columns, modules.slice(), modules.slice()];
-    [this.letter, this.doubtful, this.doubted] = [letter, doubtful, doubtful];
+    [this.content, this.doubtful, this.doubted] = [content, doubtful, doubtful];
     [this.past, this.future, this.module, this.word] = [[], [], null, null];
   }
   // What an act changes, as it is now, and as it was.

@@ -5,7 +5,7 @@ import { gridText } from "./grids.mjs";
 import { wrongGs1 } from "./elements.mjs";
 import { readable, typed } from "./gs1.mjs";
 import { pageOf, quietNow } from "./labels.mjs";
-import { partOf } from "./letters.mjs";
+import { partOf } from "./contents.mjs";
 import { linkNow } from "./link.mjs";
 import { settled } from "./order.mjs";
 import { tooWide, wirePaper } from "./paper.mjs";
@@ -15,8 +15,8 @@ import { VALID, isDamaged, mark } from "./state.mjs";
 
 /** @typedef {import("./common.mjs").Grid} Grid */
 /** @typedef {import("./common.mjs").Shape} Shape */
-/** @typedef {import("./letters.mjs").Letter} Letter */
-/** @typedef {{ grid: Grid, isDamagedOne: boolean, letter: Letter | null }} Given */
+/** @typedef {import("./contents.mjs").Content} Content */
+/** @typedef {{ grid: Grid, isDamagedOne: boolean, content: Content | null }} Given */
 let toasted = 0; // the timer that ends it
 /** @type {(text: string) => void} */
 export function toast(text) {
@@ -27,15 +27,15 @@ export function toast(text) {
 }
 
 // What is read of a symbol, or null.
-/** @type {(seen: import("./examine.mjs").Seen) => Letter | null} */
-export const letterRead = ({ answer: { items, marks = [], head = null } }) => (items ? { items, marks, head } : null);
+/** @type {(seen: import("./examine.mjs").Seen) => Content | null} */
+export const contentRead = ({ answer: { items, marks = [], head = null } }) => (items ? { items, marks, head } : null);
 // What is given: the symbol, and how it is called.
 const isDamagedChosen = () => !$("which").hidden && field("which-damaged").checked;
 /** @type {(it?: import("./state.mjs").Mark, isChosen?: boolean) => Given} */
 export function given(it = mark(), isChosen = isDamagedChosen()) {
   const isDamagedOne = isChosen && isDamaged(it);
   const { rows, columns } = it, grid = isDamagedOne ? { modules: there(it.modules), rows, columns } : it.undamaged();
-  return { grid, isDamagedOne, letter: it.letter ?? letterRead(there(it.seen)) };
+  return { grid, isDamagedOne, content: it.content ?? contentRead(there(it.seen)) };
 }
 // Gives the symbol that is entered now, once there is an answer about it.
 /** @type {(give: (what: Given) => any) => () => Promise<void>} */
@@ -44,15 +44,15 @@ export const giving = (give) => async () => {
   await settled(it);
   if (it.stage === VALID) give(given(it, isChosen));
 };
-// Which part a letter is, in the name of a file.
-/** @type {(letter: Letter | null) => string} */
-export function partInName(letter) {
-  const part = letter && partOf(letter);
+// Which part a content is, in the name of a file.
+/** @type {(content: Content | null) => string} */
+export function partInName(content) {
+  const part = content && partOf(content);
   return part ? `-${part.part}-of-${part.parts}` : "";
 }
 /** @type {(what: Given, ending: string) => string} */
-const nameOf = ({ grid, isDamagedOne, letter }, ending) =>
-  `symbol-${shapeName(grid)}${partInName(letter)}${isDamagedOne ? "-damaged" : ""}.${ending}`;
+const nameOf = ({ grid, isDamagedOne, content }, ending) =>
+  `symbol-${shapeName(grid)}${partInName(content)}${isDamagedOne ? "-damaged" : ""}.${ending}`;
 
 // Whether a text went to the clipboard.
 /** @type {(text: string) => Promise<boolean>} */
@@ -80,8 +80,8 @@ async function copySymbol({ grid, isDamagedOne }) {
 }
 // The message as a person would type it, if it is text; else as it is spelled.
 async function copyMessage() {
-  const letter = letterRead(there(mark().seen));
-  if (letter) await copyText(typed(letter), "Copied: the message");
+  const content = contentRead(there(mark().seen));
+  if (content) await copyText(typed(content), "Copied: the message");
 }
 const LONG = 8000; // characters of a link that some programs don't take whole
 const LINK_NOT_COPIED = "This browser doesn’t let the page copy. The link is in the address bar.";
@@ -128,17 +128,17 @@ export function drawPrintSize() {
 // ---- Files
 
 // The text that stands below a symbol, if it is wanted.
-/** @type {(letter: Letter | null) => string} */
-const textNow = (letter) => (field("text-below").checked && letter ? readable(letter) : "");
+/** @type {(content: Content | null) => string} */
+const textNow = (content) => (field("text-below").checked && content ? readable(content) : "");
 // A symbol is saved alone, as large as it is; and where it is wrong GS1 data, that is said.
 /** @type {(ending: string, type: string, bodyOf: (page: import("./pdf.mjs").Page, what: Given) => any) =>
     (what: Given) => Promise<void>} */
 const saving = (ending, type, bodyOf) => async (what) => {
-  const { page, why } = pageOf({ grid: what.grid, text: textNow(what.letter), number: 1 }, millimetres());
+  const { page, why } = pageOf({ grid: what.grid, text: textNow(what.content), number: 1 }, millimetres());
   const name = nameOf(what, ending);
   if (!page) { toast(why ?? ""); return; }
   save(new Blob([await bodyOf(page, what)], { type }), name);
-  const wrong = wrongGs1(what.letter);
+  const wrong = wrongGs1(what.content);
   if (wrong) toast(`${name} is saved. ${wrong}`);
 };
 export function wireTaking() {

@@ -65,7 +65,7 @@ const ANSWERS = {
     lib = ecc200.library;
     return { readsFiles: await readsFiles(), sizes: [...lib.sizes.values()] };
   },
-  // The symbol of one of some letters, in the way to write them that takes the fewest modules, and the shapes that it
+  // The symbol of one of some contents, in the way to write them that takes the fewest modules, and the shapes that it
   // has in each form; or of the first of them that no size holds why, and how many items would fit.
   write({ ways, at = 0, how, hasLook = true }) {
     const { way, symbols } = lib.writeSmallest(ways, how), bad = symbols.findIndex(({ fault }) => fault);
@@ -84,7 +84,7 @@ const ANSWERS = {
   picture,
   rest: () => sightsShown(restOfPicture(ecc200), 0),
   again: (list) => sightsShown(foundBefore(lib, list), 1),
-  // What stands in one side of the comparison: the ways to write a letter, the text of a grid, a symbol, or a picture;
+  // What stands in one side of the comparison: the ways to write a content, the text of a grid, a symbol, or a picture;
   // or what it may be, where several symbols are in that.
   async judge({ ways, grid, symbol: chosen, picture: image }) {
     if (chosen) return judged(chosen);
@@ -100,7 +100,7 @@ const ANSWERS = {
   },
   // Of many lines, each with the ways to write it, the way that is taken, and its symbols, or null for one that fits no
   // size.
-  sheet: ({ lines, how }) => lines.map((/** @type {import("./letters.mjs").Letter[][]} */ ways) => {
+  sheet: ({ lines, how }) => lines.map((/** @type {import("./contents.mjs").Content[][]} */ ways) => {
     const { way, symbols } = lib.writeSmallest(ways, how);
     return { way, symbols: symbols.map((symbol) => (symbol.fault ? null : symbol)) };
   }),

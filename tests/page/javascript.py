@@ -5,7 +5,7 @@ import re
 import subprocess
 
 from tests import corpus
-from tests.page.judge import SMALLEST, letter_of, line_of_text, written_in
+from tests.page.judge import SMALLEST, content_of, line_of_text, written_in
 from tests.page.stage import expect, flat, on, written
 from tests.support import places
 
@@ -44,7 +44,7 @@ def elements(pairs):
 
 def read_as(text, charset):
     """What is read of a text that was written with a mark."""
-    return {**letter_of(line_of_text(text)), "text": text, "charset": charset, "symbology": "]d4"}
+    return {**content_of(line_of_text(text)), "text": text, "charset": charset, "symbology": "]d4"}
 
 
 def text_in(charset, items):
@@ -60,10 +60,10 @@ def texts():
     return [*WORDS, *(text for _, text in corpus.texts())]
 
 
-def got_of(letter):
-    """What a letter says, as the corpus has it."""
-    spelled = letter["text"] and re.sub(r"[\0-\x1f\x7f-\x9f]", lambda it: f"\\x{ord(it[0]):02X}", letter["text"])
-    return {name: letter[name] for name in ("items", "marks", "head")}, letter["symbology"], spelled
+def got_of(content):
+    """What a content says, as the corpus has it."""
+    spelled = content["text"] and re.sub(r"[\0-\x1f\x7f-\x9f]", lambda it: f"\\x{ord(it[0]):02X}", content["text"])
+    return {name: content[name] for name in ("items", "marks", "head")}, content["symbology"], spelled
 
 
 def near(came):
@@ -78,8 +78,8 @@ def near(came):
 def uses():
     given = json.dumps([[number, items] for number, _, items in IN_CHARSETS])
     rows = corpus.rows("charsets")
-    letters = [letter_of(line) for line, *_ in rows]
-    words = ["node", USES, on.module, given, json.dumps(texts()), json.dumps(letters)]
+    contents = [content_of(line) for line, *_ in rows]
+    words = ["node", USES, on.module, given, json.dumps(texts()), json.dumps(contents)]
     done = subprocess.run(words, stdout=subprocess.PIPE, timeout=300, check=True)
     answers = {answer.pop("name"): answer for answer in map(json.loads, done.stdout.splitlines())}
     came = lambda name: answers[name].get("came", answers[name])
@@ -102,15 +102,16 @@ def uses():
         "not UTF-8": said("\xffA", [255, 65]),
         "text of another script": read_as("Größe 日本", "utf-8"),
         "Latin-1 that may be UTF-8": read_as("Ã©", "iso-8859-1"),
-        "marks": {**letter_of("\\E{7}\\xBF\\xE0\\E{999999}A"), "text": None, "charset": "iso-8859-5, ECI 999999",
+        "marks": {**content_of("\\E{7}\\xBF\\xE0\\E{999999}A"), "text": None, "charset": "iso-8859-5, ECI 999999",
                   "symbology": "]d4"},
-        "programming": {**letter_of("A", "programming"), "text": "A", "charset": "utf-8", "symbology": "]d1"},
-        "part": {**letter_of("two ", PART), "text": "two ", "charset": "utf-8", "symbology": "]d1"},
-        "joined": {**letter_of("\\E{26}one two three"), "text": "one two three", "charset": "utf-8"},
+        "programming": {**content_of("A", "programming"), "text": "A", "charset": "utf-8", "symbology": "]d1"},
+        "part": {**content_of("two ", PART), "text": "two ", "charset": "utf-8", "symbology": "]d1"},
+        "joined": {**content_of("\\E{26}one two three"), "text": "one two three", "charset": "utf-8"},
         "a torn border": ["torn at its left side", 9, True],
-        "letter in a picture": [{**letter_of("two ", PART), "text": "two ", "charset": "utf-8", "symbology": "]d1"},
-                                {**letter_of("\\E{26}\\xE6\\x97\\xA5\\xE6\\x9C\\xAC"), "text": "日本", "charset": "utf-8",
-                                 "symbology": "]d4"}],
+        "content in a picture": [
+            {**content_of("two ", PART), "text": "two ", "charset": "utf-8", "symbology": "]d1"},
+            {**content_of("\\E{26}\\xE6\\x97\\xA5\\xE6\\x9C\\xAC"), "text": "日本", "charset": "utf-8",
+             "symbology": "]d4"}],
         "shorter": symbol("\\xE9" * 20, 1),
         "corrected": said("corrected", corrected=1),
         "doubtful": [1],
@@ -133,7 +134,7 @@ def uses():
     expect("sizes", [came("sizes")[0], came("sizes")[1]["rows"], came("sizes")[1]["data"]], [48, 10, 3])
     smallest = written_in("HELLO WORLD AND ALL THAT IS THERE", "square", SMALLEST)
     expect("smallest", came("smallest")["modules"], flat(smallest))
-    sizes = [[mark.name, letter_of(mark.said)] for mark in corpus.marks("sizes")]
+    sizes = [[mark.name, content_of(mark.said)] for mark in corpus.marks("sizes")]
     expect("every size", came("every size"), sizes)
     for mark, got in zip(corpus.marks("damaged"), came("damaged"), strict=True):
         found = [] if mark.refusal else [list(mark.content[0]), mark.damage[0], *map(list, mark.damage[1:])]
@@ -141,19 +142,19 @@ def uses():
     expect("texts", (len(came("texts")), [text for text, read in came("texts") if text != read]), (200, []))
     expect("bytes in charsets", came("bytes in charsets"),
            [[number, items, text_in(charset, items)] for number, charset, items in IN_CHARSETS])
-    for text, got in zip(texts(), came("letters of texts")):
-        expect(f"the letter of {text}", got, letter_of(line_of_text(text)))
-    for (line, charset, *text), got in zip(rows, came("charsets of letters")):
+    for text, got in zip(texts(), came("contents of texts")):
+        expect(f"the content of {text}", got, content_of(line_of_text(text)))
+    for (line, charset, *text), got in zip(rows, came("charsets of contents")):
         expect(f"the charset of {line}", got, [corpus.characters(text[0]) if text else None, charset])
-    expect("charsets of letters", len(came("charsets of letters")), len(rows))
+    expect("charsets of contents", len(came("charsets of contents")), len(rows))
     others = corpus.marks("contents")
-    for mark, got in zip(others, came("letters of others")):
-        wanted = letter_of(mark.said), mark.more["identifier"], mark.more.get("text")
-        expect(f"letter of another, {mark.encoder}", got_of(got), wanted)
-    expect("letters of others", len(came("letters of others")), len(others))
-    letter_in = lambda it: [it["items"], it["marks"], it["head"]]
+    for mark, got in zip(others, came("contents of others")):
+        wanted = content_of(mark.said), mark.more["identifier"], mark.more.get("text")
+        expect(f"content of another, {mark.encoder}", got_of(got), wanted)
+    expect("contents of others", len(came("contents of others")), len(others))
+    content_in = lambda it: [it["items"], it["marks"], it["head"]]
     for one, other in came("written anew"):
-        expect(f"written anew, {one['text']}", letter_in(other), letter_in(one))
+        expect(f"written anew, {one['text']}", content_in(other), content_in(one))
     expect("joined in one charset", came("joined in one charset"), [2, "日本"])
     for name, code in (("too long", TOO_LONG), ("too small a size", TOO_LONG), ("no size", NO_SIZE),
                        ("normal of a blot that isn't told", BLOCK), ("a torn border as usual", BORDER),

@@ -1,5 +1,5 @@
 // Answers what the page's library says of symbols, without the page: node judge.mjs LIBRARY.wasm < QUESTIONS. A
-// question is a line of JSON: { letter, how } asks for the symbol of a letter, { rows, columns, text, doubtful, limit }
+// question is a line of JSON: { content, how } asks for a content's symbol, { rows, columns, text, doubtful, limit }
 // what a grid says, { isMap, rows, columns } for the modules of each codeword, { isTable } for the sizes. Each is
 // answered by a line.
 import { readFileSync } from "node:fs";
@@ -12,14 +12,14 @@ function read({ rows, columns, text, doubtful = "", limit = null }) {
   const grid = { modules: bitsOf(text), rows, columns };
   return lib.read(grid, lib.limitOf(grid, limit, bitsOf(doubtful)), bitsOf(doubtful));
 }
-function write({ letter, how }) {
-  const { fault, modules, rows, columns } = lib.write(letter, how);
+function write({ content, how }) {
+  const { fault, modules, rows, columns } = lib.write(content, how);
   return fault ? { fault } : { rows, columns, text: modules.join("") };
 }
 function answer(question) {
   if (question.isTable) return [...lib.sizes.values()];
   if (question.isMap) return lib.map(question).modules;
-  return question.letter ? write(question) : read(question);
+  return question.content ? write(question) : read(question);
 }
 const lines = readFileSync(0, "utf8").split("\n").filter(Boolean);
 console.log(lines.map((line) => JSON.stringify(answer(JSON.parse(line)))).join("\n"));

@@ -20,8 +20,8 @@ def judged(questions):
     return [json.loads(line) for line in done.stdout.splitlines()]
 
 
-def letter_of(line, head=None):
-    """The letter of a line as `ecc200 read --escapes` prints it, with this head, if the line has none."""
+def content_of(line, head=None):
+    """The content of a line as `ecc200 read --escapes` prints it, with this head, if the line has none."""
     items, marks, own = corpus.content_of(line)
     if isinstance(own, tuple):
         own = {"part": own[0], "parts": own[1], "file": list(own[2:])}
@@ -54,7 +54,7 @@ def how_in(size, profile=0):
 
 
 def asked_to_write(line, size, profile=0, head=None):
-    return {"letter": letter_of(line, head), "how": how_in(size, profile)}
+    return {"content": content_of(line, head), "how": how_in(size, profile)}
 
 
 def asked_to_read(text, doubtful="", limit=None):
@@ -69,7 +69,7 @@ def in_lines(symbol):
 
 
 def written_in(line, size, profile=0, head=None):
-    """The grid of a letter in a size, or why there is none."""
+    """The grid of a content in a size, or why there is none."""
     (symbol,) = judged([asked_to_write(line, size, profile, head)])
     return symbol.get("fault") or in_lines(symbol)
 

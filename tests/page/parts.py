@@ -2,7 +2,7 @@
 import pathlib
 
 from tests.page import (bounds, conduct, damage, elements, endurance, everyone, first, giving, history, installed,
-                        labels, kept, letters, looks, order, paper, photographs, pictures, several, sights, sizes,
+                        labels, kept, contents, looks, order, paper, photographs, pictures, several, sights, sizes,
                         tasks, texts)
 from tests.page.stage import Failed, to_top, unfold, visit
 
@@ -14,7 +14,7 @@ PARTS = [everyone.one_file, damage.codewords, damage.by_keys, damage.dragged, da
          pictures.printed, texts.compared, pictures.saved, texts.spellings, damage.small_symbol,
          everyone.to_be_seen_by_all, texts.profiles, *conduct.PARTS, *giving.PARTS, *looks.PARTS, *tasks.PARTS,
          *order.PARTS, *first.PARTS, *history.PARTS, *kept.PARTS, *elements.PARTS, *paper.PARTS, *labels.PARTS,
-         *sights.PARTS, *several.PARTS, *installed.PARTS, *sizes.PARTS, *letters.PARTS, *bounds.PARTS, damage.blocks,
+         *sights.PARTS, *several.PARTS, *installed.PARTS, *sizes.PARTS, *contents.PARTS, *bounds.PARTS, damage.blocks,
          damage.sizes, *endurance.PARTS,
          damage.much_damage, *photographs.PARTS, texts.other_encoders, everyone.old_browser]
 PARTS.sort(key=lambda part: LONGEST.index(part.__name__) if part.__name__ in LONGEST else len(LONGEST))

@@ -9,7 +9,7 @@ import re
 from tests import corpus
 from tests.page.conduct import go, linked
 from tests.page.history import fields
-from tests.page.judge import (SHAPES, asked_to_read, asked_to_write, in_lines, items_of, judged, letter_of, table,
+from tests.page.judge import (SHAPES, asked_to_read, asked_to_write, in_lines, items_of, judged, content_of, table,
                               written_in)
 from tests.page.labels import archived, begin, in_pdf, pages_of, read_again, saved
 from tests.page.paper import paper_is
@@ -141,7 +141,7 @@ def refusal_in(size):
 ANSWERED = """
     const { answer, told } = mitsubadoor.mark.seen, { items, marks, head } = answer;
     const isUntold = ({ text }) => text.startsWith("nothing that is read");
-    return { letter: { items, marks, head }, told: told.flatMap((it) => it.items),
+    return { content: { items, marks, head }, told: told.flatMap((it) => it.items),
              marks: told.flatMap(({ mark }) => mark ?? []), untold: told.filter(isUntold).length };"""
 
 
@@ -149,19 +149,19 @@ def marks_of_every_size():
     """The marks that zint made, each as text: they are read as what was printed, with their ECIs and heads, and their
     codewords stand for that."""
     push("tab-read")
-    letters = 0
+    contents = 0
     marks = corpus.marks("sizes")
     for mark in marks:
-        head, text, wanted = mark.name, "\n".join(mark.lines), letter_of(mark.said)
+        head, text, wanted = mark.name, "\n".join(mark.lines), content_of(mark.said)
         put("grid", text)
         expect(f"{head}: as it stands", (grid(), shown()["side"]), (text, mark.rows))
         items, numbers = wanted["items"], [it["number"] for it in wanted["marks"]]
-        said = {"letter": wanted, "told": items, "marks": numbers, "untold": 0}
+        said = {"content": wanted, "told": items, "marks": numbers, "untold": 0}
         expect(head, (shown()["state"].split(",")[0], run(ANSWERED)), ("Read", said))
-        letters += bool(numbers or wanted["head"])
+        contents += bool(numbers or wanted["head"])
     sizes = {name_of("\n".join(mark.lines)) for mark in marks}
     expect("every new size is among them", sorted(set(new_sizes()) - sizes), [])
-    expect("some have more than items", letters, 18)
+    expect("some have more than items", contents, 18)
 
 
 def in_all_ways():

@@ -1,6 +1,6 @@
-// Uses the module for other programs as such would: node uses.mjs MODULE.mjs BYTES TEXTS LETTERS prints a line of JSON
+// Uses the module for other programs as such would: node uses.mjs MODULE.mjs BYTES TEXTS CONTENTS prints a line of JSON
 // for each thing that it does: its name, and what came of it, or what was thrown. BYTES is a list of numbers of ECIs,
-// each with the bytes behind it, TEXTS a list of texts, LETTERS one of letters.
+// each with the bytes behind it, TEXTS a list of texts, CONTENTS one of contents.
 import { marksOf, texts } from "../corpus/corpus.mjs";
 
 const module = await import(process.argv[2]);
@@ -25,7 +25,8 @@ function pictureOf(grids, dark = [20, 30, 40, 255], light = [250, 240, 230, 255]
 }
 const plain = (grid) => ({ rows: grid.rows, columns: grid.columns, modules: grid.modules.join("") });
 const said = ({ text, items, isGs1, bytes, corrected }) => ({ text, items, isGs1, bytes: [...bytes], corrected });
-const letter = ({ text, charset, items, marks, head, symbology }) => ({ text, charset, items, marks, head, symbology });
+const content = ({ text, charset, items, marks, head, symbology }) =>
+  ({ text, charset, items, marks, head, symbology });
 const others = () => marksOf("contents").map((mark) => readGrid(mark));
 const ASCII = { form: "ascii" };
 const spoilt = (grid, count) => {
@@ -51,12 +52,12 @@ const TASKS = {
   text: () => plain(write("Größe", ASCII)),
   bytes: () => plain(write(Uint8Array.of(71, 114, 195, 182, 195, 159, 101), ASCII)),
   smallest: () => plain(write("HELLO WORLD AND ALL THAT IS THERE")),
-  "text of another script": () => letter(readGrid(write("Größe 日本"))),
-  "Latin-1 that may be UTF-8": () => letter(readGrid(write("Ã©"))),
-  marks: () => letter(readGrid(write(MARKED))),
-  programming: () => letter(readGrid(write({ items: [65], head: "programming" }))),
-  part: () => letter(readGrid(write(PARTS[1]))),
-  joined: () => letter(joined([PARTS[2], PARTS[0], PARTS[1], PARTS[0]].map((it) => readGrid(write(it))))),
+  "text of another script": () => content(readGrid(write("Größe 日本"))),
+  "Latin-1 that may be UTF-8": () => content(readGrid(write("Ã©"))),
+  marks: () => content(readGrid(write(MARKED))),
+  programming: () => content(readGrid(write({ items: [65], head: "programming" }))),
+  part: () => content(readGrid(write(PARTS[1]))),
+  joined: () => content(joined([PARTS[2], PARTS[0], PARTS[1], PARTS[0]].map((it) => readGrid(write(it))))),
   "joined but one": () => joined([PARTS[2], PARTS[0]]),
   "joined with another": () => joined([...PARTS, { ...PARTS[0], items: [70] }]),
   "joined with a message": () => joined([...PARTS, { items: [70], marks: [], head: null }]),
@@ -80,18 +81,18 @@ const TASKS = {
     } catch (why) { return [why.code, why.value, why.place]; }
   }),
   texts: () => texts().map((text) => [text, readGrid(write(text)).text]),
-  "letters of texts": () => JSON.parse(process.argv[4]).map((text) => readGrid(write(text)))
+  "contents of texts": () => JSON.parse(process.argv[4]).map((text) => readGrid(write(text)))
     .map(({ items, marks, head }) => ({ items, marks, head })),
-  "charsets of letters": () => JSON.parse(process.argv[5]).map((it) => readGrid(write(it)))
+  "charsets of contents": () => JSON.parse(process.argv[5]).map((it) => readGrid(write(it)))
     .map(({ text, charset }) => [text, charset]),
-  "letters of others": () => others().map(letter),
-  "written anew": () => others().map((reading) => [letter(reading), letter(readGrid(write(reading)))]),
+  "contents of others": () => others().map(content),
+  "written anew": () => others().map((reading) => [content(reading), content(readGrid(write(reading)))]),
   "joined in one charset": () => {
     const parts = others().filter(({ head }) => head?.file?.join() === "254,1");
     return [parts.length, joined(parts).text];
   },
-  "letter in a picture": () => read(pictureOf([write("日本", { shape: "rectangle" }), write(PARTS[1])]), { most: 2 })
-    .symbols.map(letter).sort(({ text: one }, { text: other }) => (one < other ? -1 : 1)),
+  "content in a picture": () => read(pictureOf([write("日本", { shape: "rectangle" }), write(PARTS[1])]), { most: 2 })
+    .symbols.map(content).sort(({ text: one }, { text: other }) => (one < other ? -1 : 1)),
   "bytes in charsets": () => JSON.parse(process.argv[3]).map(([number, items]) =>
     [number, items, readGrid(write({ items, marks: [{ place: 0, number }] })).text]),
   gs1: () => said(readGrid(write([FNC1, ...Buffer.from("10AB"), FNC1, ...Buffer.from("21C")]))),

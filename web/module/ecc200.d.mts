@@ -11,7 +11,7 @@ export interface Mark { place: number; number: number }
 /** One part of so many, 1 and 2 to 16, with two numbers that all of them have, 1 to 254: structured append. */
 export interface Part { part: number; parts: number; file: number[] }
 /** What a symbol says. */
-export interface Letter {
+export interface Content {
   /** 0 to 255, and 256 for FNC1. */
   items: number[];
   /** In order. */
@@ -19,7 +19,7 @@ export interface Letter {
   /** Whether it is a part, or programs the reader; null for neither. */
   head: "programming" | Part | null;
 }
-export interface Message extends Letter {
+export interface Message extends Content {
   /** Whether FNC1 is the first item. */
   isGs1: boolean;
   /** The items without a first FNC1; others as 29, GS. */
@@ -51,7 +51,7 @@ export interface Reading {
 export type Limit = number | "auto" | null;
 export interface Fault { code: number; value: number; place: number }
 /** A symbol in a picture, upright. */
-export interface Found extends Grid, Letter, Omit<Reading, "dealing"> {
+export interface Found extends Grid, Content, Omit<Reading, "dealing"> {
   /** 1 for each module that was taken for lost; null if none was. */
   doubtful: Uint8Array | null;
   /** Top left, top right, bottom right and bottom left of the upright symbol, where they are in the picture. */
@@ -136,15 +136,15 @@ export class Refused extends Error { code: number; value: number; place: number 
 export function read(picture: Picture, search?: Search):
   { symbols: (Found & Message)[]; unread: Found[]; isComplete: boolean };
 /** What is written: text, which is ISO 8859-1, or else behind its mark the charset whose symbol is smallest; bytes or
- * items; or a letter. */
-export type Given = string | ArrayLike<number> | (Partial<Letter> & Pick<Letter, "items">);
+ * items; or a content. */
+export type Given = string | ArrayLike<number> | (Partial<Content> & Pick<Content, "items">);
 /** The symbol of what is given. Throws Refused if no size holds it, and a RangeError for a wrong element string. */
 export function write(given: Given, form?: Form): Grid;
 /** What an upright grid says. Throws Refused. */
 export function readGrid(grid: Grid, more?: { limit?: Limit; doubtful?: Uint8Array | null }): Message & Reading;
 /** What readings say together that are the parts of one message, in any order. Throws a RangeError if one is missing,
  * or isn't one of them. */
-export function joined(readings: Letter[]): Message;
+export function joined(readings: Content[]): Message;
 /** The normal symbol of what an upright grid says: symbols that say the same have the same one. Throws Refused. */
 export function normal(grid: Grid,
   more?: { limit?: Limit; doubtful?: Uint8Array | null; form?: "ascii" | "shorter" }): Grid;

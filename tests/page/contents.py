@@ -11,7 +11,7 @@ from tests import corpus
 from tests.library.model import SIZE_OF, codewords, modules_of, padded
 from tests.page.conduct import go, linked
 from tests.page.history import fields
-from tests.page.judge import (SMALLEST, asked_to_read, asked_to_write, in_lines, judged, letter_of, line_of_text,
+from tests.page.judge import (SMALLEST, asked_to_read, asked_to_write, in_lines, judged, content_of, line_of_text,
                               written_in)
 from tests.page.labels import pages_of, saved
 from tests.page.photographs import CAMERA, FOUND
@@ -107,7 +107,7 @@ def texts_of_all_scripts():
         for (script, text), line, wanted in zip(all_texts, lines, grids):
             type_in(text, "text")
             expect(f"{script}: {text}", grid(), wanted)
-            expect(f"{script}: {text} as it is read", (shown()["says"], run(READ)), (text, letter_of(line)))
+            expect(f"{script}: {text} as it is read", (shown()["says"], run(READ)), (text, content_of(line)))
         push("tab-read")
         for (script, text), wanted in list(zip(all_texts, grids))[::7]:
             put("grid", wanted)
@@ -126,9 +126,9 @@ def charsets():
             text = spelled[0] if spelled and "\\x" not in spelled[0] else None
             seen = shown()
             expect(line, (seen["says"], seen["charset"]), (text or line, text and charset))
-            letter = letter_of(line)
-            numbers = [it["number"] for it in letter["marks"]]
-            if text and letter["marks"][0]["place"] == 0 and len(numbers) == 1:
+            content = content_of(line)
+            numbers = [it["number"] for it in content["marks"]]
+            if text and content["marks"][0]["place"] == 0 and len(numbers) == 1:
                 told = f"It is text in {charset.upper()}, as ECI {numbers[0]} says."
                 expect(f"{line}: what is said", told in seen["why"], True)
         expect("how many", len(marked), 57)
@@ -151,35 +151,35 @@ def parts_of(text, count_of_them, kind="text"):
     """The grids of the parts of a message, as the page shows them, and what is read of each."""
     type_in(text, kind)
     choose("parts", str(count_of_them))
-    grids, letters = [], []
+    grids, contents = [], []
     for k in range(count_of_them):
         expect(f"part {k + 1} is named", text_of("part-shown"), f"Part {k + 1} of {count_of_them}")
         grids.append(grid())
-        letters.append(run(READ))
+        contents.append(run(READ))
         expect(f"part {k + 1} as it is read", shown()["state"], f"Read, as part {k + 1} of {count_of_them}")
         push("part-on")
     expect("after the last", (usable("part-on"), usable("part-back")), (False, True))
-    return grids, letters
+    return grids, contents
 
 
-def decoded(letters):
+def decoded(contents):
     """What parts say together, each in the charset of its one mark, or in ASCII."""
     charset_of = package.imported().charsets.charset_of
     name = lambda it: charset_of(it["marks"][0]["number"]) if it["marks"] else "ascii"
-    return "".join(bytes(it["items"]).decode(name(it)) for it in letters)
+    return "".join(bytes(it["items"]).decode(name(it)) for it in contents)
 
 
 def made_in_parts():
     """A message in several symbols: each has its head and its mark, no character is cut, and all together say it; the
     link keeps how many there are and which is shown."""
     for text, many in ((MESSAGE, 2), (MESSAGE, 16), (LATIN, 3), (JAPANESE, 4), ("plain ASCII of some length", 4)):
-        grids, letters = parts_of(text, many)
-        heads = [it["head"] for it in letters]
+        grids, contents = parts_of(text, many)
+        heads = [it["head"] for it in contents]
         file = heads[0]["file"]
         expect("heads", heads, [{"part": k + 1, "parts": many, "file": file} for k in range(many)])
         expect("numbers of the file", all(1 <= number <= 254 for number in file), True)
-        expect(f"{text[:8]} in {many}", decoded(letters), text)
-        lengths = [len(it["items"]) for it in letters]
+        expect(f"{text[:8]} in {many}", decoded(contents), text)
+        lengths = [len(it["items"]) for it in contents]
         expect("about equal parts", max(lengths) - min(lengths) <= 3, True)
         answers = judged([asked_to_read(it) for it in grids])
         expect("as the library reads them", [it["head"] for it in answers], heads)
@@ -342,8 +342,8 @@ def found_in_parts(grids):
 
 def parts_by_camera():
     """Parts that a camera sees at once, and after one another, are put together, those with the same text too."""
-    grids, letters = parts_of("once " * 4, 4)
-    expect("all with one text", len({str(it["items"]) for it in letters}), 1)
+    grids, contents = parts_of("once " * 4, 4)
+    expect("all with one text", len({str(it["items"]) for it in contents}), 1)
     choose("parts", "1")
     push("tab-read")
     files = [base64.b64encode(png(text.split("\n"), 12, 3)).decode() for text in grids]
@@ -419,7 +419,7 @@ def told_of_marks():
 # ---- Compared
 
 
-def letters_compared():
+def contents_compared():
     """Two symbols are compared by all that they say; where their texts are the same and their bytes aren't, or their
     symbology identifiers differ, that is said."""
     push("tab-read")
@@ -501,4 +501,4 @@ def any_border():
 
 
 PARTS = [the_smallest, gs1_in_the_smallest, texts_of_all_scripts, charsets, made_in_parts, labels_in_parts,
-         read_in_parts, parts_by_camera, programs_the_reader, told_of_marks, letters_compared, any_border]
+         read_in_parts, parts_by_camera, programs_the_reader, told_of_marks, contents_compared, any_border]
