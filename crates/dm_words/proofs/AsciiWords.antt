@@ -1,26 +1,15 @@
 -- The ASCII form of a message spells it, and is the only greedy joining of units.
-use Rattle.std.proofs.Common.{◌≡◌, ℕ, zero, suc, ◌+◌, ◌-◌, ◌*◌, ◌/◌, ◌%◌, ◌<◌, ◌≤◌, List, [], ◌∷◌, ◌++◌, length, refl}
-use Rattle.std.proofs.Common.{sym, ap, subst, ◌∙◌, arith, Bool, true, false, cond, ltb, ◌&&◌, Some}
-use Rattle.std.specs.Prelude.{IsTrue}
-use Rattle.std.specs.List.{AllByRecursion}
-use Rattle.std.proofs.lemmas.Bool.Decides.{nat_tests}
-use Rattle.std.proofs.lemmas.List.{append-nil}
+use Rattle.dm_words.proofs.Names.{◌≡◌, ℕ, zero, suc, ◌+◌, ◌-◌, ◌*◌, ◌/◌, ◌%◌, ◌<◌, ◌≤◌, List, [], ◌∷◌, ◌++◌, length}
+use Rattle.dm_words.proofs.Names.{refl, sym, ap, subst, ◌∙◌, arith, Bool, true, false, cond, ltb, ◌&&◌, Some, IsTrue}
+use Rattle.dm_words.proofs.Names.{AllByRecursion, nat_tests, append-nil, Extent, Item, Byte, Fnc1, codeword_of, Piece}
+use Rattle.dm_words.proofs.Names.{spelled, gathered, AreJoined, IsAsciiUnit, character, digits, fnc1, raised, is_digit}
+use Rattle.dm_words.proofs.Names.{digit_pair, single, ascii, IsAscii, further_pads, pads, padded, AreBytes}
+use Rattle.dm_words.proofs.Names.{SpellsThenPads, plain_padded, IsPart, IsEnd, pad, AreParts, Spells, IsItem}
 use Rattle.dm_words.specs.declared.codeword.Codeword.TheVariants as codeword
-use Rattle.dm_words.specs.declared.extent.Extent.{Extent}
-use Rattle.dm_words.specs.declared.item.Item.{Item}
-use Rattle.dm_words.specs.declared.item.Item.TheVariants.{Byte, Fnc1}
-use Rattle.dm_words.specs.Codewords.{codeword_of}
-use Rattle.dm_words.specs.Joined.{Piece, spelled, gathered, AreJoined}
-use Rattle.dm_words.specs.Ascii.{IsAsciiUnit, character, digits, fnc1, raised, is_digit, digit_pair, single, ascii}
-use Rattle.dm_words.specs.Ascii.{IsOneDigit, BeginsWithDigit, IsGreedy, IsAscii}
-use Rattle.dm_words.specs.Pads.{further_pads, pads, padded}
-use Rattle.dm_words.specs.Base256.{AreBytes}
-use Rattle.dm_words.specs.Smallest.{SpellsThenPads, plain_padded}
-use Rattle.dm_words.specs.Parts.{IsPart, ascii as ascii_part, IsEnd, nothing, pad, AreParts}
-use Rattle.dm_words.specs.Spells.{Spells}
+use Rattle.dm_words.specs.Ascii.{IsOneDigit, BeginsWithDigit, IsGreedy}
+use Rattle.dm_words.specs.Parts.{ascii as ascii_part, nothing}
 use Rattle.dm_words.proofs.SpelledContents.{parts_spell}
 use Rattle.dm_words.proofs.PadWords.{pads_are}
-use Rattle.dm_words.specs.Messages.{IsItem}
 use Rattle.dm_words.proofs.Segments.{AreBytes-append}
 
 -- Each item has a byte of 0 to 255.

@@ -1,26 +1,13 @@
 -- No codewords that say a content are fewer than its least cost.
-use Rattle.std.proofs.Common.{◌≡◌, ℕ, ◌+◌, ◌-◌, ◌*◌, ◌≤◌, List, [], ◌∷◌, ◌++◌, length, take, drop, sym}
-use Rattle.std.proofs.Common.{ap, subst, ◌∙◌, append_assoc, arith, length-append, Some}
-use Rattle.std.proofs.lemmas.List.{append-nil, length-drop}
-use Rattle.std.proofs.Math.Seq.{take-append-add, drop-append-add}
-use Rattle.dm_words.specs.declared.extent.Extent.{Extent}
-use Rattle.dm_words.specs.declared.extent.Extent.TheVariants.{Wide}
-use Rattle.dm_words.specs.declared.item.Item.{Item}
-use Rattle.dm_words.specs.declared.contents.mark.Mark.{Mark}
-use Rattle.dm_words.specs.declared.contents.opening.Opening.{Opening}
-use Rattle.dm_words.specs.Designators.{eci_word, designator}
-use Rattle.dm_words.specs.Heads.{head_words}
-use Rattle.dm_words.specs.Joined.{Piece, spelled, whats, AreJoined}
-use Rattle.dm_words.specs.Contents.{ContentView, AreMarks, Said, Items, Number, IsContentPart, part, mark}
-use Rattle.dm_words.specs.Contents.{AreContentParts}
-use Rattle.dm_words.specs.Contents.{said_items, said_marks, IsOpening, headed, framed, plain, said_content, Says}
-use Rattle.dm_words.specs.Contents.{BeginsFrame}
-use Rattle.dm_words.specs.ContentForm.{mark_words}
-use Rattle.dm_words.specs.Macros.{macro_text, macro_header, macro_trailer}
-use Rattle.dm_words.specs.Plain.{FramesNoFnc1}
-use Rattle.dm_words.specs.Parts.{IsPart}
-use Rattle.dm_words.specs.inner.Costs.{never, at_end, before_words}
-use Rattle.dm_words.specs.inner.ContentCosts.{marked_cost, IsLeastContentCost}
+use Rattle.dm_words.proofs.Names.{◌≡◌, ℕ, ◌+◌, ◌-◌, ◌*◌, ◌≤◌, List, [], ◌∷◌, ◌++◌, length, take, drop, sym, ap, subst}
+use Rattle.dm_words.proofs.Names.{◌∙◌, append_assoc, arith, length-append, Some, append-nil, length-drop}
+use Rattle.dm_words.proofs.Names.{take-append-add, Extent, Wide, Item, Mark, Opening, eci_word, designator, head_words}
+use Rattle.dm_words.proofs.Names.{Piece, spelled, whats, AreJoined, ContentView, AreMarks, Said, Items, Number}
+use Rattle.dm_words.proofs.Names.{IsContentPart, part, mark, AreContentParts, said_items, said_marks, IsOpening, headed}
+use Rattle.dm_words.proofs.Names.{framed, plain, said_content, Says, BeginsFrame, mark_words, macro_text, macro_header}
+use Rattle.dm_words.proofs.Names.{macro_trailer, FramesNoFnc1, IsPart, never, at_end, before_words, marked_cost}
+use Rattle.dm_words.proofs.Names.{IsLeastContentCost}
+use Rattle.std.proofs.Math.Seq.{drop-append-add}
 use Rattle.dm_words.proofs.CostsMet.{nothing_costs}
 use Rattle.dm_words.proofs.CostBounds.{part_no_fewer}
 use Rattle.dm_words.proofs.Designators.{designator_only}

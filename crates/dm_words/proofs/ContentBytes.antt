@@ -1,21 +1,9 @@
 -- The codewords of the normal form of a content are 0 to 255.
-use Rattle.std.proofs.Common.{ℕ, ◌-◌, ◌/◌, ◌≤◌, ◌<◌, List, [], ◌∷◌, length, take, drop, sym, subst}
-use Rattle.std.proofs.Common.{arith}
-use Rattle.std.proofs.Common.{Option, Some, None}
-use Rattle.std.proofs.lemmas.List.Elements.{All-from_recursion, recursion_from_All}
-use Rattle.dm_words.specs.declared.item.Item.{Item}
-use Rattle.dm_words.specs.declared.contents.head.Head.{Head}
-use Rattle.dm_words.specs.declared.contents.mark.Mark.{Mark}
-use Rattle.dm_words.specs.declared.profile.Profile.{Profile}
-use Rattle.dm_words.specs.Ascii.{ascii}
-use Rattle.dm_words.specs.Base256.{AreBytes}
-use Rattle.dm_words.specs.Designators.{IsDesignator, one, two, three, designator}
-use Rattle.dm_words.specs.Heads.{IsHead, SpellsHead, programming, appended, head_words}
-use Rattle.dm_words.specs.Laws.{AreCodewords}
-use Rattle.dm_words.specs.Contents.{ContentView, IsContent, AreMarks}
-use Rattle.dm_words.specs.ContentForm.{ascii_with_marks, form_by, content_form}
-use Rattle.dm_words.specs.Messages.{IsItem}
-use Rattle.dm_words.specs.Pads.{padded}
+use Rattle.dm_words.proofs.Names.{ℕ, ◌-◌, ◌/◌, ◌≤◌, ◌<◌, List, [], ◌∷◌, length, take, drop, sym, subst, arith, Option}
+use Rattle.dm_words.proofs.Names.{Some, None, All-from_recursion, recursion_from_All, Item, Head, Mark, Profile, ascii}
+use Rattle.dm_words.proofs.Names.{AreBytes, IsDesignator, one, two, three, designator, IsHead, SpellsHead, programming}
+use Rattle.dm_words.proofs.Names.{appended, head_words, AreCodewords, ContentView, IsContent, AreMarks}
+use Rattle.dm_words.proofs.Names.{ascii_with_marks, form_by, content_form, IsItem, padded}
 use Rattle.dm_words.proofs.AsciiWords.{AreItems, ascii_bytes}
 use Rattle.dm_words.proofs.Designators.{designator_says}
 use Rattle.dm_words.proofs.Heads.{head_says}

@@ -1,16 +1,9 @@
 -- How many items and marks the codewords of a content hold.
-use Rattle.std.proofs.Common.{◌≡◌, ℕ, ◌+◌, ◌-◌, ◌*◌, ◌≤◌, Bool, true, false, if◌then◌else◌, nat_lt, List}
-use Rattle.std.proofs.Common.{[], ◌∷◌, ◌++◌, length, take, drop, Option, Some, None, sym, ◌∙◌, ap, arith, length-append}
-use Rattle.std.proofs.lemmas.List.{take-append-drop}
-use Rattle.dm_words.specs.declared.item.Item.{Item}
-use Rattle.dm_words.specs.declared.contents.head.Head.{Head}
-use Rattle.dm_words.specs.declared.contents.mark.Mark.{Mark}
-use Rattle.dm_words.specs.declared.profile.Profile.{Profile}
-use Rattle.dm_words.specs.Ascii.{ascii}
-use Rattle.dm_words.specs.Designators.{designator}
-use Rattle.dm_words.specs.Heads.{head_words}
-use Rattle.dm_words.specs.Contents.{ContentView}
-use Rattle.dm_words.specs.ContentForm.{mark_words, ascii_with_marks, form_by, content_form}
+use Rattle.dm_words.proofs.Names.{◌≡◌, ℕ, ◌+◌, ◌-◌, ◌*◌, ◌≤◌, Bool, true, false, if◌then◌else◌, List, [], ◌∷◌, ◌++◌}
+use Rattle.dm_words.proofs.Names.{length, take, drop, Option, Some, None, sym, ◌∙◌, ap, arith, length-append}
+use Rattle.dm_words.proofs.Names.{take-append-drop, Item, Head, Mark, Profile, ascii, designator, head_words}
+use Rattle.dm_words.proofs.Names.{ContentView, mark_words, ascii_with_marks, form_by, content_form}
+use Rattle.std.proofs.Common.{nat_lt}
 use Rattle.dm_words.proofs.NormalForms.{normal_form_items, two_items}
 
 -- A list that is chosen from two has a codeword where both have.

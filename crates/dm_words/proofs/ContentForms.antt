@@ -1,27 +1,13 @@
 -- The normal form of a content says it.
-use Rattle.std.proofs.Common.{◌≡◌, ℕ, zero, suc, ◌+◌, ◌-◌, ◌≤◌, List, [], ◌∷◌, ◌++◌, length, take, drop, refl}
-use Rattle.std.proofs.Common.{sym, subst, ap, ◌∙◌, append_assoc, arith, length-append, Option, Some, None}
-use Rattle.std.specs.List.{AllByRecursion}
-use Rattle.std.proofs.lemmas.List.{append-nil, length-take, length-drop, take-append-drop}
-use Rattle.std.proofs.lemmas.List.Elements.{recursion_from_All}
-use Rattle.dm_words.specs.Messages.{most_data}
-use Rattle.dm_words.specs.declared.extent.Extent.TheVariants.{Wide}
-use Rattle.dm_words.specs.declared.item.Item.{Item}
-use Rattle.dm_words.specs.declared.contents.head.Head.{Head}
-use Rattle.dm_words.specs.declared.contents.mark.Mark.{Mark}
-use Rattle.dm_words.specs.declared.contents.opening.Opening.TheVariants.{Headed}
-use Rattle.dm_words.specs.declared.profile.Profile.{Profile}
-use Rattle.dm_words.specs.Messages.{IsItem, most_data}
-use Rattle.dm_words.specs.Ascii.{IsAsciiUnit, ascii}
-use Rattle.dm_words.specs.Joined.{Piece, spelled, gathered, whats, AreJoined}
-use Rattle.dm_words.specs.Pads.{pads, padded}
-use Rattle.dm_words.specs.Plain.{IsPlainSaid}
+use Rattle.dm_words.proofs.Names.{◌≡◌, ℕ, zero, suc, ◌+◌, ◌-◌, ◌≤◌, List, [], ◌∷◌, ◌++◌, length, take, drop, refl, sym}
+use Rattle.dm_words.proofs.Names.{subst, ap, ◌∙◌, append_assoc, arith, length-append, Option, Some, None}
+use Rattle.dm_words.proofs.Names.{AllByRecursion, append-nil, length-take, length-drop, take-append-drop}
+use Rattle.dm_words.proofs.Names.{recursion_from_All, most_data, Wide, Item, Head, Mark, Headed, Profile, IsItem}
+use Rattle.dm_words.proofs.Names.{IsAsciiUnit, ascii, Piece, spelled, gathered, whats, AreJoined, pads, padded}
+use Rattle.dm_words.proofs.Names.{IsPlainSaid, designator, IsHead, head_words, ContentView, AreMarks, IsContent, Said}
+use Rattle.dm_words.proofs.Names.{Items, Number, IsContentPart, AreContentParts, said_items, said_marks, headed, Says}
+use Rattle.dm_words.proofs.Names.{mark_words, ascii_with_marks, form_by, content_form}
 use Rattle.dm_words.specs.Plain as plainly
-use Rattle.dm_words.specs.Designators.{designator}
-use Rattle.dm_words.specs.Heads.{IsHead, head_words}
-use Rattle.dm_words.specs.Contents.{ContentView, AreMarks, IsContent, Said, Items, Number, IsContentPart}
-use Rattle.dm_words.specs.Contents.{AreContentParts, said_items, said_marks, headed, Says}
-use Rattle.dm_words.specs.ContentForm.{mark_words, ascii_with_marks, form_by, content_form}
 use Rattle.dm_words.proofs.AsciiWords.{AreItems, units_of, pads_end}
 use Rattle.dm_words.proofs.Designators.{designator_says}
 use Rattle.dm_words.proofs.Heads.{head_says}

@@ -1,28 +1,17 @@
 -- The loop that reads one part of a content after the other.
-use Rattle.std.proofs.Common.{◌≡◌, ℕ, suc, ◌+◌, ◌*◌, ◌/◌, ◌%◌, ◌<◌, ◌≤◌, List, [], ◌∷◌, ◌++◌, length, take, drop, refl}
-use Rattle.std.proofs.Common.{sym, ap, subst, ◌∙◌, append_assoc, arith, length-append, Option, Some, None, Result, Ok}
-use Rattle.std.proofs.Common.{true}
-use Rattle.std.proofs.lemmas.List.{append-nil, length-drop, length-take, drop-drop}
-use Rattle.dm_words.specs.declared.extent.Extent.{Extent}
-use Rattle.dm_words.specs.declared.extent.Extent.TheVariants.{Usual}
-use Rattle.dm_words.specs.declared.contents.designator.Designator.{Designator}
-use Rattle.dm_words.specs.declared.fault.WordFault.{WordFault}
-use Rattle.dm_words.specs.declared.contents.fault.ContentFault.{ContentFault}
+use Rattle.dm_words.proofs.Names.{◌≡◌, ℕ, suc, ◌+◌, ◌*◌, ◌/◌, ◌%◌, ◌<◌, ◌≤◌, List, [], ◌∷◌, ◌++◌, length, take, drop}
+use Rattle.dm_words.proofs.Names.{refl, sym, ap, subst, ◌∙◌, append_assoc, arith, length-append, Option, Some, None}
+use Rattle.dm_words.proofs.Names.{Result, Ok, true, append-nil, length-drop, length-take, drop-drop, Extent, Usual}
+use Rattle.dm_words.proofs.Names.{Designator, WordFault, ContentFault, Mark, most_assigned, IsDesignator, one, two}
+use Rattle.dm_words.proofs.Names.{three, ContentView, Said, Items, Number, IsContentPart, part, mark, said_items}
+use Rattle.dm_words.proofs.Names.{said_marks, eci_count, BeginNoEci, Takes, Stops, as_said, mark_by, first_content_part}
+use Rattle.dm_words.proofs.Names.{items_with, first_part, Item, Byte, codeword_of, extended, content_to, IsContentAt}
 use Rattle.dm_words.specs.declared.contents.fault.ContentFault.TheVariants as fault
-use Rattle.dm_words.specs.declared.contents.mark.Mark.{Mark}
-use Rattle.dm_words.specs.Designators.{most_assigned, IsDesignator, one, two, three}
-use Rattle.dm_words.specs.Contents.{ContentView, Said, Items, Number, IsContentPart, part, mark, said_items}
-use Rattle.dm_words.specs.Contents.{said_marks, eci_count, BeginNoEci}
-use Rattle.dm_words.specs.inner.Scan.Walk.{Takes, Stops, walk}
-use Rattle.dm_words.specs.inner.ContentScan.{as_said, mark_by, first_content_part, with_said, items_with}
-use Rattle.dm_words.specs.inner.Scan.Prefixes.{first_part}
+use Rattle.dm_words.specs.inner.Scan.Walk.{walk}
+use Rattle.dm_words.specs.inner.ContentScan.{with_said, content_on}
 use Rattle.dm_words.specs.inner.Scan.Results.{IsPartTakenOrEnd, IsOneWordTaken}
 use Rattle.dm_words.specs.declared.codeword.Codeword.TheVariants as codeword
-use Rattle.dm_words.specs.declared.item.Item.{Item}
-use Rattle.dm_words.specs.declared.item.Item.TheVariants.{Byte}
-use Rattle.dm_words.specs.Codewords.{codeword_of}
-use Rattle.dm_words.specs.inner.ContentScan.{extended, content_to, content_on}
-use Rattle.dm_words.specs.inner.ContentsAt.{IsContentAt, IsContentPartTaken}
+use Rattle.dm_words.specs.inner.ContentsAt.{IsContentPartTaken}
 use Rattle.dm_words.proofs.Walks.{walk-fuel}
 use Rattle.dm_words.proofs.Pairs.{IsBytes, IsBytes-drop}
 use Rattle.dm_words.proofs.Parts.{room_of, part_room}

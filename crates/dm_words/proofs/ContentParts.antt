@@ -1,24 +1,14 @@
 -- The part of a content that the scan finds first is the part of the definition that begins there.
-use Rattle.std.proofs.Common.{◌≡◌, ℕ, ◌+◌, ◌<◌, ◌≤◌, List, [], ◌∷◌, ◌++◌, length, take, drop}
-use Rattle.std.proofs.Common.{refl, ap, subst, ◌∙◌, arith, length-append, Bool, true, false, cond, Option, Some}
-use Rattle.std.proofs.Common.{None}
-use Rattle.std.specs.Prelude.{◌==◌}
-use Rattle.std.proofs.lemmas.Bool.Decides.{nat_tests}
+use Rattle.dm_words.proofs.Names.{◌≡◌, ℕ, ◌+◌, ◌<◌, ◌≤◌, List, [], ◌∷◌, ◌++◌, length, take, drop, refl, ap, subst, ◌∙◌}
+use Rattle.dm_words.proofs.Names.{arith, length-append, Bool, true, false, cond, Option, Some, None, ◌==◌, nat_tests}
+use Rattle.dm_words.proofs.Names.{Extent, Usual, Wide, Item, WordFault, Designator, ContentFault, codeword_of, IsEnd}
+use Rattle.dm_words.proofs.Names.{pad, Said, Items, Number, IsContentPart, part, mark, BeginNoEci, IsContentFault, word}
+use Rattle.dm_words.proofs.Names.{Step, Takes, Stops, first_part, first_designator, as_said, mark_by}
+use Rattle.dm_words.proofs.Names.{first_content_part}
 use Rattle.dm_words.specs.declared.codeword.Codeword.TheVariants as codeword
-use Rattle.dm_words.specs.declared.extent.Extent.{Extent}
-use Rattle.dm_words.specs.declared.extent.Extent.TheVariants.{Usual, Wide}
-use Rattle.dm_words.specs.declared.item.Item.{Item}
-use Rattle.dm_words.specs.declared.fault.WordFault.{WordFault}
-use Rattle.dm_words.specs.declared.contents.designator.Designator.{Designator}
-use Rattle.dm_words.specs.declared.contents.fault.ContentFault.{ContentFault}
 use Rattle.dm_words.specs.declared.contents.fault.ContentFault.TheVariants as fault
-use Rattle.dm_words.specs.Codewords.{codeword_of}
-use Rattle.dm_words.specs.Parts.{IsEnd, nothing, pad}
-use Rattle.dm_words.specs.Contents.{Said, Items, Number, IsContentPart, part, mark, BeginNoEci, IsContentFault}
-use Rattle.dm_words.specs.Contents.{designator, word}
-use Rattle.dm_words.specs.inner.Scan.Walk.{Step, Takes, Stops}
-use Rattle.dm_words.specs.inner.Scan.Prefixes.{first_part}
-use Rattle.dm_words.specs.inner.ContentScan.{first_designator, as_said, mark_by, first_content_part}
+use Rattle.dm_words.specs.Parts.{nothing}
+use Rattle.dm_words.specs.Contents.{designator}
 use Rattle.dm_words.proofs.Walks.{IsSound, IsComplete}
 use Rattle.dm_words.proofs.Pairs.{IsBytes, IsBytes-drop}
 use Rattle.dm_words.proofs.Parts.{Found, part_sound, part_complete, fault_sound, fault_complete, end_sound}

@@ -1,19 +1,9 @@
 -- What the calls that read a content leave.
-use Rattle.std.proofs.Common.{◌≡◌, ℕ, zero, suc, ◌+◌, ◌*◌, ◌≤◌, List, [], ◌∷◌, ◌++◌, length, refl, sym, ap}
-use Rattle.std.proofs.Common.{subst, ◌∙◌, arith, length-append, Option, Some, None, Result, Ok, Err}
-use Rattle.dm_words.specs.declared.extent.Extent.{Extent}
-use Rattle.dm_words.specs.declared.extent.Extent.TheVariants.{Wide}
-use Rattle.dm_words.specs.declared.item.Item.{Item}
-use Rattle.dm_words.specs.declared.contents.fault.ContentFault.{ContentFault}
-use Rattle.dm_words.specs.declared.contents.mark.Mark.{Mark}
-use Rattle.dm_words.specs.declared.contents.opening.Opened.{Opened}
-use Rattle.dm_words.specs.declared.contents.opening.Opening.{Opening}
-use Rattle.dm_words.specs.Messages.{most_spelled}
-use Rattle.dm_words.specs.Contents.{ContentView, IsOpening, headed, framed, plain, Says}
-use Rattle.dm_words.specs.Contents.{opening_items, closing_items}
-use Rattle.dm_words.specs.ContentResults.{IsContentResult}
-use Rattle.dm_words.specs.inner.ContentScan.{opened, opening_content, content_of}
-use Rattle.dm_words.specs.inner.ContentsAt.{IsContentAt}
+use Rattle.dm_words.proofs.Names.{◌≡◌, ℕ, zero, suc, ◌+◌, ◌*◌, ◌≤◌, List, [], ◌∷◌, ◌++◌, length, refl, sym, ap, subst}
+use Rattle.dm_words.proofs.Names.{◌∙◌, arith, length-append, Option, Some, None, Result, Ok, Err, Extent, Wide, Item}
+use Rattle.dm_words.proofs.Names.{ContentFault, Mark, Opened, Opening, most_spelled, ContentView, IsOpening, headed}
+use Rattle.dm_words.proofs.Names.{framed, plain, Says, opening_items, closing_items, IsContentResult, opened}
+use Rattle.dm_words.proofs.Names.{opening_content, content_of, IsContentAt}
 use Rattle.dm_words.proofs.Pairs.{IsBytes}
 use Rattle.dm_words.proofs.Openings as openings
 use Rattle.dm_words.proofs.Openings.{OpeningJudged}

@@ -1,21 +1,11 @@
 -- What codewords say in an extent, and with which fault they are refused: one content or one fault.
-use Rattle.std.proofs.Common.{◌≡◌, ◌≤◌, ◌<◌, ℕ, List, length, sym, ap, subst, ◌∙◌, inl, inr}
-use Rattle.std.proofs.lemmas.List.Elements.{recursion_from_All}
-use Rattle.dm_words.specs.declared.extent.Extent.{Extent}
-use Rattle.dm_words.specs.declared.extent.Extent.TheVariants.{Usual, Wide}
-use Rattle.dm_words.specs.declared.profile.Profile.{Profile}
-use Rattle.dm_words.specs.declared.fault.WordFault.{WordFault}
-use Rattle.dm_words.specs.declared.contents.fault.ContentFault.{ContentFault}
+use Rattle.dm_words.proofs.Names.{◌≡◌, ◌≤◌, ◌<◌, ℕ, List, length, sym, ap, subst, ◌∙◌, inl, inr, recursion_from_All}
+use Rattle.dm_words.proofs.Names.{Extent, Usual, Wide, Profile, WordFault, ContentFault, most_data, padded, normal_form}
+use Rattle.dm_words.proofs.Names.{Spells, AreCodewords, ContentView, IsContent, Says, IsRefused, content_form}
+use Rattle.dm_words.proofs.Names.{HasOneContentResult, as_content}
 use Rattle.dm_words.specs.declared.contents.fault.ContentFault.TheVariants as fault
-use Rattle.dm_words.specs.Messages.{most_data}
-use Rattle.dm_words.specs.Pads.{padded}
-use Rattle.dm_words.specs.NormalForm.{normal_form}
-use Rattle.dm_words.specs.Spells.{Spells}
-use Rattle.dm_words.specs.Laws.{HasOneResult, AreCodewords}
-use Rattle.dm_words.specs.Contents.{ContentView, IsContent, Says, IsRefused}
-use Rattle.dm_words.specs.ContentForm.{content_form}
-use Rattle.dm_words.specs.ContentResults.{HasOneContentResult}
-use Rattle.dm_words.specs.ContentExtents.{as_content, IsSaidIn}
+use Rattle.dm_words.specs.Laws.{HasOneResult}
+use Rattle.dm_words.specs.ContentExtents.{IsSaidIn}
 use Rattle.dm_words.proofs.Extents.{said_wide}
 use Rattle.dm_words.proofs.ContentForms.{content_form_says}
 use Rattle.dm_words.proofs.MessageReadings.{usual_plain, usual_word}

@@ -1,31 +1,17 @@
 -- Texts and marks that are written one behind the other say a content.
-use Rattle.std.proofs.Common.{◌≡◌, ℕ, ◌+◌, ◌-◌, ◌≤◌, List, [], ◌∷◌, ◌++◌, length, append_assoc, refl, sym, take, drop}
-use Rattle.std.proofs.Common.{ap, subst, ◌∙◌, arith, length-append, Some, None, Option}
-use Rattle.std.proofs.lemmas.List.{append-nil, take_rest, take_all, take-append-drop, length-take}
-use Rattle.std.proofs.Math.Seq.{take-add}
+use Rattle.dm_words.proofs.Names.{◌≡◌, ℕ, ◌+◌, ◌-◌, ◌≤◌, List, [], ◌∷◌, ◌++◌, length, append_assoc, refl, sym, take}
+use Rattle.dm_words.proofs.Names.{drop, ap, subst, ◌∙◌, arith, length-append, Some, None, Option, append-nil, take_rest}
+use Rattle.dm_words.proofs.Names.{take_all, take-append-drop, length-take, take-add, Wide, Item, Head, Mark, Opening}
+use Rattle.dm_words.proofs.Names.{Plain, Headed, Framed, codeword_of, eci_word, designator, most_assigned, IsHead}
+use Rattle.dm_words.proofs.Names.{head_words, Piece, spelled, whats, AreJoined, ContentView, AreMarks, Said, Items}
+use Rattle.dm_words.proofs.Names.{Number, IsContentPart, mark, AreContentParts, said_items, said_marks, AreOpened}
+use Rattle.dm_words.proofs.Names.{headed, framed, said_content, Says, ascii_with_marks, macro_text, BeginsFnc1}
+use Rattle.dm_words.proofs.Names.{FramesFnc1, pads, padded, IsPlainSaid, ArePads, SaysThenPads, AreSaid, view_of}
+use Rattle.dm_words.proofs.Names.{NoUnlatchFirst, ArePartsWritten}
 use Rattle.dm_words.proofs.MarkedCosts.{IsForth}
 use Rattle.dm_words.specs.declared.codeword.Codeword.TheVariants as codeword
-use Rattle.dm_words.specs.declared.extent.Extent.TheVariants.{Wide}
-use Rattle.dm_words.specs.declared.item.Item.{Item}
-use Rattle.dm_words.specs.declared.contents.head.Head.{Head}
-use Rattle.dm_words.specs.declared.contents.mark.Mark.{Mark}
-use Rattle.dm_words.specs.declared.contents.opening.Opening.{Opening}
-use Rattle.dm_words.specs.declared.contents.opening.Opening.TheVariants.{Plain, Headed, Framed}
-use Rattle.dm_words.specs.Codewords.{codeword_of}
-use Rattle.dm_words.specs.Designators.{eci_word, designator, most_assigned}
-use Rattle.dm_words.specs.Heads.{IsHead, head_words}
-use Rattle.dm_words.specs.Joined.{Piece, spelled, whats, AreJoined}
-use Rattle.dm_words.specs.Contents.{ContentView, AreMarks, Said, Items, Number, IsContentPart, mark, AreContentParts}
-use Rattle.dm_words.specs.Contents.{said_items, said_marks, AreOpened, headed, framed, said_content, Says}
-use Rattle.dm_words.specs.ContentForm.{ascii_with_marks}
-use Rattle.dm_words.specs.Macros.{macro_text, BeginsFnc1, FramesFnc1}
-use Rattle.dm_words.specs.Pads.{pads, padded}
-use Rattle.dm_words.specs.Plain.{IsPlainSaid}
 use Rattle.dm_words.specs.Plain as plainly
-use Rattle.dm_words.specs.Smallest.{ArePads}
-use Rattle.dm_words.specs.SmallestContents.{SaysThenPads, of_content}
-use Rattle.dm_words.specs.inner.ContentCosts.{AreSaid, view_of}
-use Rattle.dm_words.specs.inner.Written.{NoUnlatchFirst, ArePartsWritten}
+use Rattle.dm_words.specs.SmallestContents.{of_content}
 use Rattle.dm_words.proofs.AsciiWords.{AreItems, pads_end}
 use Rattle.dm_words.proofs.Designators.{designator_says}
 use Rattle.dm_words.proofs.Frames.{frames_not}

@@ -1,20 +1,10 @@
 -- The costs of EDIFACT obey the rules too, and no words are fewer than the cost.
-use Rattle.std.proofs.Common.{◌≡◌, ℕ, zero, suc, ◌+◌, ◌*◌, ◌≤◌, List, [], ◌∷◌, ◌++◌, length, refl, ap, ◌∙◌, arith}
-use Rattle.std.proofs.Common.{true, ltb, length-append}
-use Rattle.std.proofs.lemmas.Bool.Decides.{nat_tests}
-use Rattle.dm_words.specs.declared.extent.Extent.{Extent}
-use Rattle.dm_words.specs.declared.extent.Extent.TheVariants.{Usual, Wide}
-use Rattle.dm_words.specs.declared.item.Item.{Item}
-use Rattle.dm_words.specs.declared.item.Item.TheVariants.{Byte}
-use Rattle.dm_words.specs.declared.smallest.plan.Begin.TheVariants.{Edifact}
-use Rattle.dm_words.specs.declared.smallest.setting.Setting.{Setting}
-use Rattle.dm_words.specs.Contents.{BeginsFrame}
-use Rattle.dm_words.specs.Plain.{FramesNoFnc1}
-use Rattle.dm_words.specs.Parts.{IsPart, AreParts}
-use Rattle.dm_words.specs.Spells.{Spells}
-use Rattle.dm_words.specs.inner.Costs.{Groups, never, owed_group, leave, byte_before, has_edifact, stay_edifact}
-use Rattle.dm_words.specs.inner.Costs.{or_leave_edifact, row, parts_cost, at_end, before_words}
-use Rattle.dm_words.specs.inner.Ways.{IsLeastCost}
+use Rattle.dm_words.proofs.Names.{◌≡◌, ℕ, zero, suc, ◌+◌, ◌*◌, ◌≤◌, List, [], ◌∷◌, ◌++◌, length, refl, ap, ◌∙◌, arith}
+use Rattle.dm_words.proofs.Names.{true, ltb, length-append, nat_tests, Extent, Usual, Wide, Item, Byte, Edifact}
+use Rattle.dm_words.proofs.Names.{Setting, BeginsFrame, FramesNoFnc1, IsPart, AreParts, Spells, Groups, never, leave}
+use Rattle.dm_words.proofs.Names.{byte_before, has_edifact, stay_edifact, or_leave_edifact, parts_cost, at_end}
+use Rattle.dm_words.proofs.Names.{before_words, IsLeastCost}
+use Rattle.dm_words.specs.inner.Costs.{owed_group, row}
 use Rattle.dm_words.proofs.SpelledContents.{HasMessage, in_parts, in_frame, spelled_has}
 use Rattle.dm_words.proofs.CostsMet.{least_is, nothing_costs, owes, are_costs}
 use Rattle.dm_words.proofs.LowerBounds.{leave_bounds, IsEdifactLower, part_lower, parts_lower}

@@ -1,32 +1,19 @@
 -- The costs that lie in lanes are those of the definition.
-use Rattle.std.proofs.Common.{◌++◌, ◌≡◌, ◌⊎◌, inl, inr, ℕ, zero, suc, ◌+◌, ◌-◌, ◌^◌, ◌<◌, ◌≤◌, get_or, List, refl}
-use Rattle.std.proofs.Common.{sym, ap, subst}
-use Rattle.std.proofs.Common.{◌∙◌, arith, Bool, true, false, cond, eqb, length, ltb, replicate, w16}
-use Rattle.std.specs.Prelude.{[], ◌∷◌, ◌&&◌, bit_and, map, nat_eq, nat_le, not}
+use Rattle.dm_words.proofs.Names.{◌++◌, ◌≡◌, ◌⊎◌, inl, inr, ℕ, zero, suc, ◌+◌, ◌-◌, ◌^◌, ◌<◌, ◌≤◌, get_or, List, refl}
+use Rattle.dm_words.proofs.Names.{sym, ap, subst, ◌∙◌, arith, Bool, true, false, cond, eqb, length, ltb, replicate, w16}
+use Rattle.dm_words.proofs.Names.{[], ◌∷◌, ◌&&◌, map, nat_eq, nat_le, not, sel_l, top, zip2, length-map, tops_compared}
+use Rattle.dm_words.proofs.Names.{min, nat_tests, Extent, Usual, Wide, Item, Byte, Fnc1, C40, Text, X12, Costs, Pairs}
+use Rattle.dm_words.proofs.Names.{Groups, Going, Row, is_basic, low_values, set_values, has_edifact, stay, stay_edifact}
+use Rattle.dm_words.proofs.Names.{values_before, going_over, IsWithin, never, no_pairs, no_groups, leave, has_bit}
+use Rattle.dm_words.proofs.Names.{step_in, step_of, begin_at, cost_of, StepBits, HasRow}
+use Rattle.std.specs.Prelude.{bit_and}
 use Rattle.std.specs.List.{range_with_len}
-use lib.Lanes.{sel_l, top, zip2}
-use Rattle.std.proofs.lemmas.List.{length-map}
 use Rattle.std.proofs.lemmas.List.FromFn.{get_or-map-range_with_len}
-use Rattle.std.proofs.lemmas.Simd.{map-map, tops_compared, zip2_splat, zip2_splat_left}
-use Prim.Native.Nat.{min}
-use Rattle.std.proofs.lemmas.Bool.Decides.{nat_tests}
-use Rattle.dm_words.specs.declared.extent.Extent.{Extent}
-use Rattle.dm_words.specs.declared.extent.Extent.TheVariants.{Usual, Wide}
-use Rattle.dm_words.specs.declared.item.Item.{Item}
-use Rattle.dm_words.specs.declared.item.Item.TheVariants.{Byte, Fnc1}
-use Rattle.dm_words.specs.declared.c40.set.CodeSet.TheVariants.{C40, Text, X12}
+use Rattle.std.proofs.lemmas.Simd.{map-map, zip2_splat, zip2_splat_left}
 use Rattle.dm_words.specs.declared.smallest.sets.TheConstants.{SETS}
-use Rattle.dm_words.specs.declared.smallest.row.Costs.{Costs}
 use Rattle.dm_words.specs.declared.smallest.row.GoingCosts.{GoingCosts}
-use Rattle.dm_words.specs.inner.Costs.{Pairs, Groups, Going, Row, is_basic, low_values, set_values, has_edifact, stay}
-use Rattle.dm_words.specs.inner.Costs.{stay_edifact, values_before, going_over, IsWithin, never}
-use Rattle.dm_words.specs.inner.Costs.{no_pairs, no_groups, leave}
-use Rattle.dm_words.specs.inner.Costs.{has_bit, step_in, step_of, begin_at, cost_of}
-use Rattle.dm_words.specs.declared.smallest.plan.StepBits.{StepBits}
-use Rattle.dm_words.specs.inner.CostLanes.{byte_sets, read_bits, read_edifact, one_or_two, set_bits}
-use Rattle.dm_words.specs.inner.CostLanes.{first_lanes}
-use Rattle.dm_words.specs.inner.CostLanes.{second_lanes, AreFirst, AreNext, AreSecond, HasRow, HasGoing, end_lanes}
-use Rattle.dm_words.specs.inner.CostLanes.{cost_lanes}
+use Rattle.dm_words.specs.inner.CostLanes.{byte_sets, read_bits, read_edifact, one_or_two, set_bits, first_lanes}
+use Rattle.dm_words.specs.inner.CostLanes.{second_lanes, AreFirst, AreNext, AreSecond, HasGoing, end_lanes, cost_lanes}
 
 -- ---- a byte
 

@@ -1,26 +1,11 @@
 -- The costs of the definition obey the rules.
-use Rattle.std.proofs.Common.{◌≡◌, ◌⊎◌, inl, inr, ℕ, zero, suc, ◌+◌, ◌*◌, ◌/◌, ◌%◌, ◌<◌, ◌≤◌, List, [], ◌∷◌, ◌++◌}
-use Rattle.std.proofs.Common.{length, refl, ap, ◌∙◌, arith, Bool, true, false, cond, ltb}
-use Rattle.std.specs.Prelude.{nat_le, ◌&&◌, ◌==◌}
-use Prim.Native.Nat.{min}
-use Rattle.std.proofs.lemmas.Bool.{cases_lt}
-use Rattle.std.proofs.lemmas.Bool.Decides.{nat_tests}
-use Rattle.dm_words.specs.declared.item.Item.{Item}
-use Rattle.dm_words.specs.declared.item.Item.TheVariants.{Byte, Fnc1}
-use Rattle.dm_words.specs.declared.c40.set.CodeSet.{CodeSet}
-use Rattle.dm_words.specs.declared.c40.set.CodeSet.TheVariants.{C40, Text, X12}
-use Rattle.dm_words.specs.inner.Costs.{Pairs}
-use Rattle.dm_words.specs.inner.Costs.{Going}
-use Rattle.dm_words.specs.inner.Costs.{Row}
-use Rattle.dm_words.specs.declared.smallest.plan.Begin.{Begin}
-use Rattle.dm_words.specs.declared.smallest.plan.Begin.TheVariants.{One, Two, Run, Edifact, Segment, Rest}
-use Rattle.dm_words.specs.Ascii.{is_digit}
-use Rattle.dm_words.specs.Messages.{byte_items}
-use Rattle.dm_words.specs.inner.Costs.{never, owed, unit_cost, set_values, value_before, values_before}
-use Rattle.dm_words.specs.inner.Costs.{stay, leave, or_leave}
-use Rattle.dm_words.specs.inner.Costs.{is_digit_item, digit_first, segment_cost, going_over, cost_of, least, row_before}
-use Rattle.dm_words.specs.inner.Costs.{row, parts_cost}
-use Rattle.dm_words.specs.declared.smallest.setting.Setting.{Setting}
+use Rattle.dm_words.proofs.Names.{◌≡◌, ◌⊎◌, inl, inr, ℕ, zero, suc, ◌+◌, ◌*◌, ◌/◌, ◌%◌, ◌<◌, ◌≤◌, List, [], ◌∷◌, ◌++◌}
+use Rattle.dm_words.proofs.Names.{length, refl, ap, ◌∙◌, arith, Bool, true, false, cond, ltb, nat_le, ◌&&◌, ◌==◌, min}
+use Rattle.dm_words.proofs.Names.{cases_lt, nat_tests, Item, Byte, Fnc1, CodeSet, C40, Text, X12, Pairs, Going, Row}
+use Rattle.dm_words.proofs.Names.{Begin, One, Two, Run, Edifact, Segment, Rest, is_digit, byte_items, never, unit_cost}
+use Rattle.dm_words.proofs.Names.{set_values, values_before, stay, leave, or_leave, is_digit_item, digit_first}
+use Rattle.dm_words.proofs.Names.{segment_cost, going_over, cost_of, least, parts_cost, Setting}
+use Rattle.dm_words.specs.inner.Costs.{owed, value_before, row_before, row}
 use Rattle.dm_words.proofs.LowerBounds.{leave_bounds, AreCosts}
 
 -- ---- what is owed in a run

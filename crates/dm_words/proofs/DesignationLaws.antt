@@ -1,18 +1,10 @@
 -- Codewords have one list of designators, whose numbers are those of the marks of the content that they say.
-use Rattle.std.proofs.Common.{◌≡◌, ℕ, ◌+◌, List, [], ◌∷◌, ◌++◌, length, drop, map, refl, sym, ap, subst, ◌∙◌}
-use Rattle.std.proofs.Common.{append_assoc, Option, Some, None}
-use Rattle.std.proofs.lemmas.List.{drop_at}
-use Rattle.dm_words.specs.declared.extent.Extent.TheVariants.{Wide}
-use Rattle.dm_words.specs.declared.contents.mark.Mark.{Mark}
-use Rattle.dm_words.specs.declared.contents.opening.Opened.{Opened}
-use Rattle.dm_words.specs.Joined.{Piece, spelled, whats, AreJoined}
-use Rattle.dm_words.specs.Contents.{ContentView, Says, Said, Items, Number, IsContentPart, said_content, said_marks}
-use Rattle.dm_words.specs.Contents.{opening_items, AreOpened, AreContentParts}
-use Rattle.dm_words.specs.declared.contents.opening.Opening.{Opening}
-use Rattle.dm_words.specs.Parts.{IsEnd}
-use Rattle.dm_words.specs.Designations.{designation, designations, AreDesignations, of_content, of_refused}
-use Rattle.dm_words.specs.inner.Scan.Walk.{Takes, Stops}
-use Rattle.dm_words.specs.inner.ContentScan.{first_content_part}
+use Rattle.dm_words.proofs.Names.{◌≡◌, ℕ, ◌+◌, List, [], ◌∷◌, ◌++◌, length, drop, map, refl, sym, ap, subst, ◌∙◌}
+use Rattle.dm_words.proofs.Names.{append_assoc, Option, Some, None, drop_at, Wide, Mark, Opened, Piece, spelled, whats}
+use Rattle.dm_words.proofs.Names.{AreJoined, ContentView, Says, Said, Items, Number, IsContentPart, said_content}
+use Rattle.dm_words.proofs.Names.{said_marks, opening_items, AreOpened, AreContentParts, Opening, IsEnd, designation}
+use Rattle.dm_words.proofs.Names.{designations, AreDesignations, of_content, of_refused, Takes, Stops}
+use Rattle.dm_words.proofs.Names.{first_content_part}
 use Rattle.dm_words.proofs.ContentParts.{content_part_complete, content_end_complete}
 use Rattle.dm_words.proofs.WholeContents.{opens_so}
 use Rattle.dm_words.proofs.ContentResults.{said_not_refused}

@@ -1,22 +1,13 @@
 -- The loop that finds one designator of a content after the other.
-use Rattle.std.proofs.Common.{◌≡◌, ◌≢◌, ℕ, ◌+◌, ◌*◌, ◌<◌, ◌≤◌, List, [], ◌∷◌, ◌++◌, length, take, drop, refl, sym}
-use Rattle.std.proofs.Common.{ap, subst, ◌∙◌, append_assoc, arith, length-append, get_or, Option, Some, None, Result}
-use Rattle.std.proofs.Common.{Ok, Err}
-use Rattle.std.proofs.lemmas.List.{append-nil, drop_at, length-drop, length-take, drop-drop, take-append-drop}
+use Rattle.dm_words.proofs.Names.{◌≡◌, ◌≢◌, ℕ, ◌+◌, ◌*◌, ◌<◌, ◌≤◌, List, [], ◌∷◌, ◌++◌, length, take, drop, refl, sym}
+use Rattle.dm_words.proofs.Names.{ap, subst, ◌∙◌, append_assoc, arith, length-append, get_or, Option, Some, None}
+use Rattle.dm_words.proofs.Names.{Result, Ok, Err, append-nil, drop_at, length-drop, length-take, drop-drop}
+use Rattle.dm_words.proofs.Names.{take-append-drop, Wide, Designator, ContentFault, Mark, Opened, Piece, spelled, whats}
+use Rattle.dm_words.proofs.Names.{AreJoined, ContentView, Says, part, mark, Said, Items, Number, IsContentPart}
+use Rattle.dm_words.proofs.Names.{AreContentParts, HaveContentFault, IsContentFault, IsOpening, AreOpened, no_head}
+use Rattle.dm_words.proofs.Names.{behind, designation, designations, AreDesignations, of_content, of_refused, Stops}
+use Rattle.dm_words.proofs.Names.{opened, mark_by, first_content_part, content_of}
 use Rattle.std.proofs.lemmas.List.{get_or_append_left, get_or-append-add}
-use Rattle.dm_words.specs.declared.extent.Extent.TheVariants.{Wide}
-use Rattle.dm_words.specs.declared.contents.designator.Designator.{Designator}
-use Rattle.dm_words.specs.declared.contents.fault.ContentFault.{ContentFault}
-use Rattle.dm_words.specs.declared.contents.mark.Mark.{Mark}
-use Rattle.dm_words.specs.declared.contents.opening.Opened.{Opened}
-use Rattle.dm_words.specs.Joined.{Piece, spelled, whats, AreJoined}
-use Rattle.dm_words.specs.Contents.{ContentView, Says, part, mark}
-use Rattle.dm_words.specs.Contents.{Said, Items, Number, IsContentPart, AreContentParts, HaveContentFault}
-use Rattle.dm_words.specs.Contents.{IsContentFault}
-use Rattle.dm_words.specs.Contents.{IsOpening, AreOpened, no_head, behind}
-use Rattle.dm_words.specs.Designations.{designation, designations, AreDesignations, of_content, of_refused}
-use Rattle.dm_words.specs.inner.Scan.Walk.{Stops}
-use Rattle.dm_words.specs.inner.ContentScan.{opened, mark_by, first_content_part, content_of}
 use Rattle.dm_words.specs.inner.ContentsAt.{IsDesignationTaken}
 use Rattle.dm_words.proofs.Pairs.{IsBytes, IsBytes-drop}
 use Rattle.dm_words.proofs.Pieces.{spelled-last}

@@ -1,14 +1,10 @@
 -- The designator that is found first is the one of the definition, and each number has one.
-use Rattle.std.proofs.Common.{◌≡◌, ℕ, ◌+◌, ◌-◌, ◌*◌, ◌/◌, ◌%◌, ◌<◌, ◌≤◌, List, [], ◌∷◌, ◌++◌, length}
-use Rattle.std.proofs.Common.{refl, sym, ap, subst, ◌∙◌, arith, Bool, true, false, cond, leb, ltb}
-use Rattle.std.proofs.Common.{◌&&◌, Option, Some, None}
-use Rattle.std.specs.Prelude.{◌↔◌, slice_get, ◌==◌}
-use Rattle.std.proofs.lemmas.Bool.Decides.{nat_tests}
-use Rattle.dm_words.specs.declared.contents.designator.Designator.{Designator}
-use Rattle.dm_words.specs.Designators.{most_assigned, IsDesignator, one, two, three}
-use Rattle.dm_words.specs.Designators.{BeginsNoDesignator, designator}
+use Rattle.dm_words.proofs.Names.{◌≡◌, ℕ, ◌+◌, ◌-◌, ◌*◌, ◌/◌, ◌%◌, ◌<◌, ◌≤◌, List, [], ◌∷◌, ◌++◌, length, refl, sym, ap}
+use Rattle.dm_words.proofs.Names.{subst, ◌∙◌, arith, Bool, true, false, cond, leb, ltb, ◌&&◌, Option, Some, None, ◌↔◌}
+use Rattle.dm_words.proofs.Names.{slice_get, ◌==◌, nat_tests, Designator, most_assigned, IsDesignator, one, two, three}
+use Rattle.dm_words.proofs.Names.{designator, first_designator}
+use Rattle.dm_words.specs.Designators.{BeginsNoDesignator}
 use Rattle.dm_words.specs.inner.ContentScan.{is_further, two_words, three_words}
-use Rattle.dm_words.specs.inner.ContentScan.{first_designator}
 
 -- A designator that is there is found.
 pub designator_complete : (words more : List ℕ) (number : ℕ) → IsDesignator words number

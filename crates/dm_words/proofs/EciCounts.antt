@@ -1,13 +1,9 @@
 -- How many codewords are ECI, and room for the marks that they say.
-use Rattle.std.proofs.Common.{◌≡◌, ℕ, ◌+◌, ◌<◌, ◌≤◌, List, [], ◌∷◌, ◌++◌, length, take, drop, ap, arith}
-use Rattle.std.proofs.Common.{◌∙◌, ◌-◌, inl, inr, Bool, true, false, get_or, drop-cons, sym, add-one, refl}
-use Rattle.std.specs.Prelude.{◌==◌, if◌then◌else◌}
-use Rattle.std.proofs.lemmas.Bool.{eqb-true}
-use Rattle.std.proofs.lemmas.List.{take-append-drop, drop-drop, drop_all}
-use Rattle.dm_words.specs.declared.extent.Extent.{Extent}
-use Rattle.dm_words.specs.Designators.{eci_word}
-use Rattle.dm_words.specs.Contents.{ContentView, Said, Items, Number, IsContentPart, part, mark, eci_count, HasMarkRoom}
-use Rattle.dm_words.specs.inner.ContentsAt.{IsContentAt}
+use Rattle.dm_words.proofs.Names.{◌≡◌, ℕ, ◌+◌, ◌<◌, ◌≤◌, List, [], ◌∷◌, ◌++◌, length, take, drop, ap, arith, ◌∙◌, ◌-◌}
+use Rattle.dm_words.proofs.Names.{inl, inr, Bool, true, false, get_or, drop-cons, sym, add-one, refl, ◌==◌}
+use Rattle.dm_words.proofs.Names.{if◌then◌else◌, eqb-true, take-append-drop, drop-drop, drop_all, Extent, eci_word}
+use Rattle.dm_words.proofs.Names.{ContentView, Said, Items, Number, IsContentPart, part, mark, IsContentAt}
+use Rattle.dm_words.specs.Contents.{eci_count, HasMarkRoom}
 
 -- Of words behind others each is counted once.
 counted_apart : (first more : List ℕ) → eci_count (first ++ more) ≡ eci_count first + eci_count more

@@ -1,15 +1,8 @@
 -- No run of EDIFACT is shorter than its cost, whatever the costs are, if they obey the rules of `AreEdifactCosts`.
-use Rattle.std.proofs.Common.{◌≡◌, ◌≢◌, ℕ, suc, ◌+◌, ◌*◌, ◌/◌, ◌<◌, ◌≤◌, List, [], ◌∷◌, ◌++◌, length, map, refl, ap}
-use Rattle.std.proofs.Common.{subst, arith, Bool, true, false, cond, ltb}
-use Rattle.std.specs.List.{AllByRecursion}
-use Rattle.std.proofs.lemmas.Bool.Decides.{nat_tests}
-use Rattle.std.proofs.lemmas.List.{length-append}
-use Rattle.dm_words.specs.declared.item.Item.{Item}
-use Rattle.dm_words.specs.declared.item.Item.TheVariants.{Byte}
-use Rattle.dm_words.specs.Joined.{spelled, gathered}
-use Rattle.dm_words.specs.Messages.{byte_items}
-use Rattle.dm_words.specs.Edifact.{edifact_byte, IsEdifactEnd, few_left, first, second, third, fourth, IsEdifactRun}
-use Rattle.dm_words.specs.inner.Costs.{leave}
+use Rattle.dm_words.proofs.Names.{◌≡◌, ◌≢◌, ℕ, suc, ◌+◌, ◌*◌, ◌/◌, ◌<◌, ◌≤◌, List, [], ◌∷◌, ◌++◌, length, map, refl, ap}
+use Rattle.dm_words.proofs.Names.{subst, arith, Bool, true, false, cond, ltb, AllByRecursion, nat_tests, length-append}
+use Rattle.dm_words.proofs.Names.{Item, Byte, spelled, gathered, byte_items, edifact_byte, IsEdifactEnd, few_left}
+use Rattle.dm_words.proofs.Names.{first, second, third, fourth, IsEdifactRun, leave}
 use Rattle.dm_words.proofs.Groups.{groups_room}
 use Rattle.dm_words.proofs.ItemBytes.{AreSixBits, small-append, groups_small, end_small}
 use Rattle.dm_words.proofs.LowerBounds.{leave_bounds}

@@ -1,23 +1,12 @@
 -- Where FNC1 comes first, or second behind one codeword of ASCII, nothing is cheaper than ASCII: FNC1 has two values in
 -- a run and one codeword in ASCII.
-use Rattle.std.proofs.Common.{◌≡◌, ℕ, ◌+◌, ◌-◌, ◌<◌, ◌≤◌, List, [], ◌∷◌, length, refl}
-use Rattle.std.proofs.Common.{◌∙◌, arith, Bool, true, false, cond, ltb}
-use Rattle.std.specs.Prelude.{nat_le, ◌&&◌}
-use Prim.Native.Nat.{min}
-use Rattle.std.proofs.lemmas.Bool.Decides.{nat_tests}
-use Rattle.dm_words.specs.declared.c40.set.CodeSet.{CodeSet}
-use Rattle.dm_words.specs.declared.c40.set.CodeSet.TheVariants.{C40, Text, X12}
-use Rattle.dm_words.specs.declared.extent.Extent.{Extent}
-use Rattle.dm_words.specs.declared.extent.Extent.TheVariants.{Usual, Wide}
-use Rattle.dm_words.specs.declared.item.Item.{Item}
-use Rattle.dm_words.specs.declared.item.Item.TheVariants.{Byte, Fnc1}
-use Rattle.dm_words.specs.declared.smallest.plan.Begin.TheVariants.{One, Two, Run, Edifact, Segment, Rest}
-use Rattle.dm_words.specs.declared.smallest.setting.Setting.{Setting}
-use Rattle.dm_words.specs.Ascii.{is_digit}
-use Rattle.dm_words.specs.inner.Costs.{Pairs, Groups, Going, Row, never, most_behind, unit_cost, is_basic, set_values}
-use Rattle.dm_words.specs.inner.Costs.{stay}
-use Rattle.dm_words.specs.inner.Costs.{stay_edifact, has_edifact, segment_cost, least, cost_of, going_over, row}
-use Rattle.dm_words.specs.inner.Costs.{parts_cost, owed, IsRightBegin}
+use Rattle.dm_words.proofs.Names.{◌≡◌, ℕ, ◌+◌, ◌-◌, ◌<◌, ◌≤◌, List, [], ◌∷◌, length, refl, ◌∙◌, arith, Bool, true}
+use Rattle.dm_words.proofs.Names.{false, cond, ltb, nat_le, ◌&&◌, min, nat_tests, CodeSet, C40, Text, X12, Extent}
+use Rattle.dm_words.proofs.Names.{Usual, Wide, Item, Byte, Fnc1, One, Two, Run, Edifact, Segment, Rest, Setting}
+use Rattle.dm_words.proofs.Names.{is_digit, Pairs, Groups, Going, Row, never, most_behind, unit_cost, is_basic}
+use Rattle.dm_words.proofs.Names.{set_values, stay, stay_edifact, has_edifact, segment_cost, least, cost_of, going_over}
+use Rattle.dm_words.proofs.Names.{parts_cost}
+use Rattle.dm_words.specs.inner.Costs.{row, owed, IsRightBegin}
 use Rattle.dm_words.specs.inner.Written.{HasShifts}
 use Rattle.dm_words.proofs.CostsMet.{pairs_of, pairs_is, begins, least_is, second_is, is_pair}
 use Rattle.dm_words.proofs.Plans.{cost_most}

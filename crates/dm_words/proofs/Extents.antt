@@ -1,18 +1,10 @@
 -- What the wide extent reads of what the usual one reads.
-use Rattle.std.proofs.Common.{◌≡◌, ℕ, ◌+◌, List, [], ◌∷◌, ◌++◌, length, refl, sym, ap, subst, ◌∙◌}
-use Rattle.dm_words.specs.declared.extent.Extent.{Extent}
-use Rattle.dm_words.specs.declared.extent.Extent.TheVariants.{Usual, Wide}
-use Rattle.dm_words.specs.declared.item.Item.{Item}
-use Rattle.dm_words.specs.declared.c40.set.CodeSet.{CodeSet}
-use Rattle.dm_words.specs.declared.contents.opening.Opening.{Opening}
-use Rattle.dm_words.specs.declared.contents.opening.Opening.TheVariants.{Plain}
-use Rattle.dm_words.specs.Joined.{Piece, spelled, AreJoined}
-use Rattle.dm_words.specs.Values.{IsDropped, filler, waiting, AreValues}
-use Rattle.dm_words.specs.Parts.{IsPart, ascii, run, segment, edifact}
-use Rattle.dm_words.specs.Contents.{ContentView, Said, IsContentPart, part, mark, AreContentParts, IsOpening, headed}
-use Rattle.dm_words.specs.Contents.{framed}
-use Rattle.dm_words.specs.Contents.{plain, said_content, Says, BeginsFrame}
-use Rattle.dm_words.specs.Smallest.{SpellsThenPads, plain_padded, macro_padded}
+use Rattle.dm_words.proofs.Names.{◌≡◌, ℕ, ◌+◌, List, [], ◌∷◌, ◌++◌, length, refl, sym, ap, subst, ◌∙◌, Extent, Usual}
+use Rattle.dm_words.proofs.Names.{Wide, Item, CodeSet, Opening, Plain, Piece, spelled, AreJoined, IsDropped, filler}
+use Rattle.dm_words.proofs.Names.{waiting, AreValues, IsPart, run, segment, edifact, ContentView, Said, IsContentPart}
+use Rattle.dm_words.proofs.Names.{part, mark, AreContentParts, IsOpening, headed, framed, plain, said_content, Says}
+use Rattle.dm_words.proofs.Names.{BeginsFrame, SpellsThenPads, plain_padded, macro_padded}
+use Rattle.dm_words.specs.Parts.{ascii}
 use Rattle.dm_words.proofs.ContentParts.{not_wide}
 use Rattle.dm_words.proofs.SpelledContents.{opened_plain, no_frame}
 

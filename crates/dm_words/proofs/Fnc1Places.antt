@@ -1,38 +1,20 @@
 -- Where FNC1 is a codeword of its own: first or second behind a head, as its first two codewords say.
-use Rattle.std.proofs.Common.{◌≡◌, ℕ, suc, ◌+◌, ◌-◌, ◌/◌, ◌%◌, ◌<◌, ◌≤◌, List, [], ◌∷◌, ◌++◌, length}
-use Rattle.std.proofs.Common.{refl, sym, ap, subst, ◌∙◌, arith, length-append, Bool, true, false, cond, Option, Some}
-use Rattle.std.proofs.Common.{None, drop, take, append_assoc}
-use Rattle.std.proofs.Math.Seq.{drop-append_seam}
-use Rattle.std.specs.Prelude.{◌==◌, ◌&&◌}
-use Rattle.std.proofs.lemmas.Bool.Decides.{nat_tests}
-use Rattle.std.proofs.lemmas.List.{nil_from_length, take_rest}
-use Rattle.dm_words.specs.declared.codeword.Codeword.{Codeword}
+use Rattle.dm_words.proofs.Names.{◌≡◌, ℕ, suc, ◌+◌, ◌-◌, ◌/◌, ◌%◌, ◌<◌, ◌≤◌, List, [], ◌∷◌, ◌++◌, length, refl, sym, ap}
+use Rattle.dm_words.proofs.Names.{subst, ◌∙◌, arith, length-append, Bool, true, false, cond, Option, Some, None, drop}
+use Rattle.dm_words.proofs.Names.{take, append_assoc, drop-append_seam, ◌==◌, ◌&&◌, nat_tests, nil_from_length}
+use Rattle.dm_words.proofs.Names.{take_rest, Codeword, Wide, Item, Byte, Fnc1, Head, Opened, Opening, codeword_of}
+use Rattle.dm_words.proofs.Names.{head_words, Piece, spelled, AreJoined, Said, Items, IsContentPart, part, mark}
+use Rattle.dm_words.proofs.Names.{AreOpened, IsOpening, headed, framed, plain, AreContentParts, AreEmptyRuns, Says}
+use Rattle.dm_words.proofs.Names.{ContentView, opening_head, character, digits, fnc1, raised, IsLengthField, to_the_end}
+use Rattle.dm_words.proofs.Names.{short, long, written, one, two, three, IsEdifactEnd, few_left, first, second, third}
+use Rattle.dm_words.proofs.Names.{fourth, IsRun, IsRunEnd, unlatch, symbol_end, last_word, filler, nothing, IsPart, run}
+use Rattle.dm_words.proofs.Names.{segment, edifact, IsEnd, Mark, IsFnc1Number, IsIdentifier, marks_number, part_by}
+use Rattle.dm_words.proofs.Names.{as_said, first_content_part, opened, fnc1_number, is_alone}
 use Rattle.dm_words.specs.declared.codeword.Codeword.TheVariants as codeword
-use Rattle.dm_words.specs.declared.extent.Extent.TheVariants.{Wide}
-use Rattle.dm_words.specs.declared.item.Item.{Item}
-use Rattle.dm_words.specs.declared.item.Item.TheVariants.{Byte, Fnc1}
-use Rattle.dm_words.specs.declared.contents.head.Head.{Head}
-use Rattle.dm_words.specs.declared.contents.opening.Opened.{Opened}
-use Rattle.dm_words.specs.declared.contents.opening.Opening.{Opening}
-use Rattle.dm_words.specs.Codewords.{codeword_of}
-use Rattle.dm_words.specs.Heads.{head_words}
-use Rattle.dm_words.specs.Joined.{Piece, spelled, AreJoined}
-use Rattle.dm_words.specs.Contents.{Said, Items, IsContentPart, part, mark, AreOpened, IsOpening, headed, framed, plain}
-use Rattle.dm_words.specs.Contents.{AreContentParts, AreEmptyRuns, Says, ContentView, opening_head}
-use Rattle.dm_words.specs.Ascii.{character, digits, fnc1, raised}
-use Rattle.dm_words.specs.Base256.{IsLengthField, to_the_end, short, long, written}
-use Rattle.dm_words.specs.Designators.{one, two, three}
-use Rattle.dm_words.specs.Edifact.{IsEdifactEnd, few_left, first, second, third, fourth}
-use Rattle.dm_words.specs.Runs.{IsRun, IsRunEnd, unlatch, symbol_end, last_word}
-use Rattle.dm_words.specs.Values.{filler, nothing}
-use Rattle.dm_words.specs.Parts.{IsPart, ascii, run, segment, edifact, IsEnd}
+use Rattle.dm_words.specs.Parts.{ascii}
 use Rattle.dm_words.specs.Parts as spells
-use Rattle.dm_words.specs.declared.contents.mark.Mark.{Mark}
-use Rattle.dm_words.specs.Symbology.{IsFnc1At, IsFnc1Number, IsIdentifier, marks_number}
+use Rattle.dm_words.specs.Symbology.{IsFnc1At}
 use Rattle.dm_words.specs.Symbology as symbology
-use Rattle.dm_words.specs.inner.Scan.Prefixes.{part_by}
-use Rattle.dm_words.specs.inner.ContentScan.{as_said, first_content_part, opened}
-use Rattle.dm_words.specs.inner.Fnc1.{fnc1_number, is_alone}
 use Rattle.dm_words.proofs.ContentParts.{as_part, content_part_complete}
 use Rattle.dm_words.proofs.Segments.{length-written}
 use Rattle.dm_words.proofs.Openings as openings

@@ -1,13 +1,8 @@
 -- Items that begin with the header of a macro and end with its trailer.
-use Rattle.std.proofs.Common.{◌≡◌, ℕ, zero, suc, ◌+◌, ◌-◌, ◌<◌, ◌≤◌, List, [], ◌∷◌, ◌++◌, length, take, drop, get_or}
-use Rattle.std.proofs.Common.{add-one, append_assoc, refl, sym, ap, subst, ◌∙◌, arith}
-use Rattle.std.proofs.lemmas.List.{length-append, take-append-drop, drop-drop}
-use Rattle.std.proofs.Math.Seq.{take-suc, drop-append_seam}
-use Rattle.dm_words.specs.declared.item.Item.{Item}
-use Rattle.dm_words.specs.declared.item.Item.TheVariants.{Byte, Fnc1}
-use Rattle.dm_words.specs.Messages.{byte_items}
-use Rattle.dm_words.specs.Macros.{macro_header, macro_trailer, macro_text, BeginsFnc1, FramesFnc1}
-use Rattle.dm_words.specs.inner.Ways.{inner_text}
+use Rattle.dm_words.proofs.Names.{◌≡◌, ℕ, zero, suc, ◌+◌, ◌-◌, ◌<◌, ◌≤◌, List, [], ◌∷◌, ◌++◌, length, take, drop}
+use Rattle.dm_words.proofs.Names.{get_or, add-one, append_assoc, refl, sym, ap, subst, ◌∙◌, arith, length-append}
+use Rattle.dm_words.proofs.Names.{take-append-drop, drop-drop, take-suc, drop-append_seam, Item, Byte, Fnc1, byte_items}
+use Rattle.dm_words.proofs.Names.{macro_header, macro_trailer, macro_text, BeginsFnc1, FramesFnc1, inner_text}
 use Rattle.dm_words.proofs.SegmentLoops.{byte_items-append}
 
 -- The item of a byte at an index.

@@ -1,21 +1,13 @@
 -- A run of EDIFACT that follows the plan stays within its budget.
-use Rattle.std.proofs.Common.{◌≡◌, ◌⊎◌, inl, inr, ℕ, suc, ◌+◌, ◌<◌, ◌≤◌, List, [], ◌∷◌, length, drop, get_or, refl, sym}
-use Rattle.std.proofs.Common.{ap, subst, ◌∙◌, arith, Bool, true, false, cond}
-use Rattle.std.specs.Prelude.{nat_le, not}
-use Rattle.std.proofs.lemmas.Bool.Decides.{nat_tests}
-use Rattle.std.proofs.lemmas.List.{length-drop, at_drop_more, length-append}
-use Rattle.dm_words.specs.declared.extent.Extent.{Extent}
-use Rattle.dm_words.specs.declared.smallest.setting.Setting.{Setting}
-use Rattle.dm_words.specs.declared.extent.Extent.TheVariants.{Usual, Wide}
-use Rattle.dm_words.specs.declared.item.Item.{Item}
-use Rattle.dm_words.specs.declared.item.Item.TheVariants.{Byte, Fnc1}
-use Rattle.dm_words.specs.inner.Costs.{Groups}
-use Rattle.dm_words.specs.inner.Costs.{Step}
-use Rattle.dm_words.specs.declared.smallest.edifact.Group.{Group}
+use Rattle.dm_words.proofs.Names.{◌≡◌, ◌⊎◌, inl, inr, ℕ, suc, ◌+◌, ◌<◌, ◌≤◌, List, [], ◌∷◌, length, drop, get_or, refl}
+use Rattle.dm_words.proofs.Names.{sym, ap, subst, ◌∙◌, arith, Bool, true, false, cond, nat_le, not, nat_tests}
+use Rattle.dm_words.proofs.Names.{length-drop, at_drop_more, length-append, Extent, Setting, Usual, Wide, Item, Byte}
+use Rattle.dm_words.proofs.Names.{Fnc1, Groups, Group, never, no_groups, leave, or_leave_edifact, has_edifact}
+use Rattle.dm_words.proofs.Names.{stay_edifact, byte_before, going_from, parts_cost, IsRightStep, waiting_values}
+use Rattle.dm_words.proofs.Names.{IsGroupPushed, IsEdifactEnded}
+use Rattle.dm_words.specs.inner.Costs.{Step, owed_group, row}
 use Rattle.dm_words.specs.declared.smallest.edifact.Group.TheVariants as group
-use Rattle.dm_words.specs.inner.Costs.{never, owed_group, no_groups, leave, or_leave_edifact, has_edifact, stay_edifact}
-use Rattle.dm_words.specs.inner.Costs.{byte_before, going_from, row, parts_cost, IsRightStep}
-use Rattle.dm_words.specs.inner.Written.{waiting_values, whole_words, IsGroupPushed, group_stops, IsEdifactEnded}
+use Rattle.dm_words.specs.inner.Written.{whole_words, group_stops}
 use Rattle.dm_words.proofs.CostBounds.{owed_byte}
 
 -- A run goes on where it doesn't cost less to leave it: by the test between groups, or that behind three values.

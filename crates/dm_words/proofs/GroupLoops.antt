@@ -1,12 +1,9 @@
 -- The loop that reads the groups of a run of EDIFACT, and the ways in which a group ends.
-use Rattle.std.proofs.Common.{◌≡◌, ◌≢◌, ℕ, ◌+◌, ◌-◌, ◌<◌, ◌≤◌, List, [], ◌∷◌, ◌++◌, length, map, drop, get_or, refl}
-use Rattle.std.proofs.Common.{sym, ap, ◌∙◌, append_assoc, add-one, arith, length-append, Some, None}
-use Rattle.std.proofs.lemmas.List.{append-nil, length-drop, map-append}
-use Rattle.std.proofs.Math.Seq.{drop-cons}
-use Rattle.dm_words.specs.declared.item.Item.{Item}
-use Rattle.dm_words.specs.declared.item.Item.TheVariants.{Byte}
-use Rattle.dm_words.specs.Edifact.{edifact_byte}
-use Rattle.dm_words.specs.inner.Scan.Prefixes.{group_values, group_by, edifact_run, edifact_items}
+use Rattle.dm_words.proofs.Names.{◌≡◌, ◌≢◌, ℕ, ◌+◌, ◌-◌, ◌<◌, ◌≤◌, List, [], ◌∷◌, ◌++◌, length, map, drop, get_or, refl}
+use Rattle.dm_words.proofs.Names.{sym, ap, ◌∙◌, append_assoc, add-one, arith, length-append, Some, None, append-nil}
+use Rattle.dm_words.proofs.Names.{length-drop, map-append, drop-cons, Item, Byte, edifact_byte, group_values, group_by}
+use Rattle.dm_words.proofs.Names.{edifact_items}
+use Rattle.dm_words.specs.inner.Scan.Prefixes.{edifact_run}
 use Rattle.dm_words.specs.inner.Scan.Results.{IsGroupTaken}
 use Rattle.dm_words.proofs.SegmentLoops.{byte_items-append}
 use Rattle.dm_words.proofs.Groups.{is_not, border_found}

@@ -1,17 +1,12 @@
 -- A run of EDIFACT that the scan finds is a run of the definition.
-use Rattle.std.proofs.Common.{◌≡◌, ◌≢◌, ℕ, suc, ◌+◌, ◌*◌, ◌/◌, ◌%◌, ◌<◌, ◌≤◌, List, [], ◌∷◌, ◌++◌, length, map, take}
-use Rattle.std.proofs.Common.{drop, refl, sym, ap, ◌∙◌, append_assoc, arith, Bool, true, false, eqb, Some, zero-add}
-use Rattle.std.specs.List.{AllByRecursion}
-use Rattle.std.proofs.lemmas.Bool.{eqb-true}
-use Rattle.std.proofs.lemmas.Bool.Decides.{nat_tests}
-use Rattle.std.proofs.lemmas.List.{length-append, length-map}
-use Rattle.dm_words.specs.declared.item.Item.{Item}
+use Rattle.dm_words.proofs.Names.{◌≡◌, ◌≢◌, ℕ, suc, ◌+◌, ◌*◌, ◌/◌, ◌%◌, ◌<◌, ◌≤◌, List, [], ◌∷◌, ◌++◌, length, map}
+use Rattle.dm_words.proofs.Names.{take, drop, refl, sym, ap, ◌∙◌, append_assoc, arith, Bool, true, false, eqb, Some}
+use Rattle.dm_words.proofs.Names.{zero-add, AllByRecursion, eqb-true, nat_tests, length-append, length-map, Item}
+use Rattle.dm_words.proofs.Names.{codeword_of, Piece, spelled, gathered, IsGroup, edifact_byte, IsEdifactEnd, few_left}
+use Rattle.dm_words.proofs.Names.{first, second, third, fourth, IsEdifactRun, group_values, group_by, edifact_items}
 use Rattle.dm_words.specs.declared.codeword.Codeword.TheVariants as codeword
-use Rattle.dm_words.specs.Codewords.{codeword_of}
-use Rattle.dm_words.specs.Joined.{Piece, spelled, gathered}
-use Rattle.dm_words.specs.Edifact.{IsGroup, unlatch_value, edifact_byte, IsEdifactEnd, few_left, first, second, third}
-use Rattle.dm_words.specs.Edifact.{fourth, IsEdifactRun}
-use Rattle.dm_words.specs.inner.Scan.Prefixes.{group_values, group_by, edifact_run, edifact_items}
+use Rattle.dm_words.specs.Edifact.{unlatch_value}
+use Rattle.dm_words.specs.inner.Scan.Prefixes.{edifact_run}
 use Rattle.dm_words.proofs.Pairs.{IsBytes}
 use Rattle.dm_words.proofs.Runs.{cut_behind_prefix}
 use Rattle.dm_words.proofs.Segments.{byte_items-length}

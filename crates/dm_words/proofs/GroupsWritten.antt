@@ -1,22 +1,13 @@
 -- The runs of EDIFACT that are written are runs.
-use Rattle.std.proofs.Common.{◌≡◌, ◌≢◌, ◌⊎◌, inl, inr, ℕ, ◌+◌, ◌-◌, ◌%◌, ◌<◌, ◌≤◌, List, [], ◌∷◌, ◌++◌, length, map}
-use Rattle.std.proofs.Common.{take, drop, get_or, append_assoc, refl, sym, ap, subst, ◌∙◌, arith, Bool, true, false}
-use Rattle.std.proofs.Common.{cond, ltb}
-use Rattle.std.specs.List.{AllByRecursion}
-use Rattle.std.proofs.lemmas.Bool.Decides.{nat_tests}
-use Rattle.std.proofs.lemmas.List.{append-nil, length-append, map-append}
-use Rattle.dm_words.specs.declared.extent.Extent.{Extent}
-use Rattle.dm_words.specs.declared.extent.Extent.TheVariants.{Wide}
-use Rattle.dm_words.specs.declared.item.Item.{Item}
-use Rattle.dm_words.specs.declared.item.Item.TheVariants.{Byte}
-use Rattle.dm_words.specs.declared.smallest.edifact.Group.{Group}
+use Rattle.dm_words.proofs.Names.{◌≡◌, ◌≢◌, ◌⊎◌, inl, inr, ℕ, ◌+◌, ◌-◌, ◌%◌, ◌<◌, ◌≤◌, List, [], ◌∷◌, ◌++◌, length, map}
+use Rattle.dm_words.proofs.Names.{take, drop, get_or, append_assoc, refl, sym, ap, subst, ◌∙◌, arith, Bool, true, false}
+use Rattle.dm_words.proofs.Names.{cond, ltb, AllByRecursion, nat_tests, append-nil, length-append, map-append, Extent}
+use Rattle.dm_words.proofs.Names.{Wide, Item, Byte, Group, Piece, spelled, gathered, IsGroup, edifact_byte}
+use Rattle.dm_words.proofs.Names.{IsEdifactEnd, IsEdifactRun, few_left, first, fourth, edifact, waiting_values}
+use Rattle.dm_words.proofs.Names.{IsGroupPushed, IsEdifactEnded, IsPartWritten, byte_of, byte_items}
 use Rattle.dm_words.specs.declared.smallest.edifact.Group.TheVariants.{Empty, One, Two, Three}
-use Rattle.dm_words.specs.Joined.{Piece, spelled, gathered}
-use Rattle.dm_words.specs.Edifact.{IsGroup, edifact_byte, IsEdifactEnd, IsEdifactRun, few_left, first, fourth}
 use Rattle.dm_words.specs.Plain as plainly
-use Rattle.dm_words.specs.Parts.{edifact}
-use Rattle.dm_words.specs.inner.Written.{waiting_values, IsSmallGroup, IsGroupPushed, IsEdifactEnded, IsPartWritten}
-use Rattle.dm_words.specs.Messages.{byte_of, byte_items}
+use Rattle.dm_words.specs.inner.Written.{IsSmallGroup}
 use Rattle.dm_words.proofs.SegmentLoops.{byte_items-append}
 use Rattle.dm_words.proofs.Pieces.{all-append, spelled-last, gathered-last}
 use Rattle.dm_words.proofs.RunBudget.{one_more}

@@ -1,15 +1,12 @@
 -- The head that is found first is the one of the definition, and what is written for a head says it.
-use Rattle.std.proofs.Common.{◌≡◌, ℕ, ◌+◌, ◌-◌, ◌*◌, ◌/◌, ◌%◌, ◌≤◌, List, [], ◌∷◌, ◌++◌, length}
-use Rattle.std.proofs.Common.{refl, sym, ap, subst, ◌∙◌, arith, Bool, true, false, cond}
-use Rattle.std.proofs.Common.{Option, Some, None}
-use Rattle.std.specs.Prelude.{slice_get, ◌==◌}
-use Rattle.std.proofs.lemmas.Bool.Decides.{nat_tests}
+use Rattle.dm_words.proofs.Names.{◌≡◌, ℕ, ◌+◌, ◌-◌, ◌*◌, ◌/◌, ◌%◌, ◌≤◌, List, [], ◌∷◌, ◌++◌, length, refl, sym, ap}
+use Rattle.dm_words.proofs.Names.{subst, ◌∙◌, arith, Bool, true, false, cond, Option, Some, None, slice_get, ◌==◌}
+use Rattle.dm_words.proofs.Names.{nat_tests, Head, IsHead, SpellsHead, programming, appended, BeginsNoHead, head_words}
+use Rattle.dm_words.proofs.Names.{append_by, first_head, head_length}
 use Rattle.dm_words.specs.declared.contents.head.Appended.{Appended}
-use Rattle.dm_words.specs.declared.contents.head.Head.{Head}
 use Rattle.dm_words.specs.declared.contents.head.Head.TheVariants as head
-use Rattle.dm_words.specs.Heads.{IsAppended, IsHead, SpellsHead, programming, appended, BeginsNoHead}
-use Rattle.dm_words.specs.Heads.{head_words}
-use Rattle.dm_words.specs.inner.ContentScan.{is_appended, appended_symbol, append_by, first_head, head_length}
+use Rattle.dm_words.specs.Heads.{IsAppended}
+use Rattle.dm_words.specs.inner.ContentScan.{is_appended, appended_symbol}
 
 -- The test finds a symbol of a sequence.
 pub appended_test : (symbol : Appended) → is_appended symbol ≡ true → IsAppended symbol

@@ -1,29 +1,18 @@
 -- What parts spell are bytes of 0 to 255.
-use Rattle.std.proofs.Common.{◌≡◌, ℕ, ◌+◌, ◌<◌, List, [], ◌∷◌, ◌++◌, length, map, sym, subst, arith, Some, Bool, true}
-use Rattle.std.proofs.Common.{false, cond, ltb}
-use Rattle.std.specs.List.{AllByRecursion}
-use Rattle.std.proofs.lemmas.Bool.Decides.{nat_tests}
-use Rattle.std.proofs.lemmas.List.Elements.{All-from_recursion}
-use Rattle.dm_words.specs.declared.extent.Extent.{Extent}
-use Rattle.dm_words.specs.declared.item.Item.{Item}
-use Rattle.dm_words.specs.declared.c40.set.CodeSet.{CodeSet}
-use Rattle.dm_words.specs.declared.c40.set.CodeSet.TheVariants.{C40, Text, X12}
-use Rattle.dm_words.specs.declared.c40.set.Shift.{Shift}
-use Rattle.dm_words.specs.declared.c40.set.Shift.TheVariants.{One, Two, Three}
+use Rattle.dm_words.proofs.Names.{◌≡◌, ℕ, ◌+◌, ◌<◌, List, [], ◌∷◌, ◌++◌, length, map, sym, subst, arith, Some, Bool}
+use Rattle.dm_words.proofs.Names.{true, false, cond, ltb, AllByRecursion, nat_tests, All-from_recursion, Extent, Item}
+use Rattle.dm_words.proofs.Names.{CodeSet, C40, Text, X12, Shift, Three, basic_of, shifted_of, Piece, spelled, gathered}
+use Rattle.dm_words.proofs.Names.{whats, AreJoined, IsItem, IsMessage, byte_items, IsAsciiUnit, character, digits, fnc1}
+use Rattle.dm_words.proofs.Names.{raised, IsCharacter, by_shift, IsSpelling, codeword_of, AreBytes, IsGroup}
+use Rattle.dm_words.proofs.Names.{edifact_byte, IsEdifactEnd, few_left, first, second, third, fourth, macro_header}
+use Rattle.dm_words.proofs.Names.{macro_trailer, macro_text, IsPart, run, segment, edifact, AreParts}
+use Rattle.dm_words.specs.declared.c40.set.Shift.TheVariants.{One, Two}
 use Rattle.dm_words.specs.declared.c40.set.Basic.TheVariants as basic
 use Rattle.dm_words.specs.declared.c40.set.Shifted.TheVariants as shifted
-use Rattle.dm_words.specs.CodeSets.{basic_of, shifted_of}
-use Rattle.dm_words.specs.Joined.{Piece, spelled, gathered, whats, AreJoined}
-use Rattle.dm_words.specs.Messages.{IsItem, IsMessage, byte_items}
-use Rattle.dm_words.specs.Ascii.{IsAsciiUnit, character, digits, fnc1, raised}
-use Rattle.dm_words.specs.Values.{IsCharacter, plain, by_shift, IsSpelling}
+use Rattle.dm_words.specs.Values.{plain}
 use Rattle.dm_words.specs.Values as values
 use Rattle.dm_words.specs.declared.codeword.Codeword.TheVariants as codeword
-use Rattle.dm_words.specs.Codewords.{codeword_of}
-use Rattle.dm_words.specs.Base256.{AreBytes}
-use Rattle.dm_words.specs.Edifact.{IsGroup, edifact_byte, IsEdifactEnd, few_left, first, second, third, fourth}
-use Rattle.dm_words.specs.Macros.{macro_header, macro_trailer, macro_text}
-use Rattle.dm_words.specs.Parts.{IsPart, ascii, run, segment, edifact, AreParts}
+use Rattle.dm_words.specs.Parts.{ascii}
 use Rattle.dm_words.proofs.AsciiWords.{AreItems, character_is, digits_are}
 
 -- A byte of a basic set is below 128.

@@ -1,18 +1,9 @@
 -- The laws, as lemmas with the same statements.
-use Rattle.std.proofs.Common.{◌≡◌, ℕ, ◌<◌, ◌≤◌, ◌↔◌, List, length, refl, sym, subst}
-use Rattle.std.proofs.lemmas.List.Elements.{recursion_from_All, All-from_recursion}
-use Rattle.dm_words.specs.declared.extent.Extent.{Extent}
-use Rattle.dm_words.specs.declared.extent.Extent.TheVariants.{Wide}
-use Rattle.dm_words.specs.declared.item.Item.{Item}
-use Rattle.dm_words.specs.declared.c40.set.CodeSet.{CodeSet}
-use Rattle.dm_words.specs.Messages.{IsItem, IsMessage}
-use Rattle.dm_words.specs.Ascii.{ascii, IsAscii}
-use Rattle.dm_words.specs.Pads.{padded}
-use Rattle.dm_words.specs.Values.{IsRest}
-use Rattle.dm_words.specs.Macros.{macro_text}
-use Rattle.dm_words.specs.Smallest.{SpellsThenPads}
-use Rattle.dm_words.specs.Spells.{Spells}
-use Rattle.dm_words.specs.Laws.{AreCodewords, AreRunValues, BeginsNoSpelling, AreMacro}
+use Rattle.dm_words.proofs.Names.{◌≡◌, ℕ, ◌<◌, ◌≤◌, ◌↔◌, List, length, refl, sym, subst, recursion_from_All}
+use Rattle.dm_words.proofs.Names.{All-from_recursion, Extent, Wide, Item, CodeSet, IsItem, IsMessage, ascii, IsAscii}
+use Rattle.dm_words.proofs.Names.{padded, IsRest, macro_text, SpellsThenPads, Spells, AreCodewords, AreRunValues}
+use Rattle.dm_words.proofs.Names.{BeginsNoSpelling}
+use Rattle.dm_words.specs.Laws.{AreMacro}
 use Rattle.dm_words.proofs.AsciiWords as form
 use Rattle.dm_words.proofs.ItemBytes.{macro_text_is_message}
 use Rattle.dm_words.proofs.SpelledContents.{macro_spells}

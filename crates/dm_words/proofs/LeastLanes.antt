@@ -1,21 +1,14 @@
 -- Which lane is the least, and which lanes are no greater than others.
-use Rattle.std.proofs.Common.{◌≡◌, ℕ, zero, suc, ◌+◌, ◌%◌, ◌^◌, ◌<◌, ◌≤◌, List, [], ◌∷◌, length, get_or}
-use Rattle.std.proofs.Common.{map, refl}
-use Rattle.std.proofs.Common.{sym, ap, subst, ◌∙◌, arith, Bool, true, false, not, cond, eqb, leb, ltb, w16}
-use Rattle.std.proofs.Common.{inl, inr, replicate}
-use Rattle.std.specs.Prelude.{nat_le, ◌==◌}
+use Rattle.dm_words.proofs.Names.{◌≡◌, ℕ, zero, suc, ◌+◌, ◌%◌, ◌^◌, ◌<◌, ◌≤◌, List, [], ◌∷◌, length, get_or, map, refl}
+use Rattle.dm_words.proofs.Names.{sym, ap, subst, ◌∙◌, arith, Bool, true, false, not, cond, eqb, leb, ltb, w16, inl}
+use Rattle.dm_words.proofs.Names.{inr, replicate, nat_le, ◌==◌, min, zip2, top, sel_l, cases_lt, eqb-true, nat_tests}
+use Rattle.dm_words.proofs.Names.{tops_compared, has_bit, least_of}
 use Rattle.std.specs.List.{prefix_len}
-use Prim.Native.Nat.{min}
 use lib.Count.{count_trailing_zeros}
-use lib.Lanes.{zip2, top, mask_l, sel_l}
-use Rattle.std.proofs.lemmas.Bool.{cases_lt, eqb-true}
-use Rattle.std.proofs.lemmas.Bool.Decides.{nat_tests}
-use Rattle.std.proofs.lemmas.Simd.{tops_compared, mask_l-lt, mask_l-mod, bit_mask_l, get_or-zip2, length-zip2}
-use Rattle.std.proofs.lemmas.Simd.{bitmask_splat}
+use lib.Lanes.{mask_l}
+use Rattle.std.proofs.lemmas.Simd.{mask_l-lt, mask_l-mod, bit_mask_l, get_or-zip2, length-zip2, bitmask_splat}
 use Rattle.std.proofs.lemmas.Simd.{trailing_mask_l, leading_from_mask_l}
 use Rattle.std.proofs.lemmas.List.Sums.{prefix_len_passes}
-use Rattle.dm_words.specs.inner.Costs.{has_bit}
-use Rattle.dm_words.specs.inner.CostLanes.{least_of}
 
 -- ---- the least
 

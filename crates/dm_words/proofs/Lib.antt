@@ -1,3 +1,4 @@
+mod Names
 mod Walks
 mod Designators
 mod Heads

@@ -1,26 +1,14 @@
 -- No list of codewords that spells a message is shorter than its cost, whatever the costs are, if they obey the rules
 -- of `AreCosts`.
-use Rattle.std.proofs.Common.{◌≡◌, ◌≢◌, inl, inr, ℕ, zero, suc, ◌+◌, ◌-◌, ◌*◌, ◌/◌, ◌%◌, ◌<◌, ◌≤◌, List, [], ◌∷◌, ◌++◌}
-use Rattle.std.proofs.Common.{length, append_assoc, refl, ap, subst, arith, Bool, true, false, cond, ltb}
-use Rattle.std.specs.List.{AllByRecursion}
-use Rattle.std.specs.Prelude.{nat_le}
-use Rattle.std.proofs.lemmas.Bool.{cases_lt}
-use Rattle.std.proofs.lemmas.Bool.Decides.{nat_tests}
-use Rattle.std.proofs.lemmas.List.{length-append}
-use Rattle.dm_words.specs.declared.extent.Extent.{Extent}
-use Rattle.dm_words.specs.declared.extent.Extent.TheVariants.{Wide}
-use Rattle.dm_words.specs.declared.item.Item.{Item}
-use Rattle.dm_words.specs.declared.item.Item.TheVariants.{Byte, Fnc1}
-use Rattle.dm_words.specs.declared.c40.set.CodeSet.{CodeSet}
-use Rattle.dm_words.specs.Joined.{Piece, spelled, gathered, whats, AreJoined}
-use Rattle.dm_words.specs.Ascii.{IsAsciiUnit, character, digits, fnc1, raised}
-use Rattle.dm_words.specs.Values.{IsSpelling, IsFiller, nothing, lone_shift, IsDropped, filler, waiting, AreValues}
-use Rattle.dm_words.specs.Runs.{IsRunEnd, unlatch, symbol_end, last_word, IsRun}
-use Rattle.dm_words.specs.Base256.{IsLengthField, to_the_end, short, long, IsSegment}
-use Rattle.dm_words.specs.Messages.{byte_items}
-use Rattle.dm_words.specs.Edifact.{IsEdifactRun}
-use Rattle.dm_words.specs.Parts.{IsPart, ascii, run, segment, edifact, AreParts}
-use Rattle.dm_words.specs.inner.Costs.{set_values, unit_cost, leave}
+use Rattle.dm_words.proofs.Names.{◌≡◌, ◌≢◌, inl, inr, ℕ, zero, suc, ◌+◌, ◌-◌, ◌*◌, ◌/◌, ◌%◌, ◌<◌, ◌≤◌, List, [], ◌∷◌}
+use Rattle.dm_words.proofs.Names.{◌++◌, length, append_assoc, refl, ap, subst, arith, Bool, true, false, cond, ltb}
+use Rattle.dm_words.proofs.Names.{AllByRecursion, nat_le, cases_lt, nat_tests, length-append, Extent, Wide, Item, Byte}
+use Rattle.dm_words.proofs.Names.{Fnc1, CodeSet, Piece, spelled, gathered, whats, AreJoined, IsAsciiUnit, character}
+use Rattle.dm_words.proofs.Names.{digits, fnc1, raised, IsSpelling, IsFiller, nothing, lone_shift, IsDropped, filler}
+use Rattle.dm_words.proofs.Names.{waiting, AreValues, IsRunEnd, unlatch, symbol_end, last_word, IsRun, IsLengthField}
+use Rattle.dm_words.proofs.Names.{to_the_end, short, long, IsSegment, byte_items, IsEdifactRun, IsPart, run, segment}
+use Rattle.dm_words.proofs.Names.{edifact, AreParts, set_values, unit_cost, leave}
+use Rattle.dm_words.specs.Parts.{ascii}
 use Rattle.dm_words.proofs.AsciiWords.{character_is, digits_are}
 use Rattle.dm_words.proofs.Runs.{pairs_room}
 use Rattle.dm_words.proofs.Segments.{length-written}

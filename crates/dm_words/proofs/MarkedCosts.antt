@@ -1,24 +1,13 @@
 -- What items with marks cost, from mark to mark.
-use Rattle.std.proofs.Common.{◌≡◌, ℕ, zero, suc, ◌+◌, ◌-◌, ◌*◌, ◌/◌, ◌%◌, ◌<◌, ◌≤◌, List, [], ◌∷◌, ◌++◌, length}
-use Rattle.std.proofs.Common.{take, drop, get_or}
-use Rattle.std.proofs.Common.{refl, sym, ap, subst, ◌∙◌, arith, Bool, true, false, cond, ltb, inl, inr, length-append}
-use Rattle.std.proofs.Math.ListN.{set}
-use Rattle.std.proofs.lemmas.Bool.{cases_lt}
-use Rattle.std.proofs.lemmas.List.{get_or-set_same, get_or-set_other}
-use Rattle.dm_words.specs.Macros.{macro_header, macro_trailer, macro_text}
-use Rattle.dm_words.specs.inner.Costs.{most_behind}
-use Rattle.std.proofs.lemmas.List.{at_drop_more, drop-drop, take-append-drop, take_rest, length-take, length-drop}
-use Rattle.std.proofs.lemmas.List.Elements.{All-append}
-use Rattle.std.proofs.Math.Seq.{take-suc, take-length}
-use Rattle.dm_words.specs.declared.item.Item.{Item}
-use Rattle.dm_words.specs.declared.contents.mark.Mark.{Mark}
-use Rattle.dm_words.specs.declared.extent.Extent.TheVariants.{Wide}
-use Rattle.dm_words.specs.Designators.{eci_word, designator, most_assigned}
-use Rattle.dm_words.specs.Contents.{AreMarks}
-use Rattle.dm_words.specs.ContentForm.{mark_words}
-use Rattle.dm_words.specs.Messages.{IsItem, IsMessage}
-use Rattle.dm_words.specs.inner.Costs.{at_end, before_words, parts_cost}
-use Rattle.dm_words.specs.inner.ContentCosts.{marked_cost, behind_first, first_text, first_end}
+use Rattle.dm_words.proofs.Names.{◌≡◌, ℕ, zero, suc, ◌+◌, ◌-◌, ◌*◌, ◌/◌, ◌%◌, ◌<◌, ◌≤◌, List, [], ◌∷◌, ◌++◌, length}
+use Rattle.dm_words.proofs.Names.{take, drop, get_or, refl, sym, ap, subst, ◌∙◌, arith, Bool, true, false, cond, ltb}
+use Rattle.dm_words.proofs.Names.{inl, inr, length-append, set, cases_lt, get_or-set_same, get_or-set_other}
+use Rattle.dm_words.proofs.Names.{macro_header, macro_trailer, macro_text, most_behind, at_drop_more, drop-drop}
+use Rattle.dm_words.proofs.Names.{take-append-drop, take_rest, length-take, length-drop, All-append, take-suc, Item}
+use Rattle.dm_words.proofs.Names.{Mark, Wide, eci_word, designator, most_assigned, AreMarks, mark_words, IsItem}
+use Rattle.dm_words.proofs.Names.{IsMessage, at_end, before_words, parts_cost, marked_cost, behind_first, first_text}
+use Rattle.dm_words.proofs.Names.{first_end}
+use Rattle.std.proofs.Math.Seq.{take-length}
 use Rattle.dm_words.proofs.ContentForms.{marks_within}
 use Rattle.dm_words.proofs.Marks.{lower}
 use Rattle.dm_words.proofs.Plans.{cost_most}

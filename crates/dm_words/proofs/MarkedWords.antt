@@ -1,16 +1,9 @@
 -- The loops that count and write items with marks.
-use Rattle.std.proofs.Common.{◌≡◌, ℕ, ◌+◌, ◌-◌, ◌*◌, ◌<◌, ◌≤◌, List, ◌∷◌, ◌++◌, length, take, drop, get_or}
-use Rattle.std.proofs.Common.{refl, sym, ap, subst, ◌∙◌, append_assoc, arith, length-append}
-use Rattle.std.proofs.lemmas.List.{append-nil, at_drop_more, at_drop_all, drop-drop, take_rest, length-take}
-use Rattle.std.proofs.lemmas.List.{length-drop}
-use Rattle.dm_words.specs.declared.item.Item.{Item}
-use Rattle.dm_words.specs.declared.ascii.Unit.{Unit}
-use Rattle.dm_words.specs.declared.contents.mark.Mark.{Mark}
-use Rattle.dm_words.specs.Ascii.{ascii}
-use Rattle.dm_words.specs.Designators.{most_assigned, eci_word, designator}
-use Rattle.dm_words.specs.Contents.{AreMarks}
-use Rattle.dm_words.specs.ContentForm.{mark_words, ascii_with_marks}
-use Rattle.dm_words.specs.inner.Scan.Results.{unit_words, unit_items}
+use Rattle.dm_words.proofs.Names.{◌≡◌, ℕ, ◌+◌, ◌-◌, ◌*◌, ◌<◌, ◌≤◌, List, ◌∷◌, ◌++◌, length, take, drop, get_or, refl}
+use Rattle.dm_words.proofs.Names.{sym, ap, subst, ◌∙◌, append_assoc, arith, length-append, append-nil, at_drop_more}
+use Rattle.dm_words.proofs.Names.{at_drop_all, drop-drop, take_rest, length-take, length-drop, Item, Unit, Mark, ascii}
+use Rattle.dm_words.proofs.Names.{most_assigned, eci_word, designator, AreMarks, mark_words, ascii_with_marks}
+use Rattle.dm_words.proofs.Names.{unit_words, unit_items}
 use Rattle.dm_words.proofs.ContentForms.{marks_within}
 use Rattle.dm_words.proofs.NormalForms.{two_words}
 use Rattle.dm_words.proofs.UnitLoops.{HasUnit}

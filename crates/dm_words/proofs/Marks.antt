@@ -1,11 +1,7 @@
 -- Marks in order stay so.
-use Rattle.std.proofs.Common.{◌≡◌, ℕ, ◌≤◌, List, [], ◌∷◌, ◌++◌, length, arith, length-append}
-use Rattle.std.proofs.Common.{Result, Ok, Err}
-use Rattle.std.specs.Prelude.{OnOk, OnErr}
-use Rattle.dm_words.specs.declared.item.Item.{Item}
-use Rattle.dm_words.specs.declared.contents.mark.Mark.{Mark}
-use Rattle.dm_words.specs.Designators.{most_assigned}
-use Rattle.dm_words.specs.Contents.{AreMarks}
+use Rattle.dm_words.proofs.Names.{◌≡◌, ℕ, ◌≤◌, List, [], ◌∷◌, ◌++◌, length, arith, length-append, Result, Ok, Err, OnOk}
+use Rattle.dm_words.proofs.Names.{Item, Mark, most_assigned, AreMarks}
+use Rattle.std.specs.Prelude.{OnErr}
 
 -- Marks in order are so with more items behind them.
 pub more_items : (least most more : ℕ) (marks : List Mark) → AreMarks least most marks → most ≤ more

@@ -1,22 +1,13 @@
 -- What reading gives in the usual extent: a message, or the fault of a codeword.
-use Rattle.std.proofs.Common.{◌≡◌, ℕ, ◌+◌, List, [], ◌∷◌, ◌++◌, length, refl, sym, ap, subst, ◌∙◌, None, Result, Ok}
-use Rattle.std.proofs.Common.{Err}
-use Rattle.dm_words.specs.declared.extent.Extent.TheVariants.{Usual}
-use Rattle.dm_words.specs.declared.item.Item.{Item}
-use Rattle.dm_words.specs.declared.fault.WordFault.{WordFault}
-use Rattle.dm_words.specs.declared.contents.fault.ContentFault.{ContentFault}
+use Rattle.dm_words.proofs.Names.{◌≡◌, ℕ, ◌+◌, List, [], ◌∷◌, ◌++◌, length, refl, sym, ap, subst, ◌∙◌, None, Result, Ok}
+use Rattle.dm_words.proofs.Names.{Err, Usual, Item, WordFault, ContentFault, Mark, Opening, Plain, Piece, spelled}
+use Rattle.dm_words.proofs.Names.{whats, AreJoined, ContentView, Said, IsContentPart, part, mark, said_items}
+use Rattle.dm_words.proofs.Names.{said_marks, said_content, IsOpening, headed, framed, plain, Says, IsRefused}
+use Rattle.dm_words.proofs.Names.{IsContentFault, as_content, IsContentResult, Spells}
 use Rattle.dm_words.specs.declared.contents.fault.ContentFault.TheVariants as fault
-use Rattle.dm_words.specs.declared.contents.mark.Mark.{Mark}
-use Rattle.dm_words.specs.declared.contents.opening.Opening.{Opening}
-use Rattle.dm_words.specs.declared.contents.opening.Opening.TheVariants.{Plain}
-use Rattle.dm_words.specs.Joined.{Piece, spelled, whats, AreJoined}
-use Rattle.dm_words.specs.Contents.{ContentView, Said, IsContentPart, part, mark, said_items, said_marks, said_content}
-use Rattle.dm_words.specs.Contents.{IsOpening, headed, framed, plain, Says, IsRefused, IsContentFault}
 use Rattle.dm_words.specs.Contents as contents
-use Rattle.dm_words.specs.ContentExtents.{as_content}
-use Rattle.dm_words.specs.ContentResults.{IsContentResult}
 use Rattle.dm_words.specs.Results.{IsMessageResult}
-use Rattle.dm_words.specs.Spells.{Spells, Refused}
+use Rattle.dm_words.specs.Spells.{Refused}
 use Rattle.dm_words.proofs.ContentParts.{not_wide}
 
 -- Parts say no mark there.

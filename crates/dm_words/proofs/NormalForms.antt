@@ -1,28 +1,16 @@
 -- The normal form of a message spells it.
-use Rattle.std.proofs.Common.{◌≡◌, ◌⊎◌, inl, inr, ℕ, ◌+◌, ◌-◌, ◌*◌, ◌/◌, ◌%◌, ◌<◌, ◌≤◌, List, [], ◌∷◌, ◌++◌, length}
-use Rattle.std.proofs.Common.{map, take, drop, get_or, append_assoc, add-one, refl, sym, ap, subst, ◌∙◌, arith, Bool}
-use Rattle.std.proofs.Common.{true, false, not, cond, ltb, ◌&&◌, is_lt, nat_cmp, Less, Equal, Greater}
-use Rattle.std.specs.Prelude.{◌==◌}
+use Rattle.dm_words.proofs.Names.{◌≡◌, ◌⊎◌, inl, inr, ℕ, ◌+◌, ◌-◌, ◌*◌, ◌/◌, ◌%◌, ◌<◌, ◌≤◌, List, [], ◌∷◌, ◌++◌, length}
+use Rattle.dm_words.proofs.Names.{map, take, drop, get_or, append_assoc, add-one, refl, sym, ap, subst, ◌∙◌, arith}
+use Rattle.dm_words.proofs.Names.{Bool, true, false, not, cond, ltb, ◌&&◌, ◌==◌, cases_lt, nat_tests, append-nil}
+use Rattle.dm_words.proofs.Names.{at_drop_more, length-append, length-map, map-append, take-suc, recursion_from_All}
+use Rattle.dm_words.proofs.Names.{All-from_recursion, Extent, Item, Byte, Fnc1, Profile, Ascii, Shorter, Piece, byte_of}
+use Rattle.dm_words.proofs.Names.{IsItem, IsMessage, byte_items, most_data, is_digit, digit_pair, single, ascii, pads}
+use Rattle.dm_words.proofs.Names.{padded, written, randomised, AreBytes, IsLengthField, short, long, IsSegment}
+use Rattle.dm_words.proofs.Names.{has_fnc1, length_numbers, one_segment, shorter, normal_form, segment, Spells}
+use Rattle.dm_words.proofs.Names.{AreCodewords}
+use Rattle.std.proofs.Common.{is_lt, nat_cmp, Less, Equal, Greater}
 use Rattle.std.specs.Ordering.{ord_max}
-use Rattle.std.proofs.lemmas.Bool.{cases_lt, cases_Bool}
-use Rattle.std.proofs.lemmas.Bool.Decides.{nat_tests}
-use Rattle.std.proofs.lemmas.List.{append-nil, at_drop_more, length-append, length-map, map-append}
-use Rattle.std.proofs.Math.Seq.{take-suc}
-use Rattle.std.proofs.lemmas.List.Elements.{recursion_from_All, All-from_recursion}
-use Rattle.dm_words.specs.declared.extent.Extent.{Extent}
-use Rattle.dm_words.specs.declared.item.Item.{Item}
-use Rattle.dm_words.specs.declared.item.Item.TheVariants.{Byte, Fnc1}
-use Rattle.dm_words.specs.declared.profile.Profile.{Profile}
-use Rattle.dm_words.specs.declared.profile.Profile.TheVariants.{Ascii, Shorter}
-use Rattle.dm_words.specs.Joined.{Piece}
-use Rattle.dm_words.specs.Messages.{byte_of, IsItem, IsMessage, byte_items, most_data}
-use Rattle.dm_words.specs.Ascii.{is_digit, digit_pair, single, ascii}
-use Rattle.dm_words.specs.Pads.{pads, padded}
-use Rattle.dm_words.specs.Base256.{written, randomised, AreBytes, IsLengthField, short, long, IsSegment}
-use Rattle.dm_words.specs.NormalForm.{has_fnc1, length_numbers, one_segment, shorter, normal_form}
-use Rattle.dm_words.specs.Parts.{segment}
-use Rattle.dm_words.specs.Spells.{Spells}
-use Rattle.dm_words.specs.Laws.{AreCodewords}
+use Rattle.std.proofs.lemmas.Bool.{cases_Bool}
 use Rattle.dm_words.proofs.SpelledContents.{parts_spell}
 use Rattle.dm_words.proofs.Segments.{length-written, written-append}
 use Rattle.dm_words.proofs.AsciiWords.{AreItems, pads_end, ascii_bytes}

@@ -1,33 +1,14 @@
 -- The normal form under each profile is a plain form.
-use Rattle.std.proofs.Common.{◌≡◌, ℕ, ◌+◌, ◌<◌, ◌≤◌, List, [], ◌∷◌, ◌++◌, length, map, refl, sym, ap, subst, ◌∙◌}
-use Rattle.std.proofs.Common.{arith, Bool, true, false, cond, ltb, Option, Some, None, ◌↔◌, inl, inr, Result, Ok, Err}
-use Rattle.std.specs.Prelude.{◌&&◌, not, OnOk, IsErr}
-use Rattle.std.proofs.lemmas.Bool.{cases_lt}
-use Rattle.std.proofs.lemmas.Bool.Decides.{nat_tests}
-use Rattle.std.proofs.lemmas.List.{length-map}
-use Rattle.std.proofs.lemmas.List.Elements.{All-from_recursion, recursion_from_All}
-use Rattle.dm_words.specs.declared.extent.Extent.TheVariants.{Wide}
-use Rattle.dm_words.specs.declared.fault.TooLong.{TooLong}
-use Rattle.dm_words.specs.declared.item.Item.{Item}
-use Rattle.dm_words.specs.declared.item.Item.TheVariants.{Byte, Fnc1}
-use Rattle.dm_words.specs.declared.contents.head.Head.{Head}
-use Rattle.dm_words.specs.declared.contents.mark.Mark.{Mark}
-use Rattle.dm_words.specs.declared.profile.Profile.{Profile}
-use Rattle.dm_words.specs.declared.profile.Profile.TheVariants.{Ascii, Shorter}
-use Rattle.dm_words.specs.Ascii.{ascii}
-use Rattle.dm_words.specs.Base256.{written}
-use Rattle.dm_words.specs.Heads.{IsHead, head_words}
-use Rattle.dm_words.specs.ContentExtents.{as_content}
-use Rattle.dm_words.specs.ContentForm.{ascii_with_marks, form_by, content_form}
-use Rattle.dm_words.specs.Contents.{ContentView, AreMarks, IsContent}
-use Rattle.dm_words.specs.Messages.{byte_of, IsItem, IsMessage}
-use Rattle.dm_words.specs.NormalForm.{has_fnc1, length_numbers, one_segment, normal_form, shorter}
-use Rattle.dm_words.specs.Pads.{padded}
-use Rattle.dm_words.specs.Plain.{IsPlainForm, IsPlainWithPads}
-use Rattle.dm_words.specs.inner.ContentCosts.{view_of}
-use Rattle.dm_words.specs.inner.MarkedForms.{is_plain}
-use Rattle.dm_words.specs.inner.Signs.{sign_words}
-use Rattle.dm_words.specs.inner.Written.{ArePartsWritten}
+use Rattle.dm_words.proofs.Names.{◌≡◌, ℕ, ◌+◌, ◌<◌, ◌≤◌, List, [], ◌∷◌, ◌++◌, length, map, refl, sym, ap, subst, ◌∙◌}
+use Rattle.dm_words.proofs.Names.{arith, Bool, true, false, cond, ltb, Option, Some, None, ◌↔◌, inl, inr, Result, Ok}
+use Rattle.dm_words.proofs.Names.{Err, ◌&&◌, not, OnOk, cases_lt, nat_tests, length-map, All-from_recursion}
+use Rattle.dm_words.proofs.Names.{recursion_from_All, Wide, TooLong, Item, Byte, Fnc1, Head, Mark, Profile, Ascii}
+use Rattle.dm_words.proofs.Names.{Shorter, ascii, written, IsHead, head_words, as_content, ascii_with_marks, form_by}
+use Rattle.dm_words.proofs.Names.{content_form, ContentView, AreMarks, IsContent, byte_of, IsItem, IsMessage, has_fnc1}
+use Rattle.dm_words.proofs.Names.{length_numbers, one_segment, normal_form, shorter, padded, IsPlainForm, view_of}
+use Rattle.dm_words.proofs.Names.{is_plain, sign_words, ArePartsWritten}
+use Rattle.std.specs.Prelude.{IsErr}
+use Rattle.dm_words.specs.Plain.{IsPlainWithPads}
 use Rattle.dm_words.proofs.AsciiWords.{AreItems}
 use Rattle.dm_words.proofs.NormalForms.{length-one_segment, says_count, segment_whole}
 use Rattle.dm_words.proofs.PartsWritten.{no_parts, parts_more}

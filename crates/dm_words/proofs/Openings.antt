@@ -1,29 +1,16 @@
 -- The opening that is found first is the one of the definition.
-use Rattle.std.proofs.Common.{drop-cons, ◌≡◌, ℕ, zero, suc, ◌+◌, ◌≤◌, List, [], ◌∷◌, ◌++◌, length}
-use Rattle.std.proofs.Common.{drop, refl, sym, ap, subst, ◌∙◌, arith, Bool, true, false}
-use Rattle.std.proofs.Common.{cond, Option, Some, None, inl, inr}
-use Rattle.std.specs.Prelude.{◌==◌, ◌&&◌, ◌⊎◌, slice_get}
+use Rattle.dm_words.proofs.Names.{drop-cons, ◌≡◌, ℕ, zero, suc, ◌+◌, ◌≤◌, List, [], ◌∷◌, ◌++◌, length, drop, refl, sym}
+use Rattle.dm_words.proofs.Names.{ap, subst, ◌∙◌, arith, Bool, true, false, cond, Option, Some, None, inl, inr, ◌==◌}
+use Rattle.dm_words.proofs.Names.{◌&&◌, ◌⊎◌, slice_get, nat_tests, Codeword, CodeSet, Extent, Usual, Wide, Head, Opened}
+use Rattle.dm_words.proofs.Names.{Opening, Plain, codeword_of, unlatch_word, SpellsHead, programming, appended}
+use Rattle.dm_words.proofs.Names.{BeginsNoHead, AreEmptyRuns, AreFrame, BeginsFrame, BeginsWithHeadWord, IsOpening}
+use Rattle.dm_words.proofs.Names.{headed, framed, plain, is_one_word, append_by, first_head, head_length, moved, opened}
 use Rattle.std.proofs.lemmas.Option.{slice_get_within, get_or_from_slice_get}
-use Rattle.std.proofs.lemmas.Bool.Decides.{nat_tests}
-use Rattle.dm_words.specs.declared.codeword.Codeword.{Codeword}
 use Rattle.dm_words.specs.declared.codeword.Codeword.TheVariants as codeword
-use Rattle.dm_words.specs.declared.c40.set.CodeSet.{CodeSet}
-use Rattle.dm_words.specs.declared.extent.Extent.{Extent}
-use Rattle.dm_words.specs.declared.extent.Extent.TheVariants.{Usual, Wide}
-use Rattle.dm_words.specs.declared.contents.head.Head.{Head}
 use Rattle.dm_words.specs.declared.contents.head.Head.TheVariants as head
 use Rattle.dm_words.specs.declared.contents.opening.Frame.{Frame}
-use Rattle.dm_words.specs.declared.contents.opening.Opened.{Opened}
-use Rattle.dm_words.specs.declared.contents.opening.Opening.{Opening}
-use Rattle.dm_words.specs.declared.contents.opening.Opening.TheVariants.{Plain}
-use Rattle.dm_words.specs.Codewords.{codeword_of, unlatch_word}
-use Rattle.dm_words.specs.Heads.{SpellsHead, programming, appended, BeginsNoHead}
-use Rattle.dm_words.specs.Contents.{AreEmptyRuns, AreFrame, BeginsFrame, BeginsWithHeadWord, IsOpening, headed, framed}
-use Rattle.dm_words.specs.Contents.{plain}
-use Rattle.dm_words.specs.inner.Scan.Prefixes.{digit_by, is_one_word, begins_with_one_word}
-use Rattle.dm_words.specs.inner.ContentScan.{append_by, first_head, head_length, is_latch, moved, is_empty_run}
-use Rattle.dm_words.specs.inner.ContentScan.{frame_by}
-use Rattle.dm_words.specs.inner.ContentScan.{first_frame, begins_append, opened_by, opened}
+use Rattle.dm_words.specs.inner.Scan.Prefixes.{digit_by, begins_with_one_word}
+use Rattle.dm_words.specs.inner.ContentScan.{is_latch, is_empty_run, frame_by, first_frame, begins_append, opened_by}
 use Rattle.dm_words.proofs.Heads as heads
 use Rattle.dm_words.proofs.ContentParts.{not_wide}
 

@@ -1,11 +1,8 @@
 -- Lemmas on pads.
-use Rattle.std.proofs.Common.{◌≡◌, ℕ, zero, suc, ◌+◌, ◌-◌, ◌*◌, ◌%◌, ◌<◌, ◌≤◌, List, [], ◌∷◌, ◌++◌, length}
-use Rattle.std.proofs.Common.{length-append, refl, sym, ap, ◌∙◌, append_assoc, add-zero, arith, Bool, true, false, cond}
-use Rattle.std.proofs.Common.{leb}
-use Rattle.std.proofs.lemmas.Bool.Decides.{nat_tests}
-use Rattle.dm_words.specs.Pads.{pad_at, further_pads, pads, padded}
-use Rattle.dm_words.specs.Base256.{AreBytes}
-use Rattle.dm_words.specs.Smallest.{ArePads}
+use Rattle.dm_words.proofs.Names.{◌≡◌, ℕ, zero, suc, ◌+◌, ◌-◌, ◌*◌, ◌%◌, ◌<◌, ◌≤◌, List, [], ◌∷◌, ◌++◌, length}
+use Rattle.dm_words.proofs.Names.{length-append, refl, sym, ap, ◌∙◌, append_assoc, add-zero, arith, Bool, true, false}
+use Rattle.dm_words.proofs.Names.{cond, leb, nat_tests, further_pads, pads, padded, AreBytes, ArePads}
+use Rattle.dm_words.specs.Pads.{pad_at}
 use Rattle.dm_words.proofs.Segments.{AreBytes-append}
 
 -- One more pad stands at the end.

@@ -1,14 +1,10 @@
 -- The pairs that the scan finds in a run are those that stand there.
-use Rattle.std.proofs.Common.{◌≡◌, ◌≢◌, ℕ, ◌+◌, ◌-◌, ◌*◌, ◌/◌, ◌%◌, ◌<◌, ◌≤◌, List, [], ◌∷◌, length, take, drop, get_or}
-use Rattle.std.proofs.Common.{refl, ap, subst, arith, Bool, true, false, cond, eqb, ltb, inl, inr, ◌⊎◌}
-use Rattle.std.proofs.lemmas.Bool.{eqb-true, ltb-false}
-use Rattle.std.proofs.lemmas.Bool.Decides.{nat_tests}
-use Rattle.std.proofs.lemmas.List.{get_or-drop}
-use Rattle.dm_words.specs.declared.c40.pair.PairsEnd.{PairsEnd}
+use Rattle.dm_words.proofs.Names.{◌≡◌, ◌≢◌, ℕ, ◌+◌, ◌-◌, ◌*◌, ◌/◌, ◌%◌, ◌<◌, ◌≤◌, List, [], ◌∷◌, length, take, drop}
+use Rattle.dm_words.proofs.Names.{get_or, refl, ap, subst, arith, Bool, true, false, cond, eqb, ltb, inl, inr, ◌⊎◌}
+use Rattle.dm_words.proofs.Names.{eqb-true, ltb-false, nat_tests, get_or-drop, PairsEnd, IsPair, Step, Takes, Stops}
+use Rattle.dm_words.proofs.Names.{first_pair}
 use Rattle.dm_words.specs.declared.c40.pair.PairsEnd.TheVariants as stop
-use Rattle.dm_words.specs.Runs.{IsPair}
-use Rattle.dm_words.specs.inner.Scan.Walk.{Step, Takes, Stops}
-use Rattle.dm_words.specs.inner.Scan.Prefixes.{values_of, pair_by, first_pair}
+use Rattle.dm_words.specs.inner.Scan.Prefixes.{values_of, pair_by}
 use Rattle.dm_words.proofs.Walks.{IsSound, IsComplete}
 
 -- Each word is 0 to 255.

@@ -1,17 +1,10 @@
 -- What the plan begins at an item is paid.
-use Rattle.std.proofs.Common.{◌≡◌, ℕ, ◌+◌, ◌-◌, ◌<◌, ◌≤◌, List, [], ◌∷◌, length, drop, get_or, refl, sym, ap, subst}
-use Rattle.std.proofs.Common.{◌∙◌, arith, Bool, true, false, cond}
-use Rattle.std.specs.Prelude.{◌&&◌, nat_le}
-use Rattle.std.proofs.lemmas.List.{length-drop, at_drop_more}
-use Rattle.dm_words.specs.declared.smallest.setting.Setting.{Setting}
-use Rattle.dm_words.specs.declared.item.Item.{Item}
-use Rattle.dm_words.specs.declared.c40.set.CodeSet.{CodeSet}
-use Rattle.dm_words.specs.declared.c40.set.CodeSet.TheVariants.{C40, Text, X12}
-use Rattle.dm_words.specs.declared.smallest.plan.Begin.{Begin}
-use Rattle.dm_words.specs.declared.smallest.plan.Begin.TheVariants.{One, Two, Run, Edifact, Segment, Rest}
-use Rattle.dm_words.specs.inner.Costs.{Step}
-use Rattle.dm_words.specs.inner.Costs.{never, owed, unit_cost, cost_of, segment_cost, is_digit_item, digit_first}
-use Rattle.dm_words.specs.inner.Costs.{pair_first, row, parts_cost, going_from, going_pairs, IsRightStep}
+use Rattle.dm_words.proofs.Names.{◌≡◌, ℕ, ◌+◌, ◌-◌, ◌<◌, ◌≤◌, List, [], ◌∷◌, length, drop, get_or, refl, sym, ap, subst}
+use Rattle.dm_words.proofs.Names.{◌∙◌, arith, Bool, true, false, cond, ◌&&◌, nat_le, length-drop, at_drop_more, Setting}
+use Rattle.dm_words.proofs.Names.{Item, CodeSet, C40, Text, X12, Begin, One, Two, Run, Edifact, Segment, Rest, never}
+use Rattle.dm_words.proofs.Names.{unit_cost, cost_of, segment_cost, is_digit_item, digit_first, pair_first, row}
+use Rattle.dm_words.proofs.Names.{parts_cost, going_from, going_pairs, IsRightStep}
+use Rattle.dm_words.specs.inner.Costs.{Step, owed}
 use Rattle.dm_words.proofs.CostsMet.{second_is}
 
 module _ (setting : Setting) (m : List Item) (i : ℕ) (d : Item) (s : Step) (there : i < length m)

@@ -1,22 +1,15 @@
 -- The part that the scan finds first is the part of the definition that begins there.
-use Rattle.std.proofs.Common.{◌≡◌, ◌≢◌, ℕ, suc, ◌+◌, ◌*◌, ◌<◌, ◌≤◌, List, [], ◌∷◌, ◌++◌, length, take, drop, refl}
-use Rattle.std.proofs.Common.{subst, arith, Option, Some, None}
-use Rattle.std.proofs.lemmas.List.{length-take}
-use Rattle.dm_words.specs.declared.codeword.Codeword.{Codeword}
+use Rattle.dm_words.proofs.Names.{◌≡◌, ◌≢◌, ℕ, suc, ◌+◌, ◌*◌, ◌<◌, ◌≤◌, List, [], ◌∷◌, ◌++◌, length, take, drop, refl}
+use Rattle.dm_words.proofs.Names.{subst, arith, Option, Some, None, length-take, Codeword, CodeSet, Extent, Usual, Wide}
+use Rattle.dm_words.proofs.Names.{Item, WordFault, codeword_of, IsAsciiUnit, character, digits, fnc1, raised, IsPart}
+use Rattle.dm_words.proofs.Names.{run, segment, edifact, IsEnd, pad, always, macro_behind, left_out, Step, Takes, Stops}
+use Rattle.dm_words.proofs.Names.{part_by, first_part}
 use Rattle.dm_words.specs.declared.codeword.Codeword.TheVariants as codeword
-use Rattle.dm_words.specs.declared.c40.set.CodeSet.{CodeSet}
-use Rattle.dm_words.specs.declared.extent.Extent.{Extent}
-use Rattle.dm_words.specs.declared.extent.Extent.TheVariants.{Usual, Wide}
-use Rattle.dm_words.specs.declared.item.Item.{Item}
-use Rattle.dm_words.specs.declared.fault.WordFault.{WordFault}
 use Rattle.dm_words.specs.declared.fault.WordFault.TheVariants as fault
-use Rattle.dm_words.specs.Codewords.{codeword_of}
-use Rattle.dm_words.specs.Ascii.{IsAsciiUnit, character, digits, fnc1, raised}
-use Rattle.dm_words.specs.Parts.{IsPart, ascii, run, segment, edifact, IsEnd, nothing, pad}
-use Rattle.dm_words.specs.Faults.{always, macro_behind, edifact as edifact_left_out, IsFault, reserved, left_out}
-use Rattle.dm_words.specs.Faults.{faulty_run, faulty_segment, unfinished, upper_shift}
-use Rattle.dm_words.specs.inner.Scan.Walk.{Step, Takes, Stops}
-use Rattle.dm_words.specs.inner.Scan.Prefixes.{raised_unit_by, run_behind, segment_behind, plain, part_by, first_part}
+use Rattle.dm_words.specs.Parts.{ascii, nothing}
+use Rattle.dm_words.specs.Faults.{edifact as edifact_left_out, IsFault, reserved, faulty_run, faulty_segment}
+use Rattle.dm_words.specs.Faults.{unfinished, upper_shift}
+use Rattle.dm_words.specs.inner.Scan.Prefixes.{raised_unit_by, run_behind, segment_behind, plain}
 use Rattle.dm_words.proofs.Walks.{IsSound, IsComplete}
 use Rattle.dm_words.proofs.Pairs.{IsBytes, IsBytes-drop}
 use Rattle.dm_words.proofs.Runs.{RunJudged, run_judged, RunFound, run_complete, run_room}

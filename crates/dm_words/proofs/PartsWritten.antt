@@ -1,14 +1,9 @@
 -- Parts that are written one behind the other are parts.
-use Rattle.std.proofs.Common.{◌≡◌, ℕ, ◌+◌, ◌<◌, List, [], ◌∷◌, ◌++◌, length, append_assoc, refl, sym, ap, subst, ◌∙◌}
-use Rattle.std.proofs.Common.{arith, add-zero}
-use Rattle.std.proofs.lemmas.List.{append-nil, length-append}
+use Rattle.dm_words.proofs.Names.{◌≡◌, ℕ, ◌+◌, ◌<◌, List, [], ◌∷◌, ◌++◌, length, append_assoc, refl, sym, ap, subst}
+use Rattle.dm_words.proofs.Names.{◌∙◌, arith, add-zero, append-nil, length-append, Extent, Item, Piece, spelled}
+use Rattle.dm_words.proofs.Names.{AreJoined, IsPlainPart, IsPart, IsEnd, AreParts, NoUnlatchFirst, IsPartWritten}
+use Rattle.dm_words.proofs.Names.{ArePartsWritten}
 use Rattle.dm_words.proofs.Pieces.{spelled-last, gathered-last}
-use Rattle.dm_words.specs.declared.extent.Extent.{Extent}
-use Rattle.dm_words.specs.declared.item.Item.{Item}
-use Rattle.dm_words.specs.Joined.{Piece, spelled, AreJoined}
-use Rattle.dm_words.specs.Plain.{IsPlainPart}
-use Rattle.dm_words.specs.Parts.{IsPart, IsEnd, AreParts}
-use Rattle.dm_words.specs.inner.Written.{NoUnlatchFirst, IsPartWritten, ArePartsWritten}
 
 module _ {B : Type 0} where
   -- One more piece is joined at the end.

@@ -1,8 +1,6 @@
 -- Pieces of a list, joined.
-use Rattle.std.proofs.Common.{◌≡◌, ℕ, List, [], ◌∷◌, ◌++◌, append_assoc, refl, sym, ap, ◌∙◌}
-use Rattle.std.specs.List.{AllByRecursion}
-use Rattle.std.proofs.lemmas.List.{append-nil}
-use Rattle.dm_words.specs.Joined.{Piece, spelled, gathered, whats}
+use Rattle.dm_words.proofs.Names.{◌≡◌, ℕ, List, [], ◌∷◌, ◌++◌, append_assoc, refl, sym, ap, ◌∙◌, AllByRecursion}
+use Rattle.dm_words.proofs.Names.{append-nil, Piece, spelled, gathered, whats}
 
 module _ {A : Type 0} where
   -- Each of two lists, joined.

@@ -1,39 +1,16 @@
 -- What is written is plain, and has the identifier of the ASCII form.
-use Rattle.std.proofs.Common.{◌≡◌, ℕ, zero, suc, ◌+◌, ◌-◌, ◌<◌, ◌≤◌, List, [], ◌∷◌, ◌++◌, length}
-use Rattle.std.proofs.Common.{refl, sym, ap, subst, ◌∙◌, arith, Bool, true, false, cond, ltb, Option, Some, None}
-use Rattle.std.proofs.Common.{length-append, append_assoc, take, drop, get_or}
-use Rattle.std.specs.Prelude.{◌&&◌}
-use Rattle.std.proofs.Math.Seq.{drop-append_seam, take-append-add}
-use Rattle.std.proofs.lemmas.List.{append-nil, nil_from_length, take_rest}
+use Rattle.dm_words.proofs.Names.{◌≡◌, ℕ, zero, suc, ◌+◌, ◌-◌, ◌<◌, ◌≤◌, List, [], ◌∷◌, ◌++◌, length, refl, sym, ap}
+use Rattle.dm_words.proofs.Names.{subst, ◌∙◌, arith, Bool, true, false, cond, ltb, Option, Some, None, length-append}
+use Rattle.dm_words.proofs.Names.{append_assoc, take, drop, get_or, ◌&&◌, drop-append_seam, take-append-add, append-nil}
+use Rattle.dm_words.proofs.Names.{nil_from_length, take_rest, Extent, Wide, Item, Byte, Fnc1, Head, Mark, Opened}
+use Rattle.dm_words.proofs.Names.{Opening, Framed, Ascii, ascii, single, is_digit, digit_pair, codeword_of, IsHead}
+use Rattle.dm_words.proofs.Names.{head_words, Piece, spelled, whats, AreJoined, as_content, ascii_with_marks, form_by}
+use Rattle.dm_words.proofs.Names.{content_form, ContentView, AreMarks, Said, Items, Number, said_items, said_marks}
+use Rattle.dm_words.proofs.Names.{said_content, IsOpening, headed, framed, plain, AreOpened, BeginsFrame, Says}
+use Rattle.dm_words.proofs.Names.{macro_text, BeginsFnc1, pads, padded, FramesNoFnc1, IsPlainForm, IsPlainPart, IsPart}
+use Rattle.dm_words.proofs.Names.{IsFnc1Number, IsIdentifier, marks_number, fnc1_number, AreSaid, first_text, view_of}
+use Rattle.dm_words.proofs.Names.{sign_words, KeepsSign, IsMacroOf, inner_text, ArePartsWritten}
 use Rattle.dm_words.specs.declared.codeword.Codeword.TheVariants as codeword
-use Rattle.dm_words.specs.declared.extent.Extent.{Extent}
-use Rattle.dm_words.specs.declared.extent.Extent.TheVariants.{Wide}
-use Rattle.dm_words.specs.declared.item.Item.{Item}
-use Rattle.dm_words.specs.declared.item.Item.TheVariants.{Byte, Fnc1}
-use Rattle.dm_words.specs.declared.contents.head.Head.{Head}
-use Rattle.dm_words.specs.declared.contents.mark.Mark.{Mark}
-use Rattle.dm_words.specs.declared.contents.opening.Opened.{Opened}
-use Rattle.dm_words.specs.declared.contents.opening.Opening.{Opening}
-use Rattle.dm_words.specs.declared.contents.opening.Opening.TheVariants.{Framed}
-use Rattle.dm_words.specs.declared.profile.Profile.TheVariants.{Ascii}
-use Rattle.dm_words.specs.Ascii.{ascii, single, is_digit, digit_pair}
-use Rattle.dm_words.specs.Codewords.{codeword_of}
-use Rattle.dm_words.specs.Heads.{IsHead, head_words}
-use Rattle.dm_words.specs.Joined.{Piece, spelled, whats, AreJoined}
-use Rattle.dm_words.specs.ContentExtents.{as_content}
-use Rattle.dm_words.specs.ContentForm.{ascii_with_marks, form_by, content_form}
-use Rattle.dm_words.specs.Contents.{ContentView, AreMarks, Said, Items, Number, said_items, said_marks, said_content}
-use Rattle.dm_words.specs.Contents.{IsOpening, headed, framed, plain, AreOpened, BeginsFrame, Says}
-use Rattle.dm_words.specs.Macros.{macro_text, BeginsFnc1}
-use Rattle.dm_words.specs.Pads.{pads, padded}
-use Rattle.dm_words.specs.Plain.{FramesNoFnc1, IsPlainForm, IsPlainPart}
-use Rattle.dm_words.specs.Parts.{IsPart}
-use Rattle.dm_words.specs.Symbology.{IsFnc1Number, IsIdentifier, marks_number}
-use Rattle.dm_words.specs.inner.Fnc1.{fnc1_number}
-use Rattle.dm_words.specs.inner.ContentCosts.{AreSaid, first_text, view_of}
-use Rattle.dm_words.specs.inner.Signs.{sign_words, KeepsSign}
-use Rattle.dm_words.specs.inner.Ways.{IsMacroOf, inner_text}
-use Rattle.dm_words.specs.inner.Written.{ArePartsWritten}
 use Rattle.dm_words.proofs.AsciiWords.{AreItems}
 use Rattle.dm_words.proofs.Fnc1Places.{identified, one_number}
 use Rattle.dm_words.proofs.Heads as heads

@@ -1,12 +1,8 @@
 -- Plain parts are parts.
-use Rattle.std.proofs.Common.{ℕ, List, [], ◌∷◌, ◌++◌, ◌+◌, length, refl}
-use Rattle.dm_words.specs.declared.extent.Extent.TheVariants.{Wide}
-use Rattle.dm_words.specs.declared.item.Item.{Item}
-use Rattle.dm_words.specs.Joined.{Piece, spelled, AreJoined}
-use Rattle.dm_words.specs.Contents.{Said, IsContentPart}
+use Rattle.dm_words.proofs.Names.{ℕ, List, [], ◌∷◌, ◌++◌, ◌+◌, length, refl, Wide, Item, Piece, spelled, AreJoined}
+use Rattle.dm_words.proofs.Names.{Said, IsContentPart, IsPlainPart, IsPlainSaid, IsPart}
 use Rattle.dm_words.specs.Contents as contents
-use Rattle.dm_words.specs.Plain.{IsPlainPart, ascii, run, segment, edifact, IsPlainSaid, part, mark}
-use Rattle.dm_words.specs.Parts.{IsPart}
+use Rattle.dm_words.specs.Plain.{ascii, run, segment, edifact, part, mark}
 use Rattle.dm_words.specs.Parts as spells
 use Rattle.dm_words.proofs.Extents.{part_wider}
 

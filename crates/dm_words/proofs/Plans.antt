@@ -1,34 +1,15 @@
 -- The plan and the cost that the loop finds are those of the definition.
-use Rattle.std.proofs.Common.{◌≡◌, ℕ, zero, suc, ◌+◌, ◌-◌, ◌*◌, ◌<◌, ◌≤◌, List, [], ◌∷◌, length, drop, get_or, refl}
-use Rattle.std.proofs.Common.{◌⊎◌, sym, ap, subst, ◌∙◌, ◌++◌, ◌&&◌, arith, Bool, true, false, cond, ltb, inl, inr}
-use Rattle.std.specs.Prelude.{nat_le, ◌==◌}
-use Rattle.std.proofs.lemmas.Bool.{cases_lt}
-use Rattle.std.proofs.lemmas.List.{append-nil, at_drop_all, drop-drop, get_or-set_same, get_or-set_other, length-append}
-use Rattle.std.proofs.Math.ListN.{set}
-use Rattle.std.proofs.Math.Seq.{drop-cons, drop-length}
-use Rattle.dm_words.specs.declared.extent.Extent.{Extent}
-use Rattle.dm_words.specs.declared.smallest.setting.Setting.{Setting}
-use Rattle.dm_words.specs.declared.item.Item.{Item}
-use Rattle.dm_words.specs.declared.item.Item.TheVariants.{Byte, Fnc1}
-use Rattle.dm_words.specs.declared.c40.set.CodeSet.{CodeSet}
-use Rattle.dm_words.specs.declared.c40.set.CodeSet.TheVariants.{C40, Text, X12}
-use Rattle.dm_words.specs.inner.Costs.{Pairs}
-use Rattle.dm_words.specs.inner.Costs.{Groups}
-use Rattle.dm_words.specs.inner.Costs.{Going}
-use Rattle.dm_words.specs.inner.Costs.{Row}
-use Rattle.dm_words.specs.declared.smallest.plan.Begin.{Begin}
-use Rattle.dm_words.specs.declared.smallest.plan.Begin.TheVariants.{One, Two}
-use Rattle.dm_words.specs.inner.Costs.{Step}
-use Rattle.dm_words.specs.inner.Costs.{never, is_basic, low_values, shift_values, set_values, has_edifact, stay}
-use Rattle.dm_words.specs.inner.Costs.{stay_edifact, ArePaid, ArePaidGroups, least, cost_of, going_over, with_ascii}
-use Rattle.dm_words.specs.declared.smallest.plan.StepBits.{StepBits}
-use Rattle.dm_words.specs.declared.smallest.row.Costs.{Costs}
-use Rattle.dm_words.specs.inner.CostLanes.{HasRow}
-use Rattle.dm_words.specs.inner.Costs.{AreSmall, step_in}
-use Rattle.dm_words.specs.inner.Costs.{none_going, rest_behind, most_behind, row, parts_cost, pair_first, IsWithin}
-use Rattle.dm_words.specs.inner.Costs.{IsRightStep, unit_cost}
-use Rattle.dm_words.specs.Ascii.{ascii, digit_pair, is_digit, single}
-use Rattle.dm_words.specs.inner.Costs.{digit_first, is_digit_item, step_of}
+use Rattle.dm_words.proofs.Names.{◌≡◌, ℕ, zero, suc, ◌+◌, ◌-◌, ◌*◌, ◌<◌, ◌≤◌, List, [], ◌∷◌, length, drop, get_or, refl}
+use Rattle.dm_words.proofs.Names.{◌⊎◌, sym, ap, subst, ◌∙◌, ◌++◌, ◌&&◌, arith, Bool, true, false, cond, ltb, inl, inr}
+use Rattle.dm_words.proofs.Names.{nat_le, ◌==◌, cases_lt, append-nil, at_drop_all, drop-drop, get_or-set_same}
+use Rattle.dm_words.proofs.Names.{get_or-set_other, length-append, set, drop-cons, Extent, Setting, Item, Byte, Fnc1}
+use Rattle.dm_words.proofs.Names.{CodeSet, C40, Text, X12, Pairs, Groups, Going, Row, Begin, One, Two, never, is_basic}
+use Rattle.dm_words.proofs.Names.{low_values, shift_values, set_values, has_edifact, stay, stay_edifact, least, cost_of}
+use Rattle.dm_words.proofs.Names.{going_over, with_ascii, StepBits, Costs, HasRow, step_in, none_going, rest_behind}
+use Rattle.dm_words.proofs.Names.{most_behind, parts_cost, pair_first, IsWithin, IsRightStep, unit_cost, ascii}
+use Rattle.dm_words.proofs.Names.{digit_pair, is_digit, single, digit_first, is_digit_item, step_of}
+use Rattle.std.proofs.Math.Seq.{drop-length}
+use Rattle.dm_words.specs.inner.Costs.{Step, ArePaid, ArePaidGroups, AreSmall, row}
 use Rattle.dm_words.proofs.CostsMet.{least_is, is_least}
 use Rattle.dm_words.proofs.SpellingCounts.{unit_few}
 

@@ -1,21 +1,12 @@
 -- A run that follows the plan stays within its budget.
-use Rattle.std.proofs.Common.{◌≡◌, ℕ, zero, suc, ◌+◌, ◌-◌, ◌*◌, ◌/◌, ◌%◌, ◌<◌, ◌≤◌, List, [], ◌∷◌, ◌++◌, length, take}
-use Rattle.std.proofs.Common.{drop, get_or, refl, sym, ap, subst, ◌∙◌, arith, Bool, true, false, cond, ◌⊎◌, inl, inr}
-use Rattle.std.specs.Prelude.{nat_le, ◌&&◌}
-use Rattle.std.specs.Prelude.{not}
-use Rattle.std.proofs.lemmas.List.{length-drop, at_drop_more, get_or-drop}
-use Rattle.std.proofs.Math.Seq.{take-suc}
-use Rattle.std.proofs.lemmas.Bool.Decides.{nat_tests}
-use Rattle.dm_words.specs.declared.smallest.setting.Setting.{Setting}
-use Rattle.dm_words.specs.declared.item.Item.{Item}
-use Rattle.dm_words.specs.declared.c40.set.CodeSet.{CodeSet}
-use Rattle.dm_words.specs.declared.c40.set.CodeSet.TheVariants.{C40, Text, X12}
-use Rattle.dm_words.specs.inner.Costs.{Pairs}
-use Rattle.dm_words.specs.inner.Costs.{Step}
-use Rattle.dm_words.specs.inner.Written.{Waiting}
-use Rattle.dm_words.specs.inner.Costs.{never, owed, set_values, no_pairs, stay, leave, or_leave, going_from}
-use Rattle.dm_words.specs.inner.Costs.{going_pairs, row_pairs, row, parts_cost, IsRightStep}
-use Rattle.dm_words.specs.inner.Written.{part_values, is_empty, run_ends, IsItemPushed}
+use Rattle.dm_words.proofs.Names.{◌≡◌, ℕ, zero, suc, ◌+◌, ◌-◌, ◌*◌, ◌/◌, ◌%◌, ◌<◌, ◌≤◌, List, [], ◌∷◌, ◌++◌, length}
+use Rattle.dm_words.proofs.Names.{take, drop, get_or, refl, sym, ap, subst, ◌∙◌, arith, Bool, true, false, cond, ◌⊎◌}
+use Rattle.dm_words.proofs.Names.{inl, inr, nat_le, ◌&&◌, not, length-drop, at_drop_more, get_or-drop, take-suc}
+use Rattle.dm_words.proofs.Names.{nat_tests, Setting, Item, CodeSet, C40, Text, X12, Pairs, Waiting, never, set_values}
+use Rattle.dm_words.proofs.Names.{no_pairs, stay, leave, or_leave, going_from, going_pairs, row_pairs, parts_cost}
+use Rattle.dm_words.proofs.Names.{IsRightStep, part_values, is_empty, IsItemPushed}
+use Rattle.dm_words.specs.inner.Costs.{Step, owed, row}
+use Rattle.dm_words.specs.inner.Written.{run_ends}
 use Rattle.dm_words.proofs.RunWritten.{pushed_lengths}
 use Rattle.dm_words.proofs.SpellingCounts.{spelling_count}
 use Rattle.dm_words.proofs.CostsMet.{owed_values, stay_is}

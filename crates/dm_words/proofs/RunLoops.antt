@@ -1,20 +1,14 @@
 -- The loops that read the pairs and the items of a run.
-use Rattle.std.proofs.Common.{◌≡◌, ℕ, ◌+◌, ◌-◌, ◌<◌, ◌≤◌, List, [], ◌∷◌, ◌++◌, length, take, drop, refl, sym, ap, ◌∙◌}
-use Rattle.std.proofs.Common.{append_assoc, arith, Option, All}
-use Rattle.std.proofs.lemmas.List.{append-nil, length-drop, drop-drop, take_all}
-use Rattle.std.proofs.lemmas.List.Elements.{All-drop, All-head, All-append, All-cons, All-nil}
-use Rattle.dm_words.specs.Values.{IsRunValue}
-use Rattle.dm_words.specs.declared.c40.set.CodeSet.{CodeSet}
-use Rattle.dm_words.specs.declared.c40.pair.PairsEnd.{PairsEnd}
+use Rattle.dm_words.proofs.Names.{◌≡◌, ℕ, ◌+◌, ◌-◌, ◌<◌, ◌≤◌, List, [], ◌∷◌, ◌++◌, length, take, drop, refl, sym, ap}
+use Rattle.dm_words.proofs.Names.{◌∙◌, append_assoc, arith, Option, All, append-nil, length-drop, drop-drop, take_all}
+use Rattle.dm_words.proofs.Names.{All-drop, All-append, IsRunValue, CodeSet, PairsEnd, Extent, Item, WordFault, Takes}
+use Rattle.dm_words.proofs.Names.{Stops, Walked, and_before, flat, first_pair, first_spelling, pairs_in, items_in}
+use Rattle.dm_words.proofs.Names.{run_fault, run_unless, end_length}
+use Rattle.std.proofs.lemmas.List.Elements.{All-head, All-cons, All-nil}
 use Rattle.dm_words.specs.declared.c40.pair.PairsEnd.TheVariants as stop
 use Rattle.dm_words.specs.declared.c40.value.Rest.{Rest}
 use Rattle.dm_words.specs.declared.c40.value.Rest.TheVariants as left
-use Rattle.dm_words.specs.declared.extent.Extent.{Extent}
-use Rattle.dm_words.specs.declared.item.Item.{Item}
-use Rattle.dm_words.specs.declared.fault.WordFault.{WordFault}
-use Rattle.dm_words.specs.inner.Scan.Walk.{Takes, Stops, Walked, and_before, flat}
-use Rattle.dm_words.specs.inner.Scan.Prefixes.{first_pair, first_spelling, pairs_from, items_from, pairs_in, items_in}
-use Rattle.dm_words.specs.inner.Scan.Prefixes.{run_behind, run_fault, run_unless, end_length}
+use Rattle.dm_words.specs.inner.Scan.Prefixes.{pairs_from, items_from, run_behind}
 use Rattle.dm_words.proofs.Walks.{walk_all-takes, walk_all-stops}
 use Rattle.dm_words.proofs.Values.{ItemRight, Anything, item_sound}
 use Rattle.dm_words.proofs.Pairs.{IsBytes, IsBytes-drop, PairRight, pair_sound}

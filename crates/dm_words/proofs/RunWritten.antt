@@ -1,32 +1,19 @@
 -- The runs that are written are runs.
-use Rattle.std.proofs.Common.{◌≡◌, ℕ, ◌+◌, ◌-◌, ◌*◌, ◌/◌, ◌<◌, ◌≤◌, List, [], ◌∷◌, ◌++◌, length, take, drop, get_or}
-use Rattle.std.proofs.Common.{add-one}
-use Rattle.std.proofs.Common.{append_assoc, refl, sym, ap, subst, ◌∙◌, arith, Some, None, true, false}
-use Rattle.std.specs.List.{AllByRecursion}
-use Rattle.std.proofs.lemmas.Bool.Decides.{nat_tests}
-use Rattle.std.proofs.lemmas.List.{append-nil, length-append, length-take, length-drop}
-use Rattle.std.proofs.Math.Seq.{take-suc}
+use Rattle.dm_words.proofs.Names.{◌≡◌, ℕ, ◌+◌, ◌-◌, ◌*◌, ◌/◌, ◌<◌, ◌≤◌, List, [], ◌∷◌, ◌++◌, length, take, drop, get_or}
+use Rattle.dm_words.proofs.Names.{add-one, append_assoc, refl, sym, ap, subst, ◌∙◌, arith, Some, None, true, false}
+use Rattle.dm_words.proofs.Names.{AllByRecursion, nat_tests, append-nil, length-append, length-take, length-drop}
+use Rattle.dm_words.proofs.Names.{take-suc, Item, Byte, CodeSet, C40, Text, X12, Waiting, Extent, Usual, codeword_of}
+use Rattle.dm_words.proofs.Names.{Piece, spelled, gathered, whats, IsUpperShift, IsSpelling, filler, nothing, IsPair}
+use Rattle.dm_words.proofs.Names.{IsRun, IsRunEnd, unlatch, symbol_end, last_word, run, is_basic, set_values}
+use Rattle.dm_words.proofs.Names.{part_values, ArePushed, IsItemPushed, is_empty, NoUnlatchFirst, IsPartWritten}
 use Rattle.dm_words.proofs.Pieces.{all-append, spelled-append, spelled-last, whats-append, gathered-append}
 use Rattle.dm_words.proofs.Pieces.{gathered-last}
 use Rattle.dm_words.proofs.Runs.{pairs_room}
-use Rattle.dm_words.specs.declared.item.Item.{Item}
-use Rattle.dm_words.specs.declared.item.Item.TheVariants.{Byte}
-use Rattle.dm_words.specs.declared.c40.set.CodeSet.{CodeSet}
-use Rattle.dm_words.specs.declared.c40.set.CodeSet.TheVariants.{C40, Text, X12}
 use Rattle.dm_words.specs.declared.c40.set.Shift.TheVariants.{Two}
-use Rattle.dm_words.specs.inner.Written.{Waiting}
-use Rattle.dm_words.specs.declared.extent.Extent.{Extent}
-use Rattle.dm_words.specs.declared.extent.Extent.TheVariants.{Usual}
+use Rattle.dm_words.specs.inner.Written.{IsCharacterPushed, IsSmallPart, IsValuePushed}
 use Rattle.dm_words.specs.declared.codeword.Codeword.TheVariants as codeword
-use Rattle.dm_words.specs.Codewords.{codeword_of}
-use Rattle.dm_words.specs.Joined.{Piece, spelled, gathered, whats}
-use Rattle.dm_words.specs.Values.{IsUpperShift, IsSpelling, character, raised, filler, nothing}
-use Rattle.dm_words.specs.Runs.{IsPair, IsRun, IsRunEnd, unlatch, symbol_end, last_word}
+use Rattle.dm_words.specs.Values.{character, raised}
 use Rattle.dm_words.specs.Plain as plainly
-use Rattle.dm_words.specs.Parts.{run}
-use Rattle.dm_words.specs.inner.Costs.{is_basic, set_values}
-use Rattle.dm_words.specs.inner.Written.{IsCharacterPushed, part_values, IsSmallPart, IsValuePushed, ArePushed}
-use Rattle.dm_words.specs.inner.Written.{IsItemPushed, is_empty, NoUnlatchFirst, IsPartWritten}
 
 -- A byte below 128 is spelled.
 pub spelled_low : (set : CodeSet) (byte : ℕ) (old new : List ℕ) (item : Item) → old ≡ [] → item ≡ Byte byte

@@ -1,28 +1,19 @@
 -- A run that the scan finds is a run of the definition.
-use Rattle.std.proofs.Common.{◌≡◌, ◌≢◌, ℕ, suc, ◌+◌, ◌*◌, ◌<◌, ◌≤◌, List, [], ◌∷◌, ◌++◌, length, take, drop, refl, sym}
-use Rattle.std.proofs.Common.{ap, subst, ◌∙◌, append_assoc, arith, Option, Some, None, zero-add, inl, inr}
-use Rattle.std.specs.List.{AllByRecursion}
-use Rattle.std.proofs.lemmas.List.{take_at, drop_at, length-append}
+use Rattle.dm_words.proofs.Names.{◌≡◌, ◌≢◌, ℕ, suc, ◌+◌, ◌*◌, ◌<◌, ◌≤◌, List, [], ◌∷◌, ◌++◌, length, take, drop, refl}
+use Rattle.dm_words.proofs.Names.{sym, ap, subst, ◌∙◌, append_assoc, arith, Option, Some, None, zero-add, inl, inr}
+use Rattle.dm_words.proofs.Names.{AllByRecursion, take_at, drop_at, length-append, CodeSet, PairsEnd, Extent, Usual}
+use Rattle.dm_words.proofs.Names.{Wide, Item, WordFault, codeword_of, Piece, spelled, gathered, whats, AreJoined}
+use Rattle.dm_words.proofs.Names.{IsSpelling, IsDropped, filler, waiting, AreValues, IsPair, IsRunEnd, unlatch}
+use Rattle.dm_words.proofs.Names.{symbol_end, last_word, IsRun, Step, Takes, Stops, Walked, flat, first_pair}
+use Rattle.dm_words.proofs.Names.{first_spelling, run_fault, end_length, run_unless, pairs_in, items_in}
 use Rattle.dm_words.specs.declared.codeword.Codeword.TheVariants as codeword
-use Rattle.dm_words.specs.declared.c40.set.CodeSet.{CodeSet}
-use Rattle.dm_words.specs.declared.c40.pair.PairsEnd.{PairsEnd}
 use Rattle.dm_words.specs.declared.c40.pair.PairsEnd.TheVariants as stop
 use Rattle.dm_words.specs.declared.c40.value.Rest.{Rest}
 use Rattle.dm_words.specs.declared.c40.value.Rest.TheVariants as left
-use Rattle.dm_words.specs.declared.extent.Extent.{Extent}
-use Rattle.dm_words.specs.declared.extent.Extent.TheVariants.{Usual, Wide}
-use Rattle.dm_words.specs.declared.item.Item.{Item}
-use Rattle.dm_words.specs.declared.fault.WordFault.{WordFault}
-use Rattle.dm_words.specs.Codewords.{codeword_of}
-use Rattle.dm_words.specs.Joined.{Piece, spelled, gathered, whats, AreJoined}
 use Rattle.dm_words.specs.declared.fault.WordFault.TheVariants as fault
-use Rattle.dm_words.specs.Values.{IsSpelling, IsDropped, filler, waiting, AreValues}
-use Rattle.dm_words.specs.Runs.{IsPair, IsRunEnd, unlatch, symbol_end, last_word, IsRun}
 use Rattle.dm_words.specs.RunFaults.{EndsRun, BeginsBadPair, StopsPairs, OpenRun, pair_place, IsRunFault, value}
 use Rattle.dm_words.specs.RunFaults.{upper_shift, triplet, unfinished, IsFaultyRun}
-use Rattle.dm_words.specs.inner.Scan.Walk.{Step, Takes, Stops, Walked, flat}
-use Rattle.dm_words.specs.inner.Scan.Prefixes.{first_pair, first_spelling, run_fault, end_length, run_unless, pairs_in}
-use Rattle.dm_words.specs.inner.Scan.Prefixes.{items_in, run_behind}
+use Rattle.dm_words.specs.inner.Scan.Prefixes.{run_behind}
 use Rattle.dm_words.proofs.Walks.{Walks, walks, walk-joined}
 use Rattle.dm_words.proofs.Values.{ItemRight, Anything, AreSmall, IsRestOf, item_sound, rest_sound, item_complete}
 use Rattle.dm_words.proofs.Values.{rest_complete}

@@ -1,17 +1,10 @@
 -- How many items and marks codewords say: at most two items for each, in the wide extent seven more, and a mark for
 -- each two.
-use Rattle.std.proofs.Common.{◌≡◌, ℕ, zero, suc, ◌+◌, ◌*◌, ◌≤◌, List, [], ◌∷◌, ◌++◌, length, ap, ◌∙◌, arith}
-use Rattle.std.proofs.Common.{length-append, ◌⊎◌, inl, inr}
-use Rattle.dm_words.specs.declared.extent.Extent.{Extent}
-use Rattle.dm_words.specs.declared.extent.Extent.TheVariants.{Usual, Wide}
-use Rattle.dm_words.specs.declared.item.Item.{Item}
-use Rattle.dm_words.specs.declared.contents.opening.Opening.{Opening}
-use Rattle.dm_words.specs.Joined.{Piece, spelled, whats, AreJoined}
-use Rattle.dm_words.specs.Contents.{ContentView, Said, IsContentPart, part, mark, said_items, said_marks}
-use Rattle.dm_words.specs.Contents.{IsOpening, headed, framed, plain, opening_items, closing_items, Says}
-use Rattle.dm_words.specs.ContentExtents.{as_content}
-use Rattle.dm_words.specs.Messages.{most_spelled}
-use Rattle.dm_words.specs.Spells.{Spells}
+use Rattle.dm_words.proofs.Names.{◌≡◌, ℕ, zero, suc, ◌+◌, ◌*◌, ◌≤◌, List, [], ◌∷◌, ◌++◌, length, ap, ◌∙◌, arith}
+use Rattle.dm_words.proofs.Names.{length-append, ◌⊎◌, inl, inr, Extent, Usual, Wide, Item, Opening, Piece, spelled}
+use Rattle.dm_words.proofs.Names.{whats, AreJoined, ContentView, Said, IsContentPart, part, mark, said_items}
+use Rattle.dm_words.proofs.Names.{said_marks, IsOpening, headed, framed, plain, opening_items, closing_items, Says}
+use Rattle.dm_words.proofs.Names.{as_content, most_spelled, Spells}
 use Rattle.dm_words.proofs.ContentLoops.{designator_some}
 use Rattle.dm_words.proofs.ContentParts.{not_wide}
 use Rattle.dm_words.proofs.Parts.{room_of}

@@ -1,20 +1,10 @@
 -- What codewords say is a content: bytes of 0 to 255, and marks in order.
-use Rattle.std.proofs.Common.{◌≡◌, ℕ, ◌+◌, ◌≤◌, ◌<◌, List, [], ◌∷◌, ◌++◌, length, sym, subst, arith}
-use Rattle.std.proofs.Common.{length-append}
-use Rattle.std.specs.List.{AllByRecursion}
-use Rattle.std.proofs.lemmas.List.Elements.{All-from_recursion}
-use Rattle.dm_words.specs.declared.extent.Extent.{Extent}
-use Rattle.dm_words.specs.declared.contents.opening.Opening.{Opening}
-use Rattle.dm_words.specs.Messages.{IsItem, IsMessage}
-use Rattle.dm_words.specs.declared.item.Item.{Item}
-use Rattle.dm_words.specs.ContentExtents.{as_content}
-use Rattle.dm_words.specs.Spells.{Spells}
-use Rattle.dm_words.specs.Joined.{Piece, spelled, whats, AreJoined}
-use Rattle.dm_words.specs.Designators.{most_assigned, IsDesignator, one, two, three}
-use Rattle.dm_words.specs.Heads.{IsHead}
-use Rattle.dm_words.specs.Contents.{ContentView, AreMarks, IsContent, Said, Items, Number, IsContentPart, part, mark}
-use Rattle.dm_words.specs.Contents.{said_items, said_marks, IsOpening, headed, framed, plain, opening_head}
-use Rattle.dm_words.specs.Contents.{opening_items, closing_items, said_content, AreContentParts, Says}
+use Rattle.dm_words.proofs.Names.{◌≡◌, ℕ, ◌+◌, ◌≤◌, ◌<◌, List, [], ◌∷◌, ◌++◌, length, sym, subst, arith, length-append}
+use Rattle.dm_words.proofs.Names.{AllByRecursion, All-from_recursion, Extent, Opening, IsItem, IsMessage, Item}
+use Rattle.dm_words.proofs.Names.{as_content, Spells, Piece, spelled, whats, AreJoined, most_assigned, IsDesignator}
+use Rattle.dm_words.proofs.Names.{one, two, three, IsHead, ContentView, AreMarks, IsContent, Said, Items, Number}
+use Rattle.dm_words.proofs.Names.{IsContentPart, part, mark, said_items, said_marks, IsOpening, headed, framed, plain}
+use Rattle.dm_words.proofs.Names.{opening_head, opening_items, closing_items, said_content, AreContentParts, Says}
 use Rattle.dm_words.proofs.AsciiWords.{AreItems}
 use Rattle.dm_words.proofs.ItemBytes.{part_items, items-append, macro_byte}
 use Rattle.dm_words.proofs.Heads.{head_only}

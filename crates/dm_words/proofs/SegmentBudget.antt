@@ -1,18 +1,10 @@
 -- A segment that follows the plan stays within its budget.
-use Rattle.std.proofs.Common.{◌≡◌, ℕ, ◌+◌, ◌-◌, ◌<◌, ◌≤◌, List, [], ◌∷◌, ◌++◌, length, take, drop, get_or, refl, sym}
-use Rattle.std.proofs.Common.{ap, subst, ◌∙◌, arith, Bool, true, false, cond, inl, inr}
-use Rattle.std.specs.Prelude.{nat_le, ◌==◌}
-use Prim.Native.Nat.{min}
-use Rattle.std.proofs.lemmas.Bool.Decides.{nat_tests}
-use Rattle.std.proofs.lemmas.List.{length-drop, at_drop_more}
-use Rattle.dm_words.specs.declared.smallest.setting.Setting.{Setting}
-use Rattle.dm_words.specs.declared.item.Item.{Item}
-use Rattle.dm_words.specs.declared.item.Item.TheVariants.{Byte, Fnc1}
-use Rattle.dm_words.specs.inner.Costs.{Bytes}
-use Rattle.dm_words.specs.inner.Costs.{Step}
-use Rattle.dm_words.specs.NormalForm.{has_fnc1, length_numbers}
-use Rattle.dm_words.specs.inner.Costs.{never, most_behind, rest_behind, row, parts_cost, segment_cost, going_from}
-use Rattle.dm_words.specs.inner.Costs.{IsRightStep}
+use Rattle.dm_words.proofs.Names.{◌≡◌, ℕ, ◌+◌, ◌-◌, ◌<◌, ◌≤◌, List, [], ◌∷◌, ◌++◌, length, take, drop, get_or, refl}
+use Rattle.dm_words.proofs.Names.{sym, ap, subst, ◌∙◌, arith, Bool, true, false, cond, inl, inr, nat_le, ◌==◌, min}
+use Rattle.dm_words.proofs.Names.{nat_tests, length-drop, at_drop_more, Setting, Item, Byte, Fnc1, has_fnc1}
+use Rattle.dm_words.proofs.Names.{length_numbers, never, most_behind, rest_behind, parts_cost, segment_cost, going_from}
+use Rattle.dm_words.proofs.Names.{IsRightStep}
+use Rattle.dm_words.specs.inner.Costs.{Bytes, Step, row}
 use Rattle.dm_words.proofs.NormalForms.{short_numbers, long_numbers}
 use Rattle.dm_words.proofs.CostsMet.{bytes_is, near_cases}
 use Rattle.dm_words.proofs.Plans.{row_within}

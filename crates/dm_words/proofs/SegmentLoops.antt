@@ -1,16 +1,11 @@
 -- The loop that reads a segment, and the ways in which it is length-others.
-use Rattle.std.proofs.Common.{◌≡◌, ℕ, zero, suc, ◌+◌, ◌-◌, ◌<◌, ◌≤◌, List, [], ◌∷◌, ◌++◌, length, take, drop, get_or}
-use Rattle.std.proofs.Common.{refl, sym, ap, subst, ◌∙◌, append_assoc, add-zero, add-one, arith, Option, Some}
-use Rattle.std.proofs.lemmas.List.{take-append-drop, length-take, get_or-drop, length-drop, nil_from_length, take_all}
-use Rattle.std.proofs.Math.Seq.{take-suc, drop-cons}
-use Rattle.dm_words.specs.declared.item.Item.{Item}
-use Rattle.dm_words.specs.declared.item.Item.TheVariants.{Byte}
-use Rattle.dm_words.specs.declared.fault.WordFault.{WordFault}
+use Rattle.dm_words.proofs.Names.{◌≡◌, ℕ, zero, suc, ◌+◌, ◌-◌, ◌<◌, ◌≤◌, List, [], ◌∷◌, ◌++◌, length, take, drop}
+use Rattle.dm_words.proofs.Names.{get_or, refl, sym, ap, subst, ◌∙◌, append_assoc, add-zero, add-one, arith, Option}
+use Rattle.dm_words.proofs.Names.{Some, take-append-drop, length-take, get_or-drop, length-drop, nil_from_length}
+use Rattle.dm_words.proofs.Names.{take_all, take-suc, drop-cons, Item, Byte, WordFault, long_count, IsLengthField}
+use Rattle.dm_words.proofs.Names.{short, long, missing, past_short, no_second, wrong_second, past_long, byte_items}
+use Rattle.dm_words.proofs.Names.{Step, Takes, Stops}
 use Rattle.dm_words.specs.declared.fault.WordFault.TheVariants as fault
-use Rattle.dm_words.specs.Base256.{long_count, IsLengthField, short, long, missing, past_short, no_second, wrong_second}
-use Rattle.dm_words.specs.Base256.{past_long}
-use Rattle.dm_words.specs.Messages.{byte_items}
-use Rattle.dm_words.specs.inner.Scan.Walk.{Step, Takes, Stops}
 use Rattle.dm_words.specs.inner.Scan.Prefixes.{plain_at, plain, segment_behind}
 use Rattle.dm_words.proofs.Segments.{segment_again, bad_again}
 

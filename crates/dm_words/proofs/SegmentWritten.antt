@@ -1,18 +1,11 @@
 -- The segments that are written are segments.
-use Rattle.std.proofs.Common.{◌≡◌, ◌≢◌, ◌⊎◌, inl, inr, ℕ, ◌+◌, ◌/◌, ◌%◌, ◌<◌, ◌≤◌, List, [], ◌∷◌, ◌++◌, length, map}
-use Rattle.std.proofs.Common.{refl, sym, ap, subst, arith, Bool, true, false, cond}
-use Rattle.std.specs.Prelude.{nat_le}
-use Rattle.std.proofs.lemmas.Bool.{cases_lt}
-use Rattle.std.proofs.lemmas.List.{length-append, length-map}
-use Rattle.std.proofs.lemmas.List.Elements.{recursion_from_All}
-use Rattle.dm_words.specs.declared.extent.Extent.{Extent}
-use Rattle.dm_words.specs.declared.item.Item.{Item}
-use Rattle.dm_words.specs.Messages.{byte_of, IsItem, IsMessage}
-use Rattle.dm_words.specs.Base256.{written, randomised, IsLengthField, IsSegment, to_the_end}
-use Rattle.dm_words.specs.NormalForm.{has_fnc1, length_numbers}
+use Rattle.dm_words.proofs.Names.{◌≡◌, ◌≢◌, ◌⊎◌, inl, inr, ℕ, ◌+◌, ◌/◌, ◌%◌, ◌<◌, ◌≤◌, List, [], ◌∷◌, ◌++◌, length, map}
+use Rattle.dm_words.proofs.Names.{refl, sym, ap, subst, arith, Bool, true, false, cond, nat_le, cases_lt, length-append}
+use Rattle.dm_words.proofs.Names.{length-map, recursion_from_All, Extent, Item, byte_of, IsItem, IsMessage, written}
+use Rattle.dm_words.proofs.Names.{randomised, IsLengthField, IsSegment, to_the_end, has_fnc1, length_numbers, segment}
+use Rattle.dm_words.proofs.Names.{IsPartWritten}
 use Rattle.dm_words.specs.Plain as plainly
-use Rattle.dm_words.specs.Parts.{segment}
-use Rattle.dm_words.specs.inner.Written.{IsFieldWritten, IsPartWritten}
+use Rattle.dm_words.specs.inner.Written.{IsFieldWritten}
 use Rattle.dm_words.proofs.Segments.{length-written}
 use Rattle.dm_words.proofs.NormalForms.{short_numbers, long_numbers, says_count, bytes_of_items, bytes_are_items}
 use Rattle.dm_words.proofs.NormalForms.{segment_whole}

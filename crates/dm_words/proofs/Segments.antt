@@ -1,20 +1,15 @@
 -- A segment that the scan finds is a segment of the definition.
-use Rattle.std.proofs.Common.{◌≡◌, ℕ, zero, suc, ◌+◌, ◌-◌, ◌*◌, ◌%◌, ◌<◌, ◌≤◌, List, [], ◌∷◌, ◌++◌, length, take, drop}
-use Rattle.std.proofs.Common.{refl, sym, ap, ◌∙◌, append_assoc, add-zero, arith, Bool, true, false, cond, eqb, ltb}
-use Rattle.std.proofs.Common.{Option, Some, None}
-use Rattle.std.proofs.lemmas.Bool.{eqb-true, ltb-true, ltb-false, le-ltb}
-use Rattle.std.proofs.lemmas.Bool.Decides.{nat_tests}
-use Rattle.std.proofs.lemmas.List.{take_at, append-nil, length-append, length-take, take-append-drop}
+use Rattle.dm_words.proofs.Names.{◌≡◌, ℕ, zero, suc, ◌+◌, ◌-◌, ◌*◌, ◌%◌, ◌<◌, ◌≤◌, List, [], ◌∷◌, ◌++◌, length, take}
+use Rattle.dm_words.proofs.Names.{drop, refl, sym, ap, ◌∙◌, append_assoc, add-zero, arith, Bool, true, false, cond, eqb}
+use Rattle.dm_words.proofs.Names.{ltb, Option, Some, None, eqb-true, ltb-false, nat_tests, take_at, append-nil}
+use Rattle.dm_words.proofs.Names.{length-append, length-take, take-append-drop, Item, WordFault, codeword_of, random_at}
+use Rattle.dm_words.proofs.Names.{written, AreBytes, long_count, IsLengthField, to_the_end, short, long, IsSegment}
+use Rattle.dm_words.proofs.Names.{missing, past_short, no_second, wrong_second, past_long, byte_items, Step, Takes}
+use Rattle.dm_words.proofs.Names.{Stops}
+use Rattle.std.proofs.lemmas.Bool.{ltb-true, le-ltb}
 use Rattle.dm_words.specs.declared.codeword.Codeword.TheVariants as codeword
-use Rattle.dm_words.specs.declared.item.Item.{Item}
-use Rattle.dm_words.specs.declared.fault.WordFault.{WordFault}
 use Rattle.dm_words.specs.declared.fault.WordFault.TheVariants as fault
-use Rattle.dm_words.specs.Codewords.{codeword_of}
-use Rattle.dm_words.specs.Base256.{random_at, written, AreBytes, long_count, IsLengthField, to_the_end, short, long}
-use Rattle.dm_words.specs.Base256.{IsSegment, IsBadLength, missing, past_short, no_second, wrong_second, past_long}
-use Rattle.dm_words.specs.Base256.{IsFaultySegment}
-use Rattle.dm_words.specs.Messages.{byte_items}
-use Rattle.dm_words.specs.inner.Scan.Walk.{Step, Takes, Stops}
+use Rattle.dm_words.specs.Base256.{IsBadLength, IsFaultySegment}
 use Rattle.dm_words.specs.inner.Scan.Prefixes.{plain, segment_by, long_segment, segment_behind}
 use Rattle.dm_words.proofs.Pairs.{IsBytes}
 use Rattle.dm_words.proofs.Runs.{cut_behind_prefix}

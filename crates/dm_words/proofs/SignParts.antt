@@ -1,18 +1,10 @@
 -- The parts that are written keep the sign: FNC1 first, or second behind one codeword of ASCII.
-use Rattle.std.proofs.Common.{◌≡◌, inl, inr, ℕ, ◌+◌, ◌-◌, ◌<◌, ◌≤◌, List, [], ◌∷◌, ◌++◌, length, drop, get_or, refl}
-use Rattle.std.proofs.Common.{sym, ap, subst, ◌∙◌, arith, Bool, true, false, cond, ltb, append_assoc}
-use Rattle.std.specs.Prelude.{◌&&◌}
-use Rattle.std.proofs.lemmas.Bool.Decides.{nat_tests}
-use Rattle.std.proofs.lemmas.List.{append-nil, at_drop_more, length-drop}
-use Rattle.dm_words.specs.declared.item.Item.{Item}
-use Rattle.dm_words.specs.declared.item.Item.TheVariants.{Byte, Fnc1}
-use Rattle.dm_words.specs.declared.smallest.plan.Begin.TheVariants.{One, Two}
-use Rattle.dm_words.specs.declared.smallest.setting.Setting.{Setting}
-use Rattle.dm_words.specs.Ascii.{is_digit, digit_pair}
-use Rattle.dm_words.specs.Messages.{byte_of}
-use Rattle.dm_words.specs.inner.Costs.{Step, IsRightStep, most_behind, is_digit_item}
-use Rattle.dm_words.specs.inner.Scan.Results.{item_words}
-use Rattle.dm_words.specs.inner.Signs.{sign_words, KeepsSign, PassesSign}
+use Rattle.dm_words.proofs.Names.{◌≡◌, inl, inr, ℕ, ◌+◌, ◌-◌, ◌<◌, ◌≤◌, List, [], ◌∷◌, ◌++◌, length, drop, get_or, refl}
+use Rattle.dm_words.proofs.Names.{sym, ap, subst, ◌∙◌, arith, Bool, true, false, cond, ltb, append_assoc, ◌&&◌}
+use Rattle.dm_words.proofs.Names.{nat_tests, append-nil, at_drop_more, length-drop, Item, Byte, Fnc1, One, Two, Setting}
+use Rattle.dm_words.proofs.Names.{is_digit, digit_pair, byte_of, IsRightStep, most_behind, is_digit_item, item_words}
+use Rattle.dm_words.proofs.Names.{sign_words, KeepsSign, PassesSign}
+use Rattle.dm_words.specs.inner.Costs.{Step}
 use Rattle.dm_words.proofs.Exchanges.{fnc1_first, fnc1_second, fnc1_third}
 
 -- ---- what needs no sign

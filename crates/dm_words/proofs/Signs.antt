@@ -1,31 +1,16 @@
 -- Which number plain codewords have, by their first two: it is that of the codewords with which they keep the sign.
-use Rattle.std.proofs.Common.{◌≡◌, ◌⊎◌, inl, inr, ℕ, suc, ◌+◌, ◌-◌, ◌*◌, ◌/◌, ◌%◌, ◌<◌, ◌≤◌, List, [], ◌∷◌, ◌++◌}
-use Rattle.std.proofs.Common.{length, map, refl, sym, ap, subst, ◌∙◌, arith, Bool, true, false, cond, ltb, Option, Some}
-use Rattle.std.proofs.Common.{length-append, append_assoc}
-use Rattle.std.specs.Prelude.{◌==◌, ◌&&◌}
-use Rattle.std.specs.List.{AllByRecursion}
-use Rattle.std.proofs.lemmas.Bool.Decides.{nat_tests}
-use Rattle.dm_words.specs.declared.codeword.Codeword.{Codeword}
+use Rattle.dm_words.proofs.Names.{◌≡◌, ◌⊎◌, inl, inr, ℕ, suc, ◌+◌, ◌-◌, ◌*◌, ◌/◌, ◌%◌, ◌<◌, ◌≤◌, List, [], ◌∷◌, ◌++◌}
+use Rattle.dm_words.proofs.Names.{length, map, refl, sym, ap, subst, ◌∙◌, arith, Bool, true, false, cond, ltb, Option}
+use Rattle.dm_words.proofs.Names.{Some, length-append, append_assoc, ◌==◌, ◌&&◌, AllByRecursion, nat_tests, Codeword}
+use Rattle.dm_words.proofs.Names.{CodeSet, Usual, Item, Byte, Fnc1, IsAsciiUnit, character, digits, fnc1, raised}
+use Rattle.dm_words.proofs.Names.{is_digit, digit_pair, codeword_of, IsGroup, IsEdifactRun, IsEdifactEnd, few_left}
+use Rattle.dm_words.proofs.Names.{first, second, third, fourth, edifact_byte, Piece, spelled, gathered, whats}
+use Rattle.dm_words.proofs.Names.{AreJoined, Said, Items, Number, BeginsFnc1, byte_items, IsPlainPart, IsPlainSaid}
+use Rattle.dm_words.proofs.Names.{IsRun, IsEnd, pad, IsSpelling, fnc1_number, is_alone, sign_words}
 use Rattle.dm_words.specs.declared.codeword.Codeword.TheVariants as codeword
-use Rattle.dm_words.specs.declared.c40.set.CodeSet.{CodeSet}
-use Rattle.dm_words.specs.declared.extent.Extent.TheVariants.{Usual}
-use Rattle.dm_words.specs.declared.item.Item.{Item}
-use Rattle.dm_words.specs.declared.item.Item.TheVariants.{Byte, Fnc1}
-use Rattle.dm_words.specs.Ascii.{IsAsciiUnit, character, digits, fnc1, raised, is_digit, digit_pair}
-use Rattle.dm_words.specs.Codewords.{codeword_of}
-use Rattle.dm_words.specs.Edifact.{IsGroup, IsEdifactRun, IsEdifactEnd, few_left, first, second, third, fourth}
-use Rattle.dm_words.specs.Edifact.{edifact_byte}
-use Rattle.dm_words.specs.Joined.{Piece, spelled, gathered, whats, AreJoined}
-use Rattle.dm_words.specs.Contents.{Said, Items, Number}
-use Rattle.dm_words.specs.Macros.{BeginsFnc1}
-use Rattle.dm_words.specs.Messages.{byte_items}
-use Rattle.dm_words.specs.Plain.{IsPlainPart, IsPlainSaid, part, mark}
+use Rattle.dm_words.specs.Plain.{part, mark}
 use Rattle.dm_words.specs.Plain as plainly
-use Rattle.dm_words.specs.Runs.{IsRun}
-use Rattle.dm_words.specs.Parts.{IsEnd, nothing, pad}
-use Rattle.dm_words.specs.Values.{IsSpelling}
-use Rattle.dm_words.specs.inner.Fnc1.{fnc1_number, is_alone}
-use Rattle.dm_words.specs.inner.Signs.{sign_words}
+use Rattle.dm_words.specs.Parts.{nothing}
 use Rattle.dm_words.proofs.AsciiWords.{character_is, digits_are, character_of, digits_of}
 use Rattle.dm_words.proofs.Fnc1Places.{other_word}
 use Rattle.dm_words.proofs.Runs.{pairs_room}

@@ -1,29 +1,13 @@
 -- The words that are written for a content say it, and no fewer do; and how far they are determined.
-use Rattle.std.proofs.Common.{◌≡◌, ◌↔◌, ℕ, ◌+◌, ◌*◌, ◌≤◌, List, [], ◌∷◌, ◌++◌, length, refl, sym, ap, subst, ◌∙◌}
-use Rattle.std.proofs.Common.{arith, true, false, Option, Some, None, Result, Ok, Err}
-use Rattle.dm_layout.specs.declared.symbols.size.SizeChoice.{SizeChoice}
-use Rattle.dm_layout.specs.symbols.Sizes.{SizeEntry}
-use Rattle.dm_words.specs.declared.extent.Extent.{Extent}
-use Rattle.dm_words.specs.declared.extent.Extent.TheVariants.{Usual, Wide}
-use Rattle.dm_words.specs.declared.fault.TooLong.{TooLong}
-use Rattle.dm_words.specs.declared.item.Item.{Item}
-use Rattle.dm_words.specs.declared.contents.head.Head.{Head}
-use Rattle.dm_words.specs.declared.contents.mark.Mark.{Mark}
-use Rattle.dm_words.specs.declared.profile.Profile.TheVariants.{Ascii}
-use Rattle.dm_words.specs.Heads.{head_words}
-use Rattle.dm_words.specs.Contents.{ContentView, Says}
-use Rattle.dm_words.specs.ContentForm.{content_form, ascii_with_marks}
-use Rattle.dm_words.specs.ContentExtents.{as_content}
-use Rattle.dm_words.specs.Pads.{padded}
-use Rattle.dm_words.specs.Plain.{FramesNoFnc1, IsPlainForm}
+use Rattle.dm_words.proofs.Names.{◌≡◌, ◌↔◌, ℕ, ◌+◌, ◌*◌, ◌≤◌, List, [], ◌∷◌, ◌++◌, length, refl, sym, ap, subst, ◌∙◌}
+use Rattle.dm_words.proofs.Names.{arith, true, false, Option, Some, None, Result, Ok, Err, SizeChoice, SizeEntry}
+use Rattle.dm_words.proofs.Names.{Extent, Usual, Wide, TooLong, Item, Head, Mark, Ascii, head_words, ContentView, Says}
+use Rattle.dm_words.proofs.Names.{content_form, ascii_with_marks, as_content, padded, FramesNoFnc1, IsPlainForm}
+use Rattle.dm_words.proofs.Names.{SaysThenPads, IsSmallestContentResult, never, view_of, IsLeastContentCost, is_plain}
+use Rattle.dm_words.proofs.Names.{IsLeastCost}
 use Rattle.dm_words.specs.Smallest.{IsSmallestResult}
-use Rattle.dm_words.specs.SmallestContents.{IsSmallestContentFor, NoSizeSays, IsPlainestContent, SaysThenPads}
-use Rattle.dm_words.specs.SmallestContents.{of_message}
-use Rattle.dm_words.specs.SmallestContents.{of_content, IsSmallestContentResult}
-use Rattle.dm_words.specs.inner.Costs.{never}
-use Rattle.dm_words.specs.inner.ContentCosts.{view_of, IsLeastContentCost, IsLeastSize, IsSizeFor}
-use Rattle.dm_words.specs.inner.MarkedForms.{is_plain}
-use Rattle.dm_words.specs.inner.Ways.{IsLeastCost}
+use Rattle.dm_words.specs.SmallestContents.{IsSmallestContentFor, NoSizeSays, IsPlainestContent, of_message, of_content}
+use Rattle.dm_words.specs.inner.ContentCosts.{IsLeastSize, IsSizeFor}
 use Rattle.dm_words.proofs.CostBounds.{no_fewer_words}
 use Rattle.dm_words.proofs.ContentBounds.{no_fewer_content}
 use Rattle.dm_words.proofs.MessageReadings.{usual_plain}

@@ -1,21 +1,10 @@
 -- How far the smallest codewords of a message are determined.
-use Rattle.std.proofs.Common.{◌≡◌, ◌↔◌, ◌∙◌, ℕ, ◌*◌, ◌<◌, ◌≤◌, List, length, sym, ap, arith, inl, inr}
-use Rattle.std.proofs.lemmas.Bool.{cases_lt}
+use Rattle.dm_words.proofs.Names.{◌≡◌, ◌↔◌, ◌∙◌, ℕ, ◌*◌, ◌<◌, ◌≤◌, List, length, sym, ap, arith, inl, inr, cases_lt}
+use Rattle.dm_words.proofs.Names.{SizeChoice, SizeEntry, IsSize, area, Extent, Usual, Wide, Item, Profile, ascii}
+use Rattle.dm_words.proofs.Names.{IsMessage, normal_form, padded, IsPlainest, IsSmaller, IsSmallestFor, IsTaken}
+use Rattle.dm_words.proofs.Names.{as_content, Spells}
 use Rattle.std.proofs.Math.Nat.{eq_of_mul-eq-mul_right}
-use Rattle.dm_layout.specs.declared.symbols.size.SizeChoice.{SizeChoice}
-use Rattle.dm_layout.specs.symbols.Sizes.{SizeEntry, IsSize, area}
 use Rattle.dm_layout.proofs.symbols.Exported.{same_size, size_facts}
-use Rattle.dm_words.specs.declared.extent.Extent.{Extent}
-use Rattle.dm_words.specs.declared.extent.Extent.TheVariants.{Usual, Wide}
-use Rattle.dm_words.specs.declared.item.Item.{Item}
-use Rattle.dm_words.specs.declared.profile.Profile.{Profile}
-use Rattle.dm_words.specs.Ascii.{ascii}
-use Rattle.dm_words.specs.Messages.{IsMessage}
-use Rattle.dm_words.specs.NormalForm.{normal_form}
-use Rattle.dm_words.specs.Pads.{padded}
-use Rattle.dm_words.specs.Smallest.{IsPlainest, IsSmaller, IsSmallestFor, IsTaken}
-use Rattle.dm_words.specs.ContentExtents.{as_content}
-use Rattle.dm_words.specs.Spells.{Spells}
 use Rattle.dm_words.proofs.Extents.{said_wide, usual_no_frame}
 use Rattle.dm_words.proofs.NormalForms.{normal_form_count, normal_form_spells}
 

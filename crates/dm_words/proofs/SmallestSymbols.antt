@@ -1,27 +1,15 @@
 -- The words that are written spell the message, and no fewer do.
-use Rattle.std.proofs.Common.{◌≡◌, ℕ, zero, suc, ◌+◌, ◌-◌, ◌*◌, ◌<◌, ◌≤◌, List, [], ◌∷◌, length, sym, ap}
-use Rattle.std.proofs.Common.{subst, ◌∙◌, arith, true, inl, inr, nat_eq}
-use Rattle.std.specs.Prelude.{◌&&◌, All}
-use Rattle.std.proofs.lemmas.List.Elements.{recursion_from_All}
-use Rattle.dm_layout.specs.declared.symbols.size.SizeChoice.{SizeChoice}
-use Rattle.dm_layout.specs.symbols.Sizes.{SizeEntry, size_table, IsSize, takes, area}
+use Rattle.dm_words.proofs.Names.{◌≡◌, ℕ, zero, suc, ◌+◌, ◌-◌, ◌*◌, ◌<◌, ◌≤◌, List, [], ◌∷◌, length, sym, ap, subst}
+use Rattle.dm_words.proofs.Names.{◌∙◌, arith, true, inl, inr, nat_eq, ◌&&◌, All, recursion_from_All, SizeChoice}
+use Rattle.dm_words.proofs.Names.{SizeEntry, IsSize, area, Extent, Usual, Wide, Item, macro_text, IsMessage, ascii}
+use Rattle.dm_words.proofs.Names.{as_content, pads, padded, FramesNoFnc1, IsPlainForm, IsTaken, IsSmaller}
+use Rattle.dm_words.proofs.Names.{IsSmallestFor, IsPlainest, ArePads, SpellsThenPads, plain_padded, macro_padded}
+use Rattle.dm_words.proofs.Names.{AreParts, Spells, at_end, parts_cost, IsLeastCost, inner_text, IsMacroOf}
+use Rattle.dm_words.proofs.Names.{NoUnlatchFirst, ArePartsWritten}
+use Rattle.dm_layout.specs.symbols.Sizes.{size_table, takes}
 use Rattle.dm_layout.proofs.symbols.Exported.{at_found}
-use Rattle.dm_words.specs.declared.extent.Extent.{Extent}
-use Rattle.dm_words.specs.declared.extent.Extent.TheVariants.{Usual, Wide}
-use Rattle.dm_words.specs.declared.item.Item.{Item}
-use Rattle.dm_words.specs.Macros.{macro_text}
-use Rattle.dm_words.specs.Messages.{IsMessage}
-use Rattle.dm_words.specs.Ascii.{ascii}
-use Rattle.dm_words.specs.ContentExtents.{as_content}
-use Rattle.dm_words.specs.Pads.{pads, padded}
-use Rattle.dm_words.specs.Plain.{FramesNoFnc1, IsPlainForm}
-use Rattle.dm_words.specs.Smallest.{IsTaken, IsSmaller, NoneSpells, IsSmallestFor, IsPlainest, ArePads, SpellsThenPads}
-use Rattle.dm_words.specs.Smallest.{plain_padded, macro_padded}
-use Rattle.dm_words.specs.Parts.{AreParts}
-use Rattle.dm_words.specs.Spells.{Spells}
-use Rattle.dm_words.specs.inner.Costs.{at_end, parts_cost}
-use Rattle.dm_words.specs.inner.Ways.{IsLeastCost, inner_text, IsMacroOf, HasNoMacro}
-use Rattle.dm_words.specs.inner.Written.{NoUnlatchFirst, ArePartsWritten}
+use Rattle.dm_words.specs.Smallest.{NoneSpells}
+use Rattle.dm_words.specs.inner.Ways.{HasNoMacro}
 use Rattle.dm_words.proofs.PadWords.{length-pads, length-padded, pads_are}
 use Rattle.dm_words.proofs.AsciiWords.{pads_end}
 use Rattle.dm_words.proofs.LawLemmas.{ascii_spells}

@@ -1,18 +1,9 @@
 -- How many items codewords spell: at most two for each, and in the wide extent seven more; and some spell so many.
-use Rattle.std.proofs.Common.{◌≡◌, ℕ, zero, suc, ◌+◌, ◌*◌, ◌<◌, ◌≤◌, List, [], ◌∷◌, length, refl, sym, ap, arith}
-use Rattle.std.proofs.Common.{length-append}
-use Rattle.std.specs.List.{AllByRecursion}
-use Rattle.std.proofs.lemmas.List.{append-nil}
-use Rattle.std.proofs.lemmas.List.Elements.{All-from_recursion}
-use Rattle.dm_words.specs.declared.extent.Extent.{Extent}
-use Rattle.dm_words.specs.declared.extent.Extent.TheVariants.{Usual, Wide}
-use Rattle.dm_words.specs.declared.item.Item.{Item}
-use Rattle.dm_words.specs.declared.item.Item.TheVariants.{Byte}
-use Rattle.dm_words.specs.Joined.{Piece, spelled, gathered, AreJoined}
-use Rattle.dm_words.specs.Ascii.{digits}
-use Rattle.dm_words.specs.Macros.{macro_text, macro_trailer}
-use Rattle.dm_words.specs.Messages.{most_spelled}
-use Rattle.dm_words.specs.Parts.{IsPart, ascii, nothing, AreParts}
+use Rattle.dm_words.proofs.Names.{◌≡◌, ℕ, zero, suc, ◌+◌, ◌*◌, ◌<◌, ◌≤◌, List, [], ◌∷◌, length, refl, sym, ap, arith}
+use Rattle.dm_words.proofs.Names.{length-append, AllByRecursion, append-nil, All-from_recursion, Extent, Usual, Wide}
+use Rattle.dm_words.proofs.Names.{Item, Byte, Piece, spelled, gathered, AreJoined, digits, macro_text, macro_trailer}
+use Rattle.dm_words.proofs.Names.{most_spelled, IsPart, AreParts}
+use Rattle.dm_words.specs.Parts.{ascii, nothing}
 use Rattle.dm_words.specs.Laws.{SomeSpell}
 use Rattle.dm_words.proofs.SpelledContents.{parts_spell, macro_spells}
 

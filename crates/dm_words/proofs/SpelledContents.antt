@@ -1,32 +1,17 @@
 -- Codewords that spell a message are parts of it, and parts of a message say it as a content.
-use Rattle.std.proofs.Common.{◌≡◌, ℕ, ◌+◌, List, [], ◌∷◌, ◌++◌, length, refl, sym, subst, ap, ◌∙◌}
-use Rattle.std.proofs.Common.{append_assoc, arith, Some, None, inl, inr, ◌⊎◌}
-use Rattle.std.proofs.lemmas.List.{append-nil}
+use Rattle.dm_words.proofs.Names.{◌≡◌, ℕ, ◌+◌, List, [], ◌∷◌, ◌++◌, length, refl, sym, subst, ap, ◌∙◌, append_assoc}
+use Rattle.dm_words.proofs.Names.{arith, Some, None, inl, inr, ◌⊎◌, append-nil, CodeSet, Extent, Wide, Item}
+use Rattle.dm_words.proofs.Names.{ContentFault, Mark, Head, Opening, Plain, Framed, codeword_of, unlatch_word, Piece}
+use Rattle.dm_words.proofs.Names.{spelled, gathered, whats, AreJoined, unlatch, filler, nothing, IsPart, run, AreParts}
+use Rattle.dm_words.proofs.Names.{Spells, left_out, always, macro_behind, ContentView, Said, Items, Number}
+use Rattle.dm_words.proofs.Names.{IsContentPart, part, mark, AreContentParts, said_items, said_marks, AreEmptyRuns}
+use Rattle.dm_words.proofs.Names.{AreFrame, BeginsFrame, BeginsWithHeadWord, IsOpening, headed, framed, opening_head}
+use Rattle.dm_words.proofs.Names.{opening_items, closing_items, AreOpened, Says, IsContentFault, word, HaveContentFault}
+use Rattle.dm_words.proofs.Names.{macro_text, IsPlainPart, IsPlainSaid}
 use Rattle.dm_words.specs.declared.codeword.Codeword.TheVariants as codeword
-use Rattle.dm_words.specs.declared.c40.set.CodeSet.{CodeSet}
-use Rattle.dm_words.specs.declared.extent.Extent.{Extent}
-use Rattle.dm_words.specs.declared.extent.Extent.TheVariants.{Wide}
-use Rattle.dm_words.specs.declared.item.Item.{Item}
 use Rattle.dm_words.specs.declared.fault.WordFault.TheVariants as word_fault
-use Rattle.dm_words.specs.declared.contents.fault.ContentFault.{ContentFault}
 use Rattle.dm_words.specs.declared.contents.fault.ContentFault.TheVariants as fault
-use Rattle.dm_words.specs.declared.contents.mark.Mark.{Mark}
-use Rattle.dm_words.specs.declared.contents.head.Head.{Head}
-use Rattle.dm_words.specs.declared.contents.opening.Opening.{Opening}
-use Rattle.dm_words.specs.declared.contents.opening.Opening.TheVariants.{Plain, Framed}
-use Rattle.dm_words.specs.Codewords.{codeword_of, unlatch_word}
-use Rattle.dm_words.specs.Joined.{Piece, spelled, gathered, whats, AreJoined}
-use Rattle.dm_words.specs.Runs.{unlatch}
-use Rattle.dm_words.specs.Values.{filler, nothing}
-use Rattle.dm_words.specs.Parts.{IsPart, run, AreParts}
-use Rattle.dm_words.specs.Spells.{Spells}
-use Rattle.dm_words.specs.Faults.{left_out, always, macro_behind}
-use Rattle.dm_words.specs.Contents.{ContentView, Said, Items, Number, IsContentPart, part, mark, AreContentParts}
-use Rattle.dm_words.specs.Contents.{said_items, said_marks, AreEmptyRuns, AreFrame, BeginsFrame, BeginsWithHeadWord}
-use Rattle.dm_words.specs.Contents.{IsOpening, headed, framed, plain as opens_plain, opening_head, opening_items}
-use Rattle.dm_words.specs.Contents.{closing_items, AreOpened, Says, IsContentFault, word, HaveContentFault}
-use Rattle.dm_words.specs.Macros.{macro_text}
-use Rattle.dm_words.specs.Plain.{IsPlainPart, IsPlainSaid}
+use Rattle.dm_words.specs.Contents.{plain as opens_plain}
 use Rattle.dm_words.specs.Plain as plainly
 use Rattle.dm_words.proofs.WholeContents.{parts_read, fault_read}
 

@@ -1,24 +1,13 @@
 -- How many values an item has in a run.
-use Rattle.std.proofs.Common.{◌≡◌, ℕ, ◌+◌, ◌-◌, ◌<◌, ◌≤◌, List, [], ◌∷◌, ◌++◌, length, refl, arith, Some, Bool, true}
-use Rattle.std.proofs.Common.{false, cond, ltb}
-use Rattle.std.specs.List.{AllByRecursion}
-use Rattle.std.proofs.lemmas.Bool.Decides.{nat_tests}
-use Rattle.dm_words.specs.declared.item.Item.{Item}
-use Rattle.dm_words.specs.declared.item.Item.TheVariants.{Byte, Fnc1}
-use Rattle.dm_words.specs.declared.c40.set.CodeSet.{CodeSet}
-use Rattle.dm_words.specs.declared.c40.set.CodeSet.TheVariants.{C40, Text, X12}
-use Rattle.dm_words.specs.declared.c40.set.Shift.{Shift}
-use Rattle.dm_words.specs.declared.c40.set.Shift.TheVariants.{One, Two, Three}
-use Rattle.std.specs.Prelude.{All}
-use Rattle.std.proofs.lemmas.List.Elements.{All-from_recursion}
-use Rattle.dm_words.specs.declared.c40.set.Basic.{Basic}
-use Rattle.dm_words.specs.declared.c40.set.Shifted.{Shifted}
+use Rattle.dm_words.proofs.Names.{◌≡◌, ℕ, ◌+◌, ◌-◌, ◌<◌, ◌≤◌, List, [], ◌∷◌, ◌++◌, length, refl, arith, Some, Bool}
+use Rattle.dm_words.proofs.Names.{true, false, cond, ltb, AllByRecursion, nat_tests, Item, Byte, Fnc1, CodeSet, C40}
+use Rattle.dm_words.proofs.Names.{Text, X12, Shift, Three, All, All-from_recursion, Basic, Shifted, basic_of}
+use Rattle.dm_words.proofs.Names.{shifted_of, IsRunValue, IsShifted, IsCharacter, by_shift, IsSpelling, is_basic}
+use Rattle.dm_words.proofs.Names.{low_values, shift_values, set_values, unit_cost}
+use Rattle.dm_words.specs.declared.c40.set.Shift.TheVariants.{One, Two}
 use Rattle.dm_words.specs.declared.c40.set.Basic.TheVariants as basic
 use Rattle.dm_words.specs.declared.c40.set.Shifted.TheVariants as shifted
-use Rattle.dm_words.specs.CodeSets.{basic_of, shifted_of}
-use Rattle.dm_words.specs.Values.{IsRunValue, IsShifted, IsCharacter, plain, by_shift, IsSpelling, character, fnc1}
-use Rattle.dm_words.specs.Values.{raised}
-use Rattle.dm_words.specs.inner.Costs.{is_basic, low_values, shift_values, set_values, unit_cost}
+use Rattle.dm_words.specs.Values.{plain, character, fnc1, raised}
 use Rattle.dm_words.proofs.ItemBytes.{character_byte}
 
 -- An item by itself has at most two codewords.

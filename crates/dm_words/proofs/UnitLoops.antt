@@ -1,15 +1,11 @@
 -- The loop that writes one unit of ASCII after the other.
-use Rattle.std.proofs.Common.{◌≡◌, ℕ, suc, ◌+◌, ◌<◌, ◌≤◌, List, ◌∷◌, ◌++◌, length, get_or, drop, drop-cons, refl, ap}
-use Rattle.std.proofs.Common.{ap₂, sym, ◌∙◌, append_assoc, arith, length-append, Bool, true, false}
-use Rattle.std.specs.Prelude.{◌||◌}
-use Rattle.std.proofs.lemmas.List.{append-nil, at_drop_all}
-use Rattle.dm_words.specs.declared.item.Item.{Item}
-use Rattle.dm_words.specs.declared.item.Item.TheVariants.{Byte, Fnc1}
-use Rattle.dm_words.specs.declared.ascii.Unit.{Unit}
+use Rattle.dm_words.proofs.Names.{◌≡◌, ℕ, suc, ◌+◌, ◌<◌, ◌≤◌, List, ◌∷◌, ◌++◌, length, get_or, drop, drop-cons, refl}
+use Rattle.dm_words.proofs.Names.{ap, sym, ◌∙◌, append_assoc, arith, length-append, Bool, true, false, ◌||◌, append-nil}
+use Rattle.dm_words.proofs.Names.{at_drop_all, Item, Byte, Fnc1, Unit, ascii, is_digit, digit_pair, has_fnc1}
+use Rattle.dm_words.proofs.Names.{unit_words, unit_items}
+use Rattle.std.proofs.Common.{ap₂}
 use Rattle.dm_words.specs.declared.ascii.Unit.TheVariants.{One, Digits, Raised, Fnc1}
-use Rattle.dm_words.specs.Ascii.{ascii, is_digit, digit_pair}
-use Rattle.dm_words.specs.NormalForm.{has_fnc1}
-use Rattle.dm_words.specs.inner.Scan.Results.{BeginsAscii, unit_words, unit_items, unit_is_fnc1}
+use Rattle.dm_words.specs.inner.Scan.Results.{BeginsAscii, unit_is_fnc1}
 
 -- The codewords of the items from an index on are those of the unit there and those of the items behind it.
 pub record HasUnit (u : Unit) (items : List Item) (at : ℕ) : Type 0 where

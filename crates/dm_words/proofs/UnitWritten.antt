@@ -1,21 +1,12 @@
 -- The units of ASCII that are written are units.
-use Rattle.std.proofs.Common.{◌≡◌, ◌≢◌, ℕ, ◌+◌, ◌-◌, ◌<◌, List, [], ◌∷◌, ◌++◌, length, take, drop, get_or, refl, sym}
-use Rattle.std.proofs.Common.{ap, subst, ◌∙◌, arith, Bool, true, false, cond, ltb, Some, None}
-use Rattle.std.proofs.lemmas.List.{at_drop_more}
-use Rattle.std.proofs.lemmas.List.Elements.{All-drop, recursion_from_All}
-use Rattle.dm_words.specs.declared.extent.Extent.{Extent}
-use Rattle.dm_words.specs.declared.item.Item.{Item}
-use Rattle.dm_words.specs.declared.item.Item.TheVariants.{Byte, Fnc1}
-use Rattle.dm_words.specs.declared.codeword.Codeword.{Codeword}
+use Rattle.dm_words.proofs.Names.{◌≡◌, ◌≢◌, ℕ, ◌+◌, ◌-◌, ◌<◌, List, [], ◌∷◌, ◌++◌, length, take, drop, get_or, refl}
+use Rattle.dm_words.proofs.Names.{sym, ap, subst, ◌∙◌, arith, Bool, true, false, cond, ltb, Some, None, at_drop_more}
+use Rattle.dm_words.proofs.Names.{All-drop, recursion_from_All, Extent, Item, Byte, Fnc1, Codeword, codeword_of}
+use Rattle.dm_words.proofs.Names.{byte_of, IsItem, IsMessage, IsAsciiUnit, character, digits, fnc1, raised, is_digit}
+use Rattle.dm_words.proofs.Names.{digit_pair, item_words, unit_cost, is_digit_item, NoUnlatchFirst, IsPartWritten}
 use Rattle.dm_words.specs.declared.codeword.Codeword.TheVariants as codeword
-use Rattle.dm_words.specs.Codewords.{codeword_of}
-use Rattle.dm_words.specs.Messages.{byte_of, IsItem, IsMessage}
-use Rattle.dm_words.specs.Ascii.{IsAsciiUnit, character, digits, fnc1, raised, is_digit, digit_pair}
 use Rattle.dm_words.specs.Plain as plainly
 use Rattle.dm_words.specs.Parts.{ascii}
-use Rattle.dm_words.specs.inner.Scan.Results.{item_words}
-use Rattle.dm_words.specs.inner.Costs.{unit_cost, is_digit_item}
-use Rattle.dm_words.specs.inner.Written.{NoUnlatchFirst, IsPartWritten}
 use Rattle.dm_words.proofs.AsciiWords.{single_spells, pair_spells}
 
 -- A codeword that has a meaning isn't the unlatch.

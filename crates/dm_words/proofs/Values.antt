@@ -1,30 +1,17 @@
 -- The items that the scan finds among the values of a run are those that they spell.
-use Rattle.std.proofs.Common.{◌≡◌, ◌≢◌, ℕ, ◌+◌, ◌<◌, ◌≤◌, List, [], ◌∷◌, ◌++◌, length, take, drop, refl, sym, ap, subst}
-use Rattle.std.proofs.Common.{◌∙◌, arith, Option, Some, None, inl, inr, ◌⊎◌}
-use Rattle.std.specs.List.{AllByRecursion}
-use Rattle.std.proofs.lemmas.Bool.Decides.{nat_tests}
-use Rattle.std.proofs.lemmas.List.Elements.{recursion_from_All}
-use Rattle.std.proofs.lemmas.List.{take-append-drop}
-use Rattle.dm_words.specs.declared.item.Item.{Item}
-use Rattle.dm_words.specs.declared.item.Item.TheVariants.{Byte}
-use Rattle.dm_words.specs.declared.c40.set.CodeSet.{CodeSet}
-use Rattle.dm_words.specs.declared.c40.set.CodeSet.TheVariants.{C40, Text, X12}
-use Rattle.dm_words.specs.declared.c40.set.Shift.{Shift}
-use Rattle.dm_words.specs.declared.c40.set.Basic.{Basic}
+use Rattle.dm_words.proofs.Names.{◌≡◌, ◌≢◌, ℕ, ◌+◌, ◌<◌, ◌≤◌, List, [], ◌∷◌, ◌++◌, length, take, drop, refl, sym, ap}
+use Rattle.dm_words.proofs.Names.{subst, ◌∙◌, arith, Option, Some, None, inl, inr, ◌⊎◌, AllByRecursion, nat_tests}
+use Rattle.dm_words.proofs.Names.{recursion_from_All, take-append-drop, Item, Byte, CodeSet, C40, Text, X12, Shift}
+use Rattle.dm_words.proofs.Names.{Basic, Shifted, basic_of, shifted_of, IsShifted, IsUpperShift, IsCharacter, by_shift}
+use Rattle.dm_words.proofs.Names.{IsSpelling, IsFiller, nothing, lone_shift, IsRest, waiting, AreRunValues}
+use Rattle.dm_words.proofs.Names.{BeginsNoSpelling, Step, Takes, Stops, first_raised, first_spelling}
 use Rattle.dm_words.specs.declared.c40.set.Basic.TheVariants as basic
-use Rattle.dm_words.specs.declared.c40.set.Shifted.{Shifted}
 use Rattle.dm_words.specs.declared.c40.set.Shifted.TheVariants as shifted
 use Rattle.dm_words.specs.declared.c40.value.Rest.{Rest}
 use Rattle.dm_words.specs.declared.c40.value.Rest.TheVariants as left
-use Rattle.dm_words.specs.CodeSets.{basic_of, shifted_of}
-use Rattle.dm_words.specs.Values.{IsShifted, IsUpperShift, IsCharacter, plain, by_shift, IsSpelling, character, fnc1}
-use Rattle.dm_words.specs.Values.{raised, IsFiller, nothing, lone_shift, IsWaiting, BeginsWithoutMeaning, at_once}
-use Rattle.dm_words.specs.Values.{after_upper_shift, BeginsWrongUpperShift, IsRest, complete, waiting, meaningless}
-use Rattle.dm_words.specs.Values.{wrong_upper_shift}
-use Rattle.dm_words.specs.Laws.{AreRunValues, BeginsNoSpelling}
-use Rattle.dm_words.specs.inner.Scan.Walk.{Step, Takes, Stops}
-use Rattle.dm_words.specs.inner.Scan.Prefixes.{raised_shifted, raised_by, first_raised, shifted_by, spelling_by}
-use Rattle.dm_words.specs.inner.Scan.Prefixes.{first_spelling}
+use Rattle.dm_words.specs.Values.{plain, character, fnc1, raised, IsWaiting, BeginsWithoutMeaning, at_once}
+use Rattle.dm_words.specs.Values.{after_upper_shift, BeginsWrongUpperShift, complete, meaningless, wrong_upper_shift}
+use Rattle.dm_words.specs.inner.Scan.Prefixes.{raised_shifted, raised_by, shifted_by, spelling_by}
 use Rattle.dm_words.proofs.Walks.{IsSound, IsComplete}
 
 -- A spelling is right wherever it stands.

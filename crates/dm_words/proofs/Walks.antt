@@ -1,9 +1,9 @@
 -- A walk finds the pieces that are joined, and no others.
-use Rattle.std.proofs.Common.{◌≡◌, ℕ, zero, suc, ◌+◌, ◌<◌, ◌≤◌, List, [], ◌∷◌, ◌++◌, length, take, drop, refl, sym, ap}
-use Rattle.std.proofs.Common.{subst, ◌∙◌, append_assoc, arith, add-zero, length-append}
-use Rattle.std.proofs.lemmas.List.{drop_at, take-append-drop, length-take, length-drop}
-use Rattle.dm_words.specs.Joined.{Piece, spelled, whats, AreJoined}
-use Rattle.dm_words.specs.inner.Scan.Walk.{Step, Takes, Stops, Walked, and_before, by_step, walk, walk_all}
+use Rattle.dm_words.proofs.Names.{◌≡◌, ℕ, zero, suc, ◌+◌, ◌<◌, ◌≤◌, List, [], ◌∷◌, ◌++◌, length, take, drop, refl, sym}
+use Rattle.dm_words.proofs.Names.{ap, subst, ◌∙◌, append_assoc, arith, add-zero, length-append, drop_at}
+use Rattle.dm_words.proofs.Names.{take-append-drop, length-take, length-drop, Piece, spelled, whats, AreJoined, Step}
+use Rattle.dm_words.proofs.Names.{Takes, Stops, Walked, and_before}
+use Rattle.dm_words.specs.inner.Scan.Walk.{by_step, walk, walk_all}
 
 module _ {A S : Type 0} where
   -- A walk took these pieces and stopped before these words.

@@ -1,24 +1,15 @@
 -- A content is read from codewords exactly where they say it, and a fault is found exactly where they are refused with
 -- it.
-use Rattle.std.proofs.Common.{◌≡◌, ℕ, zero, suc, ◌+◌, List, [], ◌∷◌, ◌++◌, length, drop, refl, sym, ap}
-use Rattle.std.proofs.Common.{subst, ◌∙◌, append_assoc, arith, Option, Some, None, Result, Ok, Err, inl, inr}
-use Rattle.std.proofs.lemmas.List.{drop_at}
-use Rattle.dm_words.specs.declared.extent.Extent.{Extent}
-use Rattle.dm_words.specs.declared.item.Item.{Item}
-use Rattle.dm_words.specs.declared.contents.fault.ContentFault.{ContentFault}
+use Rattle.dm_words.proofs.Names.{◌≡◌, ℕ, zero, suc, ◌+◌, List, [], ◌∷◌, ◌++◌, length, drop, refl, sym, ap, subst, ◌∙◌}
+use Rattle.dm_words.proofs.Names.{append_assoc, arith, Option, Some, None, Result, Ok, Err, inl, inr, drop_at, Extent}
+use Rattle.dm_words.proofs.Names.{Item, ContentFault, Opened, Opening, spelled, AreBytes, ContentView, Said}
+use Rattle.dm_words.proofs.Names.{IsContentPart, AreContentParts, said_items, said_marks, opening_head, opening_items}
+use Rattle.dm_words.proofs.Names.{closing_items, said_content, AreOpened, Says, IsContentFault, HaveContentFault}
+use Rattle.dm_words.proofs.Names.{IsRefused, no_head, behind, HasOneContentResult, Stops, Walked, opened}
+use Rattle.dm_words.proofs.Names.{first_content_part, extended, content_to, opening_content, content_by, content_of}
 use Rattle.dm_words.specs.declared.contents.fault.ContentFault.TheVariants as fault
-use Rattle.dm_words.specs.declared.contents.opening.Opened.{Opened}
-use Rattle.dm_words.specs.declared.contents.opening.Opening.{Opening}
-use Rattle.dm_words.specs.Joined.{spelled}
-use Rattle.dm_words.specs.Base256.{AreBytes}
-use Rattle.dm_words.specs.Contents.{ContentView, Said, IsContentPart, AreContentParts, said_items, said_marks}
-use Rattle.dm_words.specs.Contents.{opening_head, opening_items, closing_items, said_content, AreOpened, Says}
-use Rattle.dm_words.specs.Contents.{IsContentFault, HaveContentFault, IsRefused, no_head, behind}
-use Rattle.dm_words.specs.ContentResults.{HasOneContentResult}
-use Rattle.dm_words.specs.inner.Scan.Walk.{Stops, Walked, walk}
-use Rattle.dm_words.specs.inner.ContentScan.{opened, first_content_part, extended, content_to, content_on}
-use Rattle.dm_words.specs.inner.ContentScan.{opening_content}
-use Rattle.dm_words.specs.inner.ContentScan.{and_closing, content_by, content_of}
+use Rattle.dm_words.specs.inner.Scan.Walk.{walk}
+use Rattle.dm_words.specs.inner.ContentScan.{content_on, and_closing}
 use Rattle.dm_words.proofs.Walks.{Walks, walks, walk-joined}
 use Rattle.dm_words.proofs.Pairs.{IsBytes, IsBytes-drop}
 use Rattle.dm_words.proofs.Openings as openings

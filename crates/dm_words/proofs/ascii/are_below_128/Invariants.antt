@@ -1,5 +1,4 @@
-use Rattle.std.proofs.Common.{◌+◌, ◌<◌, ◌≤◌, length, drop}
-use Rattle.dm_words.specs.Ascii.{ascii}
+use Rattle.dm_words.proofs.Names.{◌+◌, ◌<◌, ◌≤◌, length, drop, ascii}
 use Rattle.dm_words.proofs.ascii.are_below_128.Given as goal
 
 -- As long as no byte was 128 or more, each item so far takes at most one codeword.

@@ -1,8 +1,5 @@
-use Rattle.std.proofs.Common.{◌≡◌, ◌∙◌, List, Bool, true, false, ap, sym, arith, length}
-use Rattle.std.proofs.lemmas.List.{at_drop_all}
-use Rattle.std.specs.Prelude.{◌||◌}
-use Rattle.dm_words.specs.declared.item.Item.{Item}
-use Rattle.dm_words.specs.Ascii.{ascii}
+use Rattle.dm_words.proofs.Names.{◌≡◌, ◌∙◌, List, Bool, true, false, ap, sym, arith, length, at_drop_all, ◌||◌, Item}
+use Rattle.dm_words.proofs.Names.{ascii}
 use Rattle.dm_words.proofs.UnitLoops.{fnc1_end}
 use Rattle.dm_words.proofs.ascii.ascii_form.Goals as goal
 

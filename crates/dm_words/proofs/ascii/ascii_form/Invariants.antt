@@ -1,7 +1,4 @@
-use Rattle.std.proofs.Common.{◌≡◌, ◌-◌, ◌+◌, ◌*◌, ◌≤◌, length, drop}
-use Rattle.std.specs.Prelude.{◌||◌}
-use Rattle.dm_words.specs.Ascii.{ascii}
-use Rattle.dm_words.specs.NormalForm.{has_fnc1}
+use Rattle.dm_words.proofs.Names.{◌≡◌, ◌-◌, ◌+◌, ◌*◌, ◌≤◌, length, drop, ◌||◌, ascii, has_fnc1}
 use Rattle.dm_words.proofs.ascii.ascii_form.Given as goal
 
 -- The units before the index are counted.

@@ -1,4 +1,4 @@
-use Rattle.std.proofs.Common.{arith}
+use Rattle.dm_words.proofs.Names.{arith}
 use Rattle.dm_words.proofs.NormalForms.{two_words}
 use Rattle.dm_words.proofs.ascii.surely_fits.Goals as goal
 

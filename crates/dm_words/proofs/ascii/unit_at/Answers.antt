@@ -1,4 +1,4 @@
-use Rattle.std.proofs.Common.{◌∙◌, sym, arith}
+use Rattle.dm_words.proofs.Names.{◌∙◌, sym, arith}
 use Rattle.dm_words.proofs.UnitLoops.{pair_begins}
 use Rattle.dm_words.proofs.ascii.unit_at.Goals as goal
 

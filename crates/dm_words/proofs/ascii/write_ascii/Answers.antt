@@ -1,4 +1,4 @@
-use Rattle.std.proofs.Common.{◌∙◌, ap, length, arith}
+use Rattle.dm_words.proofs.Names.{◌∙◌, ap, length, arith}
 use Rattle.dm_words.proofs.UnitLoops.{has_unit, unit_turn, unit_room, fnc1_turn, words_end, fnc1_end}
 use Rattle.dm_words.proofs.ascii.write_ascii.Goals as goal
 

@@ -1,5 +1,4 @@
-use Rattle.std.proofs.Common.{◌∷◌, [], length, ap, arith, length-append}
-use Rattle.dm_words.specs.declared.item.Item.TheVariants.{Byte}
+use Rattle.dm_words.proofs.Names.{◌∷◌, [], length, ap, arith, length-append, Byte}
 use Rattle.dm_words.proofs.SegmentLoops.{bytes_more}
 use Rattle.dm_words.proofs.base256.push_bytes.Goals as goal
 

@@ -1,5 +1,4 @@
-use Rattle.std.proofs.Common.{◌≡◌, ◌+◌, ◌++◌, length, drop, take}
-use Rattle.dm_words.specs.Messages.{byte_items}
+use Rattle.dm_words.proofs.Names.{◌≡◌, ◌+◌, ◌++◌, length, drop, take, byte_items}
 use Rattle.dm_words.specs.inner.Scan.Prefixes.{plain}
 use Rattle.dm_words.proofs.base256.push_bytes.Given as goal
 

@@ -1,4 +1,4 @@
-use Rattle.std.proofs.Common.{arith}
+use Rattle.dm_words.proofs.Names.{arith}
 use Rattle.dm_words.proofs.SegmentLoops.{nothing_left, to_the_end_found, past_short_found, short_found, no_second_found}
 use Rattle.dm_words.proofs.SegmentLoops.{wrong_second_found, past_long_found, long_found}
 use Rattle.dm_words.proofs.base256.segment_part.Goals as goal

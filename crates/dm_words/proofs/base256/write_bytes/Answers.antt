@@ -1,7 +1,5 @@
-use Rattle.std.proofs.Common.{◌≡◌, ◌∙◌, ◌+◌, ◌%◌, ◌++◌, ◌∷◌, [], length, map, take, arith, ap, sym}
-use Rattle.std.proofs.lemmas.List.{length-append, length-map, length-take}
-use Rattle.dm_words.specs.Messages.{byte_of}
-use Rattle.dm_words.specs.Base256.{random_at, randomised, written}
+use Rattle.dm_words.proofs.Names.{◌≡◌, ◌∙◌, ◌+◌, ◌%◌, ◌++◌, ◌∷◌, [], length, map, take, arith, ap, sym, length-append}
+use Rattle.dm_words.proofs.Names.{length-map, length-take, byte_of, random_at, randomised, written}
 use Rattle.dm_words.proofs.Segments.{length-written}
 use Rattle.dm_words.proofs.NormalForms.{bytes_more}
 use Rattle.dm_words.proofs.base256.write_bytes.Goals as goal

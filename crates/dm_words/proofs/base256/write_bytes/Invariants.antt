@@ -1,6 +1,4 @@
-use Rattle.std.proofs.Common.{◌≡◌, ◌+◌, ◌++◌, length, map, take}
-use Rattle.dm_words.specs.Messages.{byte_of}
-use Rattle.dm_words.specs.Base256.{random_at, written}
+use Rattle.dm_words.proofs.Names.{◌≡◌, ◌+◌, ◌++◌, length, map, take, byte_of, random_at, written}
 use Rattle.dm_words.proofs.base256.write_bytes.Given as goal
 
 -- The bytes of the items so far are written, and the number is that of the next place.

@@ -1,8 +1,5 @@
-use Rattle.std.proofs.Common.{◌∙◌, ◌+◌, ◌++◌, ◌∷◌, [], length, map, arith, ap, sym}
-use Rattle.std.proofs.lemmas.List.{length-map, length-append}
-use Rattle.dm_words.specs.Messages.{byte_of}
-use Rattle.dm_words.specs.Base256.{written}
-use Rattle.dm_words.specs.NormalForm.{length_numbers}
+use Rattle.dm_words.proofs.Names.{◌∙◌, ◌+◌, ◌++◌, ◌∷◌, [], length, map, arith, ap, sym, length-map, length-append}
+use Rattle.dm_words.proofs.Names.{byte_of, written, length_numbers}
 use Rattle.dm_words.proofs.Segments.{length-written}
 use Rattle.dm_words.proofs.NormalForms.{length-one_segment, segment_whole}
 use Rattle.dm_words.proofs.base256.write_segment.Goals as goal

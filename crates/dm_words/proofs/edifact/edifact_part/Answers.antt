@@ -1,4 +1,4 @@
-use Rattle.std.proofs.Common.{◌≡◌, ◌+◌, ◌≤◌, drop, refl, arith}
+use Rattle.dm_words.proofs.Names.{◌≡◌, ◌+◌, ◌≤◌, drop, refl, arith}
 use Rattle.dm_words.specs.inner.Scan.Prefixes.{edifact_run}
 use Rattle.dm_words.proofs.GroupLoops.{border_ends, group_ends, group_goes_on}
 use Rattle.dm_words.proofs.edifact.edifact_part.Goals as goal

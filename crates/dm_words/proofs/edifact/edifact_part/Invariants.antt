@@ -1,4 +1,4 @@
-use Rattle.std.proofs.Common.{◌+◌, ◌-◌, ◌≤◌, length}
+use Rattle.dm_words.proofs.Names.{◌+◌, ◌-◌, ◌≤◌, length}
 use Rattle.dm_words.specs.inner.Scan.Results.{HasRoomAt}
 use Rattle.dm_words.proofs.GroupLoops.{GroupsGoOn}
 use Rattle.dm_words.proofs.edifact.edifact_part.Given as goal

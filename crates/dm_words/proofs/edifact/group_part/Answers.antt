@@ -1,4 +1,4 @@
-use Rattle.std.proofs.Common.{◌+◌, ◌*◌, ◌/◌, ◌%◌}
+use Rattle.dm_words.proofs.Names.{◌+◌, ◌*◌, ◌/◌, ◌%◌}
 use Rattle.dm_words.proofs.GroupLoops.{ends_second, ends_third, ends_fourth, is_whole}
 use Rattle.dm_words.proofs.edifact.group_part.Goals as goal
 

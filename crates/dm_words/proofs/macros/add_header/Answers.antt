@@ -1,4 +1,4 @@
-use Rattle.std.proofs.Common.{append_assoc, refl}
+use Rattle.dm_words.proofs.Names.{append_assoc, refl}
 use Rattle.dm_words.proofs.macros.add_header.Goals as goal
 
 pub returns : goal.returns

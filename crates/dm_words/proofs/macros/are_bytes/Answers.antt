@@ -1,6 +1,4 @@
-use Rattle.std.proofs.Common.{◌≡◌, ◌∙◌, ◌<◌, List, length, get_or, ap, arith, true}
-use Rattle.dm_words.specs.declared.item.Item.{Item}
-use Rattle.dm_words.specs.declared.item.Item.TheVariants.{Fnc1}
+use Rattle.dm_words.proofs.Names.{◌≡◌, ◌∙◌, ◌<◌, List, length, get_or, ap, arith, true, Item, Fnc1}
 use Rattle.dm_words.proofs.Segments.{byte_items-length}
 use Rattle.dm_words.proofs.Frames.{byte_at, bytes_so_far}
 use Rattle.dm_words.proofs.macros.are_bytes.Goals as goal

@@ -1,5 +1,4 @@
-use Rattle.std.proofs.Common.{◌≡◌, length, take}
-use Rattle.dm_words.specs.Messages.{byte_items}
+use Rattle.dm_words.proofs.Names.{◌≡◌, length, take, byte_items}
 use Rattle.dm_words.proofs.macros.are_bytes.Given as goal
 
 -- The items so far are the bytes so far.

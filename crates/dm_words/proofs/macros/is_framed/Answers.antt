@@ -1,6 +1,4 @@
-use Rattle.std.proofs.Common.{◌≡◌, ◌∙◌, ◌-◌, length, take, sym, arith}
-use Rattle.std.proofs.lemmas.List.{take_rest}
-use Rattle.dm_words.specs.Macros.{macro_header}
+use Rattle.dm_words.proofs.Names.{◌≡◌, ◌∙◌, ◌-◌, length, take, sym, arith, take_rest, macro_header}
 use Rattle.dm_words.proofs.Frames.{is_framed, frame_is, fnc1_inside}
 use Rattle.dm_words.proofs.macros.is_framed.Goals as goal
 

@@ -1,4 +1,4 @@
-use Rattle.std.proofs.Common.{refl}
+use Rattle.dm_words.proofs.Names.{refl}
 use Rattle.dm_words.proofs.macros.macro_of.Goals as goal
 
 pub returns-then-is_framed-clause-found : goal.returns-then-is_framed-clause-found

@@ -1,4 +1,4 @@
-use Rattle.std.proofs.Common.{◌∙◌, sym, ap, cond}
+use Rattle.dm_words.proofs.Names.{◌∙◌, sym, ap, cond}
 use Rattle.dm_words.proofs.NormalForms.{form_known}
 use Rattle.dm_words.proofs.normal_form.form_of.Goals as goal
 

@@ -1,4 +1,4 @@
-use Rattle.std.proofs.Common.{◌∙◌, arith, ap, length, sym}
+use Rattle.dm_words.proofs.Names.{◌∙◌, arith, ap, length, sym}
 use Rattle.dm_words.proofs.NormalPlain.{message_plain}
 use Rattle.dm_words.proofs.normal_form.normal_words_in.Goals as goal
 

@@ -1,4 +1,4 @@
-use Rattle.std.proofs.Common.{◌∙◌, length, sym, ap, arith}
+use Rattle.dm_words.proofs.Names.{◌∙◌, length, sym, ap, arith}
 use Rattle.dm_words.proofs.NormalPlain.{message_plain}
 use Rattle.dm_words.proofs.normal_form.write_counted.Goals as goal
 

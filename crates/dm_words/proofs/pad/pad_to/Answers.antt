@@ -1,4 +1,4 @@
-use Rattle.std.proofs.Common.{arith}
+use Rattle.dm_words.proofs.Names.{arith}
 use Rattle.dm_words.proofs.PadWords.{pads_more}
 use Rattle.dm_words.proofs.pad.pad_to.Goals as goal
 

@@ -1,5 +1,4 @@
-use Rattle.std.proofs.Common.{◌≡◌, ◌-◌, ◌+◌, ◌++◌, ◌∷◌, ◌≤◌, length}
-use Rattle.dm_words.specs.Pads.{further_pads}
+use Rattle.dm_words.proofs.Names.{◌≡◌, ◌-◌, ◌+◌, ◌++◌, ◌∷◌, ◌≤◌, length, further_pads}
 use Rattle.dm_words.proofs.pad.pad_to.Given as goal
 
 abbrev pub invariant-loop-place : goal.invariant-loop-place

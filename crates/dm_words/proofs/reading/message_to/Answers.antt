@@ -1,5 +1,4 @@
-use Rattle.dm_words.proofs.MessageReadings.{message_result, fault_result, no_designator_fault}
-use Rattle.dm_words.proofs.MessageReadings.{no_append_fault}
+use Rattle.dm_words.proofs.MessageReadings.{message_result, fault_result, no_designator_fault, no_append_fault}
 use Rattle.dm_words.proofs.reading.message_to.Goals as goal
 
 pub unreachable-requires : goal.unreachable-requires

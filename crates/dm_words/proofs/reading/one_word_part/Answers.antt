@@ -1,5 +1,4 @@
-use Rattle.std.proofs.Common.{sym, ap}
-use Rattle.dm_words.specs.inner.Scan.Prefixes.{is_one_word}
+use Rattle.dm_words.proofs.Names.{sym, ap, is_one_word}
 use Rattle.dm_words.proofs.ContentLoops.{character_taken, digits_taken}
 use Rattle.dm_words.proofs.reading.one_word_part.Goals as goal
 

@@ -1,4 +1,4 @@
-use Rattle.std.proofs.Common.{arith}
+use Rattle.dm_words.proofs.Names.{arith}
 use Rattle.dm_words.proofs.ContentLoops.{one_word_turn}
 use Rattle.dm_words.proofs.reading.one_word_parts.Goals as goal
 

@@ -1,7 +1,4 @@
-use Rattle.std.proofs.Common.{◌≡◌, ◌+◌, ◌-◌, ◌*◌, ◌≤◌, List, length, drop}
-use Rattle.dm_words.specs.declared.extent.Extent.{Extent}
-use Rattle.dm_words.specs.declared.contents.mark.Mark.{Mark}
-use Rattle.dm_words.specs.inner.ContentScan.{items_with, content_on}
+use Rattle.dm_words.proofs.Names.{◌≡◌, ◌+◌, ◌-◌, ◌*◌, ◌≤◌, List, length, drop, Extent, Mark, items_with, content_on}
 use Rattle.dm_words.proofs.reading.one_word_parts.Given as goal
 
 abbrev pub invariant-loop-word : goal.invariant-loop-word

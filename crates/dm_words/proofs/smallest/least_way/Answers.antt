@@ -1,6 +1,4 @@
-use Rattle.std.proofs.Common.{◌∙◌, ap}
-use Rattle.dm_words.specs.declared.smallest.setting.Setting.{Setting}
-use Rattle.dm_words.specs.inner.Costs.{parts_cost}
+use Rattle.dm_words.proofs.Names.{◌∙◌, ap, Setting, parts_cost}
 use Rattle.dm_words.proofs.SmallestSymbols.{least_plain}
 use Rattle.dm_words.proofs.smallest.least_way.Goals as goal
 

@@ -1,8 +1,4 @@
-use Rattle.std.proofs.Common.{subst, sym, ◌∙◌, Err}
-use Rattle.dm_words.specs.Contents.{ContentView}
-use Rattle.dm_words.specs.declared.extent.Extent.{Extent}
-use Rattle.dm_words.specs.SmallestContents.{IsSmallestContentResult}
-use Rattle.dm_words.specs.inner.ContentCosts.{view_of}
+use Rattle.dm_words.proofs.Names.{subst, sym, ◌∙◌, Err, ContentView, Extent, IsSmallestContentResult, view_of}
 use Rattle.dm_words.proofs.SmallestContents.{plain_is, is_no_message, usual_too_long}
 use Rattle.dm_words.proofs.smallest.smallest_in.Goals as goal
 

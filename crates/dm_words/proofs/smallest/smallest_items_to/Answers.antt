@@ -1,8 +1,5 @@
-use Rattle.std.proofs.Common.{◌≡◌, ◌∙◌, ℕ, List, length, ap, sym, subst, arith}
-use Rattle.dm_words.specs.ContentExtents.{as_content}
-use Rattle.dm_words.specs.Pads.{padded}
-use Rattle.dm_words.specs.Plain.{IsPlainForm}
-use Rattle.dm_words.specs.Smallest.{IsPlainest, SpellsThenPads}
+use Rattle.dm_words.proofs.Names.{◌≡◌, ◌∙◌, ℕ, List, length, ap, sym, subst, arith, as_content, padded, IsPlainForm}
+use Rattle.dm_words.proofs.Names.{IsPlainest, SpellsThenPads}
 use Rattle.dm_words.proofs.SmallestContents.{message_content}
 use Rattle.dm_words.proofs.SmallestSymbols.{is_smallest, none_spells, padded_spells}
 use Rattle.dm_words.proofs.smallest.smallest_items_to.Goals as goal

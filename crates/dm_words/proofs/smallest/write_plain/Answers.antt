@@ -1,10 +1,5 @@
-use Rattle.std.proofs.Common.{ℕ, arith, subst}
-use Rattle.dm_words.specs.declared.extent.Extent.TheVariants.{Usual}
-use Rattle.dm_words.specs.declared.smallest.setting.Setting.{Setting}
-use Rattle.dm_words.specs.inner.Written.{ArePartsWritten}
+use Rattle.dm_words.proofs.Names.{ℕ, arith, subst, Usual, Setting, ArePartsWritten, recursion_from_All, IsItem}
 use Rattle.dm_words.proofs.SmallestSymbols.{plain_spells}
-use Rattle.std.proofs.lemmas.List.Elements.{recursion_from_All}
-use Rattle.dm_words.specs.Messages.{IsItem}
 use Rattle.dm_words.proofs.PlainForms.{message_form}
 use Rattle.dm_words.proofs.smallest.write_plain.Goals as goal
 

@@ -1,12 +1,7 @@
-use Rattle.std.proofs.Common.{rules, ℕ, List, ap, sym, subst, arith, length}
-use Rattle.dm_words.specs.Pads.{padded}
-use Rattle.dm_words.specs.Smallest.{SpellsThenPads}
+use Rattle.dm_words.proofs.Names.{rules, ℕ, List, ap, sym, subst, arith, length, padded, SpellsThenPads}
+use Rattle.dm_words.proofs.Names.{recursion_from_All, as_content, IsItem, IsPlainForm}
 use Rattle.dm_words.proofs.LawLemmas.{ascii_padded}
 use Rattle.dm_words.proofs.SmallestSymbols.{ascii_plainest, usual_plainest}
-use Rattle.std.proofs.lemmas.List.Elements.{recursion_from_All}
-use Rattle.dm_words.specs.ContentExtents.{as_content}
-use Rattle.dm_words.specs.Messages.{IsItem}
-use Rattle.dm_words.specs.Plain.{IsPlainForm}
 use Rattle.dm_words.proofs.PlainForms.{ascii_plain, message_writable}
 use Rattle.dm_words.proofs.smallest.write_plainest.Goals as goal
 

@@ -1,7 +1,4 @@
-use Rattle.std.proofs.Common.{arith, ◌∙◌, ap}
-use Rattle.dm_words.specs.declared.smallest.setting.Setting.{Setting}
-use Rattle.dm_words.specs.inner.Costs.{parts_cost}
-use Rattle.dm_words.specs.Pads.{padded}
+use Rattle.dm_words.proofs.Names.{arith, ◌∙◌, ap, Setting, parts_cost, padded}
 use Rattle.dm_words.proofs.SmallestSymbols.{wider, usual_plainest, any_plainest, long_plainest}
 use Rattle.dm_words.proofs.smallest.write_usual_if_fits.Goals as goal
 

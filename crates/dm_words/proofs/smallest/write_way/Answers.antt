@@ -1,10 +1,7 @@
-use Rattle.std.proofs.Common.{◌∙◌, ◌≤◌, ℕ, ◌-◌, List, [], ◌∷◌, ◌++◌, Option, ap, arith, subst, rules, drop, length}
-use Rattle.std.proofs.lemmas.List.{length-take, length-drop}
-use Rattle.std.proofs.lemmas.List.Elements.{All-drop, All-take, recursion_from_All}
-use Rattle.dm_words.specs.declared.smallest.setting.Setting.{Setting}
-use Rattle.dm_words.specs.Messages.{IsItem}
+use Rattle.dm_words.proofs.Names.{◌∙◌, ◌≤◌, ℕ, ◌-◌, List, [], ◌∷◌, ◌++◌, Option, ap, arith, subst, rules, drop, length}
+use Rattle.dm_words.proofs.Names.{length-take, length-drop, All-drop, All-take, recursion_from_All, Setting, IsItem}
+use Rattle.dm_words.proofs.Names.{ArePartsWritten}
 use Rattle.dm_words.specs.inner.Ways.{IsWay}
-use Rattle.dm_words.specs.inner.Written.{ArePartsWritten}
 use Rattle.dm_words.proofs.SmallestSymbols.{macro_spells}
 use Rattle.dm_words.proofs.PlainForms.{macro_form}
 use Rattle.dm_words.proofs.smallest.write_way.Goals as goal

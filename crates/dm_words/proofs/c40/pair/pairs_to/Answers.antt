@@ -1,5 +1,4 @@
-use Rattle.std.proofs.Common.{◌∷◌, [], length, ap, arith, length-append}
-use Rattle.dm_words.specs.inner.Scan.Prefixes.{pairs_in}
+use Rattle.dm_words.proofs.Names.{◌∷◌, [], length, ap, arith, length-append, pairs_in}
 use Rattle.dm_words.proofs.RunLoops.{pairs_turn, pairs_stop, small_more}
 use Rattle.dm_words.proofs.c40.pair.pairs_to.Goals as goal
 

@@ -1,6 +1,4 @@
-use Rattle.std.proofs.Common.{◌≡◌, ◌-◌, ◌*◌, ◌≤◌, length, All}
-use Rattle.dm_words.specs.Values.{IsRunValue}
-use Rattle.dm_words.specs.inner.Scan.Prefixes.{pairs_in}
+use Rattle.dm_words.proofs.Names.{◌≡◌, ◌-◌, ◌*◌, ◌≤◌, length, All, IsRunValue, pairs_in}
 use Rattle.dm_words.proofs.RunLoops.{PairsGoOn}
 use Rattle.dm_words.proofs.c40.pair.pairs_to.Given as goal
 

@@ -1,5 +1,4 @@
-use Rattle.std.proofs.Common.{◌+◌, refl, sym, ◌∙◌, Some, None}
-use Rattle.dm_words.specs.inner.Scan.Prefixes.{items_in}
+use Rattle.dm_words.proofs.Names.{◌+◌, refl, sym, ◌∙◌, Some, None, items_in}
 use Rattle.dm_words.proofs.RunLoops.{run_is}
 use Rattle.dm_words.proofs.c40.run.run_by.Goals as goal
 

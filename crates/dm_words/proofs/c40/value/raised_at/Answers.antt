@@ -1,5 +1,4 @@
-use Rattle.std.proofs.Common.{◌+◌, ◌∙◌, ap, refl, drop}
-use Rattle.dm_words.specs.inner.Scan.Prefixes.{first_raised}
+use Rattle.dm_words.proofs.Names.{◌+◌, ◌∙◌, ap, refl, drop, first_raised}
 use Rattle.dm_words.proofs.RunLoops.{small_at}
 use Rattle.dm_words.proofs.c40.value.raised_at.Goals as goal
 

@@ -1,5 +1,4 @@
-use Rattle.std.proofs.Common.{◌∷◌, [], length, ap, arith, length-append}
-use Rattle.dm_words.specs.inner.Scan.Prefixes.{items_in}
+use Rattle.dm_words.proofs.Names.{◌∷◌, [], length, ap, arith, length-append, items_in}
 use Rattle.dm_words.proofs.RunLoops.{items_turn, items_stop}
 use Rattle.dm_words.proofs.c40.value.read_values.Goals as goal
 

@@ -1,5 +1,4 @@
-use Rattle.std.proofs.Common.{◌+◌, ◌-◌, ◌≤◌, length}
-use Rattle.dm_words.specs.inner.Scan.Prefixes.{items_in}
+use Rattle.dm_words.proofs.Names.{◌+◌, ◌-◌, ◌≤◌, length, items_in}
 use Rattle.dm_words.proofs.RunLoops.{ItemsGoOn}
 use Rattle.dm_words.proofs.c40.value.read_values.Given as goal
 

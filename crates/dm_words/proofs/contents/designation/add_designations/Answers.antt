@@ -1,5 +1,4 @@
-use Rattle.std.proofs.Common.{arith}
-use Rattle.std.proofs.lemmas.Result.{err_from_is_err_and}
+use Rattle.dm_words.proofs.Names.{arith, err_from_is_err_and}
 use Rattle.dm_words.proofs.DesignationLoops.{none_taken, goes_on, ends, fails}
 use Rattle.dm_words.proofs.contents.designation.add_designations.Goals as goal
 

@@ -1,4 +1,4 @@
-use Rattle.std.proofs.Common.{◌-◌, ◌*◌, ◌≤◌, length}
+use Rattle.dm_words.proofs.Names.{◌-◌, ◌*◌, ◌≤◌, length}
 use Rattle.dm_words.proofs.DesignationLoops.{AreTaken}
 use Rattle.dm_words.proofs.contents.designation.add_designations.Given as goal
 

@@ -1,5 +1,4 @@
-use Rattle.std.proofs.Common.{◌∙◌, rules, sym}
-use Rattle.dm_words.specs.declared.extent.Extent.TheVariants.{Wide}
+use Rattle.dm_words.proofs.Names.{◌∙◌, rules, sym, Wide}
 use Rattle.dm_words.proofs.DesignationLoops.{of_fault, of_no_opening, of_parts}
 use Rattle.dm_words.proofs.ContentReadings.{opening_room}
 use Rattle.dm_words.proofs.contents.designation.designations_to.Goals as goal

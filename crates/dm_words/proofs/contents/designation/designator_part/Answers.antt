@@ -1,6 +1,4 @@
-use Rattle.std.proofs.Common.{◌∙◌, ◌+◌, sym, ap}
-use Rattle.std.proofs.lemmas.List.{take_rest}
-use Rattle.dm_words.specs.inner.ContentScan.{first_designator}
+use Rattle.dm_words.proofs.Names.{◌∙◌, ◌+◌, sym, ap, take_rest, first_designator}
 use Rattle.dm_words.proofs.DesignationLoops.{designator_found}
 use Rattle.dm_words.proofs.contents.designation.designator_part.Goals as goal
 

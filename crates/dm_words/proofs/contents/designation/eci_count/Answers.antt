@@ -1,4 +1,4 @@
-use Rattle.std.proofs.Common.{arith}
+use Rattle.dm_words.proofs.Names.{arith}
 use Rattle.dm_words.proofs.EciCounts.{all_counted, eci_counted, other_passed}
 use Rattle.dm_words.proofs.contents.designation.eci_count.Goals as goal
 use Rattle.dm_words.proofs.contents.designation.eci_count.Goals.{then-word, else-word}

@@ -1,5 +1,4 @@
-use Rattle.std.proofs.Common.{◌≡◌, ◌+◌, ◌≤◌, drop}
-use Rattle.dm_words.specs.Contents.{eci_count}
+use Rattle.dm_words.proofs.Names.{◌≡◌, ◌+◌, ◌≤◌, drop, eci_count}
 use Rattle.dm_words.proofs.contents.designation.eci_count.Given as goal
 
 -- The words before this one have so many.

@@ -1,4 +1,4 @@
-use Rattle.std.proofs.Common.{arith}
+use Rattle.dm_words.proofs.Names.{arith}
 use Rattle.dm_words.proofs.DesignationLoops.{none_without_eci}
 use Rattle.dm_words.proofs.contents.designation.has_eci.Goals as goal
 

@@ -1,4 +1,4 @@
-use Rattle.std.proofs.Common.{◌≢◌, ◌<◌, ℕ, get_or}
+use Rattle.dm_words.proofs.Names.{◌≢◌, ◌<◌, ℕ, get_or}
 use Rattle.dm_words.proofs.contents.designation.has_eci.Given as goal
 
 abbrev pub invariant-loop-word : goal.invariant-loop-word

@@ -1,5 +1,4 @@
-use Rattle.std.proofs.Common.{arith, length-append}
-use Rattle.dm_words.specs.Ascii.{ascii}
+use Rattle.dm_words.proofs.Names.{arith, length-append, ascii}
 use Rattle.dm_words.proofs.UnitLoops.{has_unit}
 use Rattle.dm_words.proofs.MarkedWords.{unit_added, unit_fits, units_end}
 use Rattle.dm_words.proofs.contents.normal_form.add_ascii.Goals as goal

@@ -1,5 +1,4 @@
-use Rattle.std.proofs.Common.{◌≡◌, ◌-◌, ◌++◌, ◌≤◌, length, drop}
-use Rattle.dm_words.specs.Ascii.{ascii}
+use Rattle.dm_words.proofs.Names.{◌≡◌, ◌-◌, ◌++◌, ◌≤◌, length, drop, ascii}
 use Rattle.dm_words.proofs.contents.normal_form.add_ascii.Given as goal
 
 -- The codewords of the items before the index are written.

@@ -1,4 +1,4 @@
-use Rattle.std.proofs.Common.{arith, rules}
+use Rattle.dm_words.proofs.Names.{arith, rules}
 use Rattle.dm_words.proofs.MarkedWords.{turn, piece_fits, mark_fits, last_fits, add_turn}
 use Rattle.dm_words.proofs.contents.normal_form.add_marked.Goals as goal
 

@@ -1,6 +1,4 @@
-use Rattle.std.proofs.Common.{◌≡◌, ◌≤◌, ◌++◌, length, drop}
-use Rattle.dm_words.specs.Contents.{AreMarks}
-use Rattle.dm_words.specs.ContentForm.{ascii_with_marks}
+use Rattle.dm_words.proofs.Names.{◌≡◌, ◌≤◌, ◌++◌, length, drop, AreMarks, ascii_with_marks}
 use Rattle.dm_words.proofs.contents.normal_form.add_marked.Given as goal
 
 -- The codewords up to the marks so far are written.

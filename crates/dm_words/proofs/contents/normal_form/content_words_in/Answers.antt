@@ -1,7 +1,4 @@
-use Rattle.std.proofs.Common.{◌∙◌, ◌++◌, sym}
-use Rattle.dm_words.specs.Heads.{head_words}
-use Rattle.dm_words.specs.ContentForm.{ascii_with_marks}
-use Rattle.dm_words.specs.NormalForm.{normal_form}
+use Rattle.dm_words.proofs.Names.{◌∙◌, ◌++◌, sym, head_words, ascii_with_marks, normal_form}
 use Rattle.dm_words.proofs.NormalPlain.{content_plain, plain_is_normal, marked_is_ascii}
 use Rattle.dm_words.proofs.contents.normal_form.content_words_in.Goals as goal
 

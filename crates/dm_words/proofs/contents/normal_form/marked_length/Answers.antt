@@ -1,4 +1,4 @@
-use Rattle.std.proofs.Common.{length, arith}
+use Rattle.dm_words.proofs.Names.{length, arith}
 use Rattle.dm_words.proofs.MarkedWords.{turn, piece_short, count_turn}
 use Rattle.dm_words.proofs.contents.normal_form.marked_length.Goals as goal
 

@@ -1,4 +1,4 @@
-use Rattle.std.proofs.Common.{◌∙◌, sym, arith}
+use Rattle.dm_words.proofs.Names.{◌∙◌, sym, arith}
 use Rattle.dm_words.proofs.Openings.{macro_next, none_next, run_next, none_at_end}
 use Rattle.dm_words.proofs.contents.opening.first_frame.Goals as goal
 

@@ -1,5 +1,5 @@
-use Rattle.std.proofs.Common.{◌≡◌, ◌-◌, ◌≤◌, length, drop}
-use Rattle.dm_words.specs.inner.ContentScan.{moved, first_frame}
+use Rattle.dm_words.proofs.Names.{◌≡◌, ◌-◌, ◌≤◌, length, drop, moved}
+use Rattle.dm_words.specs.inner.ContentScan.{first_frame}
 use Rattle.dm_words.proofs.contents.opening.first_frame.Given as goal
 
 -- The codewords before the index are empty runs.

@@ -1,4 +1,4 @@
-use Rattle.std.proofs.Common.{◌∙◌, sym}
+use Rattle.dm_words.proofs.Names.{◌∙◌, sym}
 use Rattle.dm_words.proofs.Openings.{alone_opens}
 use Rattle.dm_words.proofs.contents.opening.opening_of.Goals as goal
 

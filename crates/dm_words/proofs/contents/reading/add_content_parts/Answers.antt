@@ -1,6 +1,5 @@
-use Rattle.std.proofs.Common.{◌∙◌, ◌+◌, drop, sym, arith, rules, Some, None}
-use Rattle.std.proofs.lemmas.Result.{err_from_is_err_and}
-use Rattle.dm_words.specs.inner.ContentScan.{content_on, items_with}
+use Rattle.dm_words.proofs.Names.{◌∙◌, ◌+◌, drop, sym, arith, rules, Some, None, err_from_is_err_and, content_on}
+use Rattle.dm_words.proofs.Names.{items_with}
 use Rattle.dm_words.proofs.ContentLoops.{goes_on, stops_on, one_words_leave}
 use Rattle.dm_words.proofs.contents.reading.add_content_parts.Goals as goal
 

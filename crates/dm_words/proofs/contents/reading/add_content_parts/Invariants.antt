@@ -1,6 +1,4 @@
-use Rattle.std.proofs.Common.{◌≡◌, ◌+◌, ◌-◌, ◌*◌, ◌≤◌, length, drop}
-use Rattle.dm_words.specs.inner.ContentScan.{content_on, items_with}
-use Rattle.dm_words.specs.inner.ContentsAt.{IsContentAt}
+use Rattle.dm_words.proofs.Names.{◌≡◌, ◌+◌, ◌-◌, ◌*◌, ◌≤◌, length, drop, content_on, items_with, IsContentAt}
 use Rattle.dm_words.proofs.contents.reading.add_content_parts.Given as goal
 
 abbrev pub invariant-loop-count : goal.invariant-loop-count

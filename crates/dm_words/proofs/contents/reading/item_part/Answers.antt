@@ -1,4 +1,4 @@
-use Rattle.std.proofs.Common.{◌+◌, drop}
+use Rattle.dm_words.proofs.Names.{◌+◌, drop}
 use Rattle.dm_words.proofs.ContentLoops.{item_taken, item_fault}
 use Rattle.dm_words.proofs.contents.reading.item_part.Goals as goal
 

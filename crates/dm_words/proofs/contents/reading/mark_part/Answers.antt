@@ -1,6 +1,4 @@
-use Rattle.std.proofs.Common.{◌∙◌, ◌+◌, sym, ap, refl, rules}
-use Rattle.std.proofs.lemmas.List.{take_rest}
-use Rattle.dm_words.specs.inner.ContentScan.{first_designator, items_with}
+use Rattle.dm_words.proofs.Names.{◌∙◌, ◌+◌, sym, ap, refl, rules, take_rest, first_designator, items_with}
 use Rattle.dm_words.proofs.EciCounts.{mark_fits}
 use Rattle.dm_words.proofs.ContentLoops.{mark_found}
 use Rattle.dm_words.proofs.contents.reading.mark_part.Goals as goal

@@ -1,4 +1,4 @@
-use Rattle.std.proofs.Common.{ap, length, refl, arith, rules}
+use Rattle.dm_words.proofs.Names.{ap, length, refl, arith, rules}
 use Rattle.dm_words.proofs.ContentReadings.{opening_room, begins_at}
 use Rattle.dm_words.proofs.contents.reading.read_behind.Goals as goal
 

@@ -1,6 +1,5 @@
-use Rattle.std.proofs.Common.{◌∙◌, sym, ap, arith, Err}
+use Rattle.dm_words.proofs.Names.{◌∙◌, sym, ap, arith, Err, content_by}
 use Rattle.dm_words.specs.declared.contents.fault.ContentFault.TheVariants as fault
-use Rattle.dm_words.specs.inner.ContentScan.{content_by}
 use Rattle.dm_words.proofs.ContentReadings.{is_content_result}
 use Rattle.dm_words.proofs.contents.reading.read_content.Goals as goal
 

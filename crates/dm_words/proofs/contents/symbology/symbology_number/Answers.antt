@@ -1,6 +1,4 @@
-use Rattle.std.proofs.Common.{◌∙◌, sym, ap, List, arith, ◌+◌}
-use Rattle.dm_words.specs.declared.contents.mark.Mark.{Mark}
-use Rattle.dm_words.specs.Symbology.{marks_number}
+use Rattle.dm_words.proofs.Names.{◌∙◌, sym, ap, List, arith, ◌+◌, Mark, marks_number}
 use Rattle.dm_words.proofs.Fnc1Places.{identifier_of, no_marks, some_marks}
 use Rattle.dm_words.proofs.contents.symbology.symbology_number.Goals as goal
 

@@ -1,4 +1,4 @@
-use Rattle.std.proofs.Common.{arith}
+use Rattle.dm_words.proofs.Names.{arith}
 use Rattle.dm_words.proofs.MarkedCosts.{each_within, between}
 use Rattle.dm_words.proofs.smallest.contents.are_between.Goals as goal
 use Rattle.dm_words.proofs.smallest.contents.are_between.Goals.{then-place-least-via-then-place-least}

@@ -1,4 +1,4 @@
-use Rattle.std.proofs.Common.{ℕ, ◌<◌, ◌≤◌, get_or}
+use Rattle.dm_words.proofs.Names.{ℕ, ◌<◌, ◌≤◌, get_or}
 use Rattle.dm_words.proofs.smallest.contents.are_between.Given as goal
 
 -- The marks so far stand between the two places.

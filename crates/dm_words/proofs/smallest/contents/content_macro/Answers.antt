@@ -1,7 +1,6 @@
-use Rattle.std.proofs.Common.{sym, subst, Option}
+use Rattle.dm_words.proofs.Names.{sym, subst, Option, Head, view_of}
 use Rattle.std.specs.Prelude.{IfNone}
-use Rattle.dm_words.specs.declared.contents.head.Head.{Head}
-use Rattle.dm_words.specs.inner.ContentCosts.{view_of, HasNoContentMacro}
+use Rattle.dm_words.specs.inner.ContentCosts.{HasNoContentMacro}
 use Rattle.dm_words.proofs.smallest.contents.content_macro.Goals as goal
 
 pub returns-in-None-clause-none : goal.returns-in-None-clause-none

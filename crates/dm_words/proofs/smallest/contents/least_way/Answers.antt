@@ -1,4 +1,4 @@
-use Rattle.std.proofs.Common.{arith}
+use Rattle.dm_words.proofs.Names.{arith}
 use Rattle.dm_words.proofs.smallest.contents.least_way.Goals as goal
 
 pub returns-in-None-clause-least : goal.returns-in-None-clause-least

@@ -1,5 +1,4 @@
-use Rattle.std.proofs.Common.{◌≡◌, ℕ, ◌+◌, ◌-◌, length, arith, refl, subst, true}
-use Rattle.dm_words.specs.Contents.{AreMarks}
+use Rattle.dm_words.proofs.Names.{◌≡◌, ℕ, ◌+◌, ◌-◌, length, arith, refl, subst, true, AreMarks}
 use Rattle.dm_words.proofs.MarkedCosts.{framed_length}
 use Rattle.dm_words.proofs.smallest.contents.macro_between.Goals as goal
 

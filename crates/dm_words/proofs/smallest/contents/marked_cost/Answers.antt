@@ -1,7 +1,5 @@
-use Rattle.std.proofs.Common.{◌≡◌, ◌∙◌, ◌<◌, ℕ, ◌+◌, ◌-◌, take, drop, ap, arith, rules}
-use Rattle.std.proofs.lemmas.List.{length-take}
-use Rattle.dm_words.specs.inner.Costs.{before_words, parts_cost}
-use Rattle.dm_words.specs.inner.ContentCosts.{behind_first}
+use Rattle.dm_words.proofs.Names.{◌≡◌, ◌∙◌, ◌<◌, ℕ, ◌+◌, ◌-◌, take, drop, ap, arith, rules, length-take, before_words}
+use Rattle.dm_words.proofs.Names.{parts_cost, behind_first}
 use Rattle.dm_words.proofs.MarkedCosts.{all_items, back, cost_turn, behind_turn, more_items}
 use Rattle.dm_words.proofs.smallest.contents.marked_cost.Goals as goal
 

@@ -1,6 +1,4 @@
-use Rattle.std.proofs.Common.{◌≡◌, ℕ, ◌+◌, ◌*◌, ◌<◌, ◌≤◌, length, drop, get_or}
-use Rattle.dm_words.specs.Messages.{IsMessage}
-use Rattle.dm_words.specs.inner.ContentCosts.{behind_first, first_end}
+use Rattle.dm_words.proofs.Names.{◌≡◌, ℕ, ◌+◌, ◌*◌, ◌<◌, ◌≤◌, length, drop, get_or, IsMessage, behind_first, first_end}
 use Rattle.dm_words.proofs.smallest.contents.marked_cost.Given as goal
 
 -- From the mark at the index on, the codewords are counted, and those behind each mark are kept.

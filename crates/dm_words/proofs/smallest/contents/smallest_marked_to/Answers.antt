@@ -1,6 +1,4 @@
-use Rattle.std.proofs.Common.{◌∙◌, ℕ, arith, ap}
-use Rattle.dm_words.specs.Pads.{padded}
-use Rattle.dm_words.specs.inner.ContentCosts.{view_of}
+use Rattle.dm_words.proofs.Names.{◌∙◌, ℕ, arith, ap, padded, view_of}
 use Rattle.dm_words.proofs.SmallestContents.{marked_smallest, marked_too_long}
 use Rattle.dm_words.proofs.smallest.contents.smallest_marked_to.Goals as goal
 

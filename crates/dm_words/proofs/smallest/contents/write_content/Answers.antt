@@ -1,20 +1,10 @@
-use Rattle.std.proofs.Common.{◌≡◌, ◌∙◌, ◌≤◌, ℕ, ◌-◌, List, [], ◌∷◌, ◌++◌, length, drop, ap, sym, subst, refl, arith}
-use Rattle.std.proofs.Common.{rules}
-use Rattle.std.proofs.Common.{length-append, Option, None}
-use Rattle.std.proofs.lemmas.List.{length-take, length-drop}
-use Rattle.std.proofs.lemmas.List.Elements.{All-drop, All-take, recursion_from_All}
-use Rattle.dm_words.specs.declared.extent.Extent.TheVariants.{Wide}
-use Rattle.dm_words.specs.declared.contents.head.Head.{Head}
-use Rattle.dm_words.specs.Heads.{head_words}
-use Rattle.dm_words.specs.ContentForm.{ascii_with_marks, content_form}
-use Rattle.dm_words.specs.Macros.{macro_text, BeginsFnc1}
-use Rattle.dm_words.specs.Messages.{IsItem}
-use Rattle.dm_words.specs.Pads.{padded}
-use Rattle.dm_words.specs.SmallestContents.{SaysThenPads}
-use Rattle.dm_words.specs.inner.ContentCosts.{view_of, IsContentWay, AreBehind, AreSaid, seen_by}
+use Rattle.dm_words.proofs.Names.{◌≡◌, ◌∙◌, ◌≤◌, ℕ, ◌-◌, List, [], ◌∷◌, ◌++◌, length, drop, ap, sym, subst, refl, arith}
+use Rattle.dm_words.proofs.Names.{rules, length-append, Option, None, length-take, length-drop, All-drop, All-take}
+use Rattle.dm_words.proofs.Names.{recursion_from_All, Wide, Head, head_words, ascii_with_marks, content_form}
+use Rattle.dm_words.proofs.Names.{macro_text, BeginsFnc1, IsItem, padded, SaysThenPads, view_of, AreSaid, Ascii}
+use Rattle.dm_words.proofs.Names.{IsPlainForm}
+use Rattle.dm_words.specs.inner.ContentCosts.{IsContentWay, AreBehind, seen_by}
 use Rattle.dm_words.specs.inner.Ways.{text_of}
-use Rattle.dm_words.specs.declared.profile.Profile.TheVariants.{Ascii}
-use Rattle.dm_words.specs.Plain.{IsPlainForm}
 use Rattle.dm_words.proofs.ContentWritten.{form_said, says_by_head, says_framed, says_so}
 use Rattle.dm_words.proofs.MarkedCosts.{start_at}
 use Rattle.dm_words.proofs.PlainForms.{ascii_plain, form_is, framed_form, headed_form}

@@ -1,14 +1,6 @@
-use Rattle.std.proofs.Common.{◌≡◌, ◌∙◌, ℕ, ◌+◌, ◌-◌, ◌∷◌, length, take, drop, get_or, ap, sym, subst, arith, refl}
-use Rattle.std.proofs.Common.{rules}
-use Rattle.std.proofs.Common.{length-append}
-use Rattle.std.proofs.lemmas.List.{length-take, length-drop}
-use Rattle.std.proofs.lemmas.List.Elements.{All-drop, All-take}
-use Rattle.dm_words.specs.Designators.{eci_word, designator}
-use Rattle.dm_words.specs.Joined.{spelled}
-use Rattle.dm_words.specs.Contents.{AreMarks}
-use Rattle.dm_words.specs.Messages.{IsItem}
-use Rattle.dm_words.specs.inner.Costs.{before_words, parts_cost}
-use Rattle.dm_words.specs.inner.ContentCosts.{marked_cost}
+use Rattle.dm_words.proofs.Names.{◌≡◌, ◌∙◌, ℕ, ◌+◌, ◌-◌, ◌∷◌, length, take, drop, get_or, ap, sym, subst, arith, refl}
+use Rattle.dm_words.proofs.Names.{rules, length-append, length-take, length-drop, All-drop, All-take, eci_word}
+use Rattle.dm_words.proofs.Names.{designator, spelled, AreMarks, IsItem, before_words, parts_cost, marked_cost}
 use Rattle.dm_words.proofs.ContentWritten.{nothing_said, texts_turn, texts_end}
 use Rattle.dm_words.proofs.MarkedCosts.{forth, behind_few}
 use Rattle.dm_words.proofs.PlainForms.{sign_turn, sign_end}

@@ -1,7 +1,5 @@
-use Rattle.std.proofs.Common.{◌≡◌, ◌+◌, ◌<◌, ◌≤◌, length, drop, take}
-use Rattle.dm_words.specs.Contents.{AreMarks}
-use Rattle.dm_words.specs.inner.ContentCosts.{marked_cost, AreSaid, first_text}
-use Rattle.dm_words.specs.inner.Signs.{KeepsSign}
+use Rattle.dm_words.proofs.Names.{◌≡◌, ◌+◌, ◌<◌, ◌≤◌, length, drop, take, AreMarks, marked_cost, AreSaid, first_text}
+use Rattle.dm_words.proofs.Names.{KeepsSign}
 use Rattle.dm_words.proofs.smallest.contents.write_texts.Given as goal
 
 -- The items before the index and the marks so far are written, and the others are paid.

@@ -1,8 +1,6 @@
-use Rattle.std.proofs.Common.{inl, inr, arith, ap, subst, ◌≡◌, ℕ, ◌-◌, List, length, take, drop, rules}
-use Rattle.dm_words.specs.declared.item.Item.{Item}
-use Rattle.dm_words.specs.declared.item.Item.TheVariants.{Fnc1}
+use Rattle.dm_words.proofs.Names.{inl, inr, arith, ap, subst, ◌≡◌, ℕ, ◌-◌, List, length, take, drop, rules, Item, Fnc1}
+use Rattle.dm_words.proofs.Names.{parts_cost}
 use Rattle.dm_words.specs.declared.smallest.edifact.Group.TheVariants as group
-use Rattle.dm_words.specs.inner.Costs.{parts_cost}
 use Rattle.dm_words.proofs.GroupsWritten.{edifact_begun, edifact_item, edifact_written, IsEdifactSoFar}
 use Rattle.dm_words.proofs.GroupBudget.{first_of_groups, group_at, leave_groups, after_value, value_room, waiting_room}
 use Rattle.dm_words.proofs.GroupBudget.{ended_budget}

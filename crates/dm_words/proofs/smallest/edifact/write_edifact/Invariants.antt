@@ -1,7 +1,5 @@
-use Rattle.std.proofs.Common.{◌≡◌, ◌+◌, ◌-◌, ◌≤◌, length, drop, take}
-use Rattle.dm_words.specs.declared.extent.Extent.TheVariants.{Wide}
-use Rattle.dm_words.specs.inner.Costs.{owed_group, row}
-use Rattle.dm_words.specs.inner.Written.{waiting_values}
+use Rattle.dm_words.proofs.Names.{◌≡◌, ◌+◌, ◌-◌, ◌≤◌, length, drop, take, Wide, row, waiting_values}
+use Rattle.dm_words.specs.inner.Costs.{owed_group}
 use Rattle.dm_words.proofs.GroupsWritten.{IsEdifactSoFar}
 use Rattle.dm_words.proofs.smallest.edifact.write_edifact.Given as goal
 

@@ -1,15 +1,6 @@
-use Rattle.std.proofs.Common.{◌≡◌, ◌∙◌, ℕ, ◌+◌, ◌-◌, ◌++◌, List, length, drop, get_or, ap, sym, subst, arith, false}
-use Rattle.std.proofs.Common.{rules}
-use Rattle.std.proofs.lemmas.List.{length-append, take_rest, drop_all}
-use Rattle.std.proofs.lemmas.List.Elements.{All-drop, All-take}
-use Rattle.dm_words.specs.declared.extent.Extent.TheVariants.{Usual}
-use Rattle.dm_words.specs.declared.item.Item.{Item}
-use Rattle.dm_words.specs.declared.item.Item.TheVariants.{Fnc1}
-use Rattle.dm_words.specs.Messages.{byte_of, IsItem}
-use Rattle.dm_words.specs.Ascii.{digit_pair}
-use Rattle.dm_words.specs.NormalForm.{has_fnc1}
-use Rattle.dm_words.specs.inner.Costs.{parts_cost}
-use Rattle.dm_words.specs.inner.Scan.Results.{unit_words}
+use Rattle.dm_words.proofs.Names.{◌≡◌, ◌∙◌, ℕ, ◌+◌, ◌-◌, ◌++◌, List, length, drop, get_or, ap, sym, subst, arith, false}
+use Rattle.dm_words.proofs.Names.{rules, length-append, take_rest, drop_all, All-drop, All-take, Usual, Item, Fnc1}
+use Rattle.dm_words.proofs.Names.{byte_of, IsItem, digit_pair, has_fnc1, parts_cost, unit_words}
 use Rattle.dm_words.proofs.CostsMet.{nothing_costs}
 use Rattle.dm_words.proofs.SegmentBudget.{rest_is}
 use Rattle.dm_words.proofs.PartBudget.{one_paid, pair_paid, run_paid, edifact_paid, segment_paid, rest_paid}

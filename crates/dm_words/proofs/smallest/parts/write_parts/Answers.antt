@@ -1,12 +1,6 @@
-use Rattle.std.proofs.Common.{◌≡◌, ◌∙◌, ℕ, ◌+◌, ◌-◌, ◌++◌, List, take, drop, ap, sym, subst, arith}
-use Rattle.std.proofs.lemmas.List.{drop_all}
-use Rattle.std.proofs.Math.Seq.{take-add}
+use Rattle.dm_words.proofs.Names.{◌≡◌, ◌∙◌, ℕ, ◌+◌, ◌-◌, ◌++◌, List, take, drop, ap, sym, subst, arith, drop_all}
+use Rattle.dm_words.proofs.Names.{take-add, Extent, Usual, Item, IsPartWritten, ArePartsWritten, parts_cost}
 use Rattle.std.proofs.lemmas.Bool.{and_parts}
-use Rattle.dm_words.specs.declared.extent.Extent.{Extent}
-use Rattle.dm_words.specs.declared.extent.Extent.TheVariants.{Usual}
-use Rattle.dm_words.specs.declared.item.Item.{Item}
-use Rattle.dm_words.specs.inner.Written.{IsPartWritten, ArePartsWritten}
-use Rattle.dm_words.specs.inner.Costs.{parts_cost}
 use Rattle.dm_words.proofs.CostsMet.{nothing_costs}
 use Rattle.dm_words.proofs.PartsWritten.{no_parts, parts_more}
 use Rattle.dm_words.proofs.SignParts.{passes_on, passes_all}

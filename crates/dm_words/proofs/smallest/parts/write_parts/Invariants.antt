@@ -1,9 +1,5 @@
-use Rattle.std.proofs.Common.{◌+◌, ◌-◌, ◌≤◌, length, drop, take}
-use Rattle.std.specs.Prelude.{IsTrue}
-use Rattle.dm_words.specs.declared.extent.Extent.TheVariants.{Usual}
-use Rattle.dm_words.specs.inner.Costs.{parts_cost}
-use Rattle.dm_words.specs.inner.Signs.{PassesSign}
-use Rattle.dm_words.specs.inner.Written.{ArePartsWritten}
+use Rattle.dm_words.proofs.Names.{◌+◌, ◌-◌, ◌≤◌, length, drop, take, IsTrue, Usual, parts_cost, PassesSign}
+use Rattle.dm_words.proofs.Names.{ArePartsWritten}
 use Rattle.dm_words.proofs.smallest.parts.write_parts.Given as goal
 
 abbrev pub invariant-loop-at : goal.invariant-loop-at

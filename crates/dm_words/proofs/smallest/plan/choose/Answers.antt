@@ -1,5 +1,4 @@
-use Rattle.std.proofs.Common.{◌∙◌, ap, arith, sym, ℕ, List, get_or}
-use Rattle.dm_words.specs.inner.CostLanes.{least_of}
+use Rattle.dm_words.proofs.Names.{◌∙◌, ap, arith, sym, ℕ, List, get_or, least_of}
 use Rattle.dm_words.proofs.CostLanes.{cost_at, first_begin, second_begin, lane_costs}
 use Rattle.dm_words.proofs.smallest.plan.choose.Goals as goal
 

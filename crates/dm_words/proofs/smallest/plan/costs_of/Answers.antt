@@ -1,6 +1,5 @@
-use Rattle.std.proofs.Common.{◌≡◌, ◌<◌, ◌+◌, ◌%◌, ◌++◌, ◌∷◌, [], ℕ, List, Bool, true, false, get_or, replicate, ap, ◌∙◌}
-use Rattle.std.proofs.Common.{arith}
-use lib.Lanes.{sel_l}
+use Rattle.dm_words.proofs.Names.{◌≡◌, ◌<◌, ◌+◌, ◌%◌, ◌++◌, ◌∷◌, [], ℕ, List, Bool, true, false, get_or, replicate, ap}
+use Rattle.dm_words.proofs.Names.{◌∙◌, arith, sel_l}
 use Rattle.dm_words.proofs.smallest.plan.costs_of.Goals as goal
 use Rattle.dm_words.proofs.smallest.plan.costs_of.Goals.{then-going-le249, else-going-le249}
 

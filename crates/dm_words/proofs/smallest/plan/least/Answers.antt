@@ -1,7 +1,6 @@
-use Rattle.std.proofs.Common.{◌≡◌, ◌<◌, ◌%◌, ◌∙◌, ℕ, get_or, ap, arith, rules}
+use Rattle.dm_words.proofs.Names.{◌≡◌, ◌<◌, ◌%◌, ◌∙◌, ℕ, get_or, ap, arith, rules, least_of}
 use lib.Bits.{bit_and}
 use Rattle.std.proofs.lemmas.Nat.{and_mask}
-use Rattle.dm_words.specs.inner.CostLanes.{least_of}
 use Rattle.dm_words.proofs.LeastLanes.{least_small}
 use Rattle.dm_words.proofs.smallest.plan.least.Goals as goal
 

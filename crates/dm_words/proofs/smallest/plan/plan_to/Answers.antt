@@ -1,19 +1,13 @@
-use Rattle.std.proofs.Common.{◌≡◌, ◌∙◌, ◌+◌, ◌-◌, ◌∷◌, ◌&&◌, Bool, cond, sym, ℕ, drop, get_or, rules, ap, subst, arith}
-use Rattle.std.proofs.Common.{List, length, refl, inl, inr}
+use Rattle.dm_words.proofs.Names.{◌≡◌, ◌∙◌, ◌+◌, ◌-◌, ◌∷◌, ◌&&◌, Bool, cond, sym, ℕ, drop, get_or, rules, ap, subst}
+use Rattle.dm_words.proofs.Names.{arith, List, length, refl, inl, inr, drop_all, length-drop, Item, ascii, IsItem}
+use Rattle.dm_words.proofs.Names.{pair_first, unit_cost, Fnc1, Row, row, going_over, is_digit_item, with_ascii}
+use Rattle.dm_words.proofs.Names.{begin_at, step_in, none_going, HasRow}
 use Rattle.std.proofs.lemmas.Bool.{cases_eq}
-use Rattle.std.proofs.lemmas.List.{drop_all, get_or_default, length-drop}
-use Rattle.dm_words.specs.declared.item.Item.{Item}
-use Rattle.dm_words.specs.Ascii.{ascii}
-use Rattle.dm_words.specs.Messages.{IsItem}
-use Rattle.dm_words.specs.inner.Costs.{pair_first, unit_cost}
+use Rattle.std.proofs.lemmas.List.{get_or_default}
 use Rattle.dm_words.proofs.NormalForms.{two_words}
-use Rattle.dm_words.proofs.Plans.{ascii_turn}
-use Rattle.dm_words.specs.declared.item.Item.TheVariants.{Fnc1}
-use Rattle.dm_words.specs.inner.Costs.{Row, row, going_over, is_digit_item, with_ascii, begin_at, step_in, none_going}
-use Rattle.dm_words.specs.inner.CostLanes.{HasRow}
-use Rattle.dm_words.proofs.Plans.{within, turn, plan_more, plan_first, cost_most, last_costs, none_small, going_small}
+use Rattle.dm_words.proofs.Plans.{ascii_turn, within, turn, plan_more, plan_first, cost_most, last_costs, none_small}
+use Rattle.dm_words.proofs.Plans.{going_small, digit_here, digit_last, least_small, kept_small}
 use Rattle.dm_words.proofs.CostLanes.{last_zero}
-use Rattle.dm_words.proofs.Plans.{digit_here, digit_last, least_small, kept_small}
 use Rattle.dm_words.proofs.smallest.plan.plan_to.Goals as goal
 
 pub loop-at-init : goal.loop-at-init

@@ -1,10 +1,5 @@
-use Rattle.std.proofs.Common.{◌≡◌, ◌+◌, ◌<◌, ◌≤◌, ℕ, length, drop, get_or}
-use Rattle.dm_words.specs.declared.smallest.plan.StepBits.{StepBits}
-use Rattle.dm_words.specs.Ascii.{ascii}
-use Rattle.dm_words.specs.Messages.{IsItem}
-use Rattle.dm_words.specs.declared.item.Item.{Item}
-use Rattle.dm_words.specs.inner.Costs.{digit_first, row, step_in, IsRightStep}
-use Rattle.dm_words.specs.inner.CostLanes.{HasRow}
+use Rattle.dm_words.proofs.Names.{◌≡◌, ◌+◌, ◌<◌, ◌≤◌, ℕ, length, drop, get_or, StepBits, ascii, IsItem, Item}
+use Rattle.dm_words.proofs.Names.{digit_first, row, step_in, IsRightStep, HasRow}
 use Rattle.dm_words.proofs.smallest.plan.plan_to.Given as goal
 
 abbrev pub invariant-loop-at : goal.invariant-loop-at

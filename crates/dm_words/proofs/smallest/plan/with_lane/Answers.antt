@@ -1,4 +1,4 @@
-use Rattle.std.proofs.Common.{◌≡◌, length, rules}
+use Rattle.dm_words.proofs.Names.{◌≡◌, length, rules}
 use Rattle.dm_words.proofs.CostLanes.{with_lane_is}
 use Rattle.dm_words.proofs.smallest.plan.with_lane.Goals as goal
 

@@ -1,4 +1,4 @@
-use Rattle.std.proofs.Common.{◌+◌}
+use Rattle.dm_words.proofs.Names.{◌+◌}
 use Rattle.dm_words.proofs.CostLanes.{first_chosen}
 use Rattle.dm_words.proofs.smallest.row.first_over.Goals as goal
 

@@ -1,4 +1,4 @@
-use Rattle.dm_words.specs.inner.Costs.{values_before}
+use Rattle.dm_words.proofs.Names.{values_before}
 use Rattle.dm_words.proofs.CostLanes.{first_low, first_high, next_first, raised_next}
 use Rattle.dm_words.proofs.smallest.row.first_over_byte.Goals as goal
 

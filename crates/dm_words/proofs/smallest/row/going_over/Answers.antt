@@ -1,4 +1,4 @@
-use Rattle.std.proofs.Common.{refl}
+use Rattle.dm_words.proofs.Names.{refl}
 use Rattle.dm_words.proofs.CostLanes.{row_next, row_second, next_first, over_fnc1, over_byte}
 use Rattle.dm_words.proofs.smallest.row.going_over.Goals as goal
 

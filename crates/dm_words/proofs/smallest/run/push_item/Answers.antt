@@ -1,4 +1,4 @@
-use Rattle.std.proofs.Common.{[], ◌∷◌}
+use Rattle.dm_words.proofs.Names.{[], ◌∷◌}
 use Rattle.dm_words.proofs.RunWritten.{none_pushed, one_pushed}
 use Rattle.dm_words.proofs.smallest.run.push_item.Goals as goal
 

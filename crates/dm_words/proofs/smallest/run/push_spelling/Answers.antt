@@ -1,4 +1,4 @@
-use Rattle.std.proofs.Common.{arith, rules}
+use Rattle.dm_words.proofs.Names.{arith, rules}
 use Rattle.dm_words.proofs.SpellingCounts.{spelling_count, spelling_small, few_values}
 use Rattle.dm_words.proofs.smallest.run.push_spelling.Goals as goal
 

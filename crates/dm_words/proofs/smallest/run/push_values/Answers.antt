@@ -1,6 +1,4 @@
-use Rattle.std.proofs.Common.{rules, arith, refl}
-use Rattle.std.proofs.lemmas.List.{length-take}
-use Rattle.dm_words.specs.inner.Written.{part_values}
+use Rattle.dm_words.proofs.Names.{rules, arith, refl, length-take, part_values}
 use Rattle.dm_words.proofs.RunWritten.{pushed_lengths, next_pushed}
 use Rattle.dm_words.proofs.smallest.run.push_values.Goals as goal
 

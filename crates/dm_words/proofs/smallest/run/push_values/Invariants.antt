@@ -1,5 +1,4 @@
-use Rattle.std.proofs.Common.{take}
-use Rattle.dm_words.specs.inner.Written.{part_values, ArePushed}
+use Rattle.dm_words.proofs.Names.{take, part_values, ArePushed}
 use Rattle.dm_words.proofs.smallest.run.push_values.Given as goal
 
 abbrev pub invariant-loop-value : goal.invariant-loop-value

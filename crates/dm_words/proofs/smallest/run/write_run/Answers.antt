@@ -1,8 +1,5 @@
-use Rattle.std.proofs.Common.{arith, get_or, ap, subst, ◌≡◌, ℕ, ◌-◌, List, length, take, drop, rules}
-use Rattle.dm_words.specs.declared.item.Item.{Item}
-use Rattle.dm_words.specs.declared.item.Item.TheVariants.{Fnc1}
-use Rattle.dm_words.specs.inner.Written.{Waiting, part_values, IsItemPushed}
-use Rattle.dm_words.specs.inner.Costs.{parts_cost}
+use Rattle.dm_words.proofs.Names.{arith, get_or, ap, subst, ◌≡◌, ℕ, ◌-◌, List, length, take, drop, rules, Item, Fnc1}
+use Rattle.dm_words.proofs.Names.{Waiting, part_values, IsItemPushed, parts_cost}
 use Rattle.dm_words.proofs.LowerBounds.{leave_bounds}
 use Rattle.dm_words.proofs.RunWritten.{run_begun, run_more, run_some, written_unlatch, written_bare, IsRunSoFar}
 use Rattle.dm_words.proofs.RunBudget.{unlatched, first_at, run_at, item_room, after_item, one_more, leave_at}

@@ -1,6 +1,5 @@
-use Rattle.std.proofs.Common.{◌+◌, ◌-◌, ◌≤◌, length, drop, take}
-use Rattle.dm_words.specs.inner.Costs.{owed, row_pairs, row}
-use Rattle.dm_words.specs.inner.Written.{part_values}
+use Rattle.dm_words.proofs.Names.{◌+◌, ◌-◌, ◌≤◌, length, drop, take, row_pairs, row, part_values}
+use Rattle.dm_words.specs.inner.Costs.{owed}
 use Rattle.dm_words.proofs.RunWritten.{IsRunSoFar}
 use Rattle.dm_words.proofs.smallest.run.write_run.Given as goal
 

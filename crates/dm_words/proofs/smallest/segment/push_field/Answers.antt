@@ -1,4 +1,4 @@
-use Rattle.std.proofs.Common.{◌≢◌, ◌+◌, inl, inr, length, arith}
+use Rattle.dm_words.proofs.Names.{◌≢◌, ◌+◌, inl, inr, length, arith}
 use Rattle.dm_words.proofs.SegmentWritten.{field_to_end, field_of_count}
 use Rattle.dm_words.proofs.smallest.segment.push_field.Goals as goal
 use Rattle.dm_words.proofs.smallest.segment.push_field.Goals.{else-count-gt-MOST_SHORT-via-else-count-gt-MOST_SHORT}

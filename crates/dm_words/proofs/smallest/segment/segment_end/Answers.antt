@@ -1,5 +1,4 @@
-use Rattle.std.proofs.Common.{◌∙◌, sym, arith}
-use Rattle.dm_words.specs.declared.item.Item.TheVariants.{Fnc1}
+use Rattle.dm_words.proofs.Names.{◌∙◌, sym, arith, Fnc1}
 use Rattle.dm_words.proofs.SegmentBudget.{begun_at, byte_at, ended_at}
 use Rattle.dm_words.proofs.smallest.segment.segment_end.Goals as goal
 

@@ -1,5 +1,4 @@
-use Rattle.std.proofs.Common.{◌≡◌, ◌+◌, ◌-◌, ◌≤◌, length, drop, take, false}
-use Rattle.dm_words.specs.NormalForm.{has_fnc1}
+use Rattle.dm_words.proofs.Names.{◌≡◌, ◌+◌, ◌-◌, ◌≤◌, length, drop, take, false, has_fnc1}
 use Rattle.dm_words.proofs.SegmentBudget.{IsSegmentSoFar}
 use Rattle.dm_words.proofs.smallest.segment.segment_end.Given as goal
 

@@ -1,4 +1,4 @@
-use Rattle.std.proofs.Common.{arith}
+use Rattle.dm_words.proofs.Names.{arith}
 use Rattle.dm_words.proofs.SegmentWritten.{bytes_length, field_length, segment_written}
 use Rattle.dm_words.proofs.smallest.segment.write_segment.Goals as goal
 

@@ -1,4 +1,4 @@
-use Rattle.std.proofs.Common.{◌≡◌, length, rules}
+use Rattle.dm_words.proofs.Names.{◌≡◌, length, rules}
 use Rattle.dm_words.proofs.CostLanes.{by_sets_is}
 use Rattle.dm_words.proofs.smallest.sets.by_sets.Goals as goal
 

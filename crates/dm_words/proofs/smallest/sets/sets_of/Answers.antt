@@ -1,4 +1,4 @@
-use Rattle.std.proofs.Common.{◌∙◌, arith}
+use Rattle.dm_words.proofs.Names.{◌∙◌, arith}
 use Rattle.dm_words.proofs.CostLanes.{sets_at}
 use Rattle.dm_words.proofs.smallest.sets.sets_of.Goals as goal
 

@@ -1,11 +1,7 @@
-use Rattle.std.proofs.Common.{ℕ, ◌≡◌, [], ◌∷◌, refl, Some, None}
-use Rattle.std.specs.Prelude.{Option, IfSome}
-use Rattle.dm_words.specs.declared.c40.set.CodeSet.{CodeSet}
+use Rattle.dm_words.proofs.Names.{ℕ, ◌≡◌, [], ◌∷◌, refl, Some, None, Option, CodeSet, Item, Byte, basic_of, IsSpelling}
+use Rattle.std.specs.Prelude.{IfSome}
 use Rattle.dm_words.specs.declared.c40.set.Basic.TheVariants as Basic
-use Rattle.dm_words.specs.declared.item.Item.{Item}
-use Rattle.dm_words.specs.declared.item.Item.TheVariants.{Byte}
-use Rattle.dm_words.specs.CodeSets.{basic_of}
-use Rattle.dm_words.specs.Values.{IsSpelling, plain}
+use Rattle.dm_words.specs.Values.{plain}
 use Rattle.dm_words.proofs.smallest.values.one_value.Goals as goal
 
 -- The value of a byte in a basic set spells it.

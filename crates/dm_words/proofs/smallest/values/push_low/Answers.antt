@@ -1,4 +1,4 @@
-use Rattle.std.proofs.Common.{◌∷◌, [], refl}
+use Rattle.dm_words.proofs.Names.{◌∷◌, [], refl}
 use Rattle.dm_words.specs.Values.{plain}
 use Rattle.dm_words.proofs.smallest.values.push_low.Goals as goal
 

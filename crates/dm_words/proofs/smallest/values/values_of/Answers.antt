@@ -1,4 +1,4 @@
-use Rattle.std.proofs.Common.{rules}
+use Rattle.dm_words.proofs.Names.{rules}
 use Rattle.dm_words.proofs.RunWritten.{spelled_low, spelled_raised}
 use Rattle.dm_words.proofs.smallest.values.values_of.Goals as goal
 

@@ -1,4 +1,4 @@
-use Rattle.std.proofs.Common.{refl}
+use Rattle.dm_words.proofs.Names.{refl}
 use Rattle.dm_words.proofs.Marks.{one_more_mark}
 use Rattle.dm_words.proofs.contents.content.ContentIn.push_mark.Goals as goal
 
