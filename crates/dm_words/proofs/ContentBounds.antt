@@ -31,7 +31,6 @@ items_first seen place words after items rest (m ∷ marks) p starts few le =
       designator_few m.number,
       marked_most m.place (drop count rest) marks,
       length-drop count rest,
-      few,
     ) in
     let n : m.place - seen ≡ length items + count = omega (arith, starts) in
     let first : take (m.place - seen) (items ++ rest) ≡ items ++ take count rest =
@@ -102,12 +101,7 @@ joined_lower seen place (p ∷ ps) after h few =
     let rest = joined_lower (seen_after seen p.what) (place + length p.words) ps after h.1
     (fewer seen p.what (whats ps) few) in
     let one = part_first seen place p.words (spelled ps ++ after) p.what (whats ps) h.0 few rest in
-    omega (
-      arith,
-      one,
-      ap length (append_assoc p.words (spelled ps) after),
-      length-append p.words (spelled ps ++ after),
-    )
+    omega (arith, ap length (append_assoc p.words (spelled ps) after), length-append p.words (spelled ps ++ after))
 
 -- Nor do parts and an end.
 parts_lower : (seen place : ℕ) (words : List ℕ) (said : List Said) → AreContentParts Wide place words said
@@ -165,7 +159,6 @@ module _ (words : List ℕ) (l : ContentView) (cost : ℕ) (few : 2 * length l.i
       let enough : IsFew 7 s.said = omega (arith, few, long, ap length marks) in
       omega (
         arith,
-        c,
         whole,
         ap length f.whole,
         length-append f.runs (f.word ∷ []),

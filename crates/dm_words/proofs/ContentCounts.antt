@@ -27,7 +27,6 @@ marked_counts before items (mark ∷ marks) =
     sym (ap (λ (xs : List Item). length xs) (take-append-drop n items)) ∙ length-append (take n items) (drop n items) in
     omega (
       arith,
-      whole,
       two_items (take n items),
       designator_some mark.number,
       marked_counts mark.place (drop n items) marks,

@@ -116,8 +116,6 @@ goes_on words start at n old new fit in_range few t took =
         joined = subst (λ (l : List ℕ). AreJoined (IsContentPart Wide) (start + 1) (t.pieces ++ q ∷ []) l) rest joined;
         long = omega (
           arith,
-          t.long,
-          long,
           ap length (spelled-last t.pieces q),
           length-append (spelled t.pieces) (take n (drop at words)),
         );

@@ -238,7 +238,6 @@ module _ (least : List Item → ℕ) (owed : CodeSet → ℕ → List Item → �
         let one = part_lower other place p.words (spelled ps ++ after) p.what (gathered ps) h.0 rest in
         omega (
           arith,
-          one,
           ap length (append_assoc p.words (spelled ps) after),
           length-append p.words (spelled ps
               ++ after),

@@ -270,14 +270,10 @@ pub behind_few : (seen : ℕ) (items : List Item) (marks : List Mark) (k from pl
 behind_few seen items marks k from place number behind f few few_marks lt =
     omega (
       arith,
-      f.behind_is,
       designator_few number,
       marked_most (seen + (place - seen)) (drop (place - seen) items) (drop (k + 1) marks),
       length-drop (place - seen) items,
       length-drop (k + 1) marks,
-      few,
-      few_marks,
-      lt,
     )
 
 -- The text of a macro has nine items fewer than its header, itself and its trailer.

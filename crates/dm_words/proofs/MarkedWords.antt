@@ -107,7 +107,6 @@ mark_fits items marks before i place number most base all words new t so_far roo
     omega (
       arith,
       fits_turn items marks before i place number base all words t so_far,
-      room,
       ap length is,
       length-append words (ascii (take (place - before) (drop before items))),
     )

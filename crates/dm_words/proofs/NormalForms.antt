@@ -364,7 +364,6 @@ segment_whole start latched counted new numbers bytes latch count all =
     let next : length counted + 1 ≡ (length start + 2) + length numbers =
     omega (
       arith,
-      place,
       ap length count,
       length-append latched (written (length latched + 1) numbers),
       length-written (length latched + 1) numbers,

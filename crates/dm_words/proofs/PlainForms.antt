@@ -136,13 +136,7 @@ module _ (words : List ℕ) (l : ContentView) (p : SaysPlainly words l)
       let items : l.items ≡ macro_text digit (said_items s.said) = ap (λ (k : ContentView). k.items) e in
       let marks : l.marks ≡ said_marks 7 s.said = ap (λ (k : ContentView). k.marks) e in
       let none : f.runs ≡ [] = nil_from_length f.runs
-      (omega (
-        arith,
-        s.opened.place_is,
-        p.macro_first digit is,
-        ap length f.whole,
-        length-append f.runs (f.word ∷ []),
-      )) in
+      (omega (arith, p.macro_first digit is, ap length f.whole, length-append f.runs (f.word ∷ []))) in
       let whole : words ≡ f.word ∷ (spelled parts.parts ++ parts.after) = s.opened.whole
       ∙ ap (λ (ws : List ℕ). ws ++ s.more) (f.whole ∙ ap (λ (r : List ℕ). r ++ f.word ∷ []) none)
       ∙ ap (λ (ws : List ℕ). f.word ∷ ws) parts.whole in

@@ -96,7 +96,6 @@ pushed_lengths old waiting values new p a =
       omega (arith, room, ap length a.words_are, length-append old (spelled a.pairs)),
       omega (
         arith,
-        room,
         ap length a.values_are,
         length-append waiting values,
         length-append (gathered a.pairs) (part_values p),

@@ -207,14 +207,7 @@ any_plainest m words count usual fits none is more =
     record {
       ascii = λ room. absurd (omega (arith, room, long, none));
       usual = λ other same says. absurd
-          (omega (
-            arith,
-            usual_few other m says,
-            same,
-            long,
-            is,
-            more,
-          ));
+          (omega (arith, usual_few other m says));
     }
 
 -- So are they where a message has more than two items for each codeword.

@@ -21,11 +21,7 @@ loop-at-preserved c =
 
 pub returns-clause-length : goal.returns-clause-length
 returns-clause-length c =
-    omega (
-      arith,
-      c.loop-at.invariant.so_far,
-      at_drop_all (λ (r : List Item). length (ascii r)) c.args.items.now c.loop-at.at c.loop-at-test.false,
-    )
+    omega (arith, at_drop_all (λ (r : List Item). length (ascii r)) c.args.items.now c.loop-at.at c.loop-at-test.false)
 
 pub returns-clause-has_fnc1 : goal.returns-clause-has_fnc1
 returns-clause-has_fnc1 c =

@@ -7,7 +7,6 @@ write_unit-at-requires g c =
     let h = has_unit c.unit_at-unit.result c.args.items.now c.loop-at.at c.loop-at-test.true c.unit_at-unit.ensures in
     omega (
       arith,
-      c.requires,
       unit_room c.unit_at-unit.result c.args.items.now c.loop-at.at c.loop-at.words.items h
           c.loop-at.invariant.so_far,
     )

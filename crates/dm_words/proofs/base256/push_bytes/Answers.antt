@@ -6,12 +6,7 @@ pub loop-i-preserved : goal.loop-i-preserved
 loop-i-preserved g c =
     let v = c.loop-i.invariant in
     record {
-      len = omega (
-        arith,
-        v.len,
-        length-append c.loop-i.message (Byte c.plain_value.result ∷ []),
-        ap length c.add.ensures,
-      );
+      len = omega (arith, length-append c.loop-i.message (Byte c.plain_value.result ∷ []), ap length c.add.ensures);
       so_far = bytes_more c.args.words.now c.args.start c.loop-i.i c.plain_value.result c.args.message.now
           c.loop-i.message c.add.new.self (omega arith) c.plain_value.ensures v.so_far c.add.ensures;
     }

@@ -10,8 +10,6 @@ push-requires g c =
     let i = c.loop-item.item-index in
     omega (
       arith,
-      c.requires.room,
-      c.loop-item-test.true,
       ap length c.loop-item.invariant.so_far,
       length-append c.args.words.now.items (written (length c.args.words.now.items + 1) (map byte_of (take i m))),
       length-written (length c.args.words.now.items + 1) (map byte_of (take i m)),

@@ -9,9 +9,6 @@ push_length-requires g c =
     let m = c.args.items.now in
     omega (
       arith,
-      c.requires.fits,
-      c.requires.least,
-      c.requires.most,
       length-one_segment (map byte_of m),
       length-map m byte_of,
       ap length c.push.ensures.items,
@@ -23,8 +20,6 @@ write_bytes-requires g c =
     let m = c.args.items.now in
     omega (
       arith,
-      c.requires.fits,
-      c.requires.most,
       length-one_segment (map byte_of m),
       length-map m byte_of,
       ap (λ k. length (length_numbers k)) (length-map m byte_of),

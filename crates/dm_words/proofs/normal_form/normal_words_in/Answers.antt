@@ -19,16 +19,7 @@ returns-then-form_of-clause-plain g c =
     let fits = rw c.if-not-surely_fits.false at c.surely_fits.ensures in
     λ message. message_plain c.args.profile c.args.items.now c.write_segment.new.words.items
     (c.write_segment.ensures ∙ sym form)
-    (omega (
-      arith,
-      ap length c.write_segment.ensures,
-      ap length form,
-      e.length,
-      e.no_longer,
-      c.write_ascii-ascii.ensures.length,
-      fits,
-      c.requires.most,
-    )) message
+    (omega (arith, ap length c.write_segment.ensures, ap length form)) message
 
 pub returns-else-form_of-clause-plain : goal.returns-else-form_of-clause-plain
 returns-else-form_of-clause-plain g c =

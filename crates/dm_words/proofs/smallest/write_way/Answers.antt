@@ -47,14 +47,7 @@ write_parts-usual-requires g c =
                 rw (c.at_end.ensures, c.inner.ensures) plan,
                 (
                   rw (c.at_end.ensures, c.inner.ensures)
-                      (omega (
-                        arith,
-                        way.1,
-                        c.push.ensures.len,
-                        ap length c.clear.ensures,
-                        c.requires.room,
-                        c.from.ensures,
-                      )),
+                      (omega (arith, ap length c.clear.ensures)),
                   (omega (arith, c.from.ensures, c.requires.count), c.requires.most),
                 ),
               ),

@@ -13,7 +13,6 @@ loop-first-preserved g c =
       in_range = t.1;
       room = omega (
         arith,
-        v.room,
         ap length c.push_values.ensures,
         length-append c.loop-first.values.items (c.in-Values.first ∷ c.in-Values.second ∷ c.in-Values.third ∷ []),
       );

@@ -10,13 +10,7 @@ loop-count-preserved g c =
     c.in-Takes.ensures c.add.ensures v.so_far in
     record {
       in_range = t.2;
-      room = omega (
-        arith,
-        v.room,
-        t.1,
-        ap length c.add.ensures,
-        length-append c.loop-count.message (c.in-Takes.item ∷ []),
-      );
+      room = omega (arith, ap length c.add.ensures, length-append c.loop-count.message (c.in-Takes.item ∷ []));
       so_far = t.0;
     }
 

@@ -20,18 +20,7 @@ overflow_add-length-in-loop-mark c =
     let t = turn c.args.items.now c.args.marks.now c.loop-mark.before c.loop-mark.mark-index
     (record { place = 0; number = 0 }) c.loop-mark-test.true c.loop-mark.invariant.in_order in
     let p = piece_short c.args.items.now c.loop-mark.before _ t.from t.within in
-    omega (
-      arith,
-      t.from,
-      t.within,
-      p,
-      c.ascii_form.ensures.length,
-      c.mark_length.ensures.most,
-      c.requires.few,
-      c.requires.few_marks,
-      c.loop-mark.invariant.room,
-      c.loop-mark-test.true,
-    )
+    omega arith
 
 pub loop-mark-preserved : goal.loop-mark-preserved
 loop-mark-preserved c =
@@ -41,14 +30,7 @@ loop-mark-preserved c =
     record {
       within = t.within;
       in_order = t.in_order;
-      room = omega (
-        arith,
-        t.from,
-        p,
-        c.ascii_form.ensures.length,
-        c.mark_length.ensures.most,
-        c.loop-mark.invariant.room,
-      );
+      room = omega arith;
       so_far = count_turn c.args.items.now c.args.marks.now c.loop-mark.before c.loop-mark.mark-index _ _ _
           c.loop-mark.length c.ascii_form.result.length c.mark_length.result t c.ascii_form.ensures.length
           c.mark_length.ensures.value c.loop-mark.invariant.so_far;
@@ -58,28 +40,10 @@ pub overflow_add-result : goal.overflow_add-result
 overflow_add-result c =
     let p = piece_short c.args.items.now c.loop-mark.before (length c.args.items.now) c.loop-mark.invariant.within
     (omega arith) in
-    omega (
-      arith,
-      p,
-      c.ascii_form-2.ensures.length,
-      c.requires.few,
-      c.requires.few_marks,
-      c.loop-mark.invariant.room,
-      c.loop-mark.invariant.within,
-      c.loop-mark.auto.mark-index-end,
-    )
+    omega arith
 
 pub returns-clause-most : goal.returns-clause-most
 returns-clause-most c =
     let p = piece_short c.args.items.now c.loop-mark.before (length c.args.items.now) c.loop-mark.invariant.within
     (omega arith) in
-    omega (
-      arith,
-      p,
-      c.ascii_form-2.ensures.length,
-      c.requires.few,
-      c.requires.few_marks,
-      c.loop-mark.invariant.room,
-      c.loop-mark.invariant.within,
-      c.loop-mark.auto.mark-index-end,
-    )
+    omega arith

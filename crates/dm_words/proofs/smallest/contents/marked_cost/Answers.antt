@@ -50,16 +50,7 @@ loop-k-preserved c =
           c.text_cost-text.ensures.message v.message;
       end_is = ap (λ (n : ℕ). n - seen) c.from.ensures ∙ b.end_is;
       cost = cost;
-      few = omega (
-        arith,
-        v.few,
-        some,
-        b.within,
-        c.from.ensures,
-        c.mark_length.ensures.most,
-        c.text_cost-text.ensures.most,
-        length-take (end - (c.from.result - seen)) (drop (c.from.result - seen) items),
-      );
+      few = omega (arith, length-take (end - (c.from.result - seen)) (drop (c.from.result - seen) items));
       behind = behind_turn seen items marks k (c.mark_length.result + c.text_cost-text.result) c.loop-k.behind some
           v.in_range v.room cost v.behind;
     }

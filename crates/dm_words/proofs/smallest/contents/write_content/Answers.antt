@@ -20,15 +20,7 @@ returns-then-length-total-clause-says g c =
     (says_by_head c.args.count first new c.args.head items marks c.requires.head refl
     (form_said c.args.count first new items marks (recursion_from_All IsItem items c.requires.message)
     c.requires.in_order c.write_form.ensures)
-    (omega (
-      arith,
-      ap length c.write_form.ensures,
-      length-append first (ascii_with_marks 0 items marks),
-      c.if-length-total.true,
-      c.from-total.ensures,
-      c.head_words_length.ensures.value,
-      c.marked_length.ensures.value,
-    )))
+    (omega (arith, ap length c.write_form.ensures, length-append first (ascii_with_marks 0 items marks))))
 
 pub write_texts-requires-in-Some : goal.write_texts-requires-in-Some
 write_texts-requires-in-Some g c =
@@ -64,14 +56,7 @@ write_texts-requires-in-Some g c =
                     omega (arith, fewer, c.requires.steps),
                     (
                       rw c.inner.ensures
-                          (omega (
-                            arith,
-                            way.1,
-                            c.push.ensures.len,
-                            ap length c.clear.ensures,
-                            c.requires.room,
-                            c.from-total.ensures,
-                          )),
+                          (omega (arith, ap length c.clear.ensures)),
                       (omega (arith, c.from-total.ensures, c.requires.count), c.requires.most),
                     ),
                   ),
@@ -169,12 +154,4 @@ returns-then-length-total-clause-form g c =
       items = recursion_from_All IsItem items c.requires.message;
       marks = c.requires.in_order;
     })
-    (omega (
-      arith,
-      ap length (form_is c.args.head items marks),
-      length-append first (ascii_with_marks 0 items marks),
-      c.if-length-total.true,
-      c.from-total.ensures,
-      c.head_words_length.ensures.value,
-      c.marked_length.ensures.value,
-    )))
+    (omega (arith, ap length (form_is c.args.head items marks), length-append first (ascii_with_marks 0 items marks))))

@@ -15,11 +15,7 @@ loop-k-init g c =
       in_order = subst
           (λ (p : ℕ). AreMarks p (c.args.seen + length c.args.items.now) c.args.marks.now) here c.requires.in_order;
       said = nothing_said c.args.total c.args.words.now.items c.args.seen;
-      budget = omega (
-        arith,
-        c.requires.budget,
-        ap (λ (p : ℕ). marked_cost p c.args.items.now c.args.marks.now) here,
-      );
+      budget = omega (arith, ap (λ (p : ℕ). marked_cost p c.args.items.now c.args.marks.now) here);
       first = λ e. (refl, refl);
       sign = λ some. absurd (omega (arith, some));
     }
@@ -51,7 +47,6 @@ write_text-requires g c =
         (
           omega (
             arith,
-            behind,
             behind_few seen items marks k from _ _ _ f c.requires.few c.requires.few_marks c.loop-k-test.true,
           ),
           (
@@ -87,9 +82,6 @@ loop-k-preserved g c =
           c.write_text.ensures.parts c.add_mark_words.ensures;
       budget = omega (
         arith,
-        c.write_text.ensures.fits,
-        behind,
-        f.behind_is,
         ap length c.add_mark_words.ensures,
         length-append new (eci_word ∷ designator m.number),
         ap (λ (p : ℕ). marked_cost (seen + (p - seen)) (drop (p - seen) items) (drop (k + 1) marks)) c.from.ensures,

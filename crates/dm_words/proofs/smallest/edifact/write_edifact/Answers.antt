@@ -49,7 +49,6 @@ push_value-group-requires-in-loop-words g c = (
             (length c.loop-words.words.items) c.args.total c.goes_on.result
             (c.requires.plan c.loop-words.next _ c.loop-words.invariant.within) c.loop-words.invariant.budget
             (omega (arith, c.requires.total)) c.goes_on.ensures c.loop-words-test.true).budget,
-        c.requires.total,
       ),
     ),
   ),

@@ -13,13 +13,7 @@ write_unit-one-requires g c =
     let p = one_paid c.args.setting c.args.items.now c.args.at Fnc1 _ c.requires.at
     (c.requires.plan c.args.at _ (omega (arith, c.requires.at))) (length c.args.words.now.items) c.args.total
     c.requires.budget (sym c.begin.ensures ∙ c.in-One.is) in
-    omega (
-      arith,
-      p,
-      ap length c.unit_of.ensures.words,
-      length-item_words (get_or c.args.items.now c.args.at Fnc1),
-      c.requires.total,
-    )
+    omega (arith, ap length c.unit_of.ensures.words, length-item_words (get_or c.args.items.now c.args.at Fnc1))
 
 pub returns-in-One-clause-budget : goal.returns-in-One-clause-budget
 returns-in-One-clause-budget g c =
@@ -28,7 +22,6 @@ returns-in-One-clause-budget g c =
     c.requires.budget (sym c.begin.ensures ∙ c.in-One.is) in
     omega (
       arith,
-      p,
       ap length c.unit_of.ensures.words,
       length-item_words (get_or c.args.items.now c.args.at Fnc1),
       ap length c.write_unit-one.ensures.words,
@@ -92,7 +85,6 @@ returns-in-Two-clause-budget g c =
       (pair_paid c.args.setting c.args.items.now c.args.at Fnc1 _ c.requires.at
           (c.requires.plan c.args.at _ (omega (arith, c.requires.at))) (length c.args.words.now.items) c.args.total
           c.requires.budget (omega (arith, c.requires.total)) (sym c.begin.ensures ∙ c.in-Two.is)).paid,
-      c.push.ensures.len,
     )
 
 pub returns-in-Two-clause-part : goal.returns-in-Two-clause-part
@@ -154,7 +146,6 @@ segment_end-end-requires-clause-byte g c =
       (segment_paid c.args.setting c.args.items.now c.args.at Fnc1 _ c.requires.at
           (c.requires.plan c.args.at _ (omega (arith, c.requires.at))) (length c.args.words.now.items) c.args.total
           c.requires.budget (sym c.begin.ensures ∙ c.in-Segment.is)).1,
-      c.requires.total,
     )
 
 pub write_segment-requires-in-Rest : goal.write_segment-requires-in-Rest
@@ -191,10 +182,8 @@ returns-in-Rest-clause-budget g c =
     let rest = rest_is c.args.setting (drop c.args.at c.args.items.now) (omega (arith, p, c.requires.total)) in
     omega (
       arith,
-      c.write_segment-in-Rest.ensures.fits,
       ap (parts_cost c.args.setting) (drop_all (length c.args.items.now) c.args.items.now (omega arith)),
       nothing_costs c.args.setting,
-      rest.2,
     )
 
 pub returns-in-One-clause-sign : goal.returns-in-One-clause-sign

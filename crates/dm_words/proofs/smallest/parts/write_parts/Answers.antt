@@ -47,7 +47,6 @@ pub returns-clause-fits : goal.returns-clause-fits
 returns-clause-fits g c =
     omega (
       arith,
-      c.loop-at.invariant.budget,
       ap (parts_cost c.args.setting) (drop_all c.loop-at.at c.args.items.now c.loop-at-test.false),
       nothing_costs c.args.setting,
     )

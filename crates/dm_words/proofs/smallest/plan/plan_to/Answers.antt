@@ -80,7 +80,6 @@ ascii_from-length-requires-clause-next c =
       c.loop-at.invariant.in_ascii,
       two_words (drop c.loop-at.at c.args.items.now),
       length-drop c.loop-at.at c.args.items.now,
-      c.requires.few,
     )
 
 pub ascii_from-length-requires-clause-after : goal.ascii_from-length-requires-clause-after
@@ -90,7 +89,6 @@ ascii_from-length-requires-clause-after c =
       c.loop-at.invariant.in_ascii_behind,
       two_words (drop (c.loop-at.at + 1) c.args.items.now),
       length-drop (c.loop-at.at + 1) c.args.items.now,
-      c.requires.few,
     )
 
 pub loop-at-preserved : goal.loop-at-preserved
@@ -159,9 +157,4 @@ returns-clause-most c =
     let all : drop c.loop-at.at c.args.items.now ≡ c.args.items.now =
     ap (λ (i : ℕ). drop i c.args.items.now) (let none : c.loop-at.at
     ≡ 0 = omega (arith, c.loop-at-test.false) in none) in
-    omega (
-      arith,
-      c.loop-at.invariant.row.ascii,
-      ap (λ (r : Row). r.ascii) (ap (row c.args.setting) all),
-      cost_most c.args.setting c.args.items.now,
-    )
+    omega (arith, ap (λ (r : Row). r.ascii) (ap (row c.args.setting) all), cost_most c.args.setting c.args.items.now)

@@ -10,14 +10,7 @@ push_value-part-requires g c =
         search rules,
         (
           search rules,
-          omega (
-            arith,
-            n.1,
-            n.2,
-            length-take c.loop-value.value-index c.args.values.now,
-            c.loop-value-test.true,
-            c.requires.room,
-          ),
+          omega (arith, length-take c.loop-value.value-index c.args.values.now),
         ),
       ),
     )

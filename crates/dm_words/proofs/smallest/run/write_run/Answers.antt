@@ -21,7 +21,6 @@ push_spelling-part-requires g c =
                 (first_at c.args.setting c.args.set c.args.items.now c.args.at Fnc1 (length c.push.new.self.items)
                 c.args.total c.requires.at (omega (arith, c.requires.budget, c.push.ensures.len))
                 (omega (arith, c.requires.total))).budget,
-            c.requires.total,
             ap (λ (p : Waiting). length (part_values p)) c.empty.ensures,
           ),
         ),
@@ -82,7 +81,6 @@ push_item-part-requires g c =
                 (length c.loop-set.words.items) c.args.total c.goes_on.result
                 (c.requires.plan c.loop-set.next _ c.loop-set.invariant.within) c.loop-set.invariant.budget
                 (omega (arith, c.requires.total)) c.goes_on.ensures c.loop-set-test.true).budget,
-            c.requires.total,
           ),
         ),
       ),
@@ -126,14 +124,7 @@ returns-then-total-len-gt1-clause-budget g c =
     (length c.loop-set.words.items) c.args.total c.goes_on.result
     (c.requires.plan c.loop-set.next _ c.loop-set.invariant.within) c.loop-set.invariant.budget c.goes_on.ensures
     c.loop-set-test.false) in
-    omega (
-      arith,
-      l.1,
-      unlatched (parts_cost c.args.setting (drop c.loop-set.next c.args.items.now)),
-      c.push-then-total-len-gt1.ensures.len,
-      c.if-total-len-gt1.true,
-      c.len.ensures.value,
-    )
+    omega (arith, unlatched (parts_cost c.args.setting (drop c.loop-set.next c.args.items.now)))
 
 pub returns-then-total-len-gt1-clause-part : goal.returns-then-total-len-gt1-clause-part
 returns-then-total-len-gt1-clause-part g c =
